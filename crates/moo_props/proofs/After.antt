@@ -1,0 +1,301 @@
+-- Rows in which the objects and slots are as after a change of parent show the reparented world.
+use Rattle.std.proofs.Common.{◌≡◌, ℕ, ◌<◌, Bool, true, false, Option, None, Some, List, ◌++◌, refl, sym, ap, ◌∙◌, subst}
+use Rattle.std.specs.Prelude.{is_some, unwrap_or, if◌then◌else◌}
+use Rattle.std.specs.Option.{option_map, option_or}
+use Rattle.std.specs.FinMap.{FinMap, get}
+use Rattle.std.proofs.lemmas.Bool.{false≢true, both_ways}
+use Rattle.std.proofs.lemmas.Option.{none-some, same_Some}
+use Rattle.moo_value.specs.declared.value.ObjNo.{ObjNo}
+use Rattle.moo_rows.specs.declared.row.ObjRow.{ObjRow}
+use Rattle.moo_rows.specs.declared.row.PropRow.{PropRow}
+use Rattle.moo_rows.specs.declared.row.PropId.{PropId}
+use Rattle.moo_rows.specs.declared.row.SlotRow.{SlotRow}
+use Rattle.moo_rows.specs.Maps.{Maps, object_cmp, slot_cmp}
+use Rattle.moo_world.specs.Objects.{Name, Pair, same_object, folded, is_among}
+use Rattle.moo_world.specs.World.{World, Record, Slot, IsWellFormed, NamesDiffer, is_object, chain, owed_by, pair_named, slot_of, owner_of, fresh, with_parent, with_slots, without_slots, reparented}
+use Rattle.moo_world.specs.Rows.{LookUps, IsSound, look_ups, world_of, prop_id, record_of, slot_seen, world_shown}
+use Rattle.moo_world.specs.Laws.{MayReparent}
+use Rattle.moo_world.specs.Manual.{lost, gained, kept_from, manual_slot}
+use Rattle.moo_world.proofs.ManualLaw.{below as below_of, no_new, definer_of_slot, new_split, lost_is, gained_is, manual_law}
+use Rattle.moo_world.proofs.Owed.{definer_among, named_owed, named_so, named_once, some_named, owed_by-append, named-append}
+use Rattle.moo_world.proofs.Rebuilding.{no_slot, objects_same, SameButSlots-rebuilt, same_world}
+use Rattle.moo_world.proofs.RowLaws.{slot_shown}
+use Rattle.moo_world.proofs.Seen.{is_object_seen}
+use Rattle.moo_world.proofs.Subtrees.{owed_listed}
+use Rattle.moo_world.proofs.Trees.{Chain-chain, chain_of_none}
+use Rattle.moo_props.specs.Touched.{is_defined_among, fresh_from, slot_after, row_after}
+use Rattle.moo_props.proofs.Definers.{new_is, no_clash, leaving, arriving, staying}
+use Rattle.moo_props.proofs.Gains.{some_of, object_row, defines_pair, new_object, slot_of_owed}
+use Rattle.moo_props.proofs.Shown.{SlotHere, slot_from, no_slot_from}
+
+module _ (t : Maps) (sound : IsSound t) (x q : ObjNo) (may : MayReparent (world_of t) x q) where
+  abbrev m : LookUps
+  m = look_ups t
+
+  abbrev w : World
+  w = world_of t
+
+  abbrev wf : IsWellFormed w
+  wf = may.well_formed
+
+  abbrev coming : List ObjNo
+  coming = gained w x q
+
+  abbrev going : List ObjNo
+  going = lost w x q
+
+  pub slot_is : (z : ObjNo) (n : Name) (row : ObjRow) → m.object z ≡ Some row → (id : ℕ) → (h : SlotHere m z n id) → slot_of w z n ≡ Some (slot_seen h.prop.definer h.row)
+  slot_is z n row o id h = ap (slot_of w z) (sym h.name) ∙ slot_shown m sound z row o id h.prop h.row h.there h.held
+
+  pub tests : (definers : List ObjNo) (id : ℕ) (p : PropRow) → m.prop id ≡ Some p → is_defined_among definers t (prop_id id) ≡ is_among p.definer definers
+  tests definers id p e = ap (λ o. unwrap_or (option_map (λ (r : PropRow). is_among r.definer definers) o) false) e
+
+  -- the name of a gained property is found
+  pub gained_named : (n : Name) (id : ℕ) (p : PropRow) → m.prop id ≡ Some p → folded p.name ≡ n → is_among p.definer coming ≡ true → (k : Pair) × (pair_named (owed_by w coming) n ≡ Some k)
+  gained_named n id p e f h = by (pair_named (owed_by w coming) n) refl
+    where
+      by : (o : Option Pair) → pair_named (owed_by w coming) n ≡ o → (k : Pair) × (o ≡ Some k)
+      by None g = absurd (some_named (owed_by w coming) (p.definer, p.name) (owed_listed w coming p.definer (p.definer, p.name) h (defines_pair t sound id p e)) (ap (pair_named (owed_by w coming)) f ∙ g))
+      by (Some k) g = (k, refl)
+
+  named_q : (n : Name) (k : Pair) → pair_named (owed_by w coming) n ≡ Some k → pair_named (owed_by w (chain w q)) n ≡ Some k
+  named_q n k e =
+      ap (λ l. pair_named (owed_by w l) n) (new_split w x q wf may.object (new_is w x q may) may.outside (no_clash w x q may))
+      ∙ named-append w (arriving w x q may) (staying w x q may) n
+      ∙ ap (λ o. option_or o (pair_named (owed_by w (staying w x q may)) n)) (ap (λ l. pair_named (owed_by w l) n) (sym (gained_is w x q wf may.object (new_is w x q may) may.outside (no_clash w x q may))) ∙ e)
+
+  -- and a found one is a property of a gained definer, with its slot on q
+  named_gained : (n : Name) (k : Pair) → pair_named (owed_by w coming) n ≡ Some k → (id : ℕ) × (h : SlotHere m q n id) × (is_among h.prop.definer coming ≡ true)
+  named_gained n k e =
+      let among : is_among k.0 coming ≡ true = (definer_among w k coming (named_owed w coming n k e)).0 in
+      let r = slot_of_owed t sound wf q (new_object t sound x q may k.0 among) n k (named_q n k e) in
+      (r.0, r.1, ap (λ d. is_among d coming) r.2 ∙ among)
+
+  module _ (y : ObjNo) (yo : is_object w y ≡ true) (under : is_among x (chain w y) ≡ true) where
+    -- a slot that isn't lost has no name that is gained
+    pub no_both : (n : Name) (d : ObjNo) (k : Pair) → option_map (λ s. s.definer) (slot_of w y n) ≡ Some d → is_among d going ≡ false → pair_named (owed_by w coming) n ≡ Some k → ⊥
+    no_both n d k e stays f = by (named (below_of w x q wf may.object (new_is w x q may) may.outside (no_clash w x q may) y n yo under)) refl (named (leaving w x q may)) refl (named (staying w x q may)) refl (sym e ∙ definer_of_slot w x q wf may.object (new_is w x q may) may.outside (no_clash w x q may) y n yo under)
+      where
+        named : List ObjNo → Option Pair
+        named l = pair_named (owed_by w l) n
+
+        arrives : named (arriving w x q may) ≡ Some k
+        arrives = ap (λ l. pair_named (owed_by w l) n) (sym (gained_is w x q wf may.object (new_is w x q may) may.outside (no_clash w x q may))) ∙ f
+
+        by : (b : Option Pair) → named (below_of w x q wf may.object (new_is w x q may) may.outside (no_clash w x q may) y n yo under) ≡ b → (g : Option Pair) → named (leaving w x q may) ≡ g → (s : Option Pair) → named (staying w x q may) ≡ s
+            → Some d ≡ option_map (λ p. p.0) (option_or (named (below_of w x q wf may.object (new_is w x q may) may.outside (no_clash w x q may) y n yo under)) (option_or (named (leaving w x q may)) (named (staying w x q may)))) → ⊥
+        by (Some p) eb g eg s es h =
+            none-some k (sym (no_new w x q wf may.object (new_is w x q may) may.outside (no_clash w x q may) y n yo under p (named_owed w _ n p eb) (named_so (owed_by w _) n p eb)) ∙ named_q n k f)
+        by None eb (Some p) eg s es h =
+            let same : d ≡ p.0 = same_Some d p.0 (h ∙ (λ i. option_map (λ (r : Pair). r.0) (option_or (eb i) (option_or (eg i) (es i))))) in
+            let lost : is_among p.0 going ≡ true = ap (is_among p.0) (lost_is w x q wf may.object (new_is w x q may) may.outside (no_clash w x q may)) ∙ (definer_among w p (leaving w x q may) (named_owed w _ n p eg)).0 in
+            both_ways (is_among d going) stays (ap (λ z. is_among z going) same ∙ lost)
+        by None eb None eg (Some p) es h =
+            let differ : NamesDiffer (owed_by w (arriving w x q may) ++ owed_by w (staying w x q may)) = subst NamesDiffer (ap (owed_by w) (new_split w x q wf may.object (new_is w x q may) may.outside (no_clash w x q may)) ∙ owed_by-append w (arriving w x q may) (staying w x q may)) (wf.names q (chain w q) (Chain-chain w wf.tree q (new_object t sound x q may k.0 (definer_among w k coming (named_owed w coming n k f)).0))) in
+            none-some p (sym (named_once (owed_by w (arriving w x q may)) (owed_by w (staying w x q may)) n k differ arrives) ∙ es)
+        by None eb None eg None es h = none-some d (sym (h ∙ (λ i. option_map (λ (r : Pair). r.0) (option_or (eb i) (option_or (eg i) (es i))))))
+
+  module _ (O : FinMap object_cmp ObjRow) (S : FinMap slot_cmp SlotRow) (objects : (y : ObjNo) → get O y ≡ row_after t x q y) (slots : (key : ObjNo × PropId) → get S key ≡ slot_after t x q key) where
+    abbrev t2 : Maps
+    t2 = record t { objects = O; slots = S }
+
+    abbrev m2 : LookUps
+    m2 = look_ups t2
+
+    bare : (y : ObjNo) (o : Option ObjRow) (b : Bool) → option_map (with_slots (λ n. None)) (option_map (record_of m2 y) (option_map (λ row. if b then record row { parent = q } else row) o)) ≡ option_map (with_slots (λ n. None)) (option_map (λ (r : Record). if b then record r { row = record r.row { parent = q } } else r) (option_map (record_of m y) o))
+    bare y None b = refl
+    bare y (Some row) true = refl
+    bare y (Some row) false = refl
+
+    links : without_slots (world_of t2) ≡ without_slots (with_parent w x q)
+    unfolding world_shown
+    links = λ i. record {
+      object = λ y. (ap (λ o. option_map (with_slots (λ n. None)) (option_map (record_of m2 y) o)) (objects y) ∙ bare y (m.object y) (same_object x y)) i;
+      top = t.head.top;
+      next_prop = t.head.next_prop;
+      next_verb = t.head.next_verb;
+    }
+
+    same_links : without_slots (world_of t2) ≡ without_slots (reparented w x q)
+    same_links = links ∙ sym (SameButSlots-rebuilt w (with_parent w x q) q)
+
+    row2 : (y : ObjNo) (row : ObjRow) → m.object y ≡ Some row → (r : ObjRow) × (m2.object y ≡ Some r)
+    row2 y row e = (if same_object x y then record row { parent = q } else row, objects y ∙ ap (option_map (λ (r : ObjRow). if same_object x y then record r { parent = q } else r)) e)
+
+    abbrev settle : Bool → Bool → Bool → Option SlotRow → Option SlotRow → Option SlotRow
+    settle u g l f o = if u then (if g then f else (if l then None else o)) else o
+
+    settled : (y : ObjNo) (id : ℕ) (p : PropRow) (u g l : Bool) → m.prop id ≡ Some p → is_among x (chain w y) ≡ u → is_among p.definer coming ≡ g → is_among p.definer going ≡ l → m2.slot y id ≡ settle u g l (option_map (fresh_from (owner_of w y)) (m.slot q id)) (m.slot y id)
+    settled y id p u g l e hu hg hl =
+        slots (y, prop_id id)
+        ∙ (λ i. settle (hu i) ((tests coming id p e ∙ hg) i) ((tests going id p e ∙ hl) i) (option_map (fresh_from (owner_of w y)) (m.slot q id)) (m.slot y id))
+
+    module _ (y : ObjNo) (n : Name) (row : ObjRow) (here : m.object y ≡ Some row) where
+      yo : is_object w y ≡ true
+      yo = is_object_seen m y ∙ ap is_some here
+
+      low : (id : ℕ) (p : PropRow) → m.prop id ≡ Some p → id < t.head.next_prop
+      low id p e = (sound.props_below id (ap is_some e)).1
+
+      abbrev worded : Bool → Option Pair → Option Slot
+      worded u o = if u then elim o [ Some p ↦ option_map (fresh (owner_of w y)) (slot_of w q n) | None ↦ kept_from going (slot_of w y n) ] else slot_of w y n
+
+      -- what the rows have the wording has
+      found : (s : Slot) (id : ℕ) (h : SlotHere m2 y n id) → s ≡ slot_seen h.prop.definer h.row → Some s ≡ worded (is_among x (chain w y)) (pair_named (owed_by w coming) n)
+      found s id h e = by (is_among x (chain w y)) refl (is_among h.prop.definer coming) refl (is_among h.prop.definer going) refl (pair_named (owed_by w coming) n) refl
+        where
+          seen : (row : SlotRow) → m.slot y id ≡ Some row → h.row ≡ row → slot_of w y n ≡ Some s
+          seen r g k = slot_is y n row here id (record { prop = h.prop; row = r; there = h.there; held = g; name = h.name }) ∙ ap (λ z. Some (slot_seen h.prop.definer z)) (sym k) ∙ ap Some (sym e)
+
+          same : (v : Option SlotRow) → m2.slot y id ≡ v → v ≡ Some h.row
+          same v g = sym g ∙ h.held
+
+          kept : (v : Option SlotRow) → m.slot y id ≡ v → v ≡ Some h.row → slot_of w y n ≡ Some s
+          kept None g k = absurd (none-some h.row k)
+          kept (Some r) g k = seen r g (sym (same_Some r h.row k))
+
+          came : (v : Option SlotRow) → m.slot q id ≡ v → is_among h.prop.definer coming ≡ true → option_map (fresh_from (owner_of w y)) v ≡ Some h.row → Some s ≡ option_map (fresh (owner_of w y)) (slot_of w q n)
+          came None g c k = absurd (none-some h.row k)
+          came (Some r) g c k =
+              let qo = object_row t sound q (new_object t sound x q may h.prop.definer c) in
+              let at_q : slot_of w q n ≡ Some (slot_seen h.prop.definer r) = slot_is q n qo.0 qo.1 id (record { prop = h.prop; row = r; there = h.there; held = g; name = h.name }) in
+              ap Some e ∙ ap (λ z. Some (slot_seen h.prop.definer z)) (sym (same_Some (fresh_from (owner_of w y) r) h.row k)) ∙ sym (ap (option_map (fresh (owner_of w y))) at_q)
+
+          definer : slot_of w y n ≡ Some s → option_map (λ z. z.definer) (slot_of w y n) ≡ Some h.prop.definer
+          definer k = ap (option_map (λ (z : Slot). z.definer)) k ∙ ap (λ (z : Slot). Some z.definer) e
+
+          by : (u : Bool) → is_among x (chain w y) ≡ u → (g : Bool) → is_among h.prop.definer coming ≡ g → (l : Bool) → is_among h.prop.definer going ≡ l → (o : Option Pair) → pair_named (owed_by w coming) n ≡ o → Some s ≡ worded u o
+          by false hu g hg l hl o ho = sym (kept (m.slot y id) refl (same _ (settled y id h.prop false g l h.there hu hg hl)))
+          by true hu true hg l hl None ho = let k = gained_named n id h.prop h.there h.name hg in absurd (none-some k.0 (sym ho ∙ k.1))
+          by true hu true hg l hl (Some p) ho = came (m.slot q id) refl hg (same _ (settled y id h.prop true true l h.there hu hg hl))
+          by true hu false hg true hl o ho = absurd (none-some h.row (same _ (settled y id h.prop true false true h.there hu hg hl)))
+          by true hu false hg false hl o ho = rest (kept (m.slot y id) refl (same _ (settled y id h.prop true false false h.there hu hg hl))) o ho
+            where
+              rest : slot_of w y n ≡ Some s → (o : Option Pair) → pair_named (owed_by w coming) n ≡ o → Some s ≡ worded true o
+              rest k (Some p) g = absurd (no_both y yo hu n h.prop.definer p (definer k) hl g)
+              rest k None g = sym (ap (kept_from going) k ∙ ap (λ b. if b then None else Some s) (ap (λ (z : Slot). is_among z.definer going) e ∙ hl))
+
+      -- and where the rows have none it has none
+      lacked : slot_of (world_of t2) y n ≡ None → None ≡ worded (is_among x (chain w y)) (pair_named (owed_by w coming) n)
+      lacked none = by (is_among x (chain w y)) refl (pair_named (owed_by w coming) n) refl (slot_of w y n) refl
+        where
+          not_here : (id : ℕ) (p : PropRow) (r : SlotRow) → m.prop id ≡ Some p → m2.slot y id ≡ Some r → folded p.name ≡ n → ⊥
+          not_here id p r e f g = let k = row2 y row here in no_slot_from m2 y n k.0 k.1 none id (low id p e) (record { prop = p; row = r; there = e; held = f; name = g })
+
+          stays : is_among x (chain w y) ≡ true → pair_named (owed_by w coming) n ≡ None → (s : Slot) → slot_of w y n ≡ Some s → None ≡ kept_from going (Some s)
+          stays hu ho s e = at (slot_from m y n row here s e)
+            where
+              at : (id : ℕ) × (h : SlotHere m y n id) × (s ≡ slot_seen h.prop.definer h.row) → None ≡ kept_from going (Some s)
+              at k = tested (is_among k.1.prop.definer coming) refl (is_among k.1.prop.definer going) refl
+                where
+                  tested : (g : Bool) → is_among k.1.prop.definer coming ≡ g → (l : Bool) → is_among k.1.prop.definer going ≡ l → None ≡ kept_from going (Some s)
+                  tested g hg true hl = sym (ap (λ b. if b then None else Some s) (ap (λ (z : Slot). is_among z.definer going) k.2 ∙ hl))
+                  tested true hg false hl = let p = gained_named n k.0 k.1.prop k.1.there k.1.name hg in absurd (none-some p.0 (sym ho ∙ p.1))
+                  tested false hg false hl = absurd (not_here k.0 k.1.prop k.1.row k.1.there (settled y k.0 k.1.prop true false false k.1.there hu hg hl ∙ k.1.held) k.1.name)
+
+          by : (u : Bool) → is_among x (chain w y) ≡ u → (o : Option Pair) → pair_named (owed_by w coming) n ≡ o → (v : Option Slot) → slot_of w y n ≡ v → None ≡ (if u then elim o [ Some p ↦ option_map (fresh (owner_of w y)) (slot_of w q n) | None ↦ kept_from going v ] else v)
+          by false hu o ho None e = refl
+          by false hu o ho (Some s) e =
+              let k = slot_from m y n row here s e in
+              absurd (not_here k.0 k.1.prop k.1.row k.1.there (settled y k.0 k.1.prop false _ _ k.1.there hu refl refl ∙ k.1.held) k.1.name)
+          by true hu None ho None e = refl
+          by true hu None ho (Some s) e = stays hu ho s e
+          by true hu (Some p) ho v e =
+              let k = named_gained n p ho in
+              absurd (not_here k.0 k.1.prop (fresh_from (owner_of w y) k.1.row) k.1.there (settled y k.0 k.1.prop true true _ k.1.there hu k.2 refl ∙ ap (option_map (fresh_from (owner_of w y))) k.1.held) k.1.name)
+
+      slot_here : slot_of (world_of t2) y n ≡ manual_slot w x q y n
+      slot_here = by (slot_of (world_of t2) y n) refl
+        where
+          by : (o : Option Slot) → slot_of (world_of t2) y n ≡ o → o ≡ manual_slot w x q y n
+          by None e = lacked e
+          by (Some s) e = let r = row2 y row here in let k = slot_from m2 y n r.0 r.1 s e in found s k.0 k.1 k.2
+
+    same_slots : (y : ObjNo) (n : Name) → slot_of (world_of t2) y n ≡ slot_of (reparented w x q) y n
+    same_slots y n = by (is_object w y) refl
+      where
+        still : is_object (world_of t2) y ≡ is_object (reparented w x q) y
+        still = objects_same (world_of t2) (reparented w x q) same_links y
+
+        gone : (o : Option ObjRow) → is_some (option_map (λ (row : ObjRow). if same_object x y then record row { parent = q } else row) o) ≡ is_some o
+        gone None = refl
+        gone (Some r) = refl
+
+        no_object : is_object w y ≡ false → is_object (world_of t2) y ≡ false
+        no_object e = is_object_seen m2 y ∙ ap is_some (objects y) ∙ gone (m.object y) ∙ sym (is_object_seen m y) ∙ e
+
+        by : (b : Bool) → is_object w y ≡ b → slot_of (world_of t2) y n ≡ slot_of (reparented w x q) y n
+        by true e = let r = object_row t sound y e in slot_here y n r.0 r.1 ∙ sym (manual_law w x q wf may.object (new_is w x q may) may.outside (no_clash w x q may) y n e)
+        by false e = no_slot ((world_of t2).object y) n (no_object e) ∙ sym (no_slot ((reparented w x q).object y) n (sym still ∙ no_object e))
+
+    -- such rows show the reparented world
+    pub world_after : world_of t2 ≡ reparented w x q
+    world_after = same_world (world_of t2) (reparented w x q) same_links same_slots
+
+    -- ---- such rows are sound
+
+    still_object : (y : ObjNo) → is_some (m.object y) ≡ true → is_some (m2.object y) ≡ true
+    still_object y e = ap is_some (objects y) ∙ kept (m.object y) ∙ e
+      where
+        kept : (o : Option ObjRow) → is_some (option_map (λ (row : ObjRow). if same_object x y then record row { parent = q } else row) o) ≡ is_some o
+        kept None = refl
+        kept (Some r) = refl
+
+    is_there : (y : ObjNo) → is_among x (chain w y) ≡ true → is_object w y ≡ true
+    is_there y u = by (is_object w y) refl
+      where
+        by : (b : Bool) → is_object w y ≡ b → b ≡ true
+        by true e = refl
+        by false e = absurd (false≢true (sym (ap (is_among x) (chain_of_none w y e)) ∙ u))
+
+    -- a slot is an old one, of a definer that isn't lost where y is under x, or is of a gained definer
+    data Origin (y : ObjNo) (id : ℕ) : Type 0 where
+      beside : is_among x (chain w y) ≡ false → is_some (m.slot y id) ≡ true → Origin y id
+      old : is_among x (chain w y) ≡ true → is_defined_among going t (prop_id id) ≡ false → is_some (m.slot y id) ≡ true → Origin y id
+      new : is_among x (chain w y) ≡ true → is_defined_among coming t (prop_id id) ≡ true → is_some (m.slot q id) ≡ true → Origin y id
+
+    origin : (y : ObjNo) (id : ℕ) → is_some (m2.slot y id) ≡ true → Origin y id
+    origin y id h = by (is_among x (chain w y)) refl (is_defined_among coming t (prop_id id)) refl (is_defined_among going t (prop_id id)) refl (sym (ap is_some (slots (y, prop_id id))) ∙ h)
+      where
+        some_map : (f : SlotRow → SlotRow) (o : Option SlotRow) → is_some (option_map f o) ≡ true → is_some o ≡ true
+        some_map f None e = e
+        some_map f (Some r) e = refl
+
+        by : (u : Bool) → is_among x (chain w y) ≡ u → (g : Bool) → is_defined_among coming t (prop_id id) ≡ g → (l : Bool) → is_defined_among going t (prop_id id) ≡ l → is_some (settle u g l (option_map (fresh_from (owner_of w y)) (m.slot q id)) (m.slot y id)) ≡ true → Origin y id
+        by false hu g hg l hl k = beside hu k
+        by true hu true hg l hl k = new hu hg (some_map (fresh_from (owner_of w y)) (m.slot q id) k)
+        by true hu false hg true hl k = absurd (false≢true k)
+        by true hu false hg false hl k = old hu hl k
+
+    slot_rows : (y : ObjNo) (id : ℕ) → Origin y id → (is_some (m.object y) ≡ true) × (is_some (m.prop id) ≡ true)
+    slot_rows y id (beside u k) = sound.slots y id k
+    slot_rows y id (old u l k) = sound.slots y id k
+    slot_rows y id (new u g k) = (sym (is_object_seen m y) ∙ is_there y u, (sound.slots q id k).1)
+
+    one_new : (y : ObjNo) (i j : ℕ) (p r : PropRow) → m.prop i ≡ Some p → m.prop j ≡ Some r → folded p.name ≡ folded r.name → is_among x (chain w y) ≡ true → is_defined_among coming t (prop_id i) ≡ true → is_defined_among going t (prop_id j) ≡ false → is_some (m.slot y j) ≡ true → ⊥
+    one_new y i j p r e f n u g l k =
+        let named = gained_named (folded r.name) i p e n (sym (tests coming i p e) ∙ g) in
+        let s = some_of (m.slot y j) k in
+        let row = object_row t sound y (is_there y u) in
+        let seen = slot_is y (folded r.name) row.0 row.1 j (record { prop = r; row = s.0; there = f; held = s.1; name = refl }) in
+        no_both y (is_there y u) u (folded r.name) r.definer named.0 (ap (option_map (λ (z : Slot). z.definer)) seen) (sym (tests going j r f) ∙ l) named.1
+
+    one_name2 : (y : ObjNo) (i j : ℕ) (p r : PropRow) → Origin y i → Origin y j → m.prop i ≡ Some p → m.prop j ≡ Some r → folded p.name ≡ folded r.name → i ≡ j
+    one_name2 y i j p r (beside u k) (beside v h) e f n = sound.one_name y i j p r k h e f n
+    one_name2 y i j p r (old u l k) (old v m h) e f n = sound.one_name y i j p r k h e f n
+    one_name2 y i j p r (new u g k) (new v c h) e f n = sound.one_name q i j p r k h e f n
+    one_name2 y i j p r (new u g k) (old v l h) e f n = absurd (one_new y i j p r e f n u g l h)
+    one_name2 y i j p r (old u l k) (new v g h) e f n = absurd (one_new y j i r p f e (sym n) u g l k)
+    one_name2 y i j p r (beside u k) (old v l h) e f n = absurd (both_ways (is_among x (chain w y)) u v)
+    one_name2 y i j p r (beside u k) (new v g h) e f n = absurd (both_ways (is_among x (chain w y)) u v)
+    one_name2 y i j p r (old u l k) (beside v h) e f n = absurd (both_ways (is_among x (chain w y)) v u)
+    one_name2 y i j p r (new u g k) (beside v h) e f n = absurd (both_ways (is_among x (chain w y)) v u)
+
+    pub sound_after : IsSound t2
+    sound_after = record {
+      props_below = sound.props_below;
+      definers = λ id p e. still_object p.definer (sound.definers id p e);
+      slots = λ y id e. let r = slot_rows y id (origin y id e) in (still_object y r.0, r.1);
+      one_name = λ y i j p r k h e f n. one_name2 y i j p r (origin y i k) (origin y j h) e f n;
+      verbs = λ y id e. let r = sound.verbs y id e in (still_object y r.0, r.1, r.2);
+    }

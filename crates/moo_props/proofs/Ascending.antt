@@ -1,0 +1,86 @@
+-- The keys of slots that a change of parent touches are in order.
+use Rattle.std.proofs.Common.{◌≡◌, Bool, true, false, cond, T, List, [], ◌∷◌, ◌++◌, map, Ordering, Less, refl, sym, ap, ◌∙◌, subst}
+use Rattle.std.specs.Cmp.{tied_itself}
+use Rattle.std.specs.Ordering.{ordering_then}
+use Rattle.std.specs.List.{filter, AllByRecursion}
+use Rattle.std.specs.FinMap.{entries, is_sorted, entries_sorted}
+use Rattle.std.specs.FinMap.Entries.{below_all}
+use Rattle.moo_value.specs.declared.value.ObjNo.{ObjNo}
+use Rattle.moo_rows.specs.declared.row.PropId.{PropId}
+use Rattle.moo_rows.specs.Maps.{Maps, object_cmp, prop_cmp, slot_cmp}
+use Rattle.moo_rows.proofs.Orders.{object_total}
+use Rattle.moo_rows.proofs.Walking.{first_of, second_of, less_of}
+use Rattle.moo_world.specs.World.{chain}
+use Rattle.moo_world.specs.Objects.{is_among}
+use Rattle.moo_world.specs.Rows.{world_of}
+use Rattle.moo_world.specs.Manual.{lost, gained}
+use Rattle.moo_props.specs.Present.{AreAscending}
+use Rattle.moo_props.specs.Reparent.{owners_under, keys_on, keys_over}
+use Rattle.moo_props.specs.Touched.{props_of, removed_keys, added_keys}
+
+-- each is below all after it, by a key
+abbrev Rises : {K A : Type 0} → (K → K → Ordering) → (A → K) → List A → Type 0
+Rises cmp key [] = Unit {0}
+Rises cmp key (a ∷ l) = AllByRecursion (λ b. cmp (key a) (key b) ≡ Less) l × Rises cmp key l
+
+module _ {K X B : Type 0} (cmp : K → K → Ordering) (key : B → K) (test : K × X → Bool) (made : K × X → B) (same : (e : K × X) → key (made e) ≡ e.0) where
+  above_made : (k : K) (es : List (K × X)) → T (below_all cmp k es) → AllByRecursion (λ b. cmp k (key b) ≡ Less) (map made (filter test es))
+  above_made k [] h = tt
+  above_made k (e ∷ es) h = by (test e) (above_made k es (second_of _ _ h))
+    where
+      by : (b : Bool) → AllByRecursion (λ b. cmp k (key b) ≡ Less) (map made (filter test es)) → AllByRecursion (λ b. cmp k (key b) ≡ Less) (map made (cond b (e ∷ filter test es) (filter test es)))
+      by true r = (ap (cmp k) (same e) ∙ less_of _ (first_of _ _ h), r)
+      by false r = r
+
+  -- what is made of sorted entries rises
+  rises_made : (es : List (K × X)) → T (is_sorted cmp es) → Rises cmp key (map made (filter test es))
+  rises_made [] h = tt
+  rises_made (e ∷ es) h = by (test e) (rises_made es (second_of _ _ h))
+    where
+      by : (b : Bool) → Rises cmp key (map made (filter test es)) → Rises cmp key (map made (cond b (e ∷ filter test es) (filter test es)))
+      by true r = (subst (λ k. AllByRecursion (λ b. cmp k (key b) ≡ Less) (map made (filter test es))) (sym (same e)) (above_made e.0 es (first_of _ _ h)), r)
+      by false r = r
+
+-- a lesser object's key comes first, and of one object that of the lesser property
+by_object : (y z : ObjNo) (i j : PropId) → object_cmp y z ≡ Less → slot_cmp (y, i) (z, j) ≡ Less
+by_object y z i j h = ap (λ o. ordering_then o (prop_cmp i j)) h
+
+by_prop : (y : ObjNo) (i j : PropId) → prop_cmp i j ≡ Less → slot_cmp (y, i) (y, j) ≡ Less
+by_prop y i j h = ap (λ o. ordering_then o (prop_cmp i j)) (tied_itself object_total y) ∙ h
+
+on_one : (y : ObjNo) (i : PropId) (ids : List PropId) → AllByRecursion (λ j. prop_cmp i j ≡ Less) ids → AllByRecursion (λ other. slot_cmp (y, i) other ≡ Less) (keys_on y ids)
+on_one y i [] h = tt
+on_one y i (j ∷ ids) h = (by_prop y i j h.0, on_one y i ids h.1)
+
+all_append : {A : Type 0} (P : A → Type 0) (l m : List A) → AllByRecursion P l → AllByRecursion P m → AllByRecursion P (l ++ m)
+all_append P [] m h k = k
+all_append P (x ∷ l) m h k = (h.0, all_append P l m h.1 k)
+
+module _ (ids : List PropId) (rises : Rises prop_cmp (λ j. j) ids) where
+  later_object : (y : ObjNo) (i : PropId) (es : List (ObjNo × ObjNo)) → AllByRecursion (λ e. object_cmp y e.0 ≡ Less) es → AllByRecursion (λ other. slot_cmp (y, i) other ≡ Less) (keys_over ids es)
+  later_object y i [] h = tt
+  later_object y i (e ∷ es) h = all_append (λ other. slot_cmp (y, i) other ≡ Less) (keys_on e.0 ids) (keys_over ids es) (each ids) (later_object y i es h.1)
+    where
+      each : (l : List PropId) → AllByRecursion (λ other. slot_cmp (y, i) other ≡ Less) (keys_on e.0 l)
+      each [] = tt
+      each (j ∷ l) = (by_object y e.0 i j h.0, each l)
+
+  keys_rise : (es : List (ObjNo × ObjNo)) → Rises object_cmp (λ e. e.0) es → AreAscending (keys_over ids es)
+  keys_rise [] h = tt
+  keys_rise (e ∷ es) h = front ids rises (keys_rise es h.1)
+    where
+      front : (l : List PropId) → Rises prop_cmp (λ j. j) l → AreAscending (keys_over ids es) → AreAscending (keys_on e.0 l ++ keys_over ids es)
+      front [] r k = k
+      front (i ∷ l) r k = (all_append (λ other. slot_cmp (e.0, i) other ≡ Less) (keys_on e.0 l) (keys_over ids es) (on_one e.0 i l r.0) (later_object e.0 i es h.0), front l r.1 k)
+
+keys_ascend : (t : Maps) (x : ObjNo) (definers : List ObjNo) → AreAscending (keys_over (props_of definers t.props) (owners_under t x))
+keys_ascend t x definers = keys_rise (props_of definers t.props)
+    (rises_made prop_cmp (λ j. j) (λ e. is_among e.1.definer definers) (λ e. e.0) (λ e. refl) (entries t.props) (entries_sorted t.props))
+    (owners_under t x)
+    (rises_made object_cmp (λ e. e.0) (λ e. is_among x (chain (world_of t) e.0)) (λ e. (e.0, e.1.owner)) (λ e. refl) (entries t.objects) (entries_sorted t.objects))
+
+pub removed_ascend : (t : Maps) (x q : ObjNo) → AreAscending (removed_keys t x q)
+removed_ascend t x q = keys_ascend t x (lost (world_of t) x q)
+
+pub added_ascend : (t : Maps) (x q : ObjNo) → AreAscending (added_keys t x q)
+added_ascend t x q = keys_ascend t x (gained (world_of t) x q)

@@ -1,0 +1,150 @@
+-- What the slots are after they are removed and put one by one.
+use Rattle.std.proofs.Common.{◌≡◌, Bool, true, false, cond, ◌||◌, Option, None, Some, List, [], ◌∷◌, refl, sym, ap, ◌∙◌}
+use Rattle.std.specs.Prelude.{◌&&◌, is_some}
+use Rattle.std.specs.Option.{option_map}
+use Rattle.std.specs.Bool.{Decides}
+use Rattle.std.specs.Ordering.{eq_by_cmp}
+use Rattle.std.specs.List.{list_any, cons_option, AllByRecursion}
+use Rattle.std.specs.FinMap.{FinMap, get, get-insert, get-remove}
+use Rattle.std.proofs.lemmas.Bool.{and_parts}
+use Rattle.std.proofs.lemmas.Option.{none-some, same_Some}
+use Rattle.moo_value.specs.declared.value.ObjNo.{ObjNo}
+use Rattle.moo_rows.specs.declared.row.PropId.{PropId}
+use Rattle.moo_rows.specs.declared.row.SlotRow.{SlotRow}
+use Rattle.moo_rows.specs.Maps.{Held, prop_cmp, slot_cmp}
+use Rattle.moo_rows.specs.Exact.{prop_exact, slot_exact}
+use Rattle.moo_rows.proofs.Orders.{prop_total, slot_total}
+use Rattle.moo_world.specs.Objects.{same_object, same_object-Decides}
+use Rattle.moo_world.proofs.MapLaws.{key-Decides, decided_alike}
+use Rattle.moo_props.specs.declared.reparent.Origin.{Origin}
+use Rattle.moo_props.specs.Reparent.{origin_of, origins, fresh_row, slot_removed, slot_put, without_on, with_fresh, slots_moved}
+use Rattle.moo_props.specs.Touched.{fresh_from}
+
+abbrev pub is_id : PropId → PropId → Bool
+is_id j id = eq_by_cmp prop_cmp j id
+
+-- the property is in the list
+abbrev pub has_id : PropId → List PropId → Bool
+has_id j ids = list_any (is_id j) ids
+
+pub is_id-Decides : (j id : PropId) → Decides (is_id j id) (j ≡ id)
+is_id-Decides j id = key-Decides prop_cmp prop_total prop_exact j id
+
+pub key_parts : (y z : ObjNo) (id j : PropId) → eq_by_cmp slot_cmp (z, j) (y, id) ≡ (same_object y z && is_id j id)
+key_parts y z id j = decided_alike _ _ (◌≡◌ {A = ObjNo × PropId} (z, j) (y, id)) (key-Decides slot_cmp slot_total slot_exact (z, j) (y, id)) (
+  λ e. let parts = and_parts (same_object y z) (is_id j id) e in λ i. (sym ((same_object-Decides y z).0 parts.0) i, (is_id-Decides j id).0 parts.1 i),
+  λ e i. (same_object-Decides y z).1 (sym (ap (λ (k : ObjNo × PropId). k.0) e)) i && (is_id-Decides j id).1 (ap (λ (k : ObjNo × PropId). k.1) e) i,
+)
+
+abbrev slot_at : Held → ObjNo → PropId → Option SlotRow
+slot_at held z j = get held.maps.slots (z, j)
+
+pub slot_at-without : (y z : ObjNo) (j : PropId) (ids : List PropId) (held : Held) → slot_at (without_on y ids held) z j ≡ cond (same_object y z && has_id j ids) None (slot_at held z j)
+slot_at-without y z j [] held = by (same_object y z)
+  where
+    by : (b : Bool) → slot_at held z j ≡ cond (b && false) None (slot_at held z j)
+    by true = refl
+    by false = refl
+slot_at-without y z j (id ∷ ids) held =
+    slot_at-without y z j ids (slot_removed y id held)
+    ∙ ap (cond (same_object y z && has_id j ids) None) (get-remove slot_total held.maps.slots (y, id) (z, j) ∙ ap (λ b. cond b None (slot_at held z j)) (key_parts y z id j))
+    ∙ by (same_object y z) (is_id j id) (has_id j ids)
+  where
+    by : (a b r : Bool) → cond (a && r) None (cond (a && b) None (slot_at held z j)) ≡ cond (a && (b || r)) None (slot_at held z j)
+    by true true true = refl
+    by true true false = refl
+    by true false true = refl
+    by true false false = refl
+    by false b r = refl
+
+-- the slot that is left of g after the fresh ones are put
+abbrev pub fresh_in : ObjNo → List Origin → PropId → Option SlotRow → Option SlotRow
+fresh_in owner [] j g = g
+fresh_in owner (o ∷ os) j g = fresh_in owner os j (cond (is_id j o.id) (Some (fresh_row owner o)) g)
+
+pub slot_at-fresh : (y z owner : ObjNo) (j : PropId) (os : List Origin) (held : Held) → slot_at (with_fresh y owner os held) z j ≡ cond (same_object y z) (fresh_in owner os j (slot_at held z j)) (slot_at held z j)
+slot_at-fresh y z owner j [] held = by (same_object y z)
+  where
+    by : (b : Bool) → slot_at held z j ≡ cond b (slot_at held z j) (slot_at held z j)
+    by true = refl
+    by false = refl
+slot_at-fresh y z owner j (o ∷ os) held =
+    slot_at-fresh y z owner j os (slot_put y o.id (fresh_row owner o) held)
+    ∙ ap (λ g. cond (same_object y z) (fresh_in owner os j g) g) (get-insert slot_total held.maps.slots (y, o.id) (fresh_row owner o) (z, j) ∙ ap (λ b. cond b (Some (fresh_row owner o)) (slot_at held z j)) (key_parts y z o.id j))
+    ∙ by (same_object y z)
+  where
+    by : (a : Bool) → cond a (fresh_in owner os j (cond (a && is_id j o.id) (Some (fresh_row owner o)) (slot_at held z j))) (cond (a && is_id j o.id) (Some (fresh_row owner o)) (slot_at held z j)) ≡ cond a (fresh_in owner os j (cond (is_id j o.id) (Some (fresh_row owner o)) (slot_at held z j))) (slot_at held z j)
+    by true = refl
+    by false = refl
+
+module _ (slots : FinMap slot_cmp SlotRow) (q : ObjNo) where
+  pub fresh_in-origins : (owner : ObjNo) (j : PropId) (o : Option SlotRow) → get slots (q, j) ≡ o → (ids : List PropId) (g : Option SlotRow) → fresh_in owner (origins slots q ids) j g ≡ cond (has_id j ids && is_some o) (option_map (fresh_from owner) o) g
+  fresh_in-origins owner j o e [] g = refl
+  fresh_in-origins owner j o e (id ∷ ids) g = by (λ p h k. fresh_in-origins owner j p h ids k) (get slots (q, id)) refl (is_id j id) refl o e
+    where
+      same_slot : is_id j id ≡ true → get slots (q, id) ≡ get slots (q, j)
+      same_slot h = ap (λ k. get slots (q, k)) (sym ((is_id-Decides j id).0 h))
+
+      settled : (b : Bool) (v : Option SlotRow) → cond b v v ≡ v
+      settled true v = refl
+      settled false v = refl
+
+      by : ((o : Option SlotRow) → get slots (q, j) ≡ o → (g : Option SlotRow) → fresh_in owner (origins slots q ids) j g ≡ cond (has_id j ids && is_some o) (option_map (fresh_from owner) o) g) → (p : Option SlotRow) → get slots (q, id) ≡ p → (b : Bool) → is_id j id ≡ b → (o : Option SlotRow) → get slots (q, j) ≡ o
+          → fresh_in owner (cons_option (option_map (origin_of id) p) (origins slots q ids)) j g ≡ cond ((b || has_id j ids) && is_some o) (option_map (fresh_from owner) o) g
+      by r None h true k None e = r None e g ∙ ap (λ v. cond v None g) (none (has_id j ids))
+        where
+          none : (b : Bool) → (b && false) ≡ false
+          none true = refl
+          none false = refl
+      by r None h true k (Some s) e = absurd (none-some s (sym h ∙ same_slot k ∙ e))
+      by r None h false k o e = r o e g
+      by r (Some p) h true k None e = absurd (none-some p (sym e ∙ sym (same_slot k) ∙ h))
+      by r (Some p) h true k (Some s) e =
+          let same : p ≡ s = same_Some p s (sym h ∙ same_slot k ∙ e) in
+          r (Some s) e (cond (is_id j id) (Some (fresh_from owner p)) g)
+          ∙ (λ i. cond (has_id j ids && true) (Some (fresh_from owner s)) (cond (k i) (Some (fresh_from owner (same i))) g))
+          ∙ settled (has_id j ids && true) (Some (fresh_from owner s))
+      by r (Some p) h false k o e =
+          r o e (cond (is_id j id) (Some (fresh_from owner p)) g)
+          ∙ ap (λ b. cond (has_id j ids && is_some o) (option_map (fresh_from owner) o) (cond b (Some (fresh_from owner p)) g)) k
+
+  -- what becomes of a slot on an object of this owner
+  abbrev pub moved_slot : List PropId → List PropId → ObjNo → PropId → Option SlotRow → Option SlotRow
+  moved_slot lost coming owner j g = cond (has_id j coming && is_some (get slots (q, j))) (option_map (fresh_from owner) (get slots (q, j))) (cond (has_id j lost) None g)
+
+  module _ (lost coming : List PropId) (owner : ObjNo → ObjNo) (z : ObjNo) (j : PropId) where
+    abbrev step : Option SlotRow → Option SlotRow
+    step g = moved_slot lost coming (owner z) j g
+
+    twice : (g : Option SlotRow) → step (step g) ≡ step g
+    twice g = by (has_id j coming && is_some (get slots (q, j))) (has_id j lost) (option_map (fresh_from (owner z)) (get slots (q, j)))
+      where
+        by : (a b : Bool) (f : Option SlotRow) → cond a f (cond b None (cond a f (cond b None g))) ≡ cond a f (cond b None g)
+        by true b f = refl
+        by false true f = refl
+        by false false f = refl
+
+    one_moved : (e : ObjNo × ObjNo) (held : Held) → e.1 ≡ owner e.0 → slot_at (with_fresh e.0 e.1 (origins slots q coming) (without_on e.0 lost held)) z j ≡ cond (same_object e.0 z) (step (slot_at held z j)) (slot_at held z j)
+    one_moved e held h =
+        slot_at-fresh e.0 z e.1 j (origins slots q coming) (without_on e.0 lost held)
+        ∙ ap (λ g. cond (same_object e.0 z) (fresh_in e.1 (origins slots q coming) j g) g) (slot_at-without e.0 z j lost held)
+        ∙ by (same_object e.0 z) refl
+      where
+        by : (a : Bool) → same_object e.0 z ≡ a → cond a (fresh_in e.1 (origins slots q coming) j (cond (a && has_id j lost) None (slot_at held z j))) (cond (a && has_id j lost) None (slot_at held z j)) ≡ cond a (step (slot_at held z j)) (slot_at held z j)
+        by true k =
+            fresh_in-origins e.1 j (get slots (q, j)) refl coming (cond (has_id j lost) None (slot_at held z j))
+            ∙ ap (λ o. moved_slot lost coming o j (slot_at held z j)) (h ∙ ap owner ((same_object-Decides e.0 z).0 k))
+        by false k = refl
+
+    pub all_moved : (es : List (ObjNo × ObjNo)) (held : Held) → AllByRecursion (λ e. e.1 ≡ owner e.0) es
+        → slot_at (slots_moved lost (origins slots q coming) es held) z j ≡ cond (list_any (λ e. same_object e.0 z) es) (step (slot_at held z j)) (slot_at held z j)
+    all_moved [] held h = refl
+    all_moved (e ∷ es) held h =
+        all_moved es (with_fresh e.0 e.1 (origins slots q coming) (without_on e.0 lost held)) h.1
+        ∙ ap (λ g. cond (list_any (λ e. same_object e.0 z) es) (step g) g) (one_moved e held h.0)
+        ∙ by (same_object e.0 z) (list_any (λ e. same_object e.0 z) es)
+      where
+        by : (a b : Bool) → cond b (step (cond a (step (slot_at held z j)) (slot_at held z j))) (cond a (step (slot_at held z j)) (slot_at held z j)) ≡ cond (a || b) (step (slot_at held z j)) (slot_at held z j)
+        by true true = twice (slot_at held z j)
+        by true false = refl
+        by false b = refl

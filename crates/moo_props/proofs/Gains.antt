@@ -1,0 +1,151 @@
+-- A property that x gains has a slot on q.
+use Rattle.std.proofs.Common.{◌≡◌, ℕ, ◌<◌, Bool, true, false, ◌||◌, Option, None, Some, List, [], ◌∷◌, ◌++◌, map, refl, sym, ap, ◌∙◌, subst, ◌⊎◌, inl, inr}
+use Rattle.std.specs.Prelude.{is_some, if◌then◌else◌}
+use Rattle.std.specs.Option.{option_map, option_and_then}
+use Rattle.std.specs.List.{filter_map, list_any, IsDistinct, AllByRecursion}
+use Rattle.std.proofs.lemmas.Bool.{false≢true, and_parts, cases_order}
+use Rattle.std.proofs.lemmas.Option.{none-some, same_Some}
+use Rattle.moo_value.specs.declared.value.ObjNo.{ObjNo}
+use Rattle.moo_rows.specs.declared.row.ObjRow.{ObjRow}
+use Rattle.moo_rows.specs.declared.row.PropRow.{PropRow}
+use Rattle.moo_rows.specs.Maps.{Maps}
+use Rattle.moo_world.specs.Objects.{Name, Pair, same_object, same_text, same_pair, folded, is_among, same_object-Decides, same_text-Decides, same_pair-self}
+use Rattle.moo_world.specs.World.{World, Slot, IsWellFormed, NamesDiffer, is_object, chain, names_of, defined_by, owed_by, pair_named, slot_of}
+use Rattle.moo_world.specs.Rows.{LookUps, IsSound, look_ups, world_of, numbers_below, name_on, record_of}
+use Rattle.moo_world.specs.Laws.{MayReparent}
+use Rattle.moo_world.specs.Manual.{gained}
+use Rattle.moo_world.proofs.Keeping.{named_is}
+use Rattle.moo_world.proofs.RowLaws.{names_shown}
+use Rattle.moo_world.proofs.Seen.{is_object_seen, object_seen}
+use Rattle.moo_world.proofs.Subtrees.{owed_listed}
+use Rattle.moo_world.proofs.Trees.{Chain-chain, chain_of_none, chain-step}
+use Rattle.moo_props.proofs.Definers.{only_gained}
+use Rattle.moo_props.proofs.Numbered.{any_from, no_later}
+use Rattle.moo_props.proofs.Shown.{SlotHere, slot_from}
+
+pub some_of : {A : Type 0} (o : Option A) → is_some o ≡ true → (a : A) × (o ≡ Some a)
+some_of None e = absurd (false≢true e)
+some_of (Some a) e = (a, refl)
+
+any_map : {A B : Type 0} (test : B → Bool) (f : A → B) (l : List A) → list_any test (map f l) ≡ list_any (λ a. test (f a)) l
+any_map test f [] = refl
+any_map test f (a ∷ l) = ap (λ b. test (f a) || b) (any_map test f l)
+
+distinct_map : {A B : Type 0} (differ : B → B → Bool) (f : A → B) (l : List A) → IsDistinct differ (map f l) → IsDistinct (λ a b. differ (f a) (f b)) l
+unfolding IsDistinct
+distinct_map differ f [] d = tt
+distinct_map differ f (a ∷ l) d = (all l d.0, distinct_map differ f l d.1)
+  where
+    all : (l : List _) → AllByRecursion (λ y. differ (f a) y ≡ false) (map f l) → AllByRecursion (λ b. differ (f a) (f b) ≡ false) l
+    all [] h = tt
+    all (b ∷ l) h = (h.0, all l h.1)
+
+pairs_left : (l m : List Pair) → NamesDiffer (l ++ m) → NamesDiffer l
+unfolding IsDistinct
+pairs_left [] m d = tt
+pairs_left (p ∷ l) m d = (first l d.0, pairs_left l m d.1)
+  where
+    first : (l : List Pair) → AllByRecursion (λ y. same_text (folded p.1) (folded y.1) ≡ false) (l ++ m) → AllByRecursion (λ y. same_text (folded p.1) (folded y.1) ≡ false) l
+    first [] a = tt
+    first (y ∷ l) a = (a.0, first l a.1)
+
+module _ (t : Maps) (sound : IsSound t) where
+  abbrev pub m : LookUps
+  m = look_ups t
+
+  abbrev pub w : World
+  w = world_of t
+
+  pub object_row : (y : ObjNo) → is_object w y ≡ true → (row : ObjRow) × (m.object y ≡ Some row)
+  object_row y e = some_of (m.object y) (sym (is_object_seen m y) ∙ e)
+
+  name_here : (id : ℕ) (p : PropRow) → m.prop id ≡ Some p → name_on m p.definer id ≡ Some p.name
+  name_here id p e =
+      ap (option_and_then (λ (r : PropRow). if same_object r.definer p.definer then Some r.name else None)) e
+      ∙ ap (λ b. if b then Some p.name else None) ((same_object-Decides p.definer p.definer).1 refl)
+
+  names_are : (id : ℕ) (p : PropRow) → m.prop id ≡ Some p → names_of w p.definer ≡ filter_map (name_on m p.definer) (numbers_below t.head.next_prop)
+  names_are id p e = let r = some_of (m.object p.definer) (sound.definers id p e) in names_shown m p.definer r.0 r.1
+
+  low : (id : ℕ) (p : PropRow) → m.prop id ≡ Some p → id < t.head.next_prop
+  low id p e = (sound.props_below id (ap is_some e)).1
+
+  -- a property's row is a definition of the world
+  pub defines_pair : (id : ℕ) (p : PropRow) → m.prop id ≡ Some p → list_any (same_pair (p.definer, p.name)) (defined_by w p.definer) ≡ true
+  defines_pair id p e =
+      any_map (same_pair (p.definer, p.name)) (λ n. (p.definer, n)) (names_of w p.definer)
+      ∙ ap (list_any (λ n. same_pair (p.definer, p.name) (p.definer, n))) (names_are id p e)
+      ∙ any_from (name_on m p.definer) (λ n. same_pair (p.definer, p.name) (p.definer, n)) t.head.next_prop id p.name (low id p e) (name_here id p e) (same_pair-self (p.definer, p.name))
+
+  module _ (wf : IsWellFormed w) where
+    abbrev same_name : Name → Name → Bool
+    same_name a b = same_text (folded a) (folded b)
+
+    definer_row : (id : ℕ) (p : PropRow) → m.prop id ≡ Some p → (row : ObjRow) × (m.object p.definer ≡ Some row)
+    definer_row id p e = some_of (m.object p.definer) (sound.definers id p e)
+
+    own_distinct : (id : ℕ) (p : PropRow) → m.prop id ≡ Some p → IsDistinct same_name (filter_map (name_on m p.definer) (numbers_below t.head.next_prop))
+    own_distinct id p e =
+        let r = definer_row id p e in
+        let there : is_object w p.definer ≡ true = is_object_seen m p.definer ∙ sound.definers id p e in
+        let chain_is : chain w p.definer ≡ p.definer ∷ chain w r.0.parent = chain-step w wf.tree p.definer (record_of m p.definer r.0) (object_seen m p.definer r.0 r.1) in
+        let differ : NamesDiffer (defined_by w p.definer ++ owed_by w (chain w r.0.parent)) = subst (λ l. NamesDiffer (owed_by w l)) chain_is (wf.names p.definer (chain w p.definer) (Chain-chain w wf.tree p.definer there)) in
+        subst (IsDistinct same_name) (names_are id p e) (distinct_map (λ (a b : Pair). same_text (folded a.1) (folded b.1)) (λ n. (p.definer, n)) (names_of w p.definer) (pairs_left (defined_by w p.definer) (owed_by w (chain w r.0.parent)) differ))
+
+    not_below : (i j : ℕ) (p r : PropRow) → m.prop i ≡ Some p → m.prop j ≡ Some r → p.definer ≡ r.definer → folded p.name ≡ folded r.name → i < j → ⊥
+    not_below i j p r e f d n l =
+        no_later (name_on m p.definer) same_name t.head.next_prop i j p.name r.name (own_distinct i p e) l (low j r f) (name_here i p e)
+        (ap (λ k. name_on m k j) d ∙ name_here j r f) (λ y. same_name y p.name) ((same_text-Decides (folded p.name) (folded p.name)).1 refl)
+        (λ y h. (same_text-Decides (folded y) (folded r.name)).1 ((same_text-Decides (folded y) (folded p.name)).0 h ∙ n))
+
+    -- a definer has one property of a name
+    pub one_prop : (i j : ℕ) (p r : PropRow) → m.prop i ≡ Some p → m.prop j ≡ Some r → p.definer ≡ r.definer → folded p.name ≡ folded r.name → i ≡ j
+    one_prop i j p r e f d n = by (cases_order i j)
+      where
+        by : (i ≡ j) ⊎ ((i < j) ⊎ (j < i)) → i ≡ j
+        by (inl g) = g
+        by (inr (inl l)) = absurd (not_below i j p r e f d n l)
+        by (inr (inr l)) = absurd (not_below j i r p f e (sym d) (sym n) l)
+
+  module _ (wf : IsWellFormed w) (z : ObjNo) (zo : is_object w z ≡ true) where
+    -- the property of a name that is owed to z has its row, and its slot on z
+    pub slot_of_owed : (n : Name) (p : Pair) → pair_named (owed_by w (chain w z)) n ≡ Some p → (id : ℕ) × (h : SlotHere m z n id) × (h.prop.definer ≡ p.0)
+    slot_of_owed n p e = by (slot_of w z n) refl
+      where
+        definer : option_map (λ s. s.definer) (slot_of w z n) ≡ Some p.0
+        definer = wf.slots z (chain w z) n zo (Chain-chain w wf.tree z zo) ∙ ap (option_map (λ k. k.0)) e
+
+        by : (s : Option Slot) → slot_of w z n ≡ s → (id : ℕ) × (h : SlotHere m z n id) × (h.prop.definer ≡ p.0)
+        by None g = absurd (none-some p.0 (sym (ap (option_map (λ s. s.definer)) g) ∙ definer))
+        by (Some s) g =
+            let row = object_row z zo in
+            let k = slot_from m z n row.0 row.1 s g in
+            (k.0, k.1, sym (ap (λ (s : Slot). s.definer) k.2) ∙ same_Some s.definer p.0 (sym (ap (option_map (λ s. s.definer)) g) ∙ definer))
+
+    -- a property of a definer in its chain has a slot on z
+    pub slot_on_heir : (id : ℕ) (p : PropRow) → m.prop id ≡ Some p → is_among p.definer (chain w z) ≡ true → is_some (m.slot z id) ≡ true
+    slot_on_heir id p e h =
+        let owed = owed_listed w (chain w z) p.definer (p.definer, p.name) h (defines_pair id p e) in
+        let named = named_is (owed_by w (chain w z)) (p.definer, p.name) (wf.names z (chain w z) (Chain-chain w wf.tree z zo)) owed in
+        let k = slot_of_owed (folded p.name) (p.definer, p.name) named in
+        let same : k.0 ≡ id = one_prop wf k.0 id k.1.prop p k.1.there e k.2 k.1.name in
+        ap (λ j. is_some (m.slot z j)) (sym same) ∙ ap is_some k.1.held
+
+  module _ (x q : ObjNo) (may : MayReparent w x q) where
+    abbrev wf : IsWellFormed w
+    wf = may.well_formed
+
+    pub gained_in_chain : (d : ObjNo) → is_among d (gained w x q) ≡ true → is_among d (chain w q) ≡ true
+    gained_in_chain d h = (and_parts _ _ (only_gained w x q may d ∙ h)).0
+
+    -- where x gains a definer q is an object
+    pub new_object : (d : ObjNo) → is_among d (gained w x q) ≡ true → is_object w q ≡ true
+    new_object d h = by (is_object w q) refl
+      where
+        by : (b : Bool) → is_object w q ≡ b → b ≡ true
+        by true e = refl
+        by false e = absurd (false≢true (sym (ap (is_among d) (chain_of_none w q e)) ∙ gained_in_chain d h))
+
+    -- a property of a definer that x gains has a slot on q
+    pub slot_on_new : (id : ℕ) (p : PropRow) → m.prop id ≡ Some p → is_among p.definer (gained w x q) ≡ true → is_some (m.slot q id) ≡ true
+    slot_on_new id p e h = slot_on_heir wf q (new_object p.definer h) id p e (gained_in_chain p.definer h)

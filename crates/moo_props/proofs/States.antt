@@ -1,0 +1,88 @@
+-- What another state on one slot does to the World.
+use Rattle.std.proofs.Common.{◌≡◌, ℕ, Bool, true, false, eqb, Option, None, Some, [], refl, sym, ap, ◌∙◌}
+use Rattle.std.specs.Prelude.{◌&&◌, is_some, unwrap_or, if◌then◌else◌}
+use Rattle.std.specs.Option.{option_map, option_and_then}
+use Rattle.std.specs.FinMap.{get, insert}
+use Rattle.std.proofs.lemmas.Bool.{and_parts, eqb-true}
+use Rattle.moo_value.specs.declared.value.ObjNo.{ObjNo}
+use Rattle.moo_rows.specs.declared.row.ObjRow.{ObjRow}
+use Rattle.moo_rows.specs.declared.row.PropId.{PropId}
+use Rattle.moo_rows.specs.declared.row.PropRow.{PropRow}
+use Rattle.moo_rows.specs.declared.row.SlotRow.{SlotRow}
+use Rattle.moo_rows.specs.declared.row.SlotState.{SlotState}
+use Rattle.moo_rows.specs.Maps.{Maps}
+use Rattle.moo_world.specs.Changes.{with_slot_of}
+use Rattle.moo_world.specs.Objects.{Name, same_object, same_text, folded, same_object-Decides, same_text-Decides}
+use Rattle.moo_world.specs.World.{World, Record, Slot, slot_of, with_record}
+use Rattle.moo_world.specs.Rows.{LookUps, IsSound, look_ups, world_of, world_shown, slot_seen, prop_id}
+use Rattle.moo_world.proofs.RowLaws.{slot_shown, world_shown-with_slot}
+use Rattle.moo_world.proofs.MapLaws.{look_ups-put_slot}
+use Rattle.moo_props.specs.Names.{spelling_of}
+use Rattle.moo_props.proofs.Gains.{some_of}
+
+module _ (t : Maps) (sound : IsSound t) (x : ObjNo) (id : PropId) (k : SlotRow) (held : get t.slots (x, id) ≡ Some k) (state : SlotState) where
+  abbrev m : LookUps
+  m = look_ups t
+
+  abbrev w : World
+  w = world_of t
+
+  there : (is_some (m.object x) ≡ true) × (is_some (m.prop id.0) ≡ true)
+  there = sound.slots x id.0 (ap is_some held)
+
+  prop : (p : PropRow) × (m.prop id.0 ≡ Some p)
+  prop = some_of (m.prop id.0) there.1
+
+  row : (r : ObjRow) × (m.object x ≡ Some r)
+  row = some_of (m.object x) there.0
+
+  abbrev next : SlotRow
+  next = record k { state = state }
+
+  one : world_of (record t { slots = insert t.slots (x, id) next }) ≡ with_record w x (λ r. record r { slot = λ n. if same_text (folded prop.0.name) n then Some (slot_seen prop.0.definer next) else r.slot n })
+  one = ap world_shown (look_ups-put_slot t x id next)
+      ∙ world_shown-with_slot m x id.0 next prop.0 prop.1 (sound.props_below id.0 (ap is_some prop.1)).1 (λ j r e s n. sound.one_name x j id.0 r prop.0 s (ap is_some held) e prop.1 n)
+
+  shown : slot_of w x (folded prop.0.name) ≡ Some (slot_seen prop.0.definer k)
+  shown = slot_shown m sound x row.0 row.1 id.0 prop.0 k prop.1 held
+
+  abbrev change : Slot → Slot
+  change s = record s { state = state }
+
+  same : with_record w x (λ r. record r { slot = λ n. if same_text (folded prop.0.name) n then Some (slot_seen prop.0.definer next) else r.slot n }) ≡ with_slot_of w x prop.0.name change
+  same = λ i. record w { object = λ y. at y (same_object x y) refl (w.object y) refl i }
+    where
+      slots : (r : Record) → r.slot (folded prop.0.name) ≡ Some (slot_seen prop.0.definer k) → (n : Name) (b : Bool) → same_text (folded prop.0.name) n ≡ b → (if b then Some (slot_seen prop.0.definer next) else r.slot n) ≡ (if b then option_map change (r.slot n) else r.slot n)
+      slots r h n true e = sym (ap (option_map change) (ap r.slot (sym ((same_text-Decides (folded prop.0.name) n).0 e)) ∙ h))
+      slots r h n false e = refl
+
+      at : (y : ObjNo) (b : Bool) → same_object x y ≡ b → (o : Option Record) → w.object y ≡ o
+          → option_map (λ (r : Record). if b then record r { slot = λ n. if same_text (folded prop.0.name) n then Some (slot_seen prop.0.definer next) else r.slot n } else r) o
+          ≡ option_map (λ (r : Record). if b then record r { slot = λ n. if same_text (folded prop.0.name) n then option_map change (r.slot n) else r.slot n } else r) o
+      at y b e None h = refl
+      at y false e (Some r) h = refl
+      at y true e (Some r) h =
+          let own : r.slot (folded prop.0.name) ≡ Some (slot_seen prop.0.definer k) = sym (ap (option_and_then (λ (z : Record). z.slot (folded prop.0.name))) (ap w.object ((same_object-Decides x y).0 e) ∙ h)) ∙ shown in
+          λ i. Some (record r { slot = λ n. slots r own n (same_text (folded prop.0.name) n) refl i })
+
+  pub put_state_world : world_of (record t { slots = insert t.slots (x, id) next }) ≡ with_slot_of w x (spelling_of t id) change
+  put_state_world = one ∙ same ∙ ap (λ n. with_slot_of w x n change) (sym (ap (λ o. unwrap_or (option_map (λ (p : PropRow). p.name) o) []) prop.1))
+
+  still : (y : ObjNo) (j : ℕ) → is_some (get (insert t.slots (x, id) next) (y, prop_id j)) ≡ true → is_some (m.slot y j) ≡ true
+  still y j e = by (same_object x y && eqb id.0 j) refl (ap is_some (sym (ap (λ (r : LookUps). r.slot y j) (look_ups-put_slot t x id next))) ∙ e)
+    where
+      by : (b : Bool) → (same_object x y && eqb id.0 j) ≡ b → is_some (if b then Some next else m.slot y j) ≡ true → is_some (m.slot y j) ≡ true
+      by true h k =
+          let parts = and_parts (same_object x y) (eqb id.0 j) h in
+          (λ i. is_some (m.slot (sym ((same_object-Decides x y).0 parts.0) i) (sym (eqb-true id.0 j parts.1) i))) ∙ ap is_some held
+      by false h k = k
+
+  -- such rows stay sound
+  pub put_state_sound : IsSound (record t { slots = insert t.slots (x, id) next })
+  put_state_sound = record {
+    props_below = sound.props_below;
+    definers = sound.definers;
+    slots = λ y j e. sound.slots y j (still y j e);
+    one_name = λ y i j p r e f. sound.one_name y i j p r (still y i e) (still y j f);
+    verbs = sound.verbs;
+  }

@@ -1,0 +1,90 @@
+-- What an object reads, by the rows.
+use Rattle.std.proofs.Common.{◌≡◌, Bool, true, false, Option, None, Some, [], refl, sym, ap, ◌∙◌, ◌⊎◌, inl, inr}
+use Rattle.std.specs.Prelude.{is_some, unwrap_or}
+use Rattle.std.specs.Option.{option_map}
+use Rattle.std.specs.FinMap.{get}
+use Rattle.std.proofs.lemmas.Bool.{false≢true, or_cases}
+use Rattle.std.proofs.lemmas.Option.{none-some, same_Some}
+use Rattle.moo_value.specs.declared.value.ObjNo.{ObjNo}
+use Rattle.moo_value.specs.declared.value.Value.{Value}
+use Rattle.moo_rows.specs.declared.row.ObjRow.{ObjRow}
+use Rattle.moo_rows.specs.declared.row.PropId.{PropId}
+use Rattle.moo_rows.specs.declared.row.PropRow.{PropRow}
+use Rattle.moo_rows.specs.declared.row.SlotRow.{SlotRow}
+use Rattle.moo_rows.specs.declared.row.SlotState.TheVariants.{Clear, Set}
+use Rattle.moo_rows.specs.Maps.{Maps}
+use Rattle.moo_world.specs.Objects.{Pair, same_object, folded, is_among, same_object-Decides}
+use Rattle.moo_world.specs.World.{World, Slot, IsWellFormed, is_object, chain, owed_by, pair_named, slot_of, read_of}
+use Rattle.moo_world.specs.Rows.{LookUps, IsSound, look_ups, world_of, slot_seen}
+use Rattle.moo_world.proofs.Owed.{definer_among, named_owed}
+use Rattle.moo_world.proofs.Reading.{read_step}
+use Rattle.moo_world.proofs.RowLaws.{slot_shown}
+use Rattle.moo_world.proofs.Seen.{is_object_seen, chain_of_row, object_seen}
+use Rattle.moo_world.proofs.Trees.{Chain-chain, chain_of_none}
+use Rattle.moo_props.specs.Names.{name_of}
+use Rattle.moo_props.proofs.Gains.{some_of, slot_on_heir}
+
+module _ (t : Maps) (sound : IsSound t) (wf : IsWellFormed (world_of t)) (x : ObjNo) (id : PropId) (k : SlotRow) (held : get t.slots (x, id) ≡ Some k) where
+  abbrev m : LookUps
+  m = look_ups t
+
+  abbrev w : World
+  w = world_of t
+
+  rows_there : (is_some (m.object x) ≡ true) × (is_some (m.prop id.0) ≡ true)
+  rows_there = sound.slots x id.0 (ap is_some held)
+
+  pub prop : (p : PropRow) × (m.prop id.0 ≡ Some p)
+  prop = some_of (m.prop id.0) rows_there.1
+
+  row : (r : ObjRow) × (m.object x ≡ Some r)
+  row = some_of (m.object x) rows_there.0
+
+  name_is : name_of t id ≡ folded prop.0.name
+  name_is = ap (λ o. unwrap_or (option_map (λ p. folded p.name) o) []) prop.1
+
+  pub slot_read : slot_of w x (name_of t id) ≡ Some (slot_seen prop.0.definer k)
+  slot_read = ap (slot_of w x) name_is ∙ slot_shown m sound x row.0 row.1 id.0 prop.0 k prop.1 held
+
+  pub set_read : (v : Value) → k.state ≡ Set v → read_of w x (name_of t id) ≡ Some v
+  set_read v e =
+      let r = read_step w wf.tree (name_of t id) x (slot_seen prop.0.definer k) slot_read in
+      r.2 ∙ ap (λ z. elim z [ Clear ↦ read_of w r.0.row.parent (name_of t id) | Set u ↦ Some u ]) e
+
+  module _ (clear : k.state ≡ Clear) (r : ObjRow) (there : m.object x ≡ Some r) where
+    pub clear_read : read_of w x (name_of t id) ≡ read_of w r.parent (name_of t id)
+    clear_read =
+        let s = read_step w wf.tree (name_of t id) x (slot_seen prop.0.definer k) slot_read in
+        let same = same_Some s.0 _ (sym s.1 ∙ object_seen m x r there) in
+        s.2 ∙ ap (λ z. elim z [ Clear ↦ read_of w s.0.row.parent (name_of t id) | Set u ↦ Some u ]) clear ∙ ap (λ z. read_of w z.row.parent (name_of t id)) same
+
+    xo : is_object w x ≡ true
+    xo = is_object_seen m x ∙ rows_there.0
+
+    definer_in : is_among prop.0.definer (chain w x) ≡ true
+    definer_in = by (pair_named (owed_by w (chain w x)) (name_of t id)) refl
+      where
+        definer : Some prop.0.definer ≡ option_map (λ p. p.0) (pair_named (owed_by w (chain w x)) (name_of t id))
+        definer = sym (ap (option_map (λ (s : Slot). s.definer)) slot_read) ∙ wf.slots x (chain w x) (name_of t id) xo (Chain-chain w wf.tree x xo)
+
+        by : (o : Option Pair) → pair_named (owed_by w (chain w x)) (name_of t id) ≡ o → is_among prop.0.definer (chain w x) ≡ true
+        by None e = absurd (none-some prop.0.definer (sym (definer ∙ ap (option_map (λ p. p.0)) e)))
+        by (Some p) e = ap (λ d. is_among d (chain w x)) (same_Some prop.0.definer p.0 (definer ∙ ap (option_map (λ p. p.0)) e)) ∙ (definer_among w p (chain w x) (named_owed w (chain w x) (name_of t id) p e)).0
+
+    definer_above : is_among prop.0.definer (chain w r.parent) ≡ true
+    definer_above = by (or_cases _ _ (sym (ap (is_among prop.0.definer) (chain_of_row m wf.tree x r (sym there))) ∙ definer_in))
+      where
+        by : (same_object prop.0.definer x ≡ true) ⊎ (is_among prop.0.definer (chain w r.parent) ≡ true) → is_among prop.0.definer (chain w r.parent) ≡ true
+        by (inl h) = absurd (wf.set x (name_of t id) (slot_seen prop.0.definer k) slot_read ((same_object-Decides prop.0.definer x).0 h) clear)
+        by (inr h) = h
+
+    parent_there : is_object w r.parent ≡ true
+    parent_there = by (is_object w r.parent) refl
+      where
+        by : (b : Bool) → is_object w r.parent ≡ b → b ≡ true
+        by true e = refl
+        by false e = absurd (false≢true (sym (ap (is_among prop.0.definer) (chain_of_none w r.parent e)) ∙ definer_above))
+
+    -- the parent has the property too
+    pub parent_has : is_some (get t.slots (r.parent, id)) ≡ true
+    parent_has = slot_on_heir t sound wf r.parent parent_there id.0 prop.0 prop.1 definer_above

@@ -1,0 +1,11 @@
+use Rattle.std.proofs.Common.{◌≡◌, ◌++◌}
+use Rattle.moo_rows.specs.Walk.{objects_left}
+use Rattle.moo_world.specs.Rows.{world_of}
+use Rattle.moo_props.specs.Reparent.{under_among, owners_under}
+use Rattle.moo_props.proofs.reparent.owners_under.Given as goal
+
+-- those so far, and those among the objects that are left
+abbrev pub invariant-loop-y : goal.invariant-loop-y
+invariant-loop-y g l =
+    let left = objects_left l.y-iterator.last (g.R.Rows.held l.y-iterator.rows.now).maps in
+    l.found.items ++ under_among (world_of (g.R.Rows.held l.rows).maps) l.x left ≡ owners_under (g.R.Rows.held l.rows).maps l.x

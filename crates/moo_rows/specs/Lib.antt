@@ -1,0 +1,5 @@
+pub mod Ordered
+pub mod Maps
+pub mod Exact
+pub mod Walk
+pub mod Opening

@@ -1,0 +1,220 @@
+//! Rows in ordered maps.
+
+ghost use Rattle.std.specs.Prelude.{◌≡◌, IfOk, IsOk};
+ghost use Rattle.std.specs.FinMap as map;
+ghost use Rattle.moo_rows.specs.Maps.{wrote, no_maps};
+
+use crate::ordered;
+use crate::ordered::Key;
+use crate::row::{Head, ObjRow, PropId, PropRow, SlotRow, VerbId, VerbRow};
+use crate::rows::Rows;
+use crate::writes::Writes;
+use moo_value::value::ObjNo;
+use std::alloc::{AllocError, Global};
+use std::collections::BTreeMap;
+use std::marker::Model;
+
+impl Key for ObjNo {
+    ghost use Rattle.moo_rows.specs.Exact.{object_exact};
+
+    ghost exact = { object_exact };
+}
+
+impl Key for PropId {
+    ghost use Rattle.moo_rows.specs.Exact.{prop_exact};
+
+    ghost exact = { prop_exact };
+}
+
+impl Key for (ObjNo, PropId) {
+    ghost use Rattle.moo_rows.specs.Exact.{slot_exact};
+
+    ghost exact = { slot_exact };
+}
+
+impl Key for (ObjNo, VerbId) {
+    ghost use Rattle.moo_rows.specs.Exact.{verb_exact};
+
+    ghost exact = { verb_exact };
+}
+
+/// Rows in ordered maps.
+#[derive(Drop)]
+pub struct Flat {
+    head: Head,
+    objects: BTreeMap<ObjNo, ObjRow>,
+    props: BTreeMap<PropId, PropRow>,
+    slots: BTreeMap<(ObjNo, PropId), SlotRow>,
+    verbs: BTreeMap<(ObjNo, VerbId), VerbRow>,
+    writes: Writes,
+}
+
+impl Model for Flat {
+    ghost use Rattle.moo_rows.specs.Maps.{Held, coded_held, no_maps, object_cmp, prop_cmp, slot_cmp, verb_cmp};
+    ghost use Rattle.moo_rows.specs.Ordered.{contents};
+
+    ghost Value = { Held };
+
+    ghost coded = { coded_held };
+
+    ghost view = { λ f. record {
+      maps = record {
+        head = f.head;
+        objects = contents object_cmp f.objects;
+        props = contents prop_cmp f.props;
+        slots = contents slot_cmp f.slots;
+        verbs = contents verb_cmp f.verbs;
+      };
+      writes = f.writes.count;
+      base = no_maps;
+    } };
+}
+
+impl Flat {
+    /// No rows.
+    pub fn new(alloc: Global) -> Flat
+        ensures maps { result.maps ≡ no_maps }
+        ensures writes { result.writes ≡ 0 }
+    {
+        Flat {
+            head: Head {
+                top: -1,
+                next_prop: 1,
+                next_verb: 1,
+                seq: 0,
+            },
+            objects: BTreeMap::new(alloc),
+            props: BTreeMap::new(alloc),
+            slots: BTreeMap::new(alloc),
+            verbs: BTreeMap::new(alloc),
+            writes: Writes::new(),
+        }
+    }
+
+    /// Equal rows.
+    pub fn copy(&self, alloc: Global) -> Result<Flat, AllocError>
+        ensures { IfOk result (λ copy. copy.maps ≡ self.now.maps) }
+    {
+        let objects = ordered::copy(alloc, &self.objects)?;
+        let props = ordered::copy(alloc, &self.props)?;
+        let slots = ordered::copy(alloc, &self.slots)?;
+        let verbs = ordered::copy(alloc, &self.verbs)?;
+        Ok(Flat {
+            head: self.head,
+            objects,
+            props,
+            slots,
+            verbs,
+            writes: Writes::new(),
+        })
+    }
+}
+
+impl Rows for Flat {
+    ghost held = { λ f. f };
+
+    fn head(&self) -> Head {
+        self.head
+    }
+
+    fn set_head(&mut self, head: Head) {
+        self.head = head;
+    }
+
+    fn object(&self, key: ObjNo) -> Option<&ObjRow> {
+        let rows = &self.objects;
+        ordered::get(rows, key)
+    }
+
+    fn next_object(&self, from: Option<ObjNo>) -> Option<ObjNo> {
+        ordered::next(&self.objects, from)
+    }
+
+    fn put_object(&mut self, key: ObjNo, row: ObjRow) -> Result<(), AllocError> {
+        ordered::put(&mut self.objects, key, row)?;
+        self.writes.rise();
+        Ok(())
+    }
+
+    fn remove_object(&mut self, key: ObjNo) -> Result<(), AllocError>
+        ensures ok { self.new ≡ wrote self.old
+            (record (self.old.maps) { objects = map.remove self.old.maps.objects key }) }
+        ensures succeeds { IsOk result }
+    {
+        ordered::remove(&mut self.objects, key);
+        self.writes.rise();
+        Ok(())
+    }
+
+    fn prop(&self, key: PropId) -> Option<&PropRow> {
+        ordered::get(&self.props, key)
+    }
+
+    fn next_prop(&self, from: Option<PropId>) -> Option<PropId> {
+        ordered::next(&self.props, from)
+    }
+
+    fn put_prop(&mut self, key: PropId, row: PropRow) -> Result<(), AllocError> {
+        ordered::put(&mut self.props, key, row)?;
+        self.writes.rise();
+        Ok(())
+    }
+
+    fn remove_prop(&mut self, key: PropId) -> Result<(), AllocError>
+        ensures ok { self.new ≡ wrote self.old
+            (record (self.old.maps) { props = map.remove self.old.maps.props key }) }
+        ensures succeeds { IsOk result }
+    {
+        ordered::remove(&mut self.props, key);
+        self.writes.rise();
+        Ok(())
+    }
+
+    fn slot(&self, key: (ObjNo, PropId)) -> Option<&SlotRow> {
+        ordered::get(&self.slots, key)
+    }
+
+    fn next_slot(&self, from: Option<(ObjNo, PropId)>) -> Option<(ObjNo, PropId)> {
+        ordered::next(&self.slots, from)
+    }
+
+    fn put_slot(&mut self, key: (ObjNo, PropId), row: SlotRow) -> Result<(), AllocError> {
+        ordered::put(&mut self.slots, key, row)?;
+        self.writes.rise();
+        Ok(())
+    }
+
+    fn remove_slot(&mut self, key: (ObjNo, PropId)) -> Result<(), AllocError>
+        ensures ok { self.new ≡ wrote self.old
+            (record (self.old.maps) { slots = map.remove self.old.maps.slots key }) }
+        ensures succeeds { IsOk result }
+    {
+        ordered::remove(&mut self.slots, key);
+        self.writes.rise();
+        Ok(())
+    }
+
+    fn verb(&self, key: (ObjNo, VerbId)) -> Option<&VerbRow> {
+        ordered::get(&self.verbs, key)
+    }
+
+    fn next_verb(&self, from: Option<(ObjNo, VerbId)>) -> Option<(ObjNo, VerbId)> {
+        ordered::next(&self.verbs, from)
+    }
+
+    fn put_verb(&mut self, key: (ObjNo, VerbId), row: VerbRow) -> Result<(), AllocError> {
+        ordered::put(&mut self.verbs, key, row)?;
+        self.writes.rise();
+        Ok(())
+    }
+
+    fn remove_verb(&mut self, key: (ObjNo, VerbId)) -> Result<(), AllocError>
+        ensures ok { self.new ≡ wrote self.old
+            (record (self.old.maps) { verbs = map.remove self.old.maps.verbs key }) }
+        ensures succeeds { IsOk result }
+    {
+        ordered::remove(&mut self.verbs, key);
+        self.writes.rise();
+        Ok(())
+    }
+}

@@ -1,0 +1,85 @@
+//! The rows that a new world begins with.
+
+ghost use Rattle.std.specs.Prelude.{◌≡◌, IfOk, None, Some, List, [], ◌∷◌, pos, negsuc, true, false};
+ghost use Rattle.moo_rows.specs.Opening.{opening_maps, plain_row, root_class, first_room, wizard};
+
+use crate::flat::Flat;
+use crate::row::{Head, ObjList, ObjRow};
+use crate::rows::Rows;
+use moo_value::text::MooStr;
+use moo_value::value::ObjNo;
+use std::alloc::{AllocError, Global};
+
+const NOTHING: ObjNo = ObjNo(-1);
+
+const WIZARD: ObjNo = ObjNo(3);
+
+/// An object of the wizard's with no rights, no place and no accept list.
+fn row(alloc: Global, name: &[u8], parent: ObjNo) -> Result<ObjRow, AllocError>
+    ensures { IfOk result (λ row. row ≡ plain_row name.now parent) }
+{
+    let name = match MooStr::from_bytes(alloc, name) {
+        Ok(name) => name,
+        Err(_) => return Err(AllocError),
+    };
+    Ok(ObjRow {
+        name,
+        owner: WIZARD,
+        parent,
+        location: NOTHING,
+        player: false,
+        programmer: false,
+        wizard: false,
+        r: false,
+        w: false,
+        f: false,
+        accept: None,
+    })
+}
+
+fn root_class(alloc: Global) -> Result<ObjRow, AllocError>
+    ensures { IfOk result (λ row. row ≡ root_class) }
+{
+    let mut root = row(alloc, b"Root Class", NOTHING)?;
+    root.f = true;
+    Ok(root)
+}
+
+fn first_room(alloc: Global) -> Result<ObjRow, AllocError>
+    ensures { IfOk result (λ row. row ≡ first_room) }
+{
+    let mut room = row(alloc, b"The First Room", ObjNo(1))?;
+    let mut accept = Vec::new(alloc);
+    accept.push(ObjNo(1))?;
+    room.accept = Some(ObjList::from_vec(accept));
+    Ok(room)
+}
+
+fn wizard(alloc: Global) -> Result<ObjRow, AllocError>
+    ensures { IfOk result (λ row. row ≡ wizard) }
+{
+    let mut wizard = row(alloc, b"Wizard", ObjNo(1))?;
+    wizard.location = ObjNo(2);
+    wizard.player = true;
+    wizard.programmer = true;
+    wizard.wizard = true;
+    Ok(wizard)
+}
+
+/// The rows that a new world begins with.
+pub fn opening_world(alloc: Global) -> Result<Flat, AllocError>
+    ensures { IfOk result (λ rows. rows.maps ≡ opening_maps) }
+{
+    let mut rows = Flat::new(alloc);
+    rows.set_head(Head {
+        top: 3,
+        next_prop: 1,
+        next_verb: 1,
+        seq: 0,
+    });
+    rows.put_object(ObjNo(0), row(alloc, b"System Object", ObjNo(1))?)?;
+    rows.put_object(ObjNo(1), root_class(alloc)?)?;
+    rows.put_object(ObjNo(2), first_room(alloc)?)?;
+    rows.put_object(WIZARD, wizard(alloc)?)?;
+    Ok(rows)
+}

@@ -1,0 +1,50 @@
+-- What a put or a removal in the maps does to the world that they show.
+use Rattle.std.proofs.Common.{◌≡◌, ℕ, Bool, true, false, cond, refl, sym, ◌∙◌, ap, subst, Some, None, Ordering, eqb}
+use Rattle.std.specs.Prelude.{◌&&◌}
+use Rattle.std.specs.Bool.{Decides}
+use Rattle.std.specs.Cmp.{IsTotalOrder, Equal-is, tied_itself}
+use Rattle.std.specs.Ordering.{eq_by_cmp, is_eq}
+use Rattle.std.specs.FinMap.{get, insert, remove, get-insert, get-remove}
+use Rattle.std.proofs.lemmas.Map.Lookups.{CmpEqualImpliesEq}
+use Rattle.std.proofs.lemmas.Bool.{and_parts, eqb-true, eq-eqb}
+use Rattle.moo_value.specs.declared.value.ObjNo.{ObjNo}
+use Rattle.moo_rows.specs.declared.row.ObjRow.{ObjRow}
+use Rattle.moo_rows.specs.declared.row.SlotRow.{SlotRow}
+use Rattle.moo_rows.specs.declared.row.PropId.{PropId}
+use Rattle.moo_rows.specs.Maps.{Maps, object_cmp, slot_cmp}
+use Rattle.moo_rows.specs.Exact.{object_exact, slot_exact}
+use Rattle.moo_rows.proofs.Orders.{object_total, slot_total}
+use Rattle.moo_world.specs.Objects.{same_object, same_object-Decides}
+use Rattle.moo_world.specs.Rows.{look_ups, prop_id, with_row, with_slot, less_slot}
+
+-- two tests of one thing answer alike
+pub decided_alike : (a b : Bool) (P : Type 0) → Decides a P → Decides b P → a ≡ b
+decided_alike true true P d e = refl
+decided_alike true false P d e = sym (e.1 (d.0 refl))
+decided_alike false true P d e = d.1 (e.0 refl)
+decided_alike false false P d e = refl
+
+pub key-Decides : {K : Type 0} (cmp : K → K → Ordering) → IsTotalOrder cmp → CmpEqualImpliesEq cmp → (a b : K) → Decides (eq_by_cmp cmp a b) (a ≡ b)
+key-Decides cmp total exact a b = (λ e. exact a b ((Equal-is (cmp a b)).0 e), λ e. subst (λ c. is_eq (cmp a c) ≡ true) e (ap is_eq (tied_itself total a)))
+
+pub object_key : (x y : ObjNo) → eq_by_cmp object_cmp y x ≡ same_object x y
+object_key x y = decided_alike _ _ (x ≡ y) (let d = key-Decides object_cmp object_total object_exact y x in (λ e. sym (d.0 e), λ e. d.1 (sym e))) (same_object-Decides x y)
+
+slot_key-Decides : (x y : ObjNo) (id j : ℕ) → Decides (same_object x y && eqb id j) (◌≡◌ {A = ObjNo × PropId} (y, prop_id j) (x, prop_id id))
+slot_key-Decides x y id j = (
+  λ e. let parts = and_parts (same_object x y) (eqb id j) e in λ i. (sym ((same_object-Decides x y).0 parts.0) i, prop_id (sym (eqb-true id j parts.1) i)),
+  λ e. λ i. (same_object-Decides x y).1 (sym (ap (λ (k : ObjNo × PropId). k.0) e)) i && eq-eqb id j (sym (ap (λ (k : ObjNo × PropId). k.1.0) e)) i,
+)
+
+pub slot_key : (x y : ObjNo) (id j : ℕ) → eq_by_cmp slot_cmp (y, prop_id j) (x, prop_id id) ≡ (same_object x y && eqb id j)
+slot_key x y id j = decided_alike _ _ (◌≡◌ {A = ObjNo × PropId} (y, prop_id j) (x, prop_id id)) (key-Decides slot_cmp slot_total slot_exact (y, prop_id j) (x, prop_id id)) (slot_key-Decides x y id j)
+
+-- what the look-ups answer after a put or a removal
+pub look_ups-put_object : (t : Maps) (x : ObjNo) (row : ObjRow) → look_ups (record t { objects = insert t.objects x row }) ≡ with_row (look_ups t) x row
+look_ups-put_object t x row = λ i. record (look_ups t) { object = λ y. (get-insert object_total t.objects x row y ∙ ap (λ b. cond b (Some row) (get t.objects y)) (object_key x y)) i }
+
+pub look_ups-put_slot : (t : Maps) (x : ObjNo) (id : PropId) (row : SlotRow) → look_ups (record t { slots = insert t.slots (x, id) row }) ≡ with_slot (look_ups t) x id.0 row
+look_ups-put_slot t x id row = λ i. record (look_ups t) { slot = λ y j. (get-insert slot_total t.slots (x, id) row (y, prop_id j) ∙ ap (λ b. cond b (Some row) (get t.slots (y, prop_id j))) (slot_key x y id.0 j)) i }
+
+pub look_ups-remove_slot : (t : Maps) (x : ObjNo) (id : PropId) → look_ups (record t { slots = remove t.slots (x, id) }) ≡ less_slot (look_ups t) x id.0
+look_ups-remove_slot t x id = λ i. record (look_ups t) { slot = λ y j. (get-remove slot_total t.slots (x, id) (y, prop_id j) ∙ ap (λ b. cond b None (get t.slots (y, prop_id j))) (slot_key x y id.0 j)) i }

@@ -1,0 +1,195 @@
+-- What rows say of the world that they show, and what one more row says.
+use Rattle.std.proofs.Common.{◌≡◌, ◌≢◌, ℕ, zero, suc, ◌<◌, ◌+◌, Bool, true, false, eqb, [], ◌∷◌, ◌++◌, refl, sym, ◌∙◌, ap, subst, ◌⊎◌, inl, inr, Option, Some, None, arith, append-nil, add-one}
+use Rattle.std.specs.Prelude.{◌&&◌, is_some, unwrap_or, slice_get, if◌then◌else◌}
+use Rattle.std.specs.Option.{option_map, option_and_then}
+use Rattle.std.specs.List.{filter_map, cons_option}
+use Rattle.std.proofs.lemmas.Bool.{and_parts, eqb-true, cases_eq, eq-eqb, ne_eqb}
+use Rattle.std.proofs.lemmas.List.Elements.{filter_map-append}
+use Rattle.std.proofs.lemmas.Option.{none-some, same_Some}
+use Rattle.moo_value.specs.declared.value.ObjNo.{ObjNo}
+use Rattle.moo_rows.specs.declared.row.ObjRow.{ObjRow}
+use Rattle.moo_rows.specs.declared.row.PropRow.{PropRow}
+use Rattle.moo_rows.specs.declared.row.SlotRow.{SlotRow}
+use Rattle.moo_world.specs.Objects.{Name, same_object, same_text, folded, same_object-Decides, same_text-Decides}
+use Rattle.moo_world.specs.World.{Record, slot_of, names_of, with_record}
+use Rattle.moo_world.specs.Rows.{LookUps, AreSound, with_row, with_slot, numbers_below, name_on, slot_on, slot_seen, record_of, world_shown}
+
+module _ {X : Type 0} (h : ℕ → Option X) where
+  none_below : (n : ℕ) → ((j : ℕ) → j < n → h j ≡ None) → filter_map h (numbers_below n) ≡ []
+  none_below zero none = refl
+  none_below (suc n) none =
+      filter_map-append h (numbers_below n) (n ∷ [])
+      ∙ (λ i. none_below n (λ j l. none j (omega arith)) i ++ alone (none n (omega arith)) i)
+    where
+      alone : h n ≡ None → filter_map h (n ∷ []) ≡ []
+      alone e = subst (λ o. cons_option o [] ≡ []) (sym e) refl
+
+  -- where one number alone gives a value, that is the list
+  one_below : (n k : ℕ) (v : X) → k < n → h k ≡ Some v → ((j : ℕ) → j < n → j ≢ k → h j ≡ None) → filter_map h (numbers_below n) ≡ v ∷ []
+  one_below zero k v l e others = absurd (omega arith)
+  one_below (suc n) k v l e others = by (cases_eq n k) (one_below n k v)
+    where
+      some_alone : h n ≡ Some v → filter_map h (n ∷ []) ≡ v ∷ []
+      some_alone g = subst (λ o. cons_option o [] ≡ v ∷ []) (sym g) refl
+
+      none_alone : h n ≡ None → filter_map h (n ∷ []) ≡ []
+      none_alone g = subst (λ o. cons_option o [] ≡ []) (sym g) refl
+
+      by : (n ≡ k) ⊎ (n ≡ k → ⊥) → (k < n → h k ≡ Some v → ((j : ℕ) → j < n → j ≢ k → h j ≡ None) → filter_map h (numbers_below n) ≡ v ∷ []) → filter_map h (numbers_below (suc n)) ≡ v ∷ []
+      by (inl g) r =
+          filter_map-append h (numbers_below n) (n ∷ [])
+          ∙ (λ i. none_below n (λ j m. others j (omega arith) (omega arith)) i ++ some_alone (ap h g ∙ e) i)
+      by (inr g) r =
+          filter_map-append h (numbers_below n) (n ∷ [])
+          ∙ (λ i. r (omega arith) e (λ j m. others j (omega arith)) i ++ none_alone (others n (omega arith) g) i)
+
+module _ (m : LookUps) (sound : AreSound m) (x : ObjNo) (row : ObjRow) (here : m.object x ≡ Some row) where
+  found : (id : ℕ) (p : PropRow) (k : SlotRow) → m.prop id ≡ Some p → m.slot x id ≡ Some k → slot_on m x (folded p.name) id ≡ Some (slot_seen p.definer k)
+  found id p k e f =
+      subst (λ o. option_and_then (λ (r : PropRow). if same_text (folded r.name) (folded p.name) then option_map (slot_seen r.definer) (m.slot x id) else None) o ≡ Some (slot_seen p.definer k)) (sym e)
+      (ap (λ b. if b then option_map (slot_seen p.definer) (m.slot x id) else None) ((same_text-Decides (folded p.name) (folded p.name)).1 refl) ∙ ap (option_map (slot_seen p.definer)) f)
+
+  other : (id j : ℕ) (p : PropRow) → m.prop id ≡ Some p → is_some (m.slot x id) ≡ true → j ≢ id → slot_on m x (folded p.name) j ≡ None
+  other id j p e s ne = by (m.prop j) refl
+    where
+      by : (o : Option PropRow) → m.prop j ≡ o → option_and_then (λ (r : PropRow). if same_text (folded r.name) (folded p.name) then option_map (slot_seen r.definer) (m.slot x j) else None) o ≡ None
+      by None g = refl
+      by (Some r) g = test (same_text (folded r.name) (folded p.name)) refl
+        where
+          slotless : (o : Option SlotRow) → m.slot x j ≡ o → folded r.name ≡ folded p.name → option_map (slot_seen r.definer) o ≡ None
+          slotless None u v = refl
+          slotless (Some k) u v = absurd (ne (sound.one_name x j id r p (ap is_some u) s g e v))
+
+          test : (b : Bool) → same_text (folded r.name) (folded p.name) ≡ b → (if b then option_map (slot_seen r.definer) (m.slot x j) else None) ≡ None
+          test true v = slotless (m.slot x j) refl ((same_text-Decides (folded r.name) (folded p.name)).0 v)
+          test false v = refl
+
+  -- a slot's row is the slot of its property's name
+  pub slot_shown : (id : ℕ) (p : PropRow) (k : SlotRow) → m.prop id ≡ Some p → m.slot x id ≡ Some k → slot_of (world_shown m) x (folded p.name) ≡ Some (slot_seen p.definer k)
+  unfolding world_shown
+  slot_shown id p k e f =
+      subst (λ o. option_and_then (λ r. r.slot (folded p.name)) (option_map (record_of m x) o) ≡ Some (slot_seen p.definer k)) (sym here)
+      (ap (λ l. slice_get l 0) (one_below (slot_on m x (folded p.name)) m.head.next_prop id (slot_seen p.definer k) (sound.props_below id (ap is_some e)).1 (found id p k e f) (λ j l ne. other id j p e (ap is_some f) ne)))
+
+-- rows with one more property, under the next number
+abbrev pub with_prop : LookUps → PropRow → LookUps
+with_prop m p = record m { head = record m.head { next_prop = m.head.next_prop + 1 }; prop = λ id. if eqb id m.head.next_prop then Some p else m.prop id }
+
+same_below : {X : Type 0} (h g : ℕ → Option X) (n : ℕ) → ((j : ℕ) → j < n → h j ≡ g j) → filter_map h (numbers_below n) ≡ filter_map g (numbers_below n)
+same_below h g zero e = refl
+same_below h g (suc n) e =
+    filter_map-append h (numbers_below n) (n ∷ [])
+    ∙ (λ i. same_below h g n (λ j l. e j (omega arith)) i ++ cons_option (e n (omega arith) i) [])
+    ∙ sym (filter_map-append g (numbers_below n) (n ∷ []))
+
+pub names_shown : (m : LookUps) (x : ObjNo) (row : ObjRow) → m.object x ≡ Some row → names_of (world_shown m) x ≡ filter_map (name_on m x) (numbers_below m.head.next_prop)
+unfolding world_shown
+names_shown m x row e = ap (λ o. unwrap_or (option_map (λ (r : Record). r.defines) (option_map (record_of m x) o)) []) e
+
+module _ (m : LookUps) (p : PropRow) where
+  name_before : (x : ObjNo) (j : ℕ) → j < m.head.next_prop → name_on (with_prop m p) x j ≡ name_on m x j
+  name_before x j l = ap (λ b. option_and_then (λ (r : PropRow). if same_object r.definer x then Some r.name else None) (if b then Some p else m.prop j)) (ne_eqb j m.head.next_prop (λ e. absurd (omega arith)))
+
+  name_new : (x : ObjNo) → name_on (with_prop m p) x m.head.next_prop ≡ (if same_object p.definer x then Some p.name else None)
+  name_new x = ap (λ b. option_and_then (λ (r : PropRow). if same_object r.definer x then Some r.name else None) (if b then Some p else m.prop m.head.next_prop)) (eq-eqb m.head.next_prop m.head.next_prop refl)
+
+  names_after : (x : ObjNo) (row : ObjRow) (b : Bool) → m.object x ≡ Some row → same_object p.definer x ≡ b → names_of (world_shown (with_prop m p)) x ≡ names_of (world_shown m) x ++ (if b then p.name ∷ [] else [])
+  names_after x row b e f =
+      names_shown (with_prop m p) x row e
+      ∙ ap (λ n. filter_map (name_on (with_prop m p) x) (numbers_below n)) (add-one m.head.next_prop)
+      ∙ filter_map-append (name_on (with_prop m p) x) (numbers_below m.head.next_prop) (m.head.next_prop ∷ [])
+      ∙ (λ i. same_below (name_on (with_prop m p) x) (name_on m x) m.head.next_prop (name_before x) i ++ cons_option ((name_new x ∙ ap (λ v. if v then Some p.name else None) f) i) [])
+      ∙ (λ i. sym (names_shown m x row e) i ++ one b i)
+    where
+      one : (v : Bool) → cons_option (if v then Some p.name else None) [] ≡ (if v then p.name ∷ [] else [])
+      one true = refl
+      one false = refl
+
+  -- its definer has its name last
+  pub names_with_prop : (row : ObjRow) → m.object p.definer ≡ Some row → names_of (world_shown (with_prop m p)) p.definer ≡ names_of (world_shown m) p.definer ++ p.name ∷ []
+  names_with_prop row e = names_after p.definer row true e ((same_object-Decides p.definer p.definer).1 refl)
+
+  -- the others define what they did
+  pub other_names_with_prop : (x : ObjNo) (row : ObjRow) → m.object x ≡ Some row → same_object p.definer x ≡ false → names_of (world_shown (with_prop m p)) x ≡ names_of (world_shown m) x
+  other_names_with_prop x row e f = names_after x row false e f ∙ append-nil (names_of (world_shown m) x)
+
+-- ---- a row put
+
+-- the row of an object changed and put: the world with that object's row changed
+pub world_shown-with_row : (m : LookUps) (x : ObjNo) (row : ObjRow) (f : ObjRow → ObjRow) → m.object x ≡ Some row → world_shown (with_row m x (f row)) ≡ with_record (world_shown m) x (λ r. record r { row = f r.row })
+unfolding world_shown
+world_shown-with_row m x row f e = λ i. record (world_shown m) { object = λ y. at y (same_object x y) refl (m.object y) refl i }
+  where
+    at : (y : ObjNo) (b : Bool) → same_object x y ≡ b → (o : Option ObjRow) → m.object y ≡ o → option_map (record_of m y) (if b then Some (f row) else o) ≡ option_map (λ r. if b then (record r { row = f r.row }) else r) (option_map (record_of m y) o)
+    at y true g (Some r) h =
+        let same : row ≡ r = same_Some row r (sym e ∙ ap m.object ((same_object-Decides x y).0 g) ∙ h) in
+        ap (λ k. Some (record_of m y (f k))) same
+    at y true g None h = absurd (none-some row (sym h ∙ ap m.object (sym ((same_object-Decides x y).0 g)) ∙ e))
+    at y false g None h = refl
+    at y false g (Some r) h = refl
+
+-- a slot put: the world with that slot of that object, where no other property of the name has a slot there
+module _ (m : LookUps) (x : ObjNo) (id : ℕ) (k : SlotRow) (p : PropRow) (there : m.prop id ≡ Some p) (low : id < m.head.next_prop) (alone : (j : ℕ) (r : PropRow) → m.prop j ≡ Some r → is_some (m.slot x j) ≡ true → folded r.name ≡ folded p.name → j ≡ id) where
+  abbrev put : LookUps
+  put = with_slot m x id k
+
+  put_other : (y : ObjNo) (n : Name) (j : ℕ) → (same_object x y && eqb id j) ≡ false → slot_on put y n j ≡ slot_on m y n j
+  put_other y n j e = ap (λ b. option_and_then (λ (r : PropRow). if same_text (folded r.name) n then option_map (slot_seen r.definer) (if b then Some k else m.slot y j) else None) (m.prop j)) e
+
+  put_here : (y : ObjNo) (n : Name) (j : ℕ) → (same_object x y && eqb id j) ≡ true → slot_on put y n j ≡ (if same_text (folded p.name) n then Some (slot_seen p.definer k) else None)
+  put_here y n j e =
+      let parts = and_parts (same_object x y) (eqb id j) e in
+      ap (λ b. option_and_then (λ (r : PropRow). if same_text (folded r.name) n then option_map (slot_seen r.definer) (if b then Some k else m.slot y j) else None) (m.prop j)) e
+      ∙ ap (option_and_then (λ (r : PropRow). if same_text (folded r.name) n then Some (slot_seen r.definer k) else None)) (ap m.prop (sym (eqb-true id j parts.1)) ∙ there)
+
+  -- under another name nothing changes
+  other_name : (n : Name) (j : ℕ) → same_text (folded p.name) n ≡ false → slot_on put x n j ≡ slot_on m x n j
+  other_name n j e = by (same_object x x && eqb id j) refl
+    where
+      before : eqb id j ≡ true → slot_on m x n j ≡ None
+      before h =
+          ap (option_and_then (λ (r : PropRow). if same_text (folded r.name) n then option_map (slot_seen r.definer) (m.slot x j) else None)) (ap m.prop (sym (eqb-true id j h)) ∙ there)
+          ∙ ap (λ b. if b then option_map (slot_seen p.definer) (m.slot x j) else None) e
+
+      by : (b : Bool) → (same_object x x && eqb id j) ≡ b → slot_on put x n j ≡ slot_on m x n j
+      by true h = put_here x n j h ∙ ap (λ b. if b then Some (slot_seen p.definer k) else None) e ∙ sym (before (and_parts (same_object x x) (eqb id j) h).1)
+      by false h = put_other x n j h
+
+  -- under its own name nothing else is there
+  own_name : (n : Name) (j : ℕ) → same_text (folded p.name) n ≡ true → j ≢ id → slot_on put x n j ≡ None
+  own_name n j e ne = put_other x n j (apart (same_object x x)) ∙ by (m.prop j) refl
+    where
+      apart : (b : Bool) → (b && eqb id j) ≡ false
+      apart true = ne_eqb id j (λ h. ne (sym h))
+      apart false = refl
+
+      by : (o : Option PropRow) → m.prop j ≡ o → option_and_then (λ (r : PropRow). if same_text (folded r.name) n then option_map (slot_seen r.definer) (m.slot x j) else None) o ≡ None
+      by None g = refl
+      by (Some r) g = test (same_text (folded r.name) n) refl (m.slot x j) refl
+        where
+          test : (b : Bool) → same_text (folded r.name) n ≡ b → (o : Option SlotRow) → m.slot x j ≡ o → (if b then option_map (slot_seen r.definer) o else None) ≡ None
+          test false v o u = refl
+          test true v None u = refl
+          test true v (Some s) u = absurd (ne (alone j r g (ap is_some u) ((same_text-Decides (folded r.name) n).0 v ∙ sym ((same_text-Decides (folded p.name) n).0 e))))
+
+  slot_here : (n : Name) → slice_get (filter_map (slot_on put x n) (numbers_below m.head.next_prop)) 0 ≡ (if same_text (folded p.name) n then Some (slot_seen p.definer k) else slice_get (filter_map (slot_on m x n) (numbers_below m.head.next_prop)) 0)
+  slot_here n = by (same_text (folded p.name) n) refl
+    where
+      is_here : (same_object x x && eqb id id) ≡ true
+      is_here = λ i. (same_object-Decides x x).1 refl i && eq-eqb id id refl i
+
+      by : (b : Bool) → same_text (folded p.name) n ≡ b → slice_get (filter_map (slot_on put x n) (numbers_below m.head.next_prop)) 0 ≡ (if b then Some (slot_seen p.definer k) else slice_get (filter_map (slot_on m x n) (numbers_below m.head.next_prop)) 0)
+      by true e = ap (λ l. slice_get l 0) (one_below (slot_on put x n) m.head.next_prop id (slot_seen p.definer k) low (put_here x n id is_here ∙ ap (λ b. if b then Some (slot_seen p.definer k) else None) e) (λ j l ne. own_name n j e ne))
+      by false e = ap (λ l. slice_get l 0) (same_below (slot_on put x n) (slot_on m x n) m.head.next_prop (λ j l. other_name n j e))
+
+  slot_there : (y : ObjNo) (n : Name) → same_object x y ≡ false → slice_get (filter_map (slot_on put y n) (numbers_below m.head.next_prop)) 0 ≡ slice_get (filter_map (slot_on m y n) (numbers_below m.head.next_prop)) 0
+  slot_there y n e = ap (λ l. slice_get l 0) (same_below (slot_on put y n) (slot_on m y n) m.head.next_prop (λ j l. put_other y n j (ap (λ b. b && eqb id j) e)))
+
+  pub world_shown-with_slot : world_shown put ≡ with_record (world_shown m) x (λ r. record r { slot = λ n. if same_text (folded p.name) n then Some (slot_seen p.definer k) else r.slot n })
+  unfolding world_shown
+  world_shown-with_slot = λ i. record (world_shown m) { object = λ y. at y (same_object x y) refl (m.object y) i }
+    where
+      at : (y : ObjNo) (b : Bool) → same_object x y ≡ b → (o : Option ObjRow) → option_map (record_of put y) o ≡ option_map (λ r. if b then (record r { slot = λ n. if same_text (folded p.name) n then Some (slot_seen p.definer k) else r.slot n }) else r) (option_map (record_of m y) o)
+      at y b e None = refl
+      at y true e (Some row) = subst (λ z. Some (record_of put z row) ≡ Some (record (record_of m z row) { slot = λ n. if same_text (folded p.name) n then Some (slot_seen p.definer k) else (record_of m z row).slot n })) ((same_object-Decides x y).0 e) (λ i. Some (record (record_of m x row) { slot = λ n. slot_here n i }))
+      at y false e (Some row) = λ i. Some (record (record_of m y row) { slot = λ n. slot_there y n e i })
