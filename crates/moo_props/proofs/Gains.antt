@@ -27,7 +27,7 @@ pub some_of : {A : Type 0} (o : Option A) → is_some o ≡ true → (a : A) × 
 some_of None e = absurd (false≢true e)
 some_of (Some a) e = (a, refl)
 
-any_map : {A B : Type 0} (test : B → Bool) (f : A → B) (l : List A) → list_any test (map f l) ≡ list_any (λ a. test (f a)) l
+pub any_map : {A B : Type 0} (test : B → Bool) (f : A → B) (l : List A) → list_any test (map f l) ≡ list_any (λ a. test (f a)) l
 any_map test f [] = refl
 any_map test f (a ∷ l) = ap (λ b. test (f a) || b) (any_map test f l)
 

@@ -32,17 +32,17 @@ use Rattle.moo_props.proofs.After.{world_after, sound_after}
 
 -- ---- only slots change, and each change is counted
 
-abbrev IsSlotsOnly : Maps → Maps → Type 0
+abbrev pub IsSlotsOnly : Maps → Maps → Type 0
 IsSlotsOnly a b = b ≡ record a { slots = b.slots }
 
-onward : (a b c : Maps) → IsSlotsOnly a b → IsSlotsOnly b c → IsSlotsOnly a c
+pub onward : (a b c : Maps) → IsSlotsOnly a b → IsSlotsOnly b c → IsSlotsOnly a c
 onward a b c h k = k ∙ ap (λ (z : Maps). record z { slots = c.slots }) h
 
-only-without : (y : ObjNo) (ids : List PropId) (held : Held) → IsSlotsOnly held.maps (without_on y ids held).maps
+pub only-without : (y : ObjNo) (ids : List PropId) (held : Held) → IsSlotsOnly held.maps (without_on y ids held).maps
 only-without y [] held = refl
 only-without y (id ∷ ids) held = onward held.maps (slot_removed y id held).maps (without_on y (id ∷ ids) held).maps refl (only-without y ids (slot_removed y id held))
 
-only-fresh : (y owner : ObjNo) (os : List Origin) (held : Held) → IsSlotsOnly held.maps (with_fresh y owner os held).maps
+pub only-fresh : (y owner : ObjNo) (os : List Origin) (held : Held) → IsSlotsOnly held.maps (with_fresh y owner os held).maps
 only-fresh y owner [] held = refl
 only-fresh y owner (o ∷ os) held = onward held.maps (slot_put y o.id (fresh_row owner o) held).maps (with_fresh y owner (o ∷ os) held).maps refl (only-fresh y owner os (slot_put y o.id (fresh_row owner o) held))
 
@@ -58,9 +58,23 @@ writes-without : (y : ObjNo) (ids : List PropId) (held : Held) → (without_on y
 writes-without y [] held = omega arith
 writes-without y (id ∷ ids) held = omega (arith, writes-without y ids (slot_removed y id held))
 
-writes-fresh : (y owner : ObjNo) (os : List Origin) (held : Held) → (with_fresh y owner os held).writes ≡ held.writes + length os
+pub writes-fresh : (y owner : ObjNo) (os : List Origin) (held : Held) → (with_fresh y owner os held).writes ≡ held.writes + length os
 writes-fresh y owner [] held = omega arith
 writes-fresh y owner (o ∷ os) held = omega (arith, writes-fresh y owner os (slot_put y o.id (fresh_row owner o) held))
+
+pub base-without : (y : ObjNo) (ids : List PropId) (held : Held) → (without_on y ids held).base ≡ held.base
+base-without y [] held = refl
+base-without y (id ∷ ids) held = base-without y ids (slot_removed y id held)
+
+pub base-fresh : (y owner : ObjNo) (os : List Origin) (held : Held) → (with_fresh y owner os held).base ≡ held.base
+base-fresh y owner [] held = refl
+base-fresh y owner (o ∷ os) held = base-fresh y owner os (slot_put y o.id (fresh_row owner o) held)
+
+base-moved : (lost : List PropId) (gained : List Origin) (es : List (ObjNo × ObjNo)) (held : Held) → (slots_moved lost gained es held).base ≡ held.base
+base-moved lost gained [] held = refl
+base-moved lost gained (e ∷ es) held =
+    base-moved lost gained es (with_fresh e.0 e.1 gained (without_on e.0 lost held))
+    ∙ base-fresh e.0 e.1 gained (without_on e.0 lost held) ∙ base-without e.0 lost held
 
 length-made : {A B : Type 0} (f : A → B) (l : List A) → length (map f l) ≡ length l
 length-made f [] = refl
@@ -91,6 +105,28 @@ ids_of-origins slots q (id ∷ ids) a = by (get slots (q, id)) a.0 (ids_of-origi
     by None e r = absurd (false≢true e)
     by (Some s) e r = ap (λ l. id ∷ l) r
 
+-- the objects under x are those that have x in their chains
+pub under_is : (t : Maps) (x z : ObjNo) → list_any (λ e. same_object e.0 z) (owners_under t x) ≡ is_among x (chain (world_of t) z)
+under_is t x z =
+    listed object_cmp object_total object_exact z (λ e. is_among x (chain (world_of t) e.0)) (λ e. (e.0, e.1.owner)) (λ e. same_object e.0 z) (λ e. sym (object_key e.0 z)) (entries t.objects) (entries_sorted t.objects)
+    ∙ by (find object_cmp z (entries t.objects)) (get-entries t.objects z)
+  where
+    by : (o : Option ObjRow) → get t.objects z ≡ o → unwrap_or (option_map (λ v. is_among x (chain (world_of t) z)) o) false ≡ is_among x (chain (world_of t) z)
+    by None e = sym (ap (is_among x) (chain_of_no_row (look_ups t) z (sym e)))
+    by (Some r) e = refl
+
+-- with their owners
+pub owners_are : (t : Maps) (x : ObjNo) → AllByRecursion (λ e. e.1 ≡ owner_of (world_of t) e.0) (owners_under t x)
+owners_are t x = all_made (λ e. find object_cmp e.0 (entries t.objects) ≡ Some e.1) (λ e. e.1 ≡ owner_of (world_of t) e.0) (λ e. is_among x (chain (world_of t) e.0)) (λ e. (e.0, e.1.owner))
+    (λ e h k. sym (ap (λ o. unwrap_or (option_map (λ (r : Record). r.row.owner) o) nothing) (object_seen (look_ups t) e.0 e.1 (get-entries t.objects e.0 ∙ h))))
+    (entries t.objects) (own_entries object_cmp object_total object_exact (entries t.objects) (entries_sorted t.objects))
+
+-- the properties that objects of a list define
+pub has : (t : Maps) (definers : List ObjNo) (j : PropId) → has_id j (props_of definers t.props) ≡ is_defined_among definers t j
+has t definers j =
+    listed prop_cmp prop_total prop_exact j (λ e. is_among e.1.definer definers) (λ e. e.0) (is_id j) (λ e. refl) (entries t.props) (entries_sorted t.props)
+    ∙ ap (λ o. unwrap_or (option_map (λ (p : PropRow). is_among p.definer definers) o) false) (sym (get-entries t.props j))
+
 module _ (t : Maps) (sound : IsSound t) (x q : ObjNo) (may : MayReparent (world_of t) x q) (row : ObjRow) (here : get t.objects x ≡ Some row) where
   abbrev w : World
   w = world_of t
@@ -119,25 +155,6 @@ module _ (t : Maps) (sound : IsSound t) (x q : ObjNo) (may : MayReparent (world_
       (all_made (λ e. find prop_cmp e.0 (entries t.props) ≡ Some e.1) (λ id. is_some (get t.slots (q, id)) ≡ true) (λ e. is_among e.1.definer (gained w x q)) (λ e. e.0)
       (λ e h k. slot_on_new t sound x q may e.0.0 e.1 (get-entries t.props e.0 ∙ h) k) (entries t.props) (own_entries prop_cmp prop_total prop_exact (entries t.props) (entries_sorted t.props)))
 
-  has : (definers : List ObjNo) (j : PropId) → has_id j (props_of definers t.props) ≡ is_defined_among definers t j
-  has definers j =
-      listed prop_cmp prop_total prop_exact j (λ e. is_among e.1.definer definers) (λ e. e.0) (is_id j) (λ e. refl) (entries t.props) (entries_sorted t.props)
-      ∙ ap (λ o. unwrap_or (option_map (λ (p : PropRow). is_among p.definer definers) o) false) (sym (get-entries t.props j))
-
-  under_is : (z : ObjNo) → list_any (λ e. same_object e.0 z) (owners_under t x) ≡ is_among x (chain w z)
-  under_is z =
-      listed object_cmp object_total object_exact z (λ e. is_among x (chain w e.0)) (λ e. (e.0, e.1.owner)) (λ e. same_object e.0 z) (λ e. sym (object_key e.0 z)) (entries t.objects) (entries_sorted t.objects)
-      ∙ by (find object_cmp z (entries t.objects)) (get-entries t.objects z)
-    where
-      by : (o : Option ObjRow) → get t.objects z ≡ o → unwrap_or (option_map (λ v. is_among x (chain w z)) o) false ≡ is_among x (chain w z)
-      by None e = sym (ap (is_among x) (chain_of_no_row (look_ups t) z (sym e)))
-      by (Some r) e = refl
-
-  owners_are : AllByRecursion (λ e. e.1 ≡ owner_of w e.0) (owners_under t x)
-  owners_are = all_made (λ e. find object_cmp e.0 (entries t.objects) ≡ Some e.1) (λ e. e.1 ≡ owner_of w e.0) (λ e. is_among x (chain w e.0)) (λ e. (e.0, e.1.owner))
-      (λ e h k. sym (ap (λ o. unwrap_or (option_map (λ (r : Record). r.row.owner) o) nothing) (object_seen (look_ups t) e.0 e.1 (get-entries t.objects e.0 ∙ h))))
-      (entries t.objects) (own_entries object_cmp object_total object_exact (entries t.objects) (entries_sorted t.objects))
-
   module _ (held : Held) (at : held.maps ≡ t) where
     abbrev pub held1 : Held
     held1 = slots_moved lost_ids (origins t.slots q gained_ids) (owners_under t x) held
@@ -147,8 +164,8 @@ module _ (t : Maps) (sound : IsSound t) (x q : ObjNo) (may : MayReparent (world_
 
     slots1 : (key : ObjNo × PropId) → get held1.maps.slots key ≡ slot_after t x q key
     slots1 key =
-        all_moved t.slots q lost_ids gained_ids (owner_of w) key.0 key.1 (owners_under t x) held owners_are
-        ∙ (λ i. settle (under_is key.0 i) (has (gained w x q) key.1 i) (has (lost w x q) key.1 i) (get (at i).slots key))
+        all_moved t.slots q lost_ids gained_ids (owner_of w) key.0 key.1 (owners_under t x) held (owners_are t x)
+        ∙ (λ i. settle (under_is t x key.0 i) (has t (gained w x q) key.1 i) (has t (lost w x q) key.1 i) (get (at i).slots key))
         ∙ by (is_defined_among (gained w x q) t key.1) refl
       where
         settle : Bool → Bool → Bool → Option SlotRow → Option SlotRow
@@ -211,6 +228,13 @@ module _ (t : Maps) (sound : IsSound t) (x q : ObjNo) (may : MayReparent (world_
 
     pub sound2 : IsSound held2.maps
     sound2 = subst IsSound (sym rest2) (sound_after t sound x q may held2.maps.objects held2.maps.slots objects2 slots2)
+
+    pub base2 : held2.base ≡ held.base
+    base2 = by (same_object row.parent q)
+      where
+        by : (b : Bool) → (if b then held1 else wrote held1 (record (held1.maps) { objects = insert held1.maps.objects x (changed row) })).base ≡ held.base
+        by true = base-moved lost_ids (origins t.slots q gained_ids) (owners_under t x) held
+        by false = base-moved lost_ids (origins t.slots q gained_ids) (owners_under t x) held
 
     pub writes2 : held2.writes ≡ held.writes + (length (keys_over lost_ids (owners_under t x)) + length (keys_over gained_ids (owners_under t x)) + length (relinked_list x row q))
     writes2 = by (same_object row.parent q)

@@ -1,26 +1,29 @@
--- What another state on one slot does to the World.
-use Rattle.std.proofs.Common.{◌≡◌, ℕ, Bool, true, false, eqb, Option, None, Some, [], refl, sym, ap, ◌∙◌}
+-- What another row of one slot does to the World.
+use Rattle.std.proofs.Common.{◌≡◌, ℕ, Bool, true, false, eqb, Option, None, Some, [], refl, sym, ap, subst, ◌∙◌}
 use Rattle.std.specs.Prelude.{◌&&◌, is_some, unwrap_or, if◌then◌else◌}
 use Rattle.std.specs.Option.{option_map, option_and_then}
 use Rattle.std.specs.FinMap.{get, insert}
-use Rattle.std.proofs.lemmas.Bool.{and_parts, eqb-true}
+use Rattle.std.proofs.lemmas.Bool.{and_parts, both_ways, eqb-true}
+use Rattle.std.proofs.lemmas.Option.{same_Some}
 use Rattle.moo_value.specs.declared.value.ObjNo.{ObjNo}
 use Rattle.moo_rows.specs.declared.row.ObjRow.{ObjRow}
 use Rattle.moo_rows.specs.declared.row.PropId.{PropId}
 use Rattle.moo_rows.specs.declared.row.PropRow.{PropRow}
 use Rattle.moo_rows.specs.declared.row.SlotRow.{SlotRow}
-use Rattle.moo_rows.specs.declared.row.SlotState.{SlotState}
+use Rattle.moo_rows.specs.declared.row.SlotState.TheVariants.{Clear}
 use Rattle.moo_rows.specs.Maps.{Maps}
 use Rattle.moo_world.specs.Changes.{with_slot_of}
 use Rattle.moo_world.specs.Objects.{Name, same_object, same_text, folded, same_object-Decides, same_text-Decides}
-use Rattle.moo_world.specs.World.{World, Record, Slot, slot_of, with_record}
-use Rattle.moo_world.specs.Rows.{LookUps, IsSound, look_ups, world_of, world_shown, slot_seen, prop_id}
+use Rattle.moo_world.specs.World.{World, Record, IsWellFormed, Slot, slot_of, with_record}
+use Rattle.moo_world.specs.Rows.{LookUps, IsSound, IsGood, look_ups, world_of, world_shown, slot_seen, prop_id}
 use Rattle.moo_world.proofs.RowLaws.{slot_shown, world_shown-with_slot}
 use Rattle.moo_world.proofs.MapLaws.{look_ups-put_slot}
-use Rattle.moo_props.specs.Names.{spelling_of}
+use Rattle.moo_props.specs.Names.{name_of, spelling_of, defines}
+use Rattle.moo_props.proofs.Formed.{IsWellFormed-with_slot_of}
 use Rattle.moo_props.proofs.Gains.{some_of}
+use Rattle.moo_props.proofs.Walked.{slot_here}
 
-module _ (t : Maps) (sound : IsSound t) (x : ObjNo) (id : PropId) (k : SlotRow) (held : get t.slots (x, id) ≡ Some k) (state : SlotState) where
+module _ (t : Maps) (sound : IsSound t) (x : ObjNo) (id : PropId) (k : SlotRow) (held : get t.slots (x, id) ≡ Some k) (next : SlotRow) (change : Slot → Slot) (agrees : (d : ObjNo) → change (slot_seen d k) ≡ slot_seen d next) where
   abbrev m : LookUps
   m = look_ups t
 
@@ -36,9 +39,6 @@ module _ (t : Maps) (sound : IsSound t) (x : ObjNo) (id : PropId) (k : SlotRow) 
   row : (r : ObjRow) × (m.object x ≡ Some r)
   row = some_of (m.object x) there.0
 
-  abbrev next : SlotRow
-  next = record k { state = state }
-
   one : world_of (record t { slots = insert t.slots (x, id) next }) ≡ with_record w x (λ r. record r { slot = λ n. if same_text (folded prop.0.name) n then Some (slot_seen prop.0.definer next) else r.slot n })
   one = ap world_shown (look_ups-put_slot t x id next)
       ∙ world_shown-with_slot m x id.0 next prop.0 prop.1 (sound.props_below id.0 (ap is_some prop.1)).1 (λ j r e s n. sound.one_name x j id.0 r prop.0 s (ap is_some held) e prop.1 n)
@@ -46,14 +46,11 @@ module _ (t : Maps) (sound : IsSound t) (x : ObjNo) (id : PropId) (k : SlotRow) 
   shown : slot_of w x (folded prop.0.name) ≡ Some (slot_seen prop.0.definer k)
   shown = slot_shown m sound x row.0 row.1 id.0 prop.0 k prop.1 held
 
-  abbrev change : Slot → Slot
-  change s = record s { state = state }
-
   same : with_record w x (λ r. record r { slot = λ n. if same_text (folded prop.0.name) n then Some (slot_seen prop.0.definer next) else r.slot n }) ≡ with_slot_of w x prop.0.name change
   same = λ i. record w { object = λ y. at y (same_object x y) refl (w.object y) refl i }
     where
       slots : (r : Record) → r.slot (folded prop.0.name) ≡ Some (slot_seen prop.0.definer k) → (n : Name) (b : Bool) → same_text (folded prop.0.name) n ≡ b → (if b then Some (slot_seen prop.0.definer next) else r.slot n) ≡ (if b then option_map change (r.slot n) else r.slot n)
-      slots r h n true e = sym (ap (option_map change) (ap r.slot (sym ((same_text-Decides (folded prop.0.name) n).0 e)) ∙ h))
+      slots r h n true e = sym (ap (option_map change) (ap r.slot (sym ((same_text-Decides (folded prop.0.name) n).0 e)) ∙ h) ∙ ap Some (agrees prop.0.definer))
       slots r h n false e = refl
 
       at : (y : ObjNo) (b : Bool) → same_object x y ≡ b → (o : Option Record) → w.object y ≡ o
@@ -65,8 +62,8 @@ module _ (t : Maps) (sound : IsSound t) (x : ObjNo) (id : PropId) (k : SlotRow) 
           let own : r.slot (folded prop.0.name) ≡ Some (slot_seen prop.0.definer k) = sym (ap (option_and_then (λ (z : Record). z.slot (folded prop.0.name))) (ap w.object ((same_object-Decides x y).0 e) ∙ h)) ∙ shown in
           λ i. Some (record r { slot = λ n. slots r own n (same_text (folded prop.0.name) n) refl i })
 
-  pub put_state_world : world_of (record t { slots = insert t.slots (x, id) next }) ≡ with_slot_of w x (spelling_of t id) change
-  put_state_world = one ∙ same ∙ ap (λ n. with_slot_of w x n change) (sym (ap (λ o. unwrap_or (option_map (λ (p : PropRow). p.name) o) []) prop.1))
+  pub put_slot_world : world_of (record t { slots = insert t.slots (x, id) next }) ≡ with_slot_of w x (spelling_of t id) change
+  put_slot_world = one ∙ same ∙ ap (λ n. with_slot_of w x n change) (sym (ap (λ o. unwrap_or (option_map (λ (p : PropRow). p.name) o) []) prop.1))
 
   still : (y : ObjNo) (j : ℕ) → is_some (get (insert t.slots (x, id) next) (y, prop_id j)) ≡ true → is_some (m.slot y j) ≡ true
   still y j e = by (same_object x y && eqb id.0 j) refl (ap is_some (sym (ap (λ (r : LookUps). r.slot y j) (look_ups-put_slot t x id next))) ∙ e)
@@ -78,11 +75,40 @@ module _ (t : Maps) (sound : IsSound t) (x : ObjNo) (id : PropId) (k : SlotRow) 
       by false h k = k
 
   -- such rows stay sound
-  pub put_state_sound : IsSound (record t { slots = insert t.slots (x, id) next })
-  put_state_sound = record {
+  pub put_slot_sound : IsSound (record t { slots = insert t.slots (x, id) next })
+  put_slot_sound = record {
     props_below = sound.props_below;
     definers = sound.definers;
     slots = λ y j e. sound.slots y j (still y j e);
     one_name = λ y i j p r e f. sound.one_name y i j p r (still y i e) (still y j f);
     verbs = sound.verbs;
   }
+
+  spelled : spelling_of t id ≡ prop.0.name
+  spelled = ap (λ o. unwrap_or (option_map (λ (p : PropRow). p.name) o) []) prop.1
+
+  module _ (wf : IsWellFormed w) (keeps : (s : Slot) → (change s).definer ≡ s.definer) (set : next.state ≡ Clear → defines t x id ≡ false) where
+    stays_set : (s : Slot) → slot_of w x (folded prop.0.name) ≡ Some s → s.definer ≡ x → (change s).state ≡ Clear → ⊥
+    stays_set s e d c =
+        let is : slot_seen prop.0.definer k ≡ s = same_Some (slot_seen prop.0.definer k) s (sym shown ∙ e) in
+        let clear : next.state ≡ Clear = ap (λ (z : Slot). z.state) (sym (agrees prop.0.definer) ∙ ap change is) ∙ c in
+        let own : same_object prop.0.definer x ≡ true = (same_object-Decides prop.0.definer x).1 (ap (λ (z : Slot). z.definer) is ∙ d) in
+        both_ways (same_object prop.0.definer x) (sym (ap (λ o. unwrap_or (option_map (λ (p : PropRow). same_object p.definer x) o) false) prop.1) ∙ set clear) own
+
+    -- and good ones, where the slot on the definer stays set
+    pub put_slot_good : IsGood (record t { slots = insert t.slots (x, id) next })
+    put_slot_good = record {
+      sound = put_slot_sound;
+      formed = subst IsWellFormed (sym (put_slot_world ∙ ap (λ n. with_slot_of w x n change) spelled)) (IsWellFormed-with_slot_of w x prop.0.name change wf keeps stays_set);
+    }
+
+-- a slot that is clear isn't the definer's
+pub clear_inherited : (t : Maps) → IsGood t → (x : ObjNo) (id : PropId) (k : SlotRow) → get t.slots (x, id) ≡ Some k → k.state ≡ Clear → defines t x id ≡ false
+clear_inherited t good x id k held clear = by (some_of (get t.props id) (good.sound.slots x id.0 (ap is_some held)).1)
+  where
+    by : (p : PropRow) × (get t.props id ≡ Some p) → defines t x id ≡ false
+    by p = ap (λ o. unwrap_or (option_map (λ (p : PropRow). same_object p.definer x) o) false) p.1 ∙ other (same_object p.0.definer x) refl
+      where
+        other : (b : Bool) → same_object p.0.definer x ≡ b → b ≡ false
+        other false e = refl
+        other true e = absurd (good.formed.set x (name_of t id) (slot_seen p.0.definer k) (slot_here t good.sound x id k held p.0 p.1) ((same_object-Decides p.0.definer x).0 e) clear)

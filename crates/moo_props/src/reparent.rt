@@ -4,8 +4,9 @@ ghost use Rattle.std.specs.Prelude.{◌≡◌, ◌++◌, ◌+◌, ◌≤◌, map
 ghost use Rattle.std.specs.FinMap.{get, entries};
 ghost use Rattle.moo_world.specs.Objects.{is_among};
 ghost use Rattle.moo_world.specs.World.{IsTree, reparented};
-ghost use Rattle.moo_world.specs.Rows.{world_of, IsSound};
+ghost use Rattle.moo_world.specs.Rows.{world_of, IsGood};
 ghost use Rattle.moo_world.specs.Laws.{MayReparent};
+ghost use Rattle.moo_props.specs.Keeps.{Keeps};
 ghost use Rattle.moo_props.specs.Reparent.{owners_under, props_only_of, origins, id_of, keys_on, keys_over, without_on, with_fresh, slots_moved, relinked, relinked_list};
 ghost use Rattle.moo_props.specs.Present.{ArePresent, AreAbsent, AreAscending};
 ghost use Rattle.moo_props.specs.Touched.{removed_keys, added_keys, relinked_objects, slot_after, row_after, IsSameButSlotsAndObjects};
@@ -34,6 +35,22 @@ impl Model for SlotKeys {
     ghost view = { λ a. a.items.items };
 }
 
+impl SlotKeys {
+    /// The keys of a list.
+    pub(crate) fn from_vec(items: Vec<(ObjNo, PropId)>) -> SlotKeys
+        ensures { result ≡ items.items }
+    {
+        SlotKeys { items }
+    }
+
+    /// The keys, in order.
+    pub fn items(&self) -> &[(ObjNo, PropId)]
+        ensures { result.now ≡ self.now }
+    {
+        self.items.as_slice()
+    }
+}
+
 /// What a change of parent touched: the slots that went, those that came, and the objects with another parent.
 #[derive(Drop)]
 pub struct Touched {
@@ -58,7 +75,7 @@ fn is_among(list: &[ObjNo], x: ObjNo) -> bool
 }
 
 /// The objects under x with their owners, ascending.
-fn owners_under<R: Rows>(
+pub(crate) fn owners_under<R: Rows>(
     alloc: Global,
     rows: &R,
     x: ObjNo,
@@ -76,7 +93,7 @@ fn owners_under<R: Rows>(
 }
 
 /// The properties that objects of one list define and not those of another, ascending.
-fn props_only_of<R: Rows>(
+pub(crate) fn props_only_of<R: Rows>(
     alloc: Global,
     rows: &R,
     these: &[ObjNo],
@@ -116,7 +133,7 @@ fn origins<R: Rows>(
 }
 
 /// Removes the slots of these properties on y and lists them.
-fn remove_on<R: Rows>(
+pub(crate) fn remove_on<R: Rows>(
     rows: &mut R,
     y: ObjNo,
     ids: &[PropId],
@@ -205,7 +222,7 @@ pub fn reparent<R: Rows>(
     x: ObjNo,
     new: ObjNo,
 ) -> Result<Touched, AllocError>
-    requires sound { IsSound (R.held rows.old).maps }
+    requires good { IsGood (R.held rows.old).maps }
     requires may { MayReparent (world_of (R.held rows.old).maps) x new }
     ensures removed { IfOk result (λ touched. touched.removed ≡ removed_keys (R.held rows.old).maps x new) }
     ensures added { IfOk result (λ touched. touched.added ≡ added_keys (R.held rows.old).maps x new) }
@@ -220,7 +237,7 @@ pub fn reparent<R: Rows>(
     ensures objects { OnOk result ((y : ObjNo) → get (R.held rows.new).maps.objects y ≡ row_after (R.held rows.old).maps x new y) }
     ensures rest { OnOk result (IsSameButSlotsAndObjects (R.held rows.old).maps (R.held rows.new).maps) }
     ensures world { OnOk result (world_of (R.held rows.new).maps ≡ reparented (world_of (R.held rows.old).maps) x new) }
-    ensures sound { OnOk result (IsSound (R.held rows.new).maps) }
+    ensures kept { OnOk result (Keeps (R.held rows.old) (R.held rows.new)) }
     ensures writes { IfOk result (λ touched. (R.held rows.new).writes ≤ (R.held rows.old).writes + (length touched.removed + length touched.added + length touched.relinked)) }
 {
     let row = match rows.object(x) {

@@ -1,27 +1,29 @@
-//! The value on an object's own slot.
+//! The slot that an object has of a property: its value, and its owner and bits.
 
-ghost use Rattle.std.specs.Prelude.{◌≡◌, is_some, true, OnOk};
+ghost use Rattle.std.specs.Prelude.{◌≡◌, is_some, true, false, OnOk};
 ghost use Rattle.std.specs.FinMap.{get};
-ghost use Rattle.moo_world.specs.Changes.{cleared, value_set, with_slot_of};
-ghost use Rattle.moo_world.specs.Rows.{world_of, IsSound};
-ghost use Rattle.moo_props.specs.Names.{spelling_of};
+ghost use Rattle.moo_world.specs.Changes.{cleared, value_set, info_set, with_slot_of};
+ghost use Rattle.moo_world.specs.Rows.{world_of, IsGood};
+ghost use Rattle.moo_props.specs.Keeps.{Keeps};
+ghost use Rattle.moo_props.specs.Names.{defines, spelling_of};
 
-use moo_rows::row::{PropId, SlotRow, SlotState};
+use moo_rows::row::{Bits, PropId, SlotRow, SlotState};
 use moo_rows::rows::Rows;
 use moo_value::value::{ObjNo, Value};
-use std::alloc::AllocError;
+use std::alloc::{AllocError, Global};
 
 /// Puts another state on x's slot of a property.
-fn put_state<R: Rows>(
+pub(crate) fn put_state<R: Rows>(
     rows: &mut R,
     x: ObjNo,
     id: PropId,
     state: SlotState,
 ) -> Result<(), AllocError>
-    requires sound { IsSound (R.held rows.old).maps }
+    requires good { IsGood (R.held rows.old).maps }
     requires has { is_some (get (R.held rows.old).maps.slots (x, id)) ≡ true }
+    requires set { state ≡ SlotState.Clear → defines (R.held rows.old).maps x id ≡ false }
     ensures world { OnOk result (world_of (R.held rows.new).maps ≡ with_slot_of (world_of (R.held rows.old).maps) x (spelling_of (R.held rows.old).maps id) (λ s. record s { state = state })) }
-    ensures sound { OnOk result (IsSound (R.held rows.new).maps) }
+    ensures kept { OnOk result (Keeps (R.held rows.old) (R.held rows.new)) }
 {
     let (owner, bits) = match rows.slot((x, id)) {
         None => unreachable!(),
@@ -31,27 +33,51 @@ fn put_state<R: Rows>(
     Ok(())
 }
 
-/// Sets the value of a property that x has.
+/// Sets the value of a property that x has. The owner and the bits stay.
 pub fn set_value<R: Rows>(
     rows: &mut R,
     x: ObjNo,
     id: PropId,
     value: Value,
 ) -> Result<(), AllocError>
-    requires sound { IsSound (R.held rows.old).maps }
+    requires good { IsGood (R.held rows.old).maps }
     requires has { is_some (get (R.held rows.old).maps.slots (x, id)) ≡ true }
     ensures world { OnOk result (world_of (R.held rows.new).maps ≡ value_set (world_of (R.held rows.old).maps) x (spelling_of (R.held rows.old).maps id) value) }
-    ensures sound { OnOk result (IsSound (R.held rows.new).maps) }
+    ensures kept { OnOk result (Keeps (R.held rows.old) (R.held rows.new)) }
 {
     put_state(rows, x, id, SlotState::Set(value))
 }
 
-/// Clears a property that x has.
+/// Clears a property that x has and doesn't define, so that x reads what its parent reads.
 pub fn clear<R: Rows>(rows: &mut R, x: ObjNo, id: PropId) -> Result<(), AllocError>
-    requires sound { IsSound (R.held rows.old).maps }
+    requires good { IsGood (R.held rows.old).maps }
     requires has { is_some (get (R.held rows.old).maps.slots (x, id)) ≡ true }
+    requires inherited { defines (R.held rows.old).maps x id ≡ false }
     ensures world { OnOk result (world_of (R.held rows.new).maps ≡ cleared (world_of (R.held rows.old).maps) x (spelling_of (R.held rows.old).maps id)) }
-    ensures sound { OnOk result (IsSound (R.held rows.new).maps) }
+    ensures kept { OnOk result (Keeps (R.held rows.old) (R.held rows.new)) }
 {
     put_state(rows, x, id, SlotState::Clear)
+}
+
+/// Sets the owner and the bits of a property on x alone. What x and its descendants read stays.
+pub fn set_info<R: Rows>(
+    alloc: Global,
+    rows: &mut R,
+    x: ObjNo,
+    id: PropId,
+    owner: ObjNo,
+    bits: Bits,
+) -> Result<(), AllocError>
+    requires good { IsGood (R.held rows.old).maps }
+    requires has { is_some (get (R.held rows.old).maps.slots (x, id)) ≡ true }
+    ensures world { OnOk result (world_of (R.held rows.new).maps ≡ info_set (world_of (R.held rows.old).maps) x (spelling_of (R.held rows.old).maps id) owner bits) }
+    ensures kept { OnOk result (Keeps (R.held rows.old) (R.held rows.new)) }
+{
+    let state = match rows.slot((x, id)) {
+        None => unreachable!(),
+        Some(slot) => slot.state.copy(alloc)?,
+    };
+    let row = SlotRow { owner, bits, state };
+    rows.put_slot((x, id), row)?;
+    Ok(())
 }

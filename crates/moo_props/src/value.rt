@@ -2,8 +2,8 @@
 
 ghost use Rattle.std.specs.Prelude.{◌≡◌, is_some, true};
 ghost use Rattle.std.specs.FinMap.{get};
-ghost use Rattle.moo_world.specs.World.{IsWellFormed, read_of};
-ghost use Rattle.moo_world.specs.Rows.{world_of, IsSound};
+ghost use Rattle.moo_world.specs.World.{read_of};
+ghost use Rattle.moo_world.specs.Rows.{world_of, IsGood};
 ghost use Rattle.moo_props.specs.Names.{name_of};
 
 use moo_rows::row::{PropId, SlotState};
@@ -12,8 +12,7 @@ use moo_value::value::{ObjNo, Value};
 
 /// The value that x reads for a property that it has: its own, or where that is clear its parent's.
 pub fn value_of<R: Rows>(rows: &R, x: ObjNo, id: PropId) -> &Value
-    requires sound { IsSound (R.held rows.now).maps }
-    requires well_formed { IsWellFormed (world_of (R.held rows.now).maps) }
+    requires good { IsGood (R.held rows.now).maps }
     requires has { is_some (get (R.held rows.now).maps.slots (x, id)) ≡ true }
     ensures { read_of (world_of (R.held rows.now).maps) x (name_of (R.held rows.now).maps id) ≡ Some result.now }
 {

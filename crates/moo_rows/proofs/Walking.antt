@@ -1,15 +1,15 @@
 -- What `next` says of the entries in order.
 use Rattle.std.proofs.Common.{◌≡◌, ◌≢◌, Bool, true, false, cond, T, ◌&&◌, Option, None, Some, List, [], ◌∷◌, Less, Equal, Greater, Ordering, IsSome, refl, sym, ap, ◌∙◌, subst}
 use Rattle.std.specs.Cmp.{IsTotalOrder, tied_itself}
-use Rattle.std.specs.Ordering.{eq_by_cmp, is_lt, is_eq, ordering_reverse, ordering_then, int_eq}
+use Rattle.std.specs.Ordering.{eq_by_cmp, is_lt, is_eq, ordering_reverse, ordering_then, int_eq, nat_cmp}
 use Rattle.std.specs.List.{filter}
 use Rattle.std.specs.FinMap as map
 use Rattle.std.specs.FinMap.{FinMap, find, is_sorted, entries, entries_sorted, get-entries}
 use Rattle.std.specs.FinMap.Entries.{below_all}
 use Rattle.std.proofs.lemmas.Map.Lookups.{CmpEqualImpliesEq}
 use Rattle.moo_rows.specs.Ordered.{IsPast, IsNext}
-use Rattle.moo_rows.specs.Walk.{is_past, entries_past, objects_left, props_left, slots_left, verbs_left, slots_of_left}
-use Rattle.moo_rows.specs.Maps.{Maps, object_cmp, prop_cmp, slot_cmp}
+use Rattle.moo_rows.specs.Walk.{is_past, entries_past, objects_left, props_left, slots_left, verbs_left, slots_of_left, verbs_of_left}
+use Rattle.moo_rows.specs.Maps.{Maps, object_cmp, prop_cmp}
 use Rattle.moo_rows.specs.Exact.{object_exact, prop_exact, slot_exact, verb_exact}
 use Rattle.moo_value.specs.declared.value.ObjNo.{ObjNo}
 use Rattle.moo_rows.specs.declared.row.ObjRow.{ObjRow}
@@ -55,7 +55,7 @@ module _ {K : Type 0} (cmp : K → K → Ordering) where
   past_is (Some f) k h = less_of (cmp f k) (subst T (sym h) tt)
 
   -- what the whole lacks its rest lacks
-  later : {X : Type 0} (q : K) (e : K × X) (es : List (K × X)) → find cmp q (e ∷ es) ≡ None → find cmp q es ≡ None
+  pub later : {X : Type 0} (q : K) (e : K × X) (es : List (K × X)) → find cmp q (e ∷ es) ≡ None → find cmp q es ≡ None
   later q e es h =
       elim (eq_by_cmp cmp q e.0) as (λ b. cond b (Some e.1) (find cmp q es) ≡ None → find cmp q es ≡ None) [
         | true ↦ λ n. absurd (some_none e.1 n)
@@ -175,16 +175,7 @@ verbs-end t from h = next-end verb_total t.verbs from h
 pub verbs-step : (t : Maps) (from : Option (ObjNo × VerbId)) (k : ObjNo × VerbId) (row : VerbRow) → IsNext t.verbs from (Some k) → map.get t.verbs k ≡ Some row → verbs_left from t ≡ (k, row) ∷ verbs_left (Some k) t
 verbs-step t from k row h held = next-step verb_total verb_exact t.verbs from k row h held
 
--- ---- the slots of one object
-
--- a key past one that is past each slot of x is past each slot of x
-past_object : (x : ObjNo) (k q : ObjNo × PropId) → object_cmp x k.0 ≡ Less → slot_cmp k q ≡ Less → object_cmp x q.0 ≡ Less
-past_object x k q above h =
-    elim (object_cmp k.0 q.0) as (λ o. object_cmp k.0 q.0 ≡ o → ordering_then o (prop_cmp k.1 q.1) ≡ Less → object_cmp x q.0 ≡ Less) [
-      | Less ↦ λ o _. object_total.trans x k.0 q.0 above o
-      | Equal ↦ λ o _. subst (λ y. object_cmp x y ≡ Less) (object_exact k.0 q.0 o) above
-      | Greater ↦ λ o g. cc
-    ] refl h
+-- ---- the slots and the verbs of one object
 
 not_of : (x y : ObjNo) → object_cmp x y ≡ Less → int_eq y.0 x.0 ≡ false
 not_of x y less =
@@ -198,44 +189,89 @@ not_of x y less =
       | false ↦ λ _. refl
     ] refl
 
--- no slot past such a key is one of x
-none_of : (x : ObjNo) (k : ObjNo × PropId) (es : List ((ObjNo × PropId) × SlotRow)) → object_cmp x k.0 ≡ Less
-    → filter (λ e. int_eq e.0.0.0 x.0) (entries_past slot_cmp (Some k) es) ≡ []
-none_of x k [] above = refl
-none_of x k (e ∷ es) above =
-    elim (is_past slot_cmp (Some k) e.0) as (λ b. is_past slot_cmp (Some k) e.0 ≡ b → filter (λ e. int_eq e.0.0.0 x.0) (entries_past slot_cmp (Some k) (e ∷ es)) ≡ []) [
-      | true ↦ λ p.
-          ap (filter (λ e. int_eq e.0.0.0 x.0)) (keeps (is_past slot_cmp (Some k)) e es p)
-          ∙ drops (λ q. int_eq q.0.0 x.0) e (entries_past slot_cmp (Some k) es) (not_of x e.0.0 (past_object x k e.0 above (past_is slot_cmp (Some k) e.0 p)))
-          ∙ none_of x k es above
-      | false ↦ λ p. ap (filter (λ e. int_eq e.0.0.0 x.0)) (drops (is_past slot_cmp (Some k)) e es p) ∙ none_of x k es above
-    ] refl
+-- the entries of x
+abbrev pub of_object : {I X : Type 0} → ObjNo → List ((ObjNo × I) × X) → List ((ObjNo × I) × X)
+of_object x es = filter (λ e. int_eq e.0.0.0 x.0) es
 
--- the object of a later key is x's or a later one
-not_before : (x : ObjNo) (from : PropId) (k : ObjNo × PropId) → slot_cmp (x, from) k ≡ Less → k.0 ≢ x → object_cmp x k.0 ≡ Less
-not_before x from k h apart =
-    elim (object_cmp x k.0) as (λ o. object_cmp x k.0 ≡ o → ordering_then o (prop_cmp from k.1) ≡ Less → o ≡ Less) [
-      | Less ↦ λ o _. refl
-      | Equal ↦ λ o _. absurd (apart (sym (object_exact x k.0 o)))
-      | Greater ↦ λ o g. cc
-    ] refl h
+module _ {I : Type 0} (number_cmp : I → I → Ordering) where
+  -- by object, and then by number
+  abbrev pub key_cmp : ObjNo × I → ObjNo × I → Ordering
+  key_cmp a b = ordering_then (object_cmp a.0 b.0) (number_cmp a.1 b.1)
+
+  -- a key past one that is past each of x is past each of x
+  past_object : (x : ObjNo) (k q : ObjNo × I) → object_cmp x k.0 ≡ Less → key_cmp k q ≡ Less → object_cmp x q.0 ≡ Less
+  past_object x k q above h =
+      elim (object_cmp k.0 q.0) as (λ o. object_cmp k.0 q.0 ≡ o → ordering_then o (number_cmp k.1 q.1) ≡ Less → object_cmp x q.0 ≡ Less) [
+        | Less ↦ λ o _. object_total.trans x k.0 q.0 above o
+        | Equal ↦ λ o _. subst (λ y. object_cmp x y ≡ Less) (object_exact k.0 q.0 o) above
+        | Greater ↦ λ o g. cc
+      ] refl h
+
+  -- the object of a later key is x or a later one
+  not_before : (x : ObjNo) (from : I) (k : ObjNo × I) → key_cmp (x, from) k ≡ Less → k.0 ≢ x → object_cmp x k.0 ≡ Less
+  not_before x from k h apart =
+      elim (object_cmp x k.0) as (λ o. object_cmp x k.0 ≡ o → ordering_then o (number_cmp from k.1) ≡ Less → o ≡ Less) [
+        | Less ↦ λ o _. refl
+        | Equal ↦ λ o _. absurd (apart (sym (object_exact x k.0 o)))
+        | Greater ↦ λ o g. cc
+      ] refl h
+
+  module _ {X : Type 0} where
+    -- nothing past such a key is of x
+    none_of : (x : ObjNo) (k : ObjNo × I) (es : List ((ObjNo × I) × X)) → object_cmp x k.0 ≡ Less → of_object x (entries_past key_cmp (Some k) es) ≡ []
+    none_of x k [] above = refl
+    none_of x k (e ∷ es) above =
+        elim (is_past key_cmp (Some k) e.0) as (λ b. is_past key_cmp (Some k) e.0 ≡ b → of_object x (entries_past key_cmp (Some k) (e ∷ es)) ≡ []) [
+          | true ↦ λ p.
+              ap (of_object x) (keeps (is_past key_cmp (Some k)) e es p)
+              ∙ drops (λ q. int_eq q.0.0 x.0) e (entries_past key_cmp (Some k) es) (not_of x e.0.0 (past_object x k e.0 above (past_is key_cmp (Some k) e.0 p)))
+              ∙ none_of x k es above
+          | false ↦ λ p. ap (of_object x) (drops (is_past key_cmp (Some k)) e es p) ∙ none_of x k es above
+        ] refl
+
+    -- the entries of x past a number
+    abbrev pub left_of : FinMap key_cmp X → ObjNo → I → List ((ObjNo × I) × X)
+    left_of m x from = of_object x (entries_past key_cmp (Some (x, from)) (entries m))
+
+    module _ (total : IsTotalOrder key_cmp) where
+      pub of-end : (m : FinMap key_cmp X) (x : ObjNo) (from : I) → IsNext m (Some (x, from)) None → left_of m x from ≡ []
+      of-end m x from h = ap (of_object x) (next-end total m (Some (x, from)) h)
+
+      module _ (exact : CmpEqualImpliesEq key_cmp) where
+        pub of-other : (m : FinMap key_cmp X) (x : ObjNo) (from : I) (k : ObjNo × I) → IsNext m (Some (x, from)) (Some k) → k.0 ≢ x → left_of m x from ≡ []
+        of-other m x from k h apart =
+            let above = not_before x from k h.1 apart in
+            elim (map.get m k) as (λ o. map.get m k ≡ o → IsSome o → left_of m x from ≡ []) [
+              | None ↦ λ _ n. absurd (true≢false (sym n))
+              | Some row ↦ λ held _.
+                  ap (of_object x) (next-step total exact m (Some (x, from)) k row h held)
+                  ∙ drops (λ q. int_eq q.0.0 x.0) (k, row) (entries_past key_cmp (Some k) (entries m)) (not_of x k.0 above)
+                  ∙ none_of x k (entries m) above
+            ] refl h.0
+
+        pub of-step : (m : FinMap key_cmp X) (x : ObjNo) (from : I) (k : ObjNo × I) (row : X) → IsNext m (Some (x, from)) (Some k) → map.get m k ≡ Some row → k.0 ≡ x → left_of m x from ≡ (k, row) ∷ left_of m x k.1
+        of-step m x from k row h held same =
+            ap (of_object x) (next-step total exact m (Some (x, from)) k row h held)
+            ∙ keeps (λ q. int_eq q.0.0 x.0) (k, row) (entries_past key_cmp (Some k) (entries m)) ((Decides-int_eq k.0.0 x.0).1 (ap (λ (y : ObjNo). y.0) same))
+            ∙ ap (λ (y : ObjNo). (k, row) ∷ of_object x (entries_past key_cmp (Some (y, k.1)) (entries m))) same
 
 pub slots_of-end : (t : Maps) (x : ObjNo) (from : PropId) → IsNext t.slots (Some (x, from)) None → slots_of_left x from t ≡ []
-slots_of-end t x from h = ap (filter (λ e. int_eq e.0.0.0 x.0)) (slots-end t (Some (x, from)) h)
+slots_of-end t x from h = of-end prop_cmp slot_total t.slots x from h
 
 pub slots_of-other : (t : Maps) (x : ObjNo) (from : PropId) (k : ObjNo × PropId) → IsNext t.slots (Some (x, from)) (Some k) → k.0 ≢ x → slots_of_left x from t ≡ []
-slots_of-other t x from k h apart =
-    let above = not_before x from k h.1 apart in
-    elim (map.get t.slots k) as (λ o. map.get t.slots k ≡ o → IsSome o → slots_of_left x from t ≡ []) [
-      | None ↦ λ _ n. absurd (true≢false (sym n))
-      | Some row ↦ λ held _.
-          ap (filter (λ e. int_eq e.0.0.0 x.0)) (slots-step t (Some (x, from)) k row h held)
-          ∙ drops (λ q. int_eq q.0.0 x.0) (k, row) (slots_left (Some k) t) (not_of x k.0 above)
-          ∙ none_of x k (entries t.slots) above
-    ] refl h.0
+slots_of-other t x from k h apart = of-other prop_cmp slot_total slot_exact t.slots x from k h apart
 
 pub slots_of-step : (t : Maps) (x : ObjNo) (from : PropId) (k : ObjNo × PropId) (row : SlotRow) → IsNext t.slots (Some (x, from)) (Some k) → map.get t.slots k ≡ Some row → k.0 ≡ x → slots_of_left x from t ≡ (k, row) ∷ slots_of_left x k.1 t
-slots_of-step t x from k row h held same =
-    ap (filter (λ e. int_eq e.0.0.0 x.0)) (slots-step t (Some (x, from)) k row h held)
-    ∙ keeps (λ q. int_eq q.0.0 x.0) (k, row) (slots_left (Some k) t) ((Decides-int_eq k.0.0 x.0).1 (ap (λ (y : ObjNo). y.0) same))
-    ∙ ap (λ (y : ObjNo). (k, row) ∷ filter (λ e. int_eq e.0.0.0 x.0) (slots_left (Some (y, k.1)) t)) same
+slots_of-step t x from k row h held same = of-step prop_cmp slot_total slot_exact t.slots x from k row h held same
+
+abbrev pub verb_number_cmp : VerbId → VerbId → Ordering
+verb_number_cmp a b = nat_cmp a.0 b.0
+
+pub verbs_of-end : (t : Maps) (x : ObjNo) (from : VerbId) → IsNext t.verbs (Some (x, from)) None → verbs_of_left x from t ≡ []
+verbs_of-end t x from h = of-end verb_number_cmp verb_total t.verbs x from h
+
+pub verbs_of-other : (t : Maps) (x : ObjNo) (from : VerbId) (k : ObjNo × VerbId) → IsNext t.verbs (Some (x, from)) (Some k) → k.0 ≢ x → verbs_of_left x from t ≡ []
+verbs_of-other t x from k h apart = of-other verb_number_cmp verb_total verb_exact t.verbs x from k h apart
+
+pub verbs_of-step : (t : Maps) (x : ObjNo) (from : VerbId) (k : ObjNo × VerbId) (row : VerbRow) → IsNext t.verbs (Some (x, from)) (Some k) → map.get t.verbs k ≡ Some row → k.0 ≡ x → verbs_of_left x from t ≡ (k, row) ∷ verbs_of_left x k.1 t
+verbs_of-step t x from k row h held same = of-step verb_number_cmp verb_total verb_exact t.verbs x from k row h held same

@@ -3,3 +3,4 @@ pub mod Maps
 pub mod Exact
 pub mod Walk
 pub mod Opening
+pub mod Bits

@@ -1,5 +1,5 @@
 -- The held keys of a finite map in order, and those past one.
-use Rattle.std.specs.Prelude.{Bool, true, List, [], ◌∷◌, Option, None, Some, map}
+use Rattle.std.specs.Prelude.{Bool, true, ◌&&◌, nat_lt, List, [], ◌∷◌, Option, None, Some, map}
 use Rattle.std.specs.Ordering.{int_eq}
 use Rattle.std.specs.FinMap.{FinMap, entries, remove}
 use Rattle.moo_value.specs.declared.value.ObjNo.{ObjNo}
@@ -55,3 +55,23 @@ verbs_left from maps = entries_past verb_cmp from (entries maps.verbs)
 -- the slots of x past a property with their rows, in order
 abbrev pub slots_of_left : ObjNo → PropId → Maps → List ((ObjNo × PropId) × SlotRow)
 slots_of_left x from maps = filter (λ e. int_eq e.0.0.0 x.0) (slots_left (Some (x, from)) maps)
+
+-- the verbs of x past a verb with their rows, in order
+abbrev pub verbs_of_left : ObjNo → VerbId → Maps → List ((ObjNo × VerbId) × VerbRow)
+verbs_of_left x from maps = filter (λ e. int_eq e.0.0.0 x.0) (verbs_left (Some (x, from)) maps)
+
+-- the slots of x whose property has a greater number, in order
+abbrev pub slots_above : ObjNo → PropId → Maps → List ((ObjNo × PropId) × SlotRow)
+slots_above x from maps = filter (λ e. int_eq e.0.0.0 x.0 && nat_lt from.0 e.0.1.0) (entries maps.slots)
+
+-- the verbs of x that have a greater number, in order
+abbrev pub verbs_above : ObjNo → VerbId → Maps → List ((ObjNo × VerbId) × VerbRow)
+verbs_above x from maps = filter (λ e. int_eq e.0.0.0 x.0 && nat_lt from.0 e.0.1.0) (entries maps.verbs)
+
+-- all slots of x, in order
+abbrev pub slots_of : ObjNo → Maps → List ((ObjNo × PropId) × SlotRow)
+slots_of x maps = filter (λ e. int_eq e.0.0.0 x.0) (entries maps.slots)
+
+-- all verbs of x, in order
+abbrev pub verbs_of : ObjNo → Maps → List ((ObjNo × VerbId) × VerbRow)
+verbs_of x maps = filter (λ e. int_eq e.0.0.0 x.0) (entries maps.verbs)

@@ -38,7 +38,7 @@ impl Key for (ObjNo, VerbId) {
     ghost exact = { verb_exact };
 }
 
-/// Rows in ordered maps.
+/// Rows in ordered maps. Its look-ups, next keys and removals take no memory, and its removals never fail.
 #[derive(Drop)]
 pub struct Flat {
     head: Head,
@@ -71,7 +71,7 @@ impl Model for Flat {
 }
 
 impl Flat {
-    /// No rows.
+    /// No rows: the greatest object number is -1, the next property and verb are 1, and no batch was accepted.
     pub fn new(alloc: Global) -> Flat
         ensures maps { result.maps ≡ no_maps }
         ensures writes { result.writes ≡ 0 }
@@ -91,7 +91,7 @@ impl Flat {
         }
     }
 
-    /// Equal rows.
+    /// Equal rows, with a count of writes of their own. An `Err` is want of memory.
     pub fn copy(&self, alloc: Global) -> Result<Flat, AllocError>
         ensures { IfOk result (λ copy. copy.maps ≡ self.now.maps) }
     {

@@ -1,11 +1,14 @@
 //! The rows that a new world begins with.
 
-ghost use Rattle.std.specs.Prelude.{◌≡◌, IfOk, None, Some, List, [], ◌∷◌, pos, negsuc, true, false};
+ghost use Rattle.std.specs.Prelude.{◌≡◌, IfOk, OnOk, None, Some, List, [], ◌∷◌, pos, negsuc, true, false};
+ghost use Rattle.moo_value.specs.Text.{IsText};
+ghost use Rattle.moo_rows.specs.Maps.{no_maps};
 ghost use Rattle.moo_rows.specs.Opening.{opening_maps, plain_row, root_class, first_room, wizard};
 
 use crate::flat::Flat;
 use crate::row::{Head, ObjList, ObjRow};
 use crate::rows::Rows;
+use moo_value::fault::LiteralFault;
 use moo_value::text::MooStr;
 use moo_value::value::ObjNo;
 use std::alloc::{AllocError, Global};
@@ -14,14 +17,26 @@ const NOTHING: ObjNo = ObjNo(-1);
 
 const WIZARD: ObjNo = ObjNo(3);
 
+/// A name as a string. The name is one, so that only memory can be wanting.
+fn text(alloc: Global, name: &[u8]) -> Result<MooStr, AllocError>
+    requires { IsText name.now }
+    ensures { IfOk result (λ text. text ≡ name.now) }
+{
+    match MooStr::from_bytes(alloc, name) {
+        Ok(text) => Ok(text),
+        Err(fault) => match fault {
+            LiteralFault::OutOfMemory => Err(AllocError),
+            _ => unreachable!(),
+        },
+    }
+}
+
 /// An object of the wizard's with no rights, no place and no accept list.
 fn row(alloc: Global, name: &[u8], parent: ObjNo) -> Result<ObjRow, AllocError>
+    requires { IsText name.now }
     ensures { IfOk result (λ row. row ≡ plain_row name.now parent) }
 {
-    let name = match MooStr::from_bytes(alloc, name) {
-        Ok(name) => name,
-        Err(_) => return Err(AllocError),
-    };
+    let name = text(alloc, name)?;
     Ok(ObjRow {
         name,
         owner: WIZARD,
@@ -66,11 +81,12 @@ fn wizard(alloc: Global) -> Result<ObjRow, AllocError>
     Ok(wizard)
 }
 
-/// The rows that a new world begins with.
-pub fn opening_world(alloc: Global) -> Result<Flat, AllocError>
-    ensures { IfOk result (λ rows. rows.maps ≡ opening_maps) }
+/// Puts the rows that a new world begins with where none are: the system object, the root class, the first room and the
+/// wizard. An `Err` is want of memory, and some of them may stand then.
+pub fn put_opening<R: Rows>(rows: &mut R, alloc: Global) -> Result<(), AllocError>
+    ensures maps { OnOk result ((R.held rows.old).maps ≡ no_maps → (R.held rows.new).maps ≡ opening_maps) }
+    ensures base { OnOk result ((R.held rows.new).base ≡ (R.held rows.old).base) }
 {
-    let mut rows = Flat::new(alloc);
     rows.set_head(Head {
         top: 3,
         next_prop: 1,
@@ -81,5 +97,14 @@ pub fn opening_world(alloc: Global) -> Result<Flat, AllocError>
     rows.put_object(ObjNo(1), root_class(alloc)?)?;
     rows.put_object(ObjNo(2), first_room(alloc)?)?;
     rows.put_object(WIZARD, wizard(alloc)?)?;
+    Ok(())
+}
+
+/// The rows that a new world begins with. An `Err` is want of memory.
+pub fn opening_world(alloc: Global) -> Result<Flat, AllocError>
+    ensures { IfOk result (λ rows. rows.maps ≡ opening_maps) }
+{
+    let mut rows = Flat::new(alloc);
+    put_opening(&mut rows, alloc)?;
     Ok(rows)
 }

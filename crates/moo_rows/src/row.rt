@@ -2,21 +2,20 @@
 
 ghost use Rattle.std.specs.Prelude.{◌≡◌, ◌↔◌, IfOk, IsTrue};
 
-use crate::ordered::Row;
 use moo_value::text::MooStr;
 use moo_value::value::{ObjNo, Value};
 use std::alloc::{AllocError, Global};
 use std::marker::Model;
 
-/// The number of a property.
+/// The number of a property: 1 and up, in the order of definition, and never used again.
 #[derive(Clone, Copy, Debug, PartialEq, Eq, PartialOrd, Ord)]
 pub struct PropId(pub u32);
 
-/// The number of a verb.
+/// The number of a verb: 1 and up, in the order of its object's list of verbs, and never used again.
 #[derive(Clone, Copy, Debug, PartialEq, Eq, PartialOrd, Ord)]
 pub struct VerbId(pub u32);
 
-/// A list of objects.
+/// A list of objects, in the order given. Objects may stand in it more than once.
 #[derive(Drop)]
 pub struct ObjList {
     items: Vec<ObjNo>,
@@ -53,7 +52,7 @@ impl ObjList {
         self.items() == other.items()
     }
 
-    /// An equal list.
+    /// An equal list. An `Err` is want of memory.
     pub fn copy(&self, alloc: Global) -> Result<ObjList, AllocError>
         ensures { IfOk result (λ copy. copy ≡ self.now) }
     {
@@ -62,19 +61,27 @@ impl ObjList {
     }
 }
 
-/// An object.
+/// An object. Its children and contents are those objects whose rows name it as parent and location.
+///
+/// See "Fundamental Object Attributes" in the chapter on the database of the LambdaMOO Programmer's Manual.
 #[derive(Drop)]
 pub struct ObjRow {
     pub name: MooStr,
     pub owner: ObjNo,
+    /// The parent, `#-1` for none.
     pub parent: ObjNo,
+    /// The object that this one is in, `#-1` for none.
     pub location: ObjNo,
     pub player: bool,
     pub programmer: bool,
     pub wizard: bool,
+    /// Whether everybody may list its properties and verbs.
     pub r: bool,
+    /// Whether everybody may add properties and verbs to it.
     pub w: bool,
+    /// Whether everybody may make children of it ("fertile").
     pub f: bool,
+    /// The objects that it takes in, with all their descendants; where there is no list, its parent's list counts.
     pub accept: Option<ObjList>,
 }
 
@@ -86,21 +93,27 @@ pub struct PropRow {
 }
 
 /// The rights on a property.
+///
+/// See "Properties on Objects" in the chapter on the database of the LambdaMOO Programmer's Manual.
 #[derive(Clone, Copy, Debug, PartialEq, Eq)]
 pub struct Bits {
+    /// Whether everybody may read it.
     pub r: bool,
+    /// Whether everybody may write it.
     pub w: bool,
+    /// Whether a new slot on a descendant belongs to the descendant's owner ("change ownership").
     pub c: bool,
 }
 
 /// What a slot holds.
 #[derive(Drop)]
 pub enum SlotState {
+    /// No value of its own: it reads as the parent's slot of that property.
     Clear,
     Set(Value),
 }
 
-/// A property on an object.
+/// A slot: what one property is on one object, the definer or a descendant of it.
 #[derive(Drop)]
 pub struct SlotRow {
     pub owner: ObjNo,
@@ -109,11 +122,17 @@ pub struct SlotRow {
 }
 
 /// The rights on a verb.
+///
+/// See "Verbs on Objects" in the chapter on the database of the LambdaMOO Programmer's Manual.
 #[derive(Clone, Copy, Debug, PartialEq, Eq)]
 pub struct VerbBits {
+    /// Whether everybody may read it.
     pub r: bool,
+    /// Whether everybody may write it.
     pub w: bool,
+    /// Whether programs may call it.
     pub x: bool,
+    /// Whether its errors are raised ("debug").
     pub d: bool,
 }
 
@@ -164,6 +183,7 @@ pub struct ArgSpec {
 /// A verb.
 #[derive(Drop)]
 pub struct VerbRow {
+    /// Its names, between spaces.
     pub names: MooStr,
     pub owner: ObjNo,
     pub bits: VerbBits,
@@ -173,12 +193,17 @@ pub struct VerbRow {
 /// The counters.
 #[derive(Clone, Copy, Debug, PartialEq, Eq)]
 pub struct Head {
+    /// The greatest object number that was ever given, -1 where none was.
     pub top: i32,
+    /// The number of the next property.
     pub next_prop: u32,
+    /// The number of the next verb.
     pub next_verb: u32,
+    /// How many batches were accepted.
     pub seq: u64,
 }
 
+/// Whether two accept lists are equal. No list and the empty one differ.
 fn same_accept(a: &Option<ObjList>, b: &Option<ObjList>) -> bool
     ensures { IsTrue result ↔ (a.now ≡ b.now) }
 {
@@ -220,12 +245,50 @@ impl SlotState {
     }
 }
 
+impl PrepositionSet {
+    /// Whether two sets are the same.
+    pub fn same(self, other: PrepositionSet) -> bool
+        ensures { IsTrue result ↔ (self ≡ other) }
+    {
+        self == other
+    }
+}
+
+impl Preposition {
+    /// Whether two prepositions are the same.
+    pub fn same(self, other: Preposition) -> bool
+        ensures { IsTrue result ↔ (self ≡ other) }
+    {
+        match (self, other) {
+            (Preposition::None, Preposition::None) => true,
+            (Preposition::Any, Preposition::Any) => true,
+            (Preposition::Set(a), Preposition::Set(b)) => a.same(b),
+            _ => false,
+        }
+    }
+}
+
+impl ArgSpec {
+    /// Whether two verbs take the same arguments.
+    pub fn same(&self, other: &ArgSpec) -> bool
+        ensures { IsTrue result ↔ (self.now ≡ other.now) }
+    {
+        if self.dobj != other.dobj || self.iobj != other.iobj {
+            return false;
+        }
+        self.prep.same(other.prep)
+    }
+}
+
 impl VerbRow {
     /// Whether two rows are equal.
     pub fn same(&self, other: &VerbRow) -> bool
         ensures { IsTrue result ↔ (self.now ≡ other.now) }
     {
-        if self.owner != other.owner || self.bits != other.bits || self.args != other.args {
+        if self.owner != other.owner || self.bits != other.bits {
+            return false;
+        }
+        if !self.args.same(&other.args) {
             return false;
         }
         self.names.same(&other.names)
@@ -253,125 +316,5 @@ impl ObjRow {
             return false;
         }
         same_accept(&self.accept, &other.accept)
-    }
-}
-
-impl ObjRow {
-    /// An equal row.
-    pub fn copy(&self, alloc: Global) -> Result<ObjRow, AllocError>
-        ensures { IfOk result (λ copy. copy ≡ self.now) }
-    {
-        let name = self.name.copy(alloc)?;
-        let accept = match &self.accept {
-            None => None,
-            Some(list) => Some(list.copy(alloc)?),
-        };
-        Ok(ObjRow {
-            name,
-            owner: self.owner,
-            parent: self.parent,
-            location: self.location,
-            player: self.player,
-            programmer: self.programmer,
-            wizard: self.wizard,
-            r: self.r,
-            w: self.w,
-            f: self.f,
-            accept,
-        })
-    }
-}
-
-impl PropRow {
-    /// An equal row.
-    pub fn copy(&self, alloc: Global) -> Result<PropRow, AllocError>
-        ensures { IfOk result (λ copy. copy ≡ self.now) }
-    {
-        let name = self.name.copy(alloc)?;
-        Ok(PropRow {
-            definer: self.definer,
-            name,
-        })
-    }
-}
-
-impl SlotState {
-    /// An equal state.
-    pub fn copy(&self, alloc: Global) -> Result<SlotState, AllocError>
-        ensures { IfOk result (λ copy. copy ≡ self.now) }
-    {
-        match self {
-            SlotState::Clear => Ok(SlotState::Clear),
-            SlotState::Set(value) => Ok(SlotState::Set(value.copy(alloc)?)),
-        }
-    }
-}
-
-impl SlotRow {
-    /// An equal row.
-    pub fn copy(&self, alloc: Global) -> Result<SlotRow, AllocError>
-        ensures { IfOk result (λ copy. copy ≡ self.now) }
-    {
-        let state = self.state.copy(alloc)?;
-        Ok(SlotRow {
-            owner: self.owner,
-            bits: self.bits,
-            state,
-        })
-    }
-}
-
-impl VerbRow {
-    /// An equal row.
-    pub fn copy(&self, alloc: Global) -> Result<VerbRow, AllocError>
-        ensures { IfOk result (λ copy. copy ≡ self.now) }
-    {
-        let names = self.names.copy(alloc)?;
-        Ok(VerbRow {
-            names,
-            owner: self.owner,
-            bits: self.bits,
-            args: self.args,
-        })
-    }
-}
-
-impl Row for ObjRow {
-    fn copied(&self, alloc: Global) -> Result<ObjRow, AllocError> {
-        self.copy(alloc)
-    }
-
-    fn equals(&self, other: &ObjRow) -> bool {
-        self.same(other)
-    }
-}
-
-impl Row for PropRow {
-    fn copied(&self, alloc: Global) -> Result<PropRow, AllocError> {
-        self.copy(alloc)
-    }
-
-    fn equals(&self, other: &PropRow) -> bool {
-        self.same(other)
-    }
-}
-
-impl Row for SlotRow {
-    fn copied(&self, alloc: Global) -> Result<SlotRow, AllocError> {
-        self.copy(alloc)
-    }
-
-    fn equals(&self, other: &SlotRow) -> bool {
-        self.same(other)
-    }
-}
-
-impl Row for VerbRow {
-    fn copied(&self, alloc: Global) -> Result<VerbRow, AllocError> {
-        self.copy(alloc)
-    }
-
-    fn equals(&self, other: &VerbRow) -> bool {
-        self.same(other)
     }
 }

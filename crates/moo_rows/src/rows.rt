@@ -9,85 +9,106 @@ use crate::row::{Head, ObjRow, PropId, PropRow, SlotRow, VerbId, VerbRow};
 use moo_value::value::ObjNo;
 use std::alloc::AllocError;
 
-/// A head and four maps of rows.
+/// A head and four maps of rows: objects, properties, slots and verbs.
+///
+/// A look-up, a next key and the head take no memory. A put or a removal that is refused, for want of memory alone, changes nothing.
+/// Each other one changes the row of its key and nothing else, and raises the count of writes, which only contracts see, by one.
 pub trait Rows {
     /// The head and what the maps hold, how many rows were put or removed so far, and what the rows stand over.
     ghost held: { Self → Held };
 
+    /// The head.
     fn head(&self) -> Head
         ensures { result ≡ (held self.now).maps.head };
 
+    /// Sets the head. No row changes, and the count of writes stays.
     fn set_head(&mut self, head: Head)
         ensures { held self.new
             ≡ record (held self.old) { maps = record ((held self.old).maps) { head = head } } };
 
-    /// The row of an object.
+    /// The row of an object, or none where the map doesn't hold it.
     fn object(&self, key: ObjNo) -> Option<&ObjRow>
         ensures { option_map (λ row. row.now) result ≡ map.get (held self.now).maps.objects key };
 
-    /// The least object past `from`, or the least of all.
+    /// The least object that is held past `from`, or the least of all where no `from` is given; none where there is no such object.
     fn next_object(&self, from: Option<ObjNo>) -> Option<ObjNo>
         ensures { IsNext (held self.now).maps.objects from result };
 
+    /// Sets the row of an object, in place of the one that it has, if any. After an `Err`, want of memory, nothing is changed;
+    /// else the count of writes is one more.
     fn put_object(&mut self, key: ObjNo, row: ObjRow) -> Result<(), AllocError>
         ensures ok { OnOk result (held self.new ≡ wrote (held self.old)
             (record ((held self.old).maps) { objects = map.insert (held self.old).maps.objects key row })) }
         ensures err { OnErr result (held self.new ≡ held self.old) };
 
+    /// Takes the row of an object away; it need not have one. After an `Err`, want of memory, nothing is changed;
+    /// else the count of writes is one more.
     fn remove_object(&mut self, key: ObjNo) -> Result<(), AllocError>
         ensures ok { OnOk result (held self.new ≡ wrote (held self.old)
             (record ((held self.old).maps) { objects = map.remove (held self.old).maps.objects key })) }
         ensures err { OnErr result (held self.new ≡ held self.old) };
 
-    /// The row of a property.
+    /// The row of a property, or none where the map doesn't hold it.
     fn prop(&self, key: PropId) -> Option<&PropRow>
         ensures { option_map (λ row. row.now) result ≡ map.get (held self.now).maps.props key };
 
-    /// The least property past `from`, or the least of all.
+    /// The least property that is held past `from`, or the least of all where no `from` is given; none where there is no such property.
     fn next_prop(&self, from: Option<PropId>) -> Option<PropId>
         ensures { IsNext (held self.now).maps.props from result };
 
+    /// Sets the row of a property, in place of the one that it has, if any. After an `Err`, want of memory, nothing is changed;
+    /// else the count of writes is one more.
     fn put_prop(&mut self, key: PropId, row: PropRow) -> Result<(), AllocError>
         ensures ok { OnOk result (held self.new ≡ wrote (held self.old)
             (record ((held self.old).maps) { props = map.insert (held self.old).maps.props key row })) }
         ensures err { OnErr result (held self.new ≡ held self.old) };
 
+    /// Takes the row of a property away; it need not have one. After an `Err`, want of memory, nothing is changed;
+    /// else the count of writes is one more.
     fn remove_prop(&mut self, key: PropId) -> Result<(), AllocError>
         ensures ok { OnOk result (held self.new ≡ wrote (held self.old)
             (record ((held self.old).maps) { props = map.remove (held self.old).maps.props key })) }
         ensures err { OnErr result (held self.new ≡ held self.old) };
 
-    /// The row of a slot.
+    /// The row of a slot, or none where the map doesn't hold it.
     fn slot(&self, key: (ObjNo, PropId)) -> Option<&SlotRow>
         ensures { option_map (λ row. row.now) result ≡ map.get (held self.now).maps.slots key };
 
-    /// The least slot past `from`, or the least of all.
+    /// The least slot that is held past `from`, or the least of all where no `from` is given; none where there is no such slot.
     fn next_slot(&self, from: Option<(ObjNo, PropId)>) -> Option<(ObjNo, PropId)>
         ensures { IsNext (held self.now).maps.slots from result };
 
+    /// Sets the row of a slot, in place of the one that it has, if any. After an `Err`, want of memory, nothing is changed;
+    /// else the count of writes is one more.
     fn put_slot(&mut self, key: (ObjNo, PropId), row: SlotRow) -> Result<(), AllocError>
         ensures ok { OnOk result (held self.new ≡ wrote (held self.old)
             (record ((held self.old).maps) { slots = map.insert (held self.old).maps.slots key row })) }
         ensures err { OnErr result (held self.new ≡ held self.old) };
 
+    /// Takes the row of a slot away; it need not have one. After an `Err`, want of memory, nothing is changed;
+    /// else the count of writes is one more.
     fn remove_slot(&mut self, key: (ObjNo, PropId)) -> Result<(), AllocError>
         ensures ok { OnOk result (held self.new ≡ wrote (held self.old)
             (record ((held self.old).maps) { slots = map.remove (held self.old).maps.slots key })) }
         ensures err { OnErr result (held self.new ≡ held self.old) };
 
-    /// The row of a verb.
+    /// The row of a verb, or none where the map doesn't hold it.
     fn verb(&self, key: (ObjNo, VerbId)) -> Option<&VerbRow>
         ensures { option_map (λ row. row.now) result ≡ map.get (held self.now).maps.verbs key };
 
-    /// The least verb past `from`, or the least of all.
+    /// The least verb that is held past `from`, or the least of all where no `from` is given; none where there is no such verb.
     fn next_verb(&self, from: Option<(ObjNo, VerbId)>) -> Option<(ObjNo, VerbId)>
         ensures { IsNext (held self.now).maps.verbs from result };
 
+    /// Sets the row of a verb, in place of the one that it has, if any. After an `Err`, want of memory, nothing is changed;
+    /// else the count of writes is one more.
     fn put_verb(&mut self, key: (ObjNo, VerbId), row: VerbRow) -> Result<(), AllocError>
         ensures ok { OnOk result (held self.new ≡ wrote (held self.old)
             (record ((held self.old).maps) { verbs = map.insert (held self.old).maps.verbs key row })) }
         ensures err { OnErr result (held self.new ≡ held self.old) };
 
+    /// Takes the row of a verb away; it need not have one. After an `Err`, want of memory, nothing is changed;
+    /// else the count of writes is one more.
     fn remove_verb(&mut self, key: (ObjNo, VerbId)) -> Result<(), AllocError>
         ensures ok { OnOk result (held self.new ≡ wrote (held self.old)
             (record ((held self.old).maps) { verbs = map.remove (held self.old).maps.verbs key })) }

@@ -16,3 +16,5 @@ pub mod Subtrees
 pub mod Recycling
 pub mod Creating
 pub mod MapLaws
+pub mod Naming
+pub mod OpeningRows

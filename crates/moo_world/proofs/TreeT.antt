@@ -11,12 +11,16 @@ use Rattle.moo_value.specs.declared.value.Value.TheVariants.{Int, Obj}
 use Rattle.moo_rows.specs.declared.row.Bits.{Bits}
 use Rattle.moo_world.specs.Objects.{nothing, same_object, same_text, same_pair, folded}
 use Rattle.moo_world.specs.World.{World, slot_of, parent_of, read_of, chain, owed_by, rebuilt, reparented}
-use Rattle.moo_value.specs.declared.code.Code.TheVariants.{InvalidArgument, RecursiveMove}
+use Rattle.moo_value.specs.declared.code.Code.TheVariants.{Permission, RecursiveMove}
 use Rattle.moo_world.specs.declared.call.Call.{Call}
-use Rattle.moo_world.specs.declared.call.CallName.{CallName}
-use Rattle.moo_world.specs.declared.call.CallName.TheVariants.{Create, Recycle}
+use Rattle.moo_world.specs.declared.name.CallName.{CallName}
+use Rattle.moo_world.specs.declared.name.CallName.TheVariants.{Create, MaxObject}
 use Rattle.moo_world.specs.Manual.{common, manual_slot}
-use Rattle.moo_world.specs.Step.{Failed, chparent, recycled, subtree_of, children_of, step}
+use Rattle.moo_world.specs.Calls.{chparent}
+use Rattle.moo_world.specs.ObjectLists.{subtree_of, children_of}
+use Rattle.moo_world.specs.Outcomes.{Failed}
+use Rattle.moo_world.specs.Recycling.{recycled}
+use Rattle.moo_world.specs.Step.{step}
 use Rattle.moo_world.specs.Judge.{Verdict, Accepted, Refused, NoRoom, Stale, judge}
 use Rattle.moo_world.specs.Rows.{LookUps, world_shown}
 
@@ -95,11 +99,11 @@ unfolding world_shown chain same_object same_text same_pair folded rebuilt
 manual_c = refl
 
 -- chparent(#5, #5) and chparent(#4, #6)
-under_itself : chparent T (no 3) (Obj (no 5) ∷ Obj (no 5) ∷ []) ≡ Failed RecursiveMove
+under_itself : chparent T (no 3) (no 5) (no 5) ≡ Failed RecursiveMove
 unfolding world_shown chain same_object same_text same_pair folded
 under_itself = refl
 
-under_own : chparent T (no 3) (Obj (no 4) ∷ Obj (no 6) ∷ []) ≡ Failed RecursiveMove
+under_own : chparent T (no 3) (no 4) (no 6) ≡ Failed RecursiveMove
 unfolding world_shown chain same_object same_text same_pair folded
 under_own = refl
 
@@ -130,7 +134,7 @@ common_6_4 : common T (no 6) (no 4) ≡ no 4
 unfolding world_shown chain same_object
 common_6_4 = refl
 
--- a batch: create(#1); recycle(#8); create(#1), and one whose second call fails
+-- a batch: create(#1); max_object(); create(#1), and one whose second call fails
 abbrev call : CallName → List Value → Call
 call name args = record { name = name; args = args }
 
@@ -140,12 +144,12 @@ answers (Refused k e) = None
 answers (NoRoom k) = None
 answers (Stale k) = None
 
-numbers_rise : answers (judge (record { world = T; seq = 1 }) (record { programmer = no 3; at = None; calls = call Create (Obj (no 1) ∷ []) ∷ call Recycle (Obj (no 8) ∷ []) ∷ call Create (Obj (no 1) ∷ []) ∷ [] }))
-    ≡ Some (Obj (no 8) ∷ Int (pos 0) ∷ Obj (no 9) ∷ [])
+numbers_rise : answers (judge (record { world = T; seq = 1 }) (record { programmer = no 3; at = None; calls = call Create (Obj (no 1) ∷ []) ∷ call MaxObject [] ∷ call Create (Obj (no 1) ∷ []) ∷ [] }))
+    ≡ Some (Obj (no 8) ∷ Obj (no 8) ∷ Obj (no 9) ∷ [])
 unfolding world_shown chain same_object same_text same_pair folded rebuilt step judge
 numbers_rise = refl
 
-refused_second : judge (record { world = T; seq = 1 }) (record { programmer = no 3; at = None; calls = call Create (Obj (no 1) ∷ []) ∷ call Recycle (Obj (no 99) ∷ []) ∷ [] }) ≡ Refused 2 InvalidArgument
+refused_second : judge (record { world = T; seq = 1 }) (record { programmer = no 3; at = None; calls = call Create (Obj (no 1) ∷ []) ∷ call Create (Obj (no 99) ∷ []) ∷ [] }) ≡ Refused 2 Permission
 unfolding world_shown chain same_object same_text same_pair folded rebuilt step judge
 refused_second = refl
 

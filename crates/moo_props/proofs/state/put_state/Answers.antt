@@ -1,15 +1,18 @@
-use Rattle.std.proofs.Common.{sym, ap, ◌∙◌, subst}
+use Rattle.std.proofs.Common.{refl, sym, ap, ◌∙◌, subst}
 use Rattle.moo_rows.specs.Maps.{Held}
-use Rattle.moo_world.specs.Rows.{world_of, IsSound}
-use Rattle.moo_props.proofs.States.{put_state_world, put_state_sound}
+use Rattle.moo_world.specs.Rows.{world_of, IsGood}
+use Rattle.moo_props.proofs.States.{put_slot_world, put_slot_good}
 use Rattle.moo_props.proofs.state.put_state.Goals as goal
 
 pub returns-clause-world : goal.returns-clause-world
 returns-clause-world g c =
     ap (λ (h : Held). world_of h.maps) c.in_ok-put_slot.ensures.ok
-    ∙ put_state_world (g.R.Rows.held c.args.rows.now).maps c.requires.sound c.args.x c.args.id c.in-Some.slot.now (sym c.in-Some.ensures) c.args.state
+    ∙ put_slot_world (g.R.Rows.held c.args.rows.now).maps c.requires.good.sound c.args.x c.args.id c.in-Some.slot.now (sym c.in-Some.ensures) (record (c.in-Some.slot.now) { state = c.args.state }) (λ s. record s { state = c.args.state }) (λ d. refl)
 
-pub returns-clause-sound : goal.returns-clause-sound
-returns-clause-sound g c =
-    subst (λ (h : Held). IsSound h.maps) (sym c.in_ok-put_slot.ensures.ok)
-    (put_state_sound (g.R.Rows.held c.args.rows.now).maps c.requires.sound c.args.x c.args.id c.in-Some.slot.now (sym c.in-Some.ensures) c.args.state)
+pub returns-clause-kept : goal.returns-clause-kept
+returns-clause-kept g c = record {
+  good = subst (λ (h : Held). IsGood h.maps) (sym c.in_ok-put_slot.ensures.ok)
+      (put_slot_good (g.R.Rows.held c.args.rows.now).maps c.requires.good.sound c.args.x c.args.id c.in-Some.slot.now (sym c.in-Some.ensures) (record (c.in-Some.slot.now) { state = c.args.state }) (λ s. record s { state = c.args.state }) (λ d. refl) c.requires.good.formed (λ s. refl) c.requires.set);
+  seq = ap (λ (h : Held). h.maps.head.seq) c.in_ok-put_slot.ensures.ok;
+  base = ap (λ (h : Held). h.base) c.in_ok-put_slot.ensures.ok;
+}

@@ -1,0 +1,79 @@
+//! What the words of the command line do.
+
+ghost use Rattle.std.specs.Prelude.{◌≡◌, ◌<◌, IfOk, IfSome};
+ghost use Rattle.moo.specs.Run.{AnswersText};
+
+use crate::failure::Failure;
+use moo_store::creating::create_in;
+use moo_store::output::put_all;
+use moo_store::{Tally, apply_text};
+use sqlite::Connection;
+use std::alloc::Global;
+use std::io::{Read, Write};
+
+/// Whether the words ask for the one thing that there is so far: `apply :memory: -`, which no words at all ask for too.
+fn asks_to_apply(words: &[&str]) -> bool {
+    match words {
+        ["moo"] => true,
+        ["moo", command, file, batches] => {
+            *command == "apply" && *file == ":memory:" && *batches == "-"
+        }
+        _ => false,
+    }
+}
+
+/// Runs a text of batches on a new world in memory.
+fn apply_in_memory<R: Read + Drop, W: Write>(
+    alloc: Global,
+    input: R,
+    output: &mut W,
+) -> Result<Tally, Failure>
+    ensures { IfOk result (λ tally. IfSome (R.remaining input) (λ text. AnswersText text (W.contents output.old) (W.contents output.new))) }
+{
+    let conn = match Connection::open_in_memory(alloc) {
+        Ok(conn) => conn,
+        Err(_) => return Err(Failure::NoMemory),
+    };
+    let mut world = match create_in(alloc, conn) {
+        Ok(world) => world,
+        Err((fault, _conn)) => return Err(Failure::from(fault)),
+    };
+    match apply_text(alloc, input, output, &mut world) {
+        Ok(tally) => Ok(tally),
+        Err(fault) => Err(Failure::from(fault)),
+    }
+}
+
+/// Writes the line of a failure, and answers its status.
+fn report<W: Write>(failure: Failure, output: &mut W) -> u8
+    ensures { 0 < result }
+{
+    match failure.line() {
+        Some(line) if put_all(output, line.as_bytes()).is_err() => Failure::Write.status(),
+        _ => failure.status(),
+    }
+}
+
+/// Does what the words say, which begin with `moo`, and answers the exit status.
+///
+/// With no other word, or as `moo apply :memory: -`, it runs the text of batches that the input is on a new world in memory
+/// and writes a reply for each: 0, or 1 where a reply is `fault` or `closed`. A failure is one line on the output: 1 where the
+/// store, the reader or the writer failed or the input is too long, 4 where memory ran out. Any other words are
+/// `moo: usage`, 2.
+pub fn run_words<R: Read + Drop, W: Write>(
+    rt: &HostRuntime,
+    words: &[&str],
+    input: R,
+    output: &mut W,
+) -> u8
+    // At status 0 each batch of the text was judged, after the accepted ones before it, and the answers are what was written.
+    ensures { result ≡ 0 → IfSome (R.remaining input) (λ text. AnswersText text (W.contents output.old) (W.contents output.new)) }
+{
+    if !asks_to_apply(words) {
+        return report(Failure::Usage, output);
+    }
+    match apply_in_memory(rt.alloc(), input, output) {
+        Ok(tally) => { if tally.lost == 0 { 0 } else { 1 } }
+        Err(failure) => report(failure, output),
+    }
+}

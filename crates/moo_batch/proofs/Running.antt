@@ -1,0 +1,74 @@
+-- The calls of a batch, one after another.
+use Rattle.std.proofs.Common.{◌≡◌, ◌+◌, List, [], ◌∷◌, ◌++◌, length, refl, sym, ap, ◌∙◌, arith}
+use Rattle.moo_value.specs.declared.value.ObjNo.{ObjNo}
+use Rattle.moo_value.specs.declared.value.Value.{Value}
+use Rattle.moo_value.specs.declared.code.Code.{Code}
+use Rattle.moo_rows.specs.Maps.{Held}
+use Rattle.moo_world.specs.declared.call.Call.{Call}
+use Rattle.moo_world.specs.World.{World}
+use Rattle.moo_world.specs.Rows.{IsGood}
+use Rattle.moo_world.specs.Outcomes.{Outcome, Done, Failed, Full}
+use Rattle.moo_world.specs.Step.{step}
+use Rattle.moo_world.specs.Judge.{Ran, Through, FailedAt, FullAt, after_one, run_calls}
+use Rattle.moo_calls.specs.Outcomes.{world_in, Keeps}
+
+-- answers, and then what the later calls come to
+abbrev pub after_all : List Value → Ran → Ran
+after_all [] ran = ran
+after_all (v ∷ vs) ran = after_one v (after_all vs ran)
+
+-- all calls come to these answers and then what the calls that are left come to
+pub record HaveRunSoFar (before : Held) (p : ObjNo) (all : List Call) (answers : List Value) (now : Held) (left : List Call) : Type 0 where
+  pub run : run_calls (world_in before) p all ≡ after_all answers (run_calls (world_in now) p left)
+  pub kept : Keeps before now
+
+after_all-append : (vs : List Value) (v : Value) (ran : Ran) → after_all (vs ++ v ∷ []) ran ≡ after_all vs (after_one v ran)
+after_all-append [] v ran = refl
+after_all-append (u ∷ vs) v ran = ap (after_one u) (after_all-append vs v ran)
+
+after_all-through : (vs : List Value) (w : World) → after_all vs (Through [] w) ≡ Through vs w
+after_all-through [] w = refl
+after_all-through (v ∷ vs) w = ap (after_one v) (after_all-through vs w)
+
+after_all-failed : (vs : List Value) (e : Code) → after_all vs (FailedAt 1 e) ≡ FailedAt (length vs + 1) e
+after_all-failed [] e = refl
+after_all-failed (v ∷ vs) e = ap (after_one v) (after_all-failed vs e) ∙ ap (λ n. FailedAt n e) (omega arith)
+
+after_all-full : (vs : List Value) → after_all vs (FullAt 1) ≡ FullAt (length vs + 1)
+after_all-full [] = refl
+after_all-full (v ∷ vs) = ap (after_one v) (after_all-full vs) ∙ ap FullAt (omega arith)
+
+-- before the first call
+pub run-started : (before : Held) (p : ObjNo) (all : List Call) → IsGood before.maps → HaveRunSoFar before p all [] before all
+run-started before p all good = record { run = refl; kept = record { good = good; seq = refl; base = refl } }
+
+-- what the first of some calls makes of them
+first_of : World → ObjNo → List Call → Outcome → Ran
+first_of w p calls o = elim o [ Done v next ↦ after_one v (run_calls next p calls) | Failed e ↦ FailedAt 1 e | Full ↦ FullAt 1 ]
+
+first_is : (w : World) (p : ObjNo) (call : Call) (calls : List Call) (o : Outcome) → step w p call ≡ o → run_calls w p (call ∷ calls) ≡ first_of w p calls o
+unfolding first_of
+first_is w p call calls o e = ap (first_of w p calls) e
+
+module _ {before : Held} {p : ObjNo} {all : List Call} {answers : List Value} {now : Held} where
+  pub run-one_more : (call : Call) (left : List Call) (v : Value) (more : List Value) (next : Held) → more ≡ answers ++ v ∷ [] → HaveRunSoFar before p all answers now (call ∷ left)
+      → step (world_in now) p call ≡ Done v (world_in next) → Keeps now next → HaveRunSoFar before p all more next left
+  unfolding first_of
+  run-one_more call left v more next e h done kept = record {
+    run = h.run ∙ ap (after_all answers) (first_is (world_in now) p call left (Done v (world_in next)) done)
+        ∙ sym (ap (λ vs. after_all vs (run_calls (world_in next) p left)) e ∙ after_all-append answers v (run_calls (world_in next) p left));
+    kept = record { good = kept.good; seq = kept.seq ∙ h.kept.seq; base = kept.base ∙ h.kept.base };
+  }
+
+  pub run-ended : HaveRunSoFar before p all answers now [] → run_calls (world_in before) p all ≡ Through answers (world_in now)
+  run-ended h = h.run ∙ after_all-through answers (world_in now)
+
+  pub run-failed : (call : Call) (left : List Call) (e : Code) → HaveRunSoFar before p all answers now (call ∷ left)
+      → step (world_in now) p call ≡ Failed e → run_calls (world_in before) p all ≡ FailedAt (length answers + 1) e
+  unfolding first_of
+  run-failed call left e h failed = h.run ∙ ap (after_all answers) (first_is (world_in now) p call left (Failed e) failed) ∙ after_all-failed answers e
+
+  pub run-full : (call : Call) (left : List Call) → HaveRunSoFar before p all answers now (call ∷ left)
+      → step (world_in now) p call ≡ Full → run_calls (world_in before) p all ≡ FullAt (length answers + 1)
+  unfolding first_of
+  run-full call left h full = h.run ∙ ap (after_all answers) (first_is (world_in now) p call left Full full) ∙ after_all-full answers

@@ -1,0 +1,10 @@
+use Rattle.moo_rows.specs.Ordered.{contents}
+use Rattle.moo_rows.specs.Maps.{prop_cmp}
+use Rattle.moo_rows.proofs.Orders.{prop_total}
+use Rattle.moo_batch.proofs.Overlays.{next-overlaid}
+use Rattle.moo_batch.proofs.draft.DraftRows.next_prop.Goals as goal
+
+pub returns : goal.returns
+returns g c =
+    let d = c.self.inside in
+    rw (← c.self.view_is) (next-overlaid prop_total (g.R.Rows.held d.base.now).maps.props (contents prop_cmp d.props) c.args.from c.next.result c.next.ensures)

@@ -1,0 +1,17 @@
+use Rattle.std.proofs.Common.{◌≡◌, Some, ap, ◌∙◌}
+use Rattle.std.specs.FinMap as map
+use Rattle.moo_rows.specs.Ordered.{contents}
+use Rattle.moo_rows.specs.Maps.{prop_cmp}
+use Rattle.moo_rows.specs.Exact.{prop_exact}
+use Rattle.moo_rows.proofs.Orders.{prop_total}
+use Rattle.moo_batch.specs.Overlay.{overlaid}
+use Rattle.moo_batch.proofs.Overlays.{overlaid-insert}
+use Rattle.moo_batch.proofs.draft.DraftRows.put_prop.Goals as goal
+
+pub returns-clause-ok : goal.returns-clause-ok
+returns-clause-ok g c =
+    let d = c.self.inside in
+    let below = (g.R.Rows.held d.base.now).maps.props in
+    let written : overlaid below (contents prop_cmp c.put.new.rows) ≡ map.insert (overlaid below (contents prop_cmp d.props)) c.args.key c.args.row =
+    ap (overlaid below) c.in_ok-put.ensures.ok ∙ overlaid-insert prop_total prop_exact below (contents prop_cmp d.props) c.args.key (Some c.args.row) in
+    rw (← c.self.view_is) (cc)

@@ -1,0 +1,31 @@
+-- What the calls of a batch and a batch come to on rows.
+use Rattle.std.specs.Prelude.{◌≡◌, ◌<◌, true, List, Result, Ok, Err, ⊤}
+use Rattle.moo_value.specs.declared.value.Value.{Value}
+use Rattle.moo_rows.specs.Maps.{Maps}
+use Rattle.moo_world.specs.declared.call.Batch.{Batch}
+use Rattle.moo_world.specs.World.{World}
+use Rattle.moo_world.specs.Rows.{IsGood}
+use Rattle.moo_world.specs.Judge as model
+use Rattle.moo_world.specs.Judge.{state_of}
+use Rattle.moo_batch.specs.declared.judge.Stop.{Stop}
+use Rattle.moo_batch.specs.declared.judge.Stop.TheVariants.{Refused as refused_at, Full as full_at, OutOfMemory as no_memory}
+use Rattle.moo_batch.specs.declared.judge.Verdict.{Verdict}
+use Rattle.moo_batch.specs.declared.judge.Verdict.TheVariants.{Accepted, Refused, Full, Stale, OutOfMemory}
+use Rattle.moo_batch.specs.Changes.{AreChanges}
+
+-- what is answered where calls come to this: their answers, with the world that they leave, or the first call that isn't done
+abbrev pub ComeTo : model.Ran → World → Result (List Value) Stop → Type 0
+ComeTo ran after (Ok answers) = ran ≡ model.Through answers after
+ComeTo ran after (Err (refused_at call code)) = ran ≡ model.FailedAt call code
+ComeTo ran after (Err (full_at call)) = ran ≡ model.FullAt call
+ComeTo ran after (Err no_memory) = ⊤
+
+-- what a batch comes to on rows, and where it is accepted the changes that make them into the next ones.
+-- Want of memory is answered only where calls are run
+abbrev pub IsVerdict : Maps → Batch → Verdict → Type 0
+IsVerdict base batch (Accepted answers changes) =
+    (next : Maps) × AreChanges base next changes × IsGood next × (model.judge (state_of base) batch ≡ model.Accepted answers (state_of next))
+IsVerdict base batch (Refused call code) = model.judge (state_of base) batch ≡ model.Refused call code
+IsVerdict base batch (Full call) = model.judge (state_of base) batch ≡ model.NoRoom call
+IsVerdict base batch (Stale seq) = model.judge (state_of base) batch ≡ model.Stale seq
+IsVerdict base batch OutOfMemory = (model.is_due batch.at base.head.seq ≡ true) × (base.head.seq < model.last_seq)

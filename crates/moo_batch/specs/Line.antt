@@ -1,0 +1,36 @@
+-- What one line of a batch text is, whatever it says.
+use Rattle.std.specs.Prelude.{ℕ, ◌==◌, ◌&&◌, Bool, false, not, nat_le, List, [], ◌∷◌, length, if◌then◌else◌}
+use Rattle.std.specs.List.{filter, slice_split}
+use Rattle.moo_value.specs.Literal.{is_blank}
+use Rattle.moo_value.specs.Reading.{after_blanks}
+
+-- no line over this is blank, `end`, a header or a call
+abbrev pub is_short : List ℕ → Bool
+is_short line = nat_le (length line) 262144
+
+-- spaces and tabs alone
+abbrev pub is_all_blank : List ℕ → Bool
+is_all_blank bytes = length (after_blanks bytes) == 0
+
+abbrev pub is_blank_line : List ℕ → Bool
+is_blank_line line = is_short line && is_all_blank line
+
+abbrev pub is_end_word : List ℕ → Bool
+is_end_word (a ∷ b ∷ c ∷ rest) = (a == 101) && (b == 110) && (c == 100) && is_all_blank rest
+is_end_word _ = false
+
+abbrev pub is_end_line : List ℕ → Bool
+is_end_line line = is_short line && is_end_word (after_blanks line)
+
+-- what stands between blanks, in order
+abbrev pub words : List ℕ → List (List ℕ)
+words line = filter (λ word. not (length word == 0)) (slice_split is_blank line)
+
+-- what stands in front of the first blank, and what follows
+abbrev pub until_blank : List ℕ → List ℕ
+until_blank [] = []
+until_blank (c ∷ cs) = if is_blank c then [] else c ∷ until_blank cs
+
+abbrev pub from_blank : List ℕ → List ℕ
+from_blank [] = []
+from_blank (c ∷ cs) = if is_blank c then c ∷ cs else from_blank cs

@@ -1,0 +1,263 @@
+ghost use Rattle.std.specs.Prelude.{◌≤◌, length, OnOk};
+ghost use Rattle.moo_world.specs.Rows.{IsGood};
+
+use crate::answers::Answers;
+use crate::changes::{Changes, apply_changes};
+use crate::draft::Draft;
+use crate::judge::{Verdict, judge};
+use moo_rows::flat::Flat;
+use moo_rows::opening::opening_world;
+use moo_rows::row::{Bits, PropId, SlotRow, SlotState};
+use moo_rows::rows::Rows;
+use moo_rows::walk::{children, each_slot, each_slot_of};
+use moo_value::code::Code;
+use moo_value::value::{ObjNo, Value};
+use moo_world::call::{Args, Batch, Call, Calls};
+use moo_world::name::CallName;
+use moo_world::opening::good_opening;
+use std::alloc::{AllocError, Global};
+use std::test::Fail;
+
+fn slot(object: ObjNo, value: i32) -> SlotRow {
+    SlotRow {
+        owner: object,
+        bits: Bits {
+            r: true,
+            w: false,
+            c: false,
+        },
+        state: SlotState::Set(Value::Int(value)),
+    }
+}
+
+fn some_slots(alloc: Global) -> Result<Flat, AllocError> {
+    let mut flat = opening_world(alloc)?;
+    for i in 0..100u32 {
+        let object = ObjNo((i % 23) as i32);
+        flat.put_slot((object, PropId(i * 7 % 17 + 1)), slot(object, 0))?;
+    }
+    Ok(flat)
+}
+
+/// 1,000 fixed puts, removals and steps, and then the keys of all slots and of some.
+fn keys_met<R: Rows>(
+    alloc: Global,
+    rows: &mut R,
+) -> Result<Vec<Option<(ObjNo, PropId)>>, AllocError> {
+    let mut met = Vec::new(alloc);
+    for i in 0..1000u32 {
+        let object = ObjNo((i * 37 % 23) as i32);
+        let key = (object, PropId(i * 11 % 17 + 1));
+        match i % 4 {
+            0 => rows.put_slot(key, slot(object, i as i32))?,
+            1 => rows.put_slot((object, PropId(3)), slot(object, 0))?,
+            2 => rows.remove_slot(key)?,
+            _ => met.push(rows.next_slot(Some(key)))?,
+        }
+    }
+    for (key, _) in each_slot(rows) {
+        met.push(Some(key))?;
+    }
+    for (key, _) in each_slot_of(rows, ObjNo(5), PropId(3)) {
+        met.push(Some(key))?;
+    }
+    Ok(met)
+}
+
+#[test]
+fn a_draft_steps_as_rows_do(rt: HostRuntime) -> Result<(), Fail> {
+    let base = some_slots(rt.alloc())?;
+    let mut flat = base.copy(rt.alloc())?;
+    let mut draft = Draft::new(rt.alloc(), &base);
+    let met = keys_met(rt.alloc(), &mut draft)?;
+    let wanted = keys_met(rt.alloc(), &mut flat)?;
+    assert!(rt; wanted.len() > 300);
+    assert!(rt; met.as_slice() == wanted.as_slice());
+    let changes = draft.into_changes()?;
+    let mut applied = base.copy(rt.alloc())?;
+    apply_changes(&mut applied, changes)?;
+    let met = keys_met(rt.alloc(), &mut applied)?;
+    let wanted = keys_met(rt.alloc(), &mut flat)?;
+    assert!(rt; met.as_slice() == wanted.as_slice());
+    Ok(())
+}
+
+#[test]
+fn a_row_put_back_is_no_change(rt: HostRuntime) -> Result<(), Fail> {
+    let base = some_slots(rt.alloc())?;
+    let key = (ObjNo(5), PropId(2));
+    assert!(rt; base.slot(key).is_some());
+    let mut draft = Draft::new(rt.alloc(), &base);
+    draft.remove_slot(key)?;
+    draft.put_slot(key, slot(ObjNo(5), 0))?;
+    draft.remove_slot((ObjNo(50), PropId(1)))?;
+    draft.put_slot((ObjNo(1), PropId(20)), slot(ObjNo(1), 7))?;
+    draft.remove_object(ObjNo(2))?;
+    let changes = draft.into_changes()?;
+    assert_eq!(rt; changes.slots.items().len(), 1);
+    assert!(rt; changes.slots.items()[0].0 == (ObjNo(1), PropId(20)));
+    assert!(rt; changes.slots.items()[0].1.is_some());
+    assert_eq!(rt; changes.objects.items().len(), 1);
+    assert!(rt; changes.objects.items()[0].1.is_none());
+    assert!(rt; changes.props.items().is_empty());
+    Ok(())
+}
+
+#[test]
+fn a_removed_object_is_not_next(rt: HostRuntime) -> Result<(), Fail> {
+    let flat = opening_world(rt.alloc())?;
+    let mut draft = Draft::new(rt.alloc(), &flat);
+    draft.remove_object(ObjNo(1))?;
+    draft.remove_object(ObjNo(2))?;
+    assert!(rt; draft.next_object(Some(ObjNo(0))) == Some(ObjNo(3)));
+    assert!(rt; flat.next_object(Some(ObjNo(0))) == Some(ObjNo(1)));
+    let left = children(&draft, rt.alloc(), ObjNo(1))?;
+    assert_eq!(rt; left.items().len(), 2);
+    Ok(())
+}
+
+/// A call that is given objects.
+fn call(alloc: Global, name: CallName, object: Option<i32>) -> Result<Call, AllocError> {
+    let mut items = Vec::new(alloc);
+    if let Some(object) = object {
+        items.push(Value::Obj(ObjNo(object)))?;
+    }
+    Ok(Call {
+        name,
+        args: Args::from_vec(items),
+    })
+}
+
+fn batch(
+    alloc: Global,
+    programmer: i32,
+    at: Option<u64>,
+    calls: &[(CallName, Option<i32>)],
+) -> Result<Batch, AllocError>
+    requires { length calls.now ≤ 1000 }
+{
+    let mut items = Vec::new(alloc);
+    for (name, object) in calls {
+        items.push(call(alloc, *name, *object)?)?;
+    }
+    Ok(Batch {
+        programmer: ObjNo(programmer),
+        at,
+        calls: Calls::from_vec(items),
+    })
+}
+
+/// What a batch comes to, with its changes made.
+fn taken(alloc: Global, rows: &mut Flat, batch: &Batch) -> Result<Option<Answers>, AllocError>
+    requires { IsGood rows.old.maps }
+    ensures { OnOk result (IsGood rows.new.maps) }
+{
+    match judge(alloc, &*rows, batch) {
+        Verdict::Accepted { answers, changes } => {
+            apply_changes(rows, changes)?;
+            Ok(Some(answers))
+        }
+        _ => Ok(None),
+    }
+}
+
+fn has_only_its_head(changes: &Changes) -> bool {
+    changes.objects.items().is_empty()
+        && changes.props.items().is_empty()
+        && changes.slots.items().is_empty()
+        && changes.verbs.items().is_empty()
+}
+
+#[test]
+fn a_batch_without_calls_is_accepted_whoever_is_named(rt: HostRuntime) -> Result<(), Fail> {
+    let rows = good_opening(rt.alloc())?;
+    let none = batch(rt.alloc(), 9, None, &[])?;
+    match judge(rt.alloc(), &rows, &none) {
+        Verdict::Accepted { answers, changes } => {
+            assert!(rt; answers.items().is_empty());
+            assert_eq!(rt; changes.head.seq, 1);
+            assert_eq!(rt; changes.head.top, 3);
+            assert!(rt; has_only_its_head(&changes));
+        }
+        _ => assert!(rt; false),
+    }
+    Ok(())
+}
+
+#[test]
+fn a_batch_for_another_number_is_stale(rt: HostRuntime) -> Result<(), Fail> {
+    let mut rows = good_opening(rt.alloc())?;
+    let first = batch(rt.alloc(), 3, Some(0), &[])?;
+    let second = batch(rt.alloc(), 3, Some(1), &[])?;
+    assert!(rt; matches!(judge(rt.alloc(), &rows, &second), Verdict::Stale { seq: 0 }));
+    assert!(rt; taken(rt.alloc(), &mut rows, &first)?.is_some());
+    assert!(rt; matches!(judge(rt.alloc(), &rows, &first), Verdict::Stale { seq: 1 }));
+    assert!(rt; taken(rt.alloc(), &mut rows, &second)?.is_some());
+    assert_eq!(rt; rows.head().seq, 2);
+    Ok(())
+}
+
+#[test]
+fn a_refused_batch_changes_nothing(rt: HostRuntime) -> Result<(), Fail> {
+    let alloc = rt.alloc();
+    let rows = good_opening(alloc)?;
+    let half = batch(
+        alloc,
+        3,
+        None,
+        &[(CallName::Create, Some(1)), (CallName::Create, Some(9))],
+    )?;
+    match judge(alloc, &rows, &half) {
+        Verdict::Refused { call, code } => {
+            assert_eq!(rt; call, 2);
+            assert!(rt; code == Code::Permission);
+        }
+        _ => assert!(rt; false),
+    }
+    let greatest = [(CallName::MaxObject, None)];
+    let by_nobody = batch(alloc, 9, None, &greatest)?;
+    assert!(rt;
+        matches!(
+            judge(alloc, &rows, &by_nobody),
+            Verdict::Refused {
+                call: 1,
+                code: Code::Permission
+            }
+        )
+    );
+    let asked = batch(alloc, 3, None, &greatest)?;
+    match judge(alloc, &rows, &asked) {
+        Verdict::Accepted { answers, changes } => {
+            assert_eq!(rt; answers.items().len(), 1);
+            assert!(rt; answers.items()[0].same(&Value::Obj(ObjNo(3))));
+            assert!(rt; has_only_its_head(&changes));
+        }
+        _ => assert!(rt; false),
+    }
+    Ok(())
+}
+
+#[test]
+fn a_new_object_is_one_change(rt: HostRuntime) -> Result<(), Fail> {
+    let alloc = rt.alloc();
+    let mut rows = good_opening(alloc)?;
+    let made = batch(alloc, 3, None, &[(CallName::Create, Some(1))])?;
+    match judge(alloc, &rows, &made) {
+        Verdict::Accepted { answers, changes } => {
+            assert!(rt;
+                answers.items().len() == 1 && answers.items()[0].same(&Value::Obj(ObjNo(4)))
+            );
+            assert_eq!(rt; changes.head.top, 4);
+            assert_eq!(rt; changes.objects.items().len(), 1);
+            assert!(rt; changes.objects.items()[0].0 == ObjNo(4));
+            assert!(rt; changes.slots.items().is_empty() && changes.props.items().is_empty());
+        }
+        _ => assert!(rt; false),
+    }
+    assert!(rt; rows.head().top == 3);
+    match taken(alloc, &mut rows, &made)? {
+        Some(_) => assert!(rt; rows.object(ObjNo(4)).is_some()),
+        None => assert!(rt; false),
+    }
+    Ok(())
+}

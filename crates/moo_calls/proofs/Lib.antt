@@ -1,0 +1,4 @@
+mod Shapes
+mod RowForm
+mod Changed
+mod Created

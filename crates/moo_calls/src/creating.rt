@@ -1,0 +1,100 @@
+//! Making objects.
+
+ghost use Rattle.std.specs.Prelude.{◌≡◌, true, OnOk};
+ghost use Rattle.moo_world.specs.Rows.{IsGood};
+ghost use Rattle.moo_world.specs.Creation.{next_object, owner_or_self};
+ghost use Rattle.moo_world.specs.Quota.{may_afford, charged};
+ghost use Rattle.moo_world.specs.Calls.{create};
+ghost use Rattle.moo_calls.specs.Outcomes.{world_in, ComesTo, Keeps};
+
+use crate::fault::Fault;
+use crate::rights;
+use moo_props::birth::make;
+use moo_props::quota::{quota_of, take_quota};
+use moo_rows::rows::Rows;
+use moo_tree::is_nothing;
+use moo_value::code::Code;
+use moo_value::value::{ObjNo, Value};
+use std::alloc::{AllocError, Global};
+
+/// The number of the next object, where one is left.
+fn next_object<R: Rows>(rows: &R) -> Option<ObjNo>
+    ensures { result ≡ next_object (world_in (R.held rows.now)) }
+{
+    let top = rows.head().top;
+    if top < i32::MAX {
+        Some(ObjNo(top + 1))
+    } else {
+        None
+    }
+}
+
+/// The object itself, where the owner is `#-1`.
+fn owner_or_self(x: ObjNo, owner: ObjNo) -> ObjNo
+    ensures { result ≡ owner_or_self x owner }
+{
+    if is_nothing(owner) { x } else { owner }
+}
+
+/// Whether the owner's quota allows one more object.
+fn may_afford<R: Rows>(rows: &R, owner: ObjNo) -> bool
+    requires { IsGood (R.held rows.now).maps }
+    ensures { result ≡ may_afford (world_in (R.held rows.now)) owner }
+{
+    if is_nothing(owner) {
+        return true;
+    }
+    match quota_of(rows, owner) {
+        Some(left) => 0 < left,
+        None => true,
+    }
+}
+
+/// Takes one object from the owner's quota.
+fn charge<R: Rows>(rows: &mut R, owner: ObjNo) -> Result<(), AllocError>
+    requires good { IsGood (R.held rows.old).maps }
+    requires left { may_afford (world_in (R.held rows.old)) owner ≡ true }
+    ensures world { OnOk result (world_in (R.held rows.new) ≡ charged (world_in (R.held rows.old)) owner) }
+    ensures kept { OnOk result (Keeps (R.held rows.old) (R.held rows.new)) }
+{
+    if !is_nothing(owner) {
+        take_quota(rows, owner)?;
+    }
+    Ok(())
+}
+
+/// `create(parent, owner)`: makes an object under a parent, takes one from the owner's quota, and answers the new object.
+/// The owner is the programmer where none is given, and the object itself where it is `#-1`. E_PERM where the programmer
+/// may not use the parent, and then where it may not make an object for the owner; E_INVARG where the owner is neither an
+/// object nor `#-1`; E_QUOTA where the owner's quota is used up. Full where every number has been given.
+/// LambdaMOO Programmer's Manual, 'Fundamental Operations on Objects'.
+pub fn create<R: Rows>(
+    rows: &mut R,
+    alloc: Global,
+    programmer: ObjNo,
+    parent: ObjNo,
+    owner: ObjNo,
+) -> Result<Value, Fault>
+    requires { IsGood (R.held rows.old).maps }
+    ensures comes { ComesTo (create (world_in (R.held rows.old)) programmer parent owner) (R.held rows.old) (R.held rows.new) result }
+    ensures kept { OnOk result (Keeps (R.held rows.old) (R.held rows.new)) }
+{
+    if !rights::may_be_parent(rows, programmer, parent) {
+        return Err(Fault::Moo(Code::Permission));
+    }
+    if !rights::may_own(rows, programmer, owner) {
+        return Err(Fault::Moo(Code::Permission));
+    }
+    if !rights::valid_or_nothing(rows, owner) {
+        return Err(Fault::Moo(Code::InvalidArgument));
+    }
+    if !may_afford(rows, owner) {
+        return Err(Fault::Moo(Code::Quota));
+    }
+    let Some(x) = next_object(rows) else {
+        return Err(Fault::Full);
+    };
+    make(alloc, rows, x, parent, owner_or_self(x, owner))?;
+    charge(rows, owner)?;
+    Ok(Value::Obj(x))
+}

@@ -1,0 +1,269 @@
+-- Rows with a new object show the world with that object, and are good ones.
+use Rattle.std.proofs.Common.{◌≡◌, ℕ, Bool, true, false, ◌||◌, Option, None, Some, List, [], ◌∷◌, map, refl, sym, ap, ◌∙◌, subst, ◌⊎◌, inl, inr, pos, arith}
+use Rattle.std.specs.Prelude.{is_some, unwrap_or, slice_get, ◌<ℤ◌, ◌+ℤ◌, int_lt, if◌then◌else◌}
+use Rattle.std.specs.Option.{option_map, option_and_then}
+use Rattle.std.specs.List.{filter_map, cons_option, list_any}
+use Rattle.std.proofs.lemmas.Bool.{false≢true, or_cases}
+use Rattle.std.proofs.lemmas.Int.{ints}
+use Rattle.std.proofs.lemmas.Option.{none-some, same_Some}
+use Rattle.moo_value.specs.declared.value.ObjNo.{ObjNo}
+use Rattle.moo_rows.specs.declared.row.ObjRow.{ObjRow}
+use Rattle.moo_rows.specs.declared.row.PropRow.{PropRow}
+use Rattle.moo_rows.specs.declared.row.SlotRow.{SlotRow}
+use Rattle.moo_world.specs.Creation.{born, with_object, created, next_object}
+use Rattle.moo_world.specs.Objects.{Name, Pair, nothing, same_object, same_text, same_pair, folded, same_object-Decides}
+use Rattle.moo_world.specs.World.{World, Record, Slot, IsWellFormed, Chain, is_object, chain, owed_by, owner_of, owes, pair_named, slot_of, fresh, slot_for, with_slots, without_slots, SameButSlots, climb, numbers_to, read_in, read_along, read_of}
+use Rattle.moo_world.specs.Rows.{LookUps, AreSound, numbers_below, name_on, slot_on, slot_seen, record_of, world_shown}
+use Rattle.moo_world.proofs.Creating.{IsWellFormed-created, chain_x, chain_other, owed_still, owed_x}
+use Rattle.moo_world.proofs.Owed.{named_owed}
+use Rattle.moo_world.proofs.Rebuilding.{SameButSlots-rebuilt, slot_of-rebuilt, same_world, no_slot, objects_same, parents_same}
+use Rattle.moo_world.proofs.Seen.{is_object_seen}
+use Rattle.moo_world.proofs.Trees.{Chain-chain, chain_of_none, linked}
+use Rattle.moo_props.specs.Birth.{new_row}
+use Rattle.moo_props.specs.Touched.{fresh_from}
+use Rattle.moo_props.proofs.NewSlots.{with_new}
+use Rattle.moo_props.proofs.Numbered.{first_from, no_first}
+use Rattle.moo_props.proofs.Shown.{here-slot_on, slots_shown}
+
+-- ---- lists
+
+nothing_below : {X : Type 0} (h : ℕ → Option X) (n : ℕ) → ((k : ℕ) (v : X) → h k ≡ Some v → ⊥) → filter_map h (numbers_below n) ≡ []
+nothing_below h n none = no_first (filter_map h (numbers_below n)) (by (slice_get (filter_map h (numbers_below n)) 0) refl)
+  where
+    by : (o : Option _) → slice_get (filter_map h (numbers_below n)) 0 ≡ o → o ≡ None
+    by None e = refl
+    by (Some v) e = let k = first_from h n v e in absurd (none k.0 v k.2)
+
+made_map : {X Y : Type 0} (f : X → Y) (h : ℕ → Option X) (l : List ℕ) → filter_map (λ id. option_map f (h id)) l ≡ map f (filter_map h l)
+made_map f h [] = refl
+made_map f h (id ∷ l) = by (h id) (made_map f h l)
+  where
+    by : (o : Option _) → filter_map (λ id. option_map f (h id)) l ≡ map f (filter_map h l) → cons_option (option_map f o) (filter_map (λ id. option_map f (h id)) l) ≡ map f (cons_option o (filter_map h l))
+    by None r = r
+    by (Some v) r = ap (λ k. f v ∷ k) r
+
+first_map : {X Y : Type 0} (f : X → Y) (l : List X) → slice_get (map f l) 0 ≡ option_map f (slice_get l 0)
+first_map f [] = refl
+first_map f (v ∷ l) = refl
+
+same_chain : (a b : World) → SameButSlots a b → (x : ObjNo) → chain a x ≡ chain b x
+unfolding chain
+same_chain a b same x = λ i. climb (numbers_to (ap (λ (k : World). k.top) same i)) (parents_same a b same i) x
+
+module _ (m : LookUps) (sound : AreSound m) where
+  -- the slots of any number, object or not
+  shown_any : (q : ObjNo) (n : Name) → slot_of (world_shown m) q n ≡ slice_get (filter_map (slot_on m q n) (numbers_below m.head.next_prop)) 0
+  shown_any q n = by (m.object q) refl
+    where
+      by : (o : Option ObjRow) → m.object q ≡ o → slot_of (world_shown m) q n ≡ slice_get (filter_map (slot_on m q n) (numbers_below m.head.next_prop)) 0
+      by (Some row) e = slots_shown m q n row e
+      by None e =
+          no_slot ((world_shown m).object q) n (is_object_seen m q ∙ ap is_some e)
+          ∙ sym (ap (λ l. slice_get l 0) (nothing_below (slot_on m q n) m.head.next_prop (λ id s f. let h = here-slot_on m q n id s f in false≢true (ap is_some (sym e) ∙ (sound.slots q id (ap is_some h.0.held)).0))))
+
+module _ (m : LookUps) (sound : AreSound m) (wf : IsWellFormed (world_shown m)) (x q owner : ObjNo) (is_next : next_object (world_shown m) ≡ Some x) (parent : (is_object (world_shown m) q || same_object nothing q) ≡ true) where
+  abbrev w : World
+  w = world_shown m
+
+  abbrev m2 : LookUps
+  m2 = with_new m x q owner
+
+  abbrev s : World
+  s = with_object w x (born q owner)
+
+  -- ---- what the number says
+
+  next_is : (w.top <ℤ pos 2147483647) × (x.0 ≡ w.top +ℤ pos 1)
+  next_is = by (int_lt w.top (pos 2147483647)) refl is_next
+    where
+      by : (b : Bool) → int_lt w.top (pos 2147483647) ≡ b → (if b then Some (record { 0 = w.top +ℤ pos 1 }) else None) ≡ Some x → (w.top <ℤ pos 2147483647) × (x.0 ≡ w.top +ℤ pos 1)
+      by true e h = (grind (arith, ints), ap (λ (y : ObjNo). y.0) (sym (same_Some (record { 0 = w.top +ℤ pos 1 }) x h)))
+      by false e h = absurd (none-some x h)
+
+  free : is_object w x ≡ false
+  free = by (is_object w x) refl
+    where
+      by : (b : Bool) → is_object w x ≡ b → b ≡ false
+      by false e = refl
+      by true e = let h = wf.tree.numbers x e in let n = next_is.1 in absurd (omega (arith, ints, h.1, n))
+
+  parent_is : (is_object w q ≡ true) ⊎ (q ≡ nothing)
+  parent_is = elim (or_cases _ _ parent) [ inl e ↦ inl e | inr e ↦ inr (sym ((same_object-Decides nothing q).0 e)) ]
+
+  pub no_row : m.object x ≡ None
+  no_row = by (m.object x) refl
+    where
+      by : (o : Option ObjRow) → m.object x ≡ o → o ≡ None
+      by None e = refl
+      by (Some r) e = absurd (false≢true (sym free ∙ is_object_seen m x ∙ ap is_some e))
+
+  is_x : same_object x x ≡ true
+  is_x = (same_object-Decides x x).1 refl
+
+  -- ---- all but the slots
+
+  no_names : filter_map (name_on m x) (numbers_below m.head.next_prop) ≡ []
+  no_names = nothing_below (name_on m x) m.head.next_prop (λ id n e. by id n (m.prop id) refl e)
+    where
+      by : (id : ℕ) (n : Name) (o : Option PropRow) → m.prop id ≡ o → option_and_then (λ (p : PropRow). if same_object p.definer x then Some p.name else None) o ≡ Some n → ⊥
+      by id n None g e = none-some n e
+      by id n (Some p) g e = test (same_object p.definer x) refl e
+        where
+          test : (b : Bool) → same_object p.definer x ≡ b → (if b then Some p.name else None) ≡ Some n → ⊥
+          test false h k = none-some n k
+          test true h k = false≢true (ap is_some (sym no_row ∙ ap m.object (sym ((same_object-Decides p.definer x).0 h))) ∙ sound.definers id p g)
+
+  no_verbs : filter_map (m.verb x) (numbers_below m.head.next_verb) ≡ []
+  no_verbs = nothing_below (m.verb x) m.head.next_verb (λ id v e. false≢true (ap is_some (sym no_row) ∙ (sound.verbs x id (ap is_some e)).0))
+
+  links : without_slots (world_shown m2) ≡ without_slots s
+  unfolding world_shown
+  links = λ i. record s { object = λ y. bare y (same_object x y) refl (m.object y) i }
+    where
+      bare : (y : ObjNo) (b : Bool) → same_object x y ≡ b → (o : Option ObjRow)
+          → option_map (with_slots (λ n. None)) (option_map (record_of m2 y) (if b then Some (new_row q owner) else o))
+          ≡ option_map (with_slots (λ n. None)) (if b then Some (born q owner) else option_map (record_of m y) o)
+      bare y false e None = refl
+      bare y false e (Some r) = refl
+      bare y true e o =
+          let own : x ≡ y = (same_object-Decides x y).0 e in
+          subst (λ z. option_map (with_slots (λ n. None)) (Some (record_of m2 z (new_row q owner))) ≡ Some (born q owner)) own
+          (λ i. Some (record { row = new_row q owner; defines = no_names i; slot = λ n. None; verbs = no_verbs i }))
+
+  -- ---- the slots of the new object
+
+  fresh_on : (n : Name) (id : ℕ) → slot_on m2 x n id ≡ option_map (fresh owner) (slot_on m q n id)
+  fresh_on n id =
+      ap (λ b. option_and_then (λ (p : PropRow). if same_text (folded p.name) n then option_map (slot_seen p.definer) (if b then option_map (fresh_from owner) (m.slot q id) else m.slot x id) else None) (m.prop id)) is_x
+      ∙ by (m.prop id)
+    where
+      inner : (p : PropRow) (b : Bool) (o : Option SlotRow) → (if b then option_map (slot_seen p.definer) (option_map (fresh_from owner) o) else None) ≡ option_map (fresh owner) (if b then option_map (slot_seen p.definer) o else None)
+      inner p true None = refl
+      inner p true (Some r) = refl
+      inner p false o = refl
+
+      by : (o : Option PropRow) → option_and_then (λ (p : PropRow). if same_text (folded p.name) n then option_map (slot_seen p.definer) (option_map (fresh_from owner) (m.slot q id)) else None) o ≡ option_map (fresh owner) (option_and_then (λ (p : PropRow). if same_text (folded p.name) n then option_map (slot_seen p.definer) (m.slot q id) else None) o)
+      by None = refl
+      by (Some p) = inner p (same_text (folded p.name) n) (m.slot q id)
+
+  slots_of_new : (n : Name) → slot_of (world_shown m2) x n ≡ option_map (fresh owner) (slot_of w q n)
+  slots_of_new n =
+      slots_shown m2 x n (new_row q owner) (ap (λ b. if b then Some (new_row q owner) else m.object x) is_x)
+      ∙ ap (λ (h : ℕ → Option Slot). slice_get (filter_map h (numbers_below m.head.next_prop)) 0) (λ i id. fresh_on n id i)
+      ∙ ap (λ l. slice_get l 0) (made_map (fresh owner) (slot_on m q n) (numbers_below m.head.next_prop))
+      ∙ first_map (fresh owner) (filter_map (slot_on m q n) (numbers_below m.head.next_prop))
+      ∙ ap (option_map (fresh owner)) (sym (shown_any m sound q n))
+
+  -- every other object has its own
+  slots_of_other : (y : ObjNo) (n : Name) → same_object x y ≡ false → slot_of (world_shown m2) y n ≡ slot_of w y n
+  unfolding world_shown
+  slots_of_other y n e = ap (λ b. option_and_then (λ (r : Record). r.slot n) (option_map (record_of (record m { slot = λ z j. if b then option_map (fresh_from owner) (m.slot q j) else m.slot z j }) y) (if b then Some (new_row q owner) else m.object y))) e
+
+  -- ---- the slots of the rebuilt world
+
+  owed_none : (n : Name) → pair_named (owed_by w (chain w q)) n ≡ None → slot_of w q n ≡ None
+  owed_none n e = by (is_object w q) refl
+    where
+      none : (o : Option Slot) → option_map (λ k. k.definer) o ≡ None → o ≡ None
+      none None h = refl
+      none (Some k) h = absurd (none-some k.definer (sym h))
+
+      by : (b : Bool) → is_object w q ≡ b → slot_of w q n ≡ None
+      by true h = none (slot_of w q n) (wf.slots q (chain w q) n h (Chain-chain w wf.tree q h) ∙ ap (option_map (λ p. p.0)) e)
+      by false h = no_slot (w.object q) n h
+
+  rebuilt_new : (n : Name) → slot_of (created w x q owner) x n ≡ option_map (fresh owner) (slot_of w q n)
+  rebuilt_new n =
+      slot_of-rebuilt w s q x n
+      ∙ ap (slot_for w s q x n) (ap (λ k. pair_named k n) (owed_still w x q owner wf free next_is.1 next_is.0 parent_is (chain s x) ∙ ap (owed_by w) (chain_x w x q owner wf free next_is.1 next_is.0 parent_is) ∙ owed_x w x q owner wf free next_is.1 next_is.0 parent_is))
+      ∙ by (pair_named (owed_by w (chain w q)) n) refl
+    where
+      not_owed : (p : Pair) → owes w x p ≡ false
+      not_owed p = ap (λ l. list_any (same_pair p) (owed_by w l)) (chain_of_none w x free)
+
+      by : (o : Option Pair) → pair_named (owed_by w (chain w q)) n ≡ o → slot_for w s q x n o ≡ option_map (fresh owner) (slot_of w q n)
+      by None e = sym (ap (option_map (fresh owner)) (owed_none n e))
+      by (Some p) e =
+          ap (λ b. if b then slot_of w x n else option_map (fresh (owner_of s x)) (slot_of w q n)) (not_owed p)
+          ∙ ap (λ b. option_map (fresh (unwrap_or (option_map (λ (r : Record). r.row.owner) (if b then Some (born q owner) else w.object x)) nothing)) (slot_of w q n)) is_x
+
+  rebuilt_other : (y : ObjNo) (n : Name) → is_object w y ≡ true → slot_of (created w x q owner) y n ≡ slot_of w y n
+  rebuilt_other y n o =
+      slot_of-rebuilt w s q y n
+      ∙ ap (slot_for w s q y n) (ap (λ k. pair_named k n) (owed_still w x q owner wf free next_is.1 next_is.0 parent_is (chain s y) ∙ ap (owed_by w) (chain_other w x q owner wf free next_is.1 next_is.0 parent_is y o)))
+      ∙ by (pair_named (owed_by w (chain w y)) n) refl
+    where
+      none : (v : Option Slot) → option_map (λ k. k.definer) v ≡ None → None ≡ v
+      none None h = refl
+      none (Some k) h = absurd (none-some k.definer (sym h))
+
+      by : (v : Option Pair) → pair_named (owed_by w (chain w y)) n ≡ v → slot_for w s q y n v ≡ slot_of w y n
+      by None e = none (slot_of w y n) (wf.slots y (chain w y) n o (Chain-chain w wf.tree y o) ∙ ap (option_map (λ p. p.0)) e)
+      by (Some p) e = ap (λ b. if b then slot_of w y n else option_map (fresh (owner_of s y)) (slot_of w q n)) (named_owed w (chain w y) n p e)
+
+  same_slots : (y : ObjNo) (n : Name) → slot_of (world_shown m2) y n ≡ slot_of (created w x q owner) y n
+  same_slots y n = by (same_object x y) refl (is_object w y) refl
+    where
+      by : (b : Bool) → same_object x y ≡ b → (o : Bool) → is_object w y ≡ o → slot_of (world_shown m2) y n ≡ slot_of (created w x q owner) y n
+      by true e o h = subst (λ z. slot_of (world_shown m2) z n ≡ slot_of (created w x q owner) z n) ((same_object-Decides x y).0 e) (slots_of_new n ∙ sym (rebuilt_new n))
+      by false e true h = slots_of_other y n e ∙ sym (rebuilt_other y n h)
+      by false e false h =
+          let none : is_object s y ≡ false = ap (λ b. is_some (if b then Some (born q owner) else w.object y)) e ∙ h in
+          slots_of_other y n e ∙ no_slot (w.object y) n h
+          ∙ sym (no_slot ((created w x q owner).object y) n (objects_same (created w x q owner) s (SameButSlots-rebuilt w s q) y ∙ none))
+
+  pub world_new : world_shown m2 ≡ created w x q owner
+  world_new = same_world (world_shown m2) (created w x q owner) (links ∙ sym (SameButSlots-rebuilt w s q)) same_slots
+
+  pub formed_new : IsWellFormed (world_shown m2)
+  formed_new = subst IsWellFormed (sym world_new) (IsWellFormed-created w x q owner wf free next_is.1 next_is.0 parent_is)
+
+  -- ---- the rows are sound
+
+  still : (y : ObjNo) → is_some (m.object y) ≡ true → is_some (m2.object y) ≡ true
+  still y e = by (same_object x y)
+    where
+      by : (b : Bool) → is_some (if b then Some (new_row q owner) else m.object y) ≡ true
+      by true = refl
+      by false = e
+
+  from_parent : (o : Option SlotRow) → is_some (option_map (fresh_from owner) o) ≡ true → is_some o ≡ true
+  from_parent None e = e
+  from_parent (Some r) e = refl
+
+  rows_of : (y : ObjNo) (id : ℕ) → is_some (m2.slot y id) ≡ true → (is_some (m2.object y) ≡ true) × (is_some (m.prop id) ≡ true)
+  rows_of y id = by (same_object x y) refl
+    where
+      by : (b : Bool) → same_object x y ≡ b → is_some (if b then option_map (fresh_from owner) (m.slot q id) else m.slot y id) ≡ true → (is_some (m2.object y) ≡ true) × (is_some (m.prop id) ≡ true)
+      by true e h = (ap (λ b. is_some (if b then Some (new_row q owner) else m.object y)) e, (sound.slots q id (from_parent (m.slot q id) h)).1)
+      by false e h = let r = sound.slots y id h in (still y r.0, r.1)
+
+  one_name2 : (y : ObjNo) (i j : ℕ) (p r : PropRow) → is_some (m2.slot y i) ≡ true → is_some (m2.slot y j) ≡ true → m.prop i ≡ Some p → m.prop j ≡ Some r → folded p.name ≡ folded r.name → i ≡ j
+  one_name2 y i j p r = by (same_object x y)
+    where
+      by : (b : Bool) → is_some (if b then option_map (fresh_from owner) (m.slot q i) else m.slot y i) ≡ true → is_some (if b then option_map (fresh_from owner) (m.slot q j) else m.slot y j) ≡ true → m.prop i ≡ Some p → m.prop j ≡ Some r → folded p.name ≡ folded r.name → i ≡ j
+      by true h k e f n = sound.one_name q i j p r (from_parent (m.slot q i) h) (from_parent (m.slot q j) k) e f n
+      by false h k e f n = sound.one_name y i j p r h k e f n
+
+  pub sound_new : AreSound m2
+  sound_new = record {
+    props_below = sound.props_below;
+    definers = λ id p e. still p.definer (sound.definers id p e);
+    slots = rows_of;
+    one_name = one_name2;
+    verbs = λ y id e. let r = sound.verbs y id e in (still y r.0, r.1, r.2);
+  }
+
+  -- ---- what the objects read
+
+  chain_made : (o : ObjNo) → is_object w o ≡ true → chain (created w x q owner) o ≡ chain w o
+  chain_made o h = same_chain (created w x q owner) s (SameButSlots-rebuilt w s q) o ∙ chain_other w x q owner wf free next_is.1 next_is.0 parent_is o h
+
+  pub reads_new : (o : ObjNo) (n : Name) → is_object w o ≡ true → read_of (created w x q owner) o n ≡ read_of w o n
+  reads_new o n h = ap (read_along (created w x q owner) n) (chain_made o h) ∙ along (chain w o) o (Chain-chain w wf.tree o h)
+    where
+      along : (l : List ObjNo) (z : ObjNo) → Chain w z l → read_along (created w x q owner) n l ≡ read_along w n l
+      along [] z c = refl
+      along (y ∷ l) z c =
+          let yo : is_object w y ≡ true = subst (λ k. is_object w k ≡ true) c.0 (linked (w.object z) (λ r. r.row.parent) c.1 c.2) in
+          λ i. read_in (rebuilt_other y n yo i) (along l c.1 c.3 i)

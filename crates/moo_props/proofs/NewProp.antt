@@ -1,0 +1,268 @@
+-- Rows with a new property show the world with it, and are sound.
+use Rattle.std.proofs.Common.{◌≡◌, ℕ, zero, suc, ◌+◌, ◌<◌, Bool, true, false, eqb, Option, None, Some, List, [], ◌∷◌, ◌++◌, refl, sym, ap, ◌∙◌, subst, arith, add-one}
+use Rattle.std.specs.Prelude.{◌&&◌, is_some, unwrap_or, slice_get, if◌then◌else◌}
+use Rattle.std.specs.Option.{option_map, option_and_then, option_or}
+use Rattle.std.specs.List.{filter_map, cons_option}
+use Rattle.std.proofs.lemmas.Bool.{false≢true, eqb-true, ne_eqb, eq-eqb}
+use Rattle.std.proofs.lemmas.List.Elements.{filter_map-append}
+use Rattle.std.proofs.lemmas.Option.{none-some, same_Some}
+use Rattle.moo_value.specs.declared.value.ObjNo.{ObjNo}
+use Rattle.moo_value.specs.declared.value.Value.{Value}
+use Rattle.moo_rows.specs.declared.row.Bits.{Bits}
+use Rattle.moo_rows.specs.declared.row.ObjRow.{ObjRow}
+use Rattle.moo_rows.specs.declared.row.PropRow.{PropRow}
+use Rattle.moo_rows.specs.declared.row.SlotRow.{SlotRow}
+use Rattle.moo_rows.specs.declared.row.SlotState.TheVariants.{Set}
+use Rattle.moo_world.specs.Changes.{clashes, defined}
+use Rattle.moo_world.specs.Objects.{Name, nothing, same_object, same_text, folded, is_among, same_object-Decides, same_text-Decides}
+use Rattle.moo_world.specs.World.{World, Record, Slot, IsWellFormed, is_object, is_property_name, chain, owner_of, slot_of, names_of, fresh}
+use Rattle.moo_world.specs.Rows.{LookUps, AreSound, numbers_below, name_on, slot_on, slot_seen, record_of, world_shown}
+use Rattle.moo_world.proofs.RowLaws.{with_prop, names_shown, names_with_prop, other_names_with_prop, slot_shown}
+use Rattle.moo_world.proofs.Seen.{is_object_seen, object_seen}
+use Rattle.moo_world.proofs.Trees.{Chain-chain, chain_of_none}
+use Rattle.moo_props.specs.Reparent.{fresh_row}
+use Rattle.moo_props.proofs.Gains.{some_of}
+use Rattle.moo_props.proofs.Insertion.{IsWellFormed-defined, none_owed}
+use Rattle.moo_props.proofs.Owing.{has_owed}
+use Rattle.moo_props.proofs.Shown.{slots_shown}
+
+-- the look-ups with a property of the next number: on x its slot, on each descendant a fresh one
+abbrev pub with_property : LookUps → ObjNo → Name → SlotRow → LookUps
+with_property m x name row =
+    record (with_prop m (record { definer = x; name = name })) {
+      slot = λ y j. if eqb j m.head.next_prop && is_among x (chain (world_shown m) y) then Some (if same_object x y then row else fresh_row (owner_of (world_shown m) y) (record { id = record { 0 = m.head.next_prop }; owner = row.owner; bits = row.bits })) else m.slot y j;
+    }
+
+same_below : {X : Type 0} (h g : ℕ → Option X) (n : ℕ) → ((j : ℕ) → j < n → h j ≡ g j) → filter_map h (numbers_below n) ≡ filter_map g (numbers_below n)
+same_below h g zero e = refl
+same_below h g (suc n) e =
+    filter_map-append h (numbers_below n) (n ∷ [])
+    ∙ (λ i. same_below h g n (λ j l. e j (omega arith)) i ++ cons_option (e n (omega arith) i) [])
+    ∙ sym (filter_map-append g (numbers_below n) (n ∷ []))
+
+module _ (m : LookUps) (sound : AreSound m) (wf : IsWellFormed (world_shown m)) (x : ObjNo) (name : Name) (owner : ObjNo) (bits : Bits) (value : Value) (xo : is_object (world_shown m) x ≡ true) (free : clashes (world_shown m) x name ≡ false) where
+  abbrev w : World
+  w = world_shown m
+
+  abbrev next : ℕ
+  next = m.head.next_prop
+
+  abbrev row : SlotRow
+  row = record { owner = owner; bits = bits; state = Set value }
+
+  abbrev m2 : LookUps
+  m2 = with_property m x name row
+
+  abbrev s : Slot
+  s = record { definer = x; owner = owner; bits = bits; state = Set value }
+
+  abbrev under : ObjNo → Bool
+  under y = is_among x (chain w y)
+
+  abbrev prop : PropRow
+  prop = record { definer = x; name = name }
+
+  x_row : (r : ObjRow) × (m.object x ≡ Some r)
+  x_row = some_of (m.object x) (sym (is_object_seen m x) ∙ xo)
+
+  counter : w.next_prop ≡ next
+  unfolding world_shown
+  counter = refl
+
+  above_zero : 0 < next
+  above_zero = subst (λ k. 0 < k) counter wf.limits.props.0
+
+  -- ---- no slot is of the next number yet
+
+  no_prop : m.prop next ≡ None
+  no_prop = by (m.prop next) refl
+    where
+      by : (o : Option PropRow) → m.prop next ≡ o → o ≡ None
+      by None e = refl
+      by (Some p) e = let l = (sound.props_below next (ap is_some e)).1 in absurd (omega arith)
+
+  no_slot : (y : ObjNo) → m.slot y next ≡ None
+  no_slot y = by (m.slot y next) refl
+    where
+      by : (o : Option SlotRow) → m.slot y next ≡ o → o ≡ None
+      by None e = refl
+      by (Some k) e = absurd (false≢true (ap is_some (sym no_prop) ∙ (sound.slots y next (ap is_some e)).1))
+
+  is_next : eqb next next ≡ true
+  is_next = eq-eqb next next refl
+
+  other : (j : ℕ) → j < next → eqb j next ≡ false
+  other j l = ne_eqb j next (λ e. absurd (omega arith))
+
+  -- ---- names
+
+  names : (y : ObjNo) (r : ObjRow) → m.object y ≡ Some r → filter_map (name_on m2 y) (numbers_below (next + 1)) ≡ (if same_object x y then filter_map (name_on m y) (numbers_below next) ++ name ∷ [] else filter_map (name_on m y) (numbers_below next))
+  names y r e = by (same_object x y) refl
+    where
+      after : names_of (world_shown (with_prop m prop)) y ≡ filter_map (name_on m2 y) (numbers_below (next + 1))
+      after = names_shown (with_prop m prop) y r e
+
+      by : (b : Bool) → same_object x y ≡ b → filter_map (name_on m2 y) (numbers_below (next + 1)) ≡ (if b then filter_map (name_on m y) (numbers_below next) ++ name ∷ [] else filter_map (name_on m y) (numbers_below next))
+      by true f =
+          sym after
+          ∙ subst (λ z. m.object z ≡ Some r → names_of (world_shown (with_prop m prop)) z ≡ names_of (world_shown m) z ++ name ∷ []) ((same_object-Decides x y).0 f) (λ g. names_with_prop m prop r g) e
+          ∙ ap (λ l. l ++ name ∷ []) (names_shown m y r e)
+      by false f = sym after ∙ other_names_with_prop m prop y r e f ∙ names_shown m y r e
+
+  -- ---- slots
+
+  first_of_two : (l : List Slot) (o : Option Slot) → slice_get (l ++ cons_option o []) 0 ≡ option_or (slice_get l 0) o
+  first_of_two [] None = refl
+  first_of_two [] (Some k) = refl
+  first_of_two (k ∷ l) o = refl
+
+  or_none : (o : Option Slot) → option_or o None ≡ o
+  or_none None = refl
+  or_none (Some k) = refl
+
+  abbrev old : ObjNo → Name → Option Slot
+  old y n = slice_get (filter_map (slot_on m y n) (numbers_below next)) 0
+
+  before : (y : ObjNo) (n : Name) (j : ℕ) → j < next → slot_on m2 y n j ≡ slot_on m y n j
+  before y n j l = ap (λ b. option_and_then (λ (p : PropRow). if same_text (folded p.name) n then option_map (slot_seen p.definer) (if b && under y then Some (if same_object x y then row else fresh_row (owner_of w y) (record { id = record { 0 = next }; owner = owner; bits = bits })) else m.slot y j) else None) (if b then Some prop else m.prop j)) (other j l)
+
+  abbrev made : ObjNo → SlotRow
+  made y = if same_object x y then row else fresh_row (owner_of w y) (record { id = record { 0 = next }; owner = owner; bits = bits })
+
+  last : (y : ObjNo) (n : Name) → slot_on m2 y n next ≡ (if same_text (folded name) n then option_map (slot_seen x) (if under y then Some (made y) else None) else None)
+  last y n =
+      ap (λ b. option_and_then (λ (p : PropRow). if same_text (folded p.name) n then option_map (slot_seen p.definer) (if b && under y then Some (made y) else m.slot y next) else None) (if b then Some prop else m.prop next)) is_next
+      ∙ ap (λ o. if same_text (folded name) n then option_map (slot_seen x) (if under y then Some (made y) else o) else None) (no_slot y)
+
+  all_slots : (y : ObjNo) (n : Name) → slice_get (filter_map (slot_on m2 y n) (numbers_below (next + 1))) 0 ≡ option_or (old y n) (if same_text (folded name) n then option_map (slot_seen x) (if under y then Some (made y) else None) else None)
+  all_slots y n =
+      ap (λ k. slice_get (filter_map (slot_on m2 y n) (numbers_below k)) 0) (add-one next)
+      ∙ ap (λ l. slice_get l 0) (filter_map-append (slot_on m2 y n) (numbers_below next) (next ∷ []))
+      ∙ first_of_two (filter_map (slot_on m2 y n) (numbers_below next)) (slot_on m2 y n next)
+      ∙ (λ i. option_or (slice_get (same_below (slot_on m2 y n) (slot_on m y n) next (before y n) i) 0) (last y n i))
+
+  none_yet : (y : ObjNo) (r : ObjRow) → m.object y ≡ Some r → under y ≡ true → old y (folded name) ≡ None
+  none_yet y r e u =
+      let yo : is_object w y ≡ true = is_object_seen m y ∙ ap is_some e in
+      none (old y (folded name)) (ap is_some (sym (slots_shown m y (folded name) r e)) ∙ has_owed w wf y (folded name) ∙ ap is_some (none_owed w wf x name s xo free y (chain w y) (Chain-chain w wf.tree y yo) u))
+    where
+      none : (o : Option Slot) → is_some o ≡ false → o ≡ None
+      none None h = refl
+      none (Some k) h = absurd (false≢true (sym h))
+
+  seen : (y : ObjNo) (o : ObjNo) (b : Bool) → slot_seen x (if b then row else fresh_row o (record { id = record { 0 = next }; owner = owner; bits = bits })) ≡ (if b then s else fresh o s)
+  seen y o true = refl
+  seen y o false = refl
+
+  slots : (y : ObjNo) (r : ObjRow) → m.object y ≡ Some r → (n : Name) → slice_get (filter_map (slot_on m2 y n) (numbers_below (next + 1))) 0 ≡ (if under y then (if same_text (folded name) n then Some (if same_object x y then s else fresh r.owner s) else old y n) else old y n)
+  slots y r e n = all_slots y n ∙ by (under y) refl (same_text (folded name) n) refl
+    where
+      owner_is : owner_of w y ≡ r.owner
+      owner_is = ap (λ o. unwrap_or (option_map (λ (k : Record). k.row.owner) o) nothing) (object_seen m y r e)
+
+      by : (u : Bool) → under y ≡ u → (b : Bool) → same_text (folded name) n ≡ b → option_or (old y n) (if b then option_map (slot_seen x) (if u then Some (made y) else None) else None) ≡ (if u then (if b then Some (if same_object x y then s else fresh r.owner s) else old y n) else old y n)
+      by false u true f = or_none (old y n)
+      by false u false f = or_none (old y n)
+      by true u false f = or_none (old y n)
+      by true u true f =
+          ap (λ o. option_or o (Some (slot_seen x (made y)))) (ap (old y) (sym ((same_text-Decides (folded name) n).0 f)) ∙ none_yet y r e u)
+          ∙ ap Some (seen y (owner_of w y) (same_object x y) ∙ ap (λ o. if same_object x y then s else fresh o s) owner_is)
+
+  -- ---- the world
+
+  pub world_with : world_shown m2 ≡ defined w x name s
+  unfolding world_shown
+  world_with = λ i. record { object = λ y. at y (m.object y) refl i; top = m.head.top; next_prop = next + 1; next_verb = m.head.next_verb }
+    where
+      at : (y : ObjNo) (o : Option ObjRow) → m.object y ≡ o → option_map (record_of m2 y) o ≡ option_map (λ (r : Record). record r {
+        defines = if same_object x y then r.defines ++ name ∷ [] else r.defines;
+        slot = λ n. if is_among x (chain (world_shown m) y) then (if same_text (folded name) n then Some (if same_object x y then s else fresh r.row.owner s) else r.slot n) else r.slot n;
+      }) (option_map (record_of m y) o)
+      at y None e = refl
+      at y (Some r) e = λ i. Some (record (record_of m2 y r) { defines = names y r e i; slot = λ n. slots y r e n i })
+
+  pub formed_with : is_property_name name ≡ true → next < 4294967295 → IsWellFormed (defined w x name s)
+  formed_with n l = IsWellFormed-defined w wf x name s xo free refl (λ c. absurd (cc)) n (subst (λ k. k < 4294967295) (sym counter) l)
+
+  -- ---- the rows are sound
+
+  x_there : is_some (m.object x) ≡ true
+  x_there = ap is_some x_row.1
+
+  prop_still : (j : ℕ) → is_some (m.prop j) ≡ true → is_some (m2.prop j) ≡ true
+  prop_still j e = by (eqb j next)
+    where
+      by : (b : Bool) → is_some (if b then Some prop else m.prop j) ≡ true
+      by true = refl
+      by false = e
+
+  there : (y : ObjNo) → under y ≡ true → is_some (m.object y) ≡ true
+  there y u = by (m.object y) refl
+    where
+      by : (o : Option ObjRow) → m.object y ≡ o → is_some o ≡ true
+      by (Some r) e = refl
+      by None e = absurd (false≢true (sym (ap (is_among x) (chain_of_none w y (is_object_seen m y ∙ ap is_some e))) ∙ u))
+
+  -- a slot is of the new property, or was there
+  data Origin (y : ObjNo) (j : ℕ) : Type 0 where
+    new : j ≡ next → under y ≡ true → Origin y j
+    before_it : is_some (m.slot y j) ≡ true → Origin y j
+
+  origin : (y : ObjNo) (j : ℕ) → is_some (m2.slot y j) ≡ true → Origin y j
+  origin y j = by (eqb j next) refl (under y) refl
+    where
+      by : (b : Bool) → eqb j next ≡ b → (u : Bool) → under y ≡ u → is_some (if b && u then Some (made y) else m.slot y j) ≡ true → Origin y j
+      by true e true u h = new (eqb-true j next e) u
+      by true e false u h = before_it h
+      by false e u v h = before_it h
+
+  rows_of : (y : ObjNo) (j : ℕ) → Origin y j → (is_some (m.object y) ≡ true) × (is_some (m2.prop j) ≡ true)
+  rows_of y j (new e u) = (there y u, ap (λ k. is_some (if eqb k next then Some prop else m.prop k)) e ∙ ap (λ b. is_some (if b then Some prop else m.prop next)) is_next)
+  rows_of y j (before_it h) = let r = sound.slots y j h in (r.0, prop_still j r.1)
+
+  -- the property of an old slot is an old one
+  old_prop : (y : ObjNo) (j : ℕ) (p : PropRow) → is_some (m.slot y j) ≡ true → m2.prop j ≡ Some p → m.prop j ≡ Some p
+  old_prop y j p h = by (eqb j next) refl
+    where
+      by : (b : Bool) → eqb j next ≡ b → (if b then Some prop else m.prop j) ≡ Some p → m.prop j ≡ Some p
+      by false e f = f
+      by true e f = absurd (false≢true (ap is_some (sym (no_slot y)) ∙ ap (λ k. is_some (m.slot y k)) (sym (eqb-true j next e)) ∙ h))
+
+  new_prop : (j : ℕ) (p : PropRow) → j ≡ next → m2.prop j ≡ Some p → prop ≡ p
+  new_prop j p e f = same_Some prop p (sym (ap (λ k. if eqb k next then Some prop else m.prop k) e ∙ ap (λ b. if b then Some prop else m.prop next) is_next) ∙ f)
+
+  clash : (y : ObjNo) (j : ℕ) (r : PropRow) → under y ≡ true → is_some (m.slot y j) ≡ true → m.prop j ≡ Some r → folded name ≡ folded r.name → ⊥
+  clash y j r u h e n =
+      let k = some_of (m.slot y j) h in
+      let o = some_of (m.object y) (sound.slots y j h).0 in
+      let found = slot_shown m sound y o.0 o.1 j r k.0 e k.1 in
+      none-some (slot_seen r.definer k.0) (sym (none_yet y o.0 o.1 u) ∙ sym (slots_shown m y (folded name) o.0 o.1) ∙ ap (slot_of w y) n ∙ found)
+
+  one_name : (y : ObjNo) (i j : ℕ) (p r : PropRow) → Origin y i → Origin y j → m2.prop i ≡ Some p → m2.prop j ≡ Some r → folded p.name ≡ folded r.name → i ≡ j
+  one_name y i j p r (new e u) (new f v) g h n = e ∙ sym f
+  one_name y i j p r (before_it k) (before_it l) g h n = sound.one_name y i j p r k l (old_prop y i p k g) (old_prop y j r l h) n
+  one_name y i j p r (new e u) (before_it l) g h n = absurd (clash y j r u l (old_prop y j r l h) (ap (λ (q : PropRow). folded q.name) (new_prop i p e g) ∙ n))
+  one_name y i j p r (before_it k) (new f v) g h n = absurd (clash y i p v k (old_prop y i p k g) (ap (λ (q : PropRow). folded q.name) (new_prop j r f h) ∙ sym n))
+
+  low : (j : ℕ) → is_some (m2.prop j) ≡ true → (0 < j) × (j < next + 1)
+  low j = by (eqb j next) refl
+    where
+      by : (b : Bool) → eqb j next ≡ b → is_some (if b then Some prop else m.prop j) ≡ true → (0 < j) × (j < next + 1)
+      by true e h = let k = eqb-true j next e in (omega (arith, above_zero), omega arith)
+      by false e h = let l = sound.props_below j h in (l.0, omega (arith, l.1))
+
+  definer : (j : ℕ) (p : PropRow) → m2.prop j ≡ Some p → is_some (m.object p.definer) ≡ true
+  definer j p = by (eqb j next)
+    where
+      by : (b : Bool) → (if b then Some prop else m.prop j) ≡ Some p → is_some (m.object p.definer) ≡ true
+      by true e = ap (λ (q : PropRow). is_some (m.object q.definer)) (sym (same_Some prop p e)) ∙ x_there
+      by false e = sound.definers j p e
+
+  pub sound_with : AreSound m2
+  sound_with = record {
+    props_below = low;
+    definers = definer;
+    slots = λ y j e. rows_of y j (origin y j e);
+    one_name = λ y i j p r k l e f n. one_name y i j p r (origin y i k) (origin y j l) e f n;
+    verbs = sound.verbs;
+  }

@@ -1,0 +1,108 @@
+-- The rows once a new object has its slots.
+use Rattle.std.proofs.Common.{◌≡◌, Bool, true, false, cond, Option, None, Some, List, [], ◌∷◌, map, refl, sym, ap, ◌∙◌}
+use Rattle.std.specs.Prelude.{◌&&◌, is_some, if◌then◌else◌}
+use Rattle.std.specs.Option.{option_map}
+use Rattle.std.specs.Ordering.{int_eq}
+use Rattle.std.specs.List.{cons_option, AllByRecursion}
+use Rattle.std.specs.FinMap.{get, insert, get-insert}
+use Rattle.std.proofs.lemmas.Bool.{false≢true}
+use Rattle.std.proofs.lemmas.Bool.Decides.{Decides-int_eq}
+use Rattle.moo_value.specs.declared.value.ObjNo.{ObjNo}
+use Rattle.moo_rows.specs.declared.row.PropId.{PropId}
+use Rattle.moo_rows.specs.declared.row.SlotRow.{SlotRow}
+use Rattle.moo_rows.specs.Maps.{Maps, Held}
+use Rattle.moo_rows.proofs.Orders.{object_total}
+use Rattle.moo_world.specs.Objects.{same_object, same_object-Decides}
+use Rattle.moo_world.specs.Rows.{LookUps, IsSound, look_ups, prop_id}
+use Rattle.moo_world.proofs.MapLaws.{object_key}
+use Rattle.moo_props.specs.declared.reparent.Origin.{Origin}
+use Rattle.moo_props.specs.Birth.{new_row, objects_with, origins_among}
+use Rattle.moo_props.specs.Reparent.{origin_of, origins, fresh_row, slot_put, with_fresh}
+use Rattle.moo_props.specs.Touched.{fresh_from}
+use Rattle.moo_props.proofs.Folding.{is_id, has_id, is_id-Decides, slot_at-fresh, fresh_in, fresh_in-origins}
+use Rattle.moo_props.proofs.Gains.{any_map}
+use Rattle.moo_props.proofs.Moved.{only-fresh}
+use Rattle.moo_props.proofs.Walked.{Entry, walk, walk_held, walk_meets}
+
+-- ---- the origins that the walk gives are those of the properties of q
+
+module _ (m : Maps) (q : ObjNo) where
+  abbrev pub ids_on : List PropId
+  ids_on = map (λ e. e.0.1) (walk m q)
+
+  among_is : (es : List Entry) → AllByRecursion (λ e. (get m.slots e.0 ≡ Some e.1) × (int_eq e.0.0.0 q.0 ≡ true)) es → origins_among es ≡ origins m.slots q (map (λ e. e.0.1) es)
+  among_is [] a = refl
+  among_is (e ∷ es) a =
+      let own : e.0.0 ≡ q = let k = (Decides-int_eq e.0.0.0 q.0).0 a.0.1 in λ i. record { 0 = k i } in
+      let here : get m.slots (q, e.0.1) ≡ Some e.1 = ap (λ y. get m.slots (y, e.0.1)) (sym own) ∙ a.0.0 in
+      (λ i. origin_of e.0.1 e.1 ∷ among_is es a.1 i) ∙ sym (ap (λ o. cons_option (option_map (origin_of e.0.1) o) (origins m.slots q (map (λ e. e.0.1) es))) here)
+
+  pub walk_origins : origins_among (walk m q) ≡ origins m.slots q ids_on
+  walk_origins = among_is (walk m q) (walk_held m q)
+
+  -- each slot of q is met
+  pub has_all : IsSound m → (j : PropId) (s : SlotRow) → get m.slots (q, j) ≡ Some s → has_id j ids_on ≡ true
+  has_all sound j s e = any_map (is_id j) (λ (e : Entry). e.0.1) (walk m q) ∙ walk_meets m sound q (λ e. is_id j e.0.1) j s e ((is_id-Decides j j).1 refl)
+
+-- ---- the look-ups
+
+-- the look-ups with a new object under q, whose slots are fresh ones
+abbrev pub with_new : LookUps → ObjNo → ObjNo → ObjNo → LookUps
+with_new m x q owner =
+    record m {
+      head = record (m.head) { top = x.0 };
+      object = λ y. if same_object x y then Some (new_row q owner) else m.object y;
+      slot = λ y j. if same_object x y then option_map (fresh_from owner) (m.slot q j) else m.slot y j;
+    }
+
+module _ (t : Maps) (sound : IsSound t) (x q owner : ObjNo) (free : get t.objects x ≡ None) (held : Held) (at : held.maps ≡ t) where
+  abbrev pub held1 : Held
+  held1 = objects_with x q owner held
+
+  abbrev pub held2 : Held
+  held2 = with_fresh x owner (origins_among (walk t q)) held1
+
+  no_slots : (j : PropId) → get t.slots (x, j) ≡ None
+  no_slots j = by (get t.slots (x, j)) refl
+    where
+      by : (o : Option SlotRow) → get t.slots (x, j) ≡ o → o ≡ None
+      by None e = refl
+      by (Some s) e = absurd (false≢true (ap is_some (sym free) ∙ (sound.slots x j.0 (ap is_some e)).0))
+
+  slots2 : (z : ObjNo) (j : PropId) → get held2.maps.slots (z, j) ≡ (if same_object x z then option_map (fresh_from owner) (get t.slots (q, j)) else get t.slots (z, j))
+  slots2 z j =
+      slot_at-fresh x z owner j (origins_among (walk t q)) held1
+      ∙ (λ i. cond (same_object x z) (fresh_in owner (walk_origins t q i) j (get (at i).slots (z, j))) (get (at i).slots (z, j)))
+      ∙ by (same_object x z) refl
+    where
+      all_here : (o : Option SlotRow) → get t.slots (q, j) ≡ o → cond (has_id j (ids_on t q) && is_some o) (option_map (fresh_from owner) o) None ≡ option_map (fresh_from owner) o
+      all_here None e = none (has_id j (ids_on t q))
+        where
+          none : (b : Bool) → cond (b && false) (option_map (fresh_from owner) None) None ≡ None
+          none true = refl
+          none false = refl
+      all_here (Some s) e = ap (λ b. cond (b && true) (Some (fresh_from owner s)) None) (has_all t q sound j s e)
+
+      by : (b : Bool) → same_object x z ≡ b → cond b (fresh_in owner (origins t.slots q (ids_on t q)) j (get t.slots (z, j))) (get t.slots (z, j)) ≡ (if b then option_map (fresh_from owner) (get t.slots (q, j)) else get t.slots (z, j))
+      by false e = refl
+      by true e =
+          ap (fresh_in owner (origins t.slots q (ids_on t q)) j) (ap (λ y. get t.slots (y, j)) (sym ((same_object-Decides x z).0 e)) ∙ no_slots j)
+          ∙ fresh_in-origins t.slots q owner j (get t.slots (q, j)) refl (ids_on t q) None
+          ∙ all_here (get t.slots (q, j)) refl
+
+  only2 : held2.maps ≡ record t { head = record (t.head) { top = x.0 }; objects = insert t.objects x (new_row q owner); slots = held2.maps.slots }
+  only2 = only-fresh x owner (origins_among (walk t q)) held1 ∙ ap (λ (z : Maps). record z { head = record (z.head) { top = x.0 }; objects = insert z.objects x (new_row q owner); slots = held2.maps.slots }) at
+
+  pub look_ups-new : look_ups held2.maps ≡ with_new (look_ups t) x q owner
+  look_ups-new =
+      ap look_ups only2
+      ∙ (λ i. record (look_ups t) {
+        head = record (t.head) { top = x.0 };
+        object = λ y. (get-insert object_total t.objects x (new_row q owner) y ∙ ap (λ b. cond b (Some (new_row q owner)) (get t.objects y)) (object_key x y)) i;
+        slot = λ y j. slots2 y (prop_id j) i;
+      })
+
+-- what the new slots leave
+pub head-fresh : (y owner : ObjNo) (os : List Origin) (held : Held) → (with_fresh y owner os held).maps.head ≡ held.maps.head
+head-fresh y owner [] held = refl
+head-fresh y owner (o ∷ os) held = head-fresh y owner os (slot_put y o.id (fresh_row owner o) held)

@@ -1,0 +1,66 @@
+-- What an object reads as its quota.
+use Rattle.std.proofs.Common.{◌≡◌, true, false, [], FitsSigned, w32, pos, negsuc, arith, Option, Some, None, refl, sym, ap, ◌∙◌, ℤ}
+use Rattle.std.specs.Prelude.{is_some, unwrap_or, ◌+ℤ◌, int_lt}
+use Rattle.std.specs.Option.{option_map}
+use Rattle.std.specs.FinMap.{get}
+use Rattle.std.proofs.lemmas.Bool.{false≢true}
+use Rattle.std.proofs.lemmas.Int.{ints}
+use Rattle.moo_value.specs.declared.value.ObjNo.{ObjNo}
+use Rattle.moo_value.specs.declared.value.Value.{Value}
+use Rattle.moo_value.specs.declared.value.Value.TheVariants.{Int}
+use Rattle.moo_rows.specs.declared.row.PropId.{PropId}
+use Rattle.moo_rows.specs.declared.row.PropRow.{PropRow}
+use Rattle.moo_rows.specs.declared.row.SlotState.TheVariants.{Set}
+use Rattle.moo_rows.specs.Maps.{Maps}
+use Rattle.moo_world.specs.Changes.{with_slot_of}
+use Rattle.moo_world.specs.Objects.{Name, folded}
+use Rattle.moo_world.specs.Quota.{quota_name, quota_in, quota_of, quota_moved, set_slot}
+use Rattle.moo_world.specs.World.{World, Record, IsTree, with_record, read_in, read_along, read_of, slot_of}
+use Rattle.moo_world.proofs.Trees.{chain-step, chain_of_none}
+use Rattle.moo_props.specs.Names.{name_of, spelling_of}
+use Rattle.moo_props.specs.Quotas.{HasRoom}
+
+-- without a slot nothing is read
+pub nothing_read : (w : World) → IsTree w → (x : ObjNo) (n : Name) → slot_of w x n ≡ None → read_of w x n ≡ None
+nothing_read w t x n e = by (w.object x) refl
+  where
+    by : (o : Option Record) → w.object x ≡ o → read_of w x n ≡ None
+    by None h = ap (read_along w n) (chain_of_none w x (ap is_some h))
+    by (Some r) h = ap (read_along w n) (chain-step w t x r h) ∙ ap (λ s. read_in s (read_of w r.row.parent n)) e
+
+pub no_quota : (w : World) → IsTree w → (o : ObjNo) → slot_of w o quota_name ≡ None → quota_of w o ≡ None
+no_quota w t o e = ap quota_in (nothing_read w t o quota_name e)
+
+pub quota_is : (w : World) (o : ObjNo) (n : Name) (v : Value) → n ≡ quota_name → read_of w o n ≡ Some v → quota_of w o ≡ quota_in (Some v)
+quota_is w o n v e h = ap quota_in (ap (read_of w o) (sym e) ∙ h)
+
+-- a value that is no integer is no quota
+pub no_integer : (v : Value) → ((k : ℤ) → v ≡ Int k → ⊥) → quota_in (Some v) ≡ None
+no_integer (Int k) h = absurd (h k refl)
+no_integer v h = refl
+
+pub none_of : {A : Type 0} (o : Option A) → is_some o ≡ false → o ≡ None
+none_of None e = refl
+none_of (Some a) e = absurd (false≢true (sym e))
+
+pub folded_spelling : (m : Maps) (id : PropId) → folded (spelling_of m id) ≡ name_of m id
+unfolding folded
+folded_spelling m id = by (get m.props id)
+  where
+    by : (o : Option PropRow) → folded (unwrap_or (option_map (λ p. p.name) o) []) ≡ unwrap_or (option_map (λ p. folded p.name) o) []
+    by None = refl
+    by (Some p) = refl
+
+-- the state set on the slot is the quota moved
+pub moved : (w : World) (o : ObjNo) (n : Name) (had by : ℤ) → folded n ≡ quota_name → quota_of w o ≡ Some had → with_slot_of w o n (λ s. record s { state = Set (Int (had +ℤ by)) }) ≡ quota_moved w o by
+moved w o n had by e h =
+    ap (λ k. with_record w o (set_slot k (Set (Int (had +ℤ by))))) e
+    ∙ sym (ap (λ q. elim q [ None ↦ w | Some k ↦ with_record w o (set_slot quota_name (Set (Int (k +ℤ by)))) ]) h)
+
+fits_less : (k : ℤ) → FitsSigned w32 k → int_lt (pos 0) k ≡ true → FitsSigned w32 (k +ℤ negsuc 0)
+fits_less k f h = grind (arith, ints)
+
+-- where one is left there is room for one less
+pub room_below : (q : Option ℤ) → unwrap_or (option_map (λ k. int_lt (pos 0) k) q) true ≡ true → HasRoom q (negsuc 0)
+room_below None h = tt
+room_below (Some k) h = λ f. fits_less k f h

@@ -1,0 +1,177 @@
+-- The walk over an object's slots finds the property of a name.
+use Rattle.std.proofs.Common.{◌≡◌, ℕ, Bool, true, false, cond, Option, None, Some, List, [], ◌∷◌, Ordering, Less, refl, sym, ap, ◌∙◌, subst}
+use Rattle.std.specs.Prelude.{◌&&◌, ◌||◌, is_some, unwrap_or}
+use Rattle.std.specs.Option.{option_map, option_and_then}
+use Rattle.std.specs.Cmp.{IsTotalOrder, tied_itself, nat_cmp_is}
+use Rattle.std.specs.Ordering.{eq_by_cmp, is_lt, int_eq, ordering_then}
+use Rattle.std.specs.List.{find, filter, list_any, AllByRecursion}
+use Rattle.std.specs.FinMap.{get, entries, get-entries, entries_sorted}
+use Rattle.std.specs.FinMap as map
+use Rattle.std.proofs.lemmas.Bool.{false≢true, both_ways, or_right}
+use Rattle.std.proofs.lemmas.Bool.Decides.{Decides-int_eq}
+use Rattle.std.proofs.lemmas.Map.Lookups.{CmpEqualImpliesEq}
+use Rattle.std.proofs.lemmas.Option.{none-some, same_Some}
+use Rattle.moo_value.specs.declared.value.ObjNo.{ObjNo}
+use Rattle.moo_rows.specs.declared.row.PropId.{PropId}
+use Rattle.moo_rows.specs.declared.row.PropRow.{PropRow}
+use Rattle.moo_rows.specs.declared.row.SlotRow.{SlotRow}
+use Rattle.moo_rows.specs.Maps.{Maps, prop_cmp, slot_cmp}
+use Rattle.moo_rows.specs.Walk.{slots_of_left, is_past}
+use Rattle.moo_rows.specs.Exact.{slot_exact}
+use Rattle.moo_rows.proofs.Orders.{object_total, slot_total}
+use Rattle.moo_world.specs.Objects.{Name, same_text, folded, same_text-Decides}
+use Rattle.moo_world.specs.World.{Record, Slot, slot_of}
+use Rattle.moo_world.specs.Rows.{IsSound, look_ups, world_of, slot_seen}
+use Rattle.moo_world.proofs.MapLaws.{key-Decides}
+use Rattle.moo_world.proofs.Owed.{find_passes}
+use Rattle.moo_world.proofs.RowLaws.{slot_shown}
+use Rattle.moo_world.proofs.Seen.{is_object_seen}
+use Rattle.moo_props.specs.Names.{name_of, is_called}
+use Rattle.moo_props.proofs.Gains.{some_of}
+use Rattle.moo_props.proofs.Listed.{own_entries}
+use Rattle.moo_props.proofs.Shown.{SlotHere, slot_from}
+
+abbrev pub Entry : Type 0
+Entry = (ObjNo × PropId) × SlotRow
+
+-- ---- lists
+
+all_filter : {A : Type 0} (P : A → Type 0) (test : A → Bool) (l : List A) → AllByRecursion P l → AllByRecursion P (filter test l)
+all_filter P test [] a = tt
+all_filter P test (x ∷ l) a = by (test x) (all_filter P test l a.1)
+  where
+    by : (b : Bool) → AllByRecursion P (filter test l) → AllByRecursion P (cond b (x ∷ filter test l) (filter test l))
+    by true r = (a.0, r)
+    by false r = r
+
+all_pass : {A : Type 0} (P : A → Type 0) (test : A → Bool) (l : List A) → AllByRecursion P l → AllByRecursion (λ a. P a × (test a ≡ true)) (filter test l)
+all_pass P test [] a = tt
+all_pass P test (x ∷ l) a = by (test x) refl (all_pass P test l a.1)
+  where
+    by : (b : Bool) → test x ≡ b → AllByRecursion (λ a. P a × (test a ≡ true)) (filter test l) → AllByRecursion (λ a. P a × (test a ≡ true)) (cond b (x ∷ filter test l) (filter test l))
+    by true e r = ((a.0, e), r)
+    by false e r = r
+
+found_of : {A : Type 0} (P : A → Type 0) (test : A → Bool) (l : List A) (a : A) → AllByRecursion P l → find test l ≡ Some a → P a
+found_of P test [] a h e = absurd (none-some a e)
+found_of P test (x ∷ l) a h e = by (test x) e (found_of P test l a h.1)
+  where
+    by : (b : Bool) → cond b (Some x) (find test l) ≡ Some a → (find test l ≡ Some a → P a) → P a
+    by true k r = subst P (same_Some x a k) h.0
+    by false k r = r k
+
+none_passes : {A : Type 0} (test : A → Bool) (l : List A) → find test l ≡ None → list_any test l ≡ false
+none_passes test [] e = refl
+none_passes test (x ∷ l) e = by (test x) e (none_passes test l)
+  where
+    by : (b : Bool) → cond b (Some x) (find test l) ≡ None → (find test l ≡ None → list_any test l ≡ false) → (b || list_any test l) ≡ false
+    by true k r = absurd (none-some x (sym k))
+    by false k r = r k
+
+any_filter : {A : Type 0} (p test : A → Bool) (l : List A) → list_any p (filter test l) ≡ list_any (λ a. test a && p a) l
+any_filter p test [] = refl
+any_filter p test (x ∷ l) = by (test x) (any_filter p test l)
+  where
+    by : (b : Bool) → list_any p (filter test l) ≡ list_any (λ a. test a && p a) l → list_any p (cond b (x ∷ filter test l) (filter test l)) ≡ ((b && p x) || list_any (λ a. test a && p a) l)
+    by true r = ap (λ b. p x || b) r
+    by false r = r
+
+pub any_held : {K X : Type 0} (cmp : K → K → Ordering) (total : IsTotalOrder cmp) (exact : CmpEqualImpliesEq cmp) (p : K × X → Bool) (k : K) (v : X) (es : List (K × X)) → map.find cmp k es ≡ Some v → p (k, v) ≡ true → list_any p es ≡ true
+any_held cmp total exact p k v [] e h = absurd (none-some v e)
+any_held cmp total exact p k v (a ∷ es) e h = by (eq_by_cmp cmp k a.0) refl e (any_held cmp total exact p k v es)
+  where
+    left : (a b : Bool) → a ≡ true → (a || b) ≡ true
+    left true b g = refl
+    left false b g = absurd (false≢true g)
+
+    by : (b : Bool) → eq_by_cmp cmp k a.0 ≡ b → cond b (Some a.1) (map.find cmp k es) ≡ Some v → (map.find cmp k es ≡ Some v → p (k, v) ≡ true → list_any p es ≡ true) → (p a || list_any p es) ≡ true
+    by true g u r = left (p a) (list_any p es) ((λ i. p (sym ((key-Decides cmp total exact k a.0).0 g) i, same_Some a.1 v u i)) ∙ h)
+    by false g u r = or_right (p a) (list_any p es) (r u h)
+
+-- ---- the walk over an object's slots
+
+abbrev pub walk : Maps → ObjNo → List Entry
+walk m x = slots_of_left x (record { 0 = 0 }) m
+
+-- each is held, and is the object's
+pub walk_held : (m : Maps) (x : ObjNo) → AllByRecursion (λ e. (get m.slots e.0 ≡ Some e.1) × (int_eq e.0.0.0 x.0 ≡ true)) (walk m x)
+walk_held m x =
+    all_pass (λ e. get m.slots e.0 ≡ Some e.1) (λ e. int_eq e.0.0.0 x.0) _
+    (all_filter (λ e. get m.slots e.0 ≡ Some e.1) (λ e. is_past slot_cmp (Some (x, record { 0 = 0 })) e.0) (entries m.slots)
+    (held (entries m.slots) (own_entries slot_cmp slot_total slot_exact (entries m.slots) (entries_sorted m.slots))))
+  where
+    held : (es : List Entry) → AllByRecursion (λ e. map.find slot_cmp e.0 (entries m.slots) ≡ Some e.1) es → AllByRecursion (λ e. get m.slots e.0 ≡ Some e.1) es
+    held [] a = tt
+    held (e ∷ es) a = (get-entries m.slots e.0 ∙ a.0, held es a.1)
+
+abbrev pub is_called_entry : Maps → Name → Entry → Bool
+is_called_entry m n e = is_called m n e.0.1
+
+-- the first entry whose property has the name
+abbrev pub first_called : Maps → Name → List Entry → Option Entry
+first_called m n l = find (is_called_entry m n) l
+
+module _ (m : Maps) (sound : IsSound m) (x : ObjNo) where
+  -- a slot of the object is met
+  pub walk_meets : (p : Entry → Bool) (id : PropId) (s : SlotRow) → get m.slots (x, id) ≡ Some s → p ((x, id), s) ≡ true → list_any p (walk m x) ≡ true
+  walk_meets p id s e h =
+      any_filter p (λ e. int_eq e.0.0.0 x.0) _
+      ∙ any_filter (λ e. int_eq e.0.0.0 x.0 && p e) (λ e. is_past slot_cmp (Some (x, record { 0 = 0 })) e.0) (entries m.slots)
+      ∙ any_held slot_cmp slot_total slot_exact (λ e. is_past slot_cmp (Some (x, record { 0 = 0 })) e.0 && (int_eq e.0.0.0 x.0 && p e)) (x, id) s (entries m.slots) (sym (get-entries m.slots (x, id)) ∙ e)
+      (λ i. past i && (own i && h i))
+    where
+      own : int_eq x.0 x.0 ≡ true
+      own = (Decides-int_eq x.0 x.0).1 refl
+
+      past : is_past slot_cmp (Some (x, record { 0 = 0 })) (x, id) ≡ true
+      past =
+          ap (λ o. is_lt (ordering_then o (prop_cmp (record { 0 = 0 }) id))) (tied_itself object_total x)
+          ∙ ap is_lt (sym (nat_cmp_is 0 id.0 Less (sound.props_below id.0 (sound.slots x id.0 (ap is_some e)).1).0))
+
+  module _ (n : Name) where
+    called : (o : Option PropRow) → unwrap_or (option_map (λ (p : PropRow). same_text (folded p.name) n) o) false ≡ true → (p : PropRow) × (o ≡ Some p) × (folded p.name ≡ n)
+    called None e = absurd (false≢true e)
+    called (Some p) e = (p, refl, (same_text-Decides (folded p.name) n).0 e)
+
+    call : (p : PropRow) (id : PropId) → get m.props id ≡ Some p → folded p.name ≡ n → (s : SlotRow) → is_called m n id ≡ true
+    call p id e f s = ap (λ o. unwrap_or (option_map (λ (p : PropRow). same_text (folded p.name) n) o) false) e ∙ (same_text-Decides (folded p.name) n).1 f
+
+    -- what is found is a slot of the object, of the property of that name
+    pub found_here : (e : Entry) → first_called m n (walk m x) ≡ Some e → (e.0.0 ≡ x) × (SlotHere (look_ups m) x n e.0.1.0)
+    found_here e f =
+        let at = found_of (λ e. (get m.slots e.0 ≡ Some e.1) × (int_eq e.0.0.0 x.0 ≡ true)) (is_called_entry m n) (walk m x) e (walk_held m x) f in
+        let own : e.0.0 ≡ x = let k = (Decides-int_eq e.0.0.0 x.0).0 at.1 in λ i. record { 0 = k i } in
+        let p = called (get m.props e.0.1) (find_passes (is_called_entry m n) (walk m x) e f) in
+        (own, record { prop = p.0; row = e.1; there = p.1; held = ap (λ y. get m.slots (y, e.0.1)) (sym own) ∙ at.0; name = p.2 })
+
+    -- where nothing is found the object has no slot of that name
+    pub none_here : first_called m n (walk m x) ≡ None → slot_of (world_of m) x n ≡ None
+    none_here f = by (slot_of (world_of m) x n) refl
+      where
+        there : (s : Slot) → slot_of (world_of m) x n ≡ Some s → is_some (get m.objects x) ≡ true
+        there s e = sym (is_object_seen (look_ups m) x) ∙ slotted ((world_of m).object x) s e
+          where
+            slotted : (o : Option Record) (s : Slot) → option_and_then (λ r. r.slot n) o ≡ Some s → is_some o ≡ true
+            slotted None s k = absurd (none-some s k)
+            slotted (Some r) s k = refl
+
+        by : (o : Option Slot) → slot_of (world_of m) x n ≡ o → o ≡ None
+        by None e = refl
+        by (Some s) e =
+            let row = some_of (get m.objects x) (there s e) in
+            let k = slot_from (look_ups m) x n row.0 row.1 s e in
+            absurd (both_ways _ (none_passes (is_called_entry m n) (walk m x) f) (walk_meets (is_called_entry m n) (record { 0 = k.0 }) k.1.row k.1.held (call k.1.prop (record { 0 = k.0 }) k.1.there k.1.name k.1.row)))
+
+  -- a slot that is there is one of the world
+  pub here_seen : (n : Name) (id : ℕ) (h : SlotHere (look_ups m) x n id) → slot_of (world_of m) x n ≡ Some (slot_seen h.prop.definer h.row)
+  here_seen n id h =
+      let row = some_of (get m.objects x) (sound.slots x id (ap is_some h.held)).0 in
+      ap (slot_of (world_of m) x) (sym h.name) ∙ slot_shown (look_ups m) sound x row.0 row.1 id h.prop h.row h.there h.held
+
+-- and its property has that name
+pub here_name : (m : Maps) (x : ObjNo) (n : Name) (id : PropId) → SlotHere (look_ups m) x n id.0 → name_of m id ≡ n
+here_name m x n id h = ap (λ o. unwrap_or (option_map (λ (p : PropRow). folded p.name) o) []) h.there ∙ h.name
+
+-- a slot's row is one of the world, under its property's name
+pub slot_here : (m : Maps) (sound : IsSound m) (x : ObjNo) (id : PropId) (s : SlotRow) → get m.slots (x, id) ≡ Some s → (p : PropRow) → get m.props id ≡ Some p → slot_of (world_of m) x (name_of m id) ≡ Some (slot_seen p.definer s)
+slot_here m sound x id s e p f = here_seen m sound x (name_of m id) id.0 (record { prop = p; row = s; there = f; held = e; name = sym (ap (λ o. unwrap_or (option_map (λ (p : PropRow). folded p.name) o) []) f) })

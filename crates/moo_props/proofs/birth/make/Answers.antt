@@ -1,0 +1,49 @@
+use Rattle.std.proofs.Common.{◌≡◌, refl, sym, ap, ◌∙◌, subst}
+use Rattle.moo_rows.specs.Maps.{Maps, Held}
+use Rattle.moo_rows.specs.declared.row.Head.{Head}
+use Rattle.moo_world.specs.Creation.{created}
+use Rattle.moo_world.specs.Rows.{LookUps, AreSound, look_ups, world_of, world_shown}
+use Rattle.moo_world.specs.World.{World, IsWellFormed, read_of}
+use Rattle.moo_props.specs.Birth.{objects_with, origins_among}
+use Rattle.moo_props.specs.Reparent.{with_fresh}
+use Rattle.moo_props.proofs.NewSlots.{with_new, look_ups-new, head-fresh}
+use Rattle.moo_props.proofs.Moved.{base-fresh}
+use Rattle.moo_props.proofs.NewObject.{world_new, formed_new, sound_new, reads_new, no_row}
+use Rattle.moo_props.proofs.Walked.{walk}
+use Rattle.moo_props.proofs.birth.make.Goals as goal
+
+abbrev t : (g : _) → goal.After-drop-inherited-2 g → Maps
+t g c = (g.R.Rows.held c.args.rows.now).maps
+
+ends : (g : _) (c : goal.After-drop-inherited-2 g) → g.R.Rows.held c.put_fresh.new.rows ≡ with_fresh c.args.x c.args.owner (origins_among (walk (t g c) c.args.parent)) (objects_with c.args.x c.args.parent c.args.owner (g.R.Rows.held c.args.rows.now))
+ends g c = c.in_ok-put_fresh.ensures ∙ (λ i. with_fresh c.args.x c.args.owner ((c.as_slice.ensures.value ∙ c.in_ok-inherited.ensures) i) (c.in_ok-put_new.ensures i))
+
+shown : (g : _) (c : goal.After-drop-inherited-2 g) → look_ups (g.R.Rows.held c.put_fresh.new.rows).maps ≡ with_new (look_ups (t g c)) c.args.x c.args.parent c.args.owner
+shown g c =
+    let free = no_row (look_ups (t g c)) c.requires.good.sound c.requires.good.formed c.args.x c.args.parent c.args.owner c.requires.next c.requires.parent in
+    ap (λ (h : Held). look_ups h.maps) (ends g c) ∙ look_ups-new (t g c) c.requires.good.sound c.args.x c.args.parent c.args.owner free (g.R.Rows.held c.args.rows.now) refl
+
+world : (g : _) (c : goal.After-drop-inherited-2 g) → world_of (g.R.Rows.held c.put_fresh.new.rows).maps ≡ created (world_of (t g c)) c.args.x c.args.parent c.args.owner
+world g c = ap world_shown (shown g c) ∙ world_new (look_ups (t g c)) c.requires.good.sound c.requires.good.formed c.args.x c.args.parent c.args.owner c.requires.next c.requires.parent
+
+pub returns-clause-world : goal.returns-clause-world
+returns-clause-world g c = world g c
+
+pub returns-clause-kept : goal.returns-clause-kept
+returns-clause-kept g c =
+    let m = look_ups (t g c) in
+    let os = origins_among (walk (t g c) c.args.parent) in
+    let held1 = objects_with c.args.x c.args.parent c.args.owner (g.R.Rows.held c.args.rows.now) in
+    record {
+      good = record {
+        sound = subst AreSound (sym (shown g c)) (sound_new m c.requires.good.sound c.requires.good.formed c.args.x c.args.parent c.args.owner c.requires.next c.requires.parent);
+        formed = subst (λ (k : LookUps). IsWellFormed (world_shown k)) (sym (shown g c)) (formed_new m c.requires.good.sound c.requires.good.formed c.args.x c.args.parent c.args.owner c.requires.next c.requires.parent);
+      };
+      seq = ap (λ (h : Held). h.maps.head.seq) (ends g c) ∙ ap (λ (h : Head). h.seq) (head-fresh c.args.x c.args.owner os held1);
+      base = ap (λ (h : Held). h.base) (ends g c) ∙ base-fresh c.args.x c.args.owner os held1;
+    }
+
+pub returns-clause-reads : goal.returns-clause-reads
+returns-clause-reads g c o n h =
+    ap (λ (w : World). read_of w o n) (world g c)
+    ∙ reads_new (look_ups (t g c)) c.requires.good.sound c.requires.good.formed c.args.x c.args.parent c.args.owner c.requires.next c.requires.parent o n h

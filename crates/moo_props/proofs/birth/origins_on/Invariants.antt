@@ -1,0 +1,10 @@
+use Rattle.std.proofs.Common.{◌≡◌, ◌++◌}
+use Rattle.moo_rows.specs.Walk.{slots_of_left}
+use Rattle.moo_props.specs.Birth.{origins_among}
+use Rattle.moo_props.proofs.birth.origins_on.Given as goal
+
+-- those so far, and those of the slots that are left
+abbrev pub invariant-loop-key : goal.invariant-loop-key
+invariant-loop-key g l =
+    let left = slots_of_left l.key-iterator.object l.key-iterator.last (g.R.Rows.held l.key-iterator.rows.now).maps in
+    l.found.items ++ origins_among left ≡ origins_among (slots_of_left l.fn.q (record { 0 = 0 }) (g.R.Rows.held l.rows).maps)

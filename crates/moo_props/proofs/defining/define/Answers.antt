@@ -1,0 +1,57 @@
+use Rattle.std.proofs.Common.{◌≡◌, refl, sym, ap, ◌∙◌, subst}
+use Rattle.moo_rows.specs.Maps.{Maps, Held, wrote}
+use Rattle.moo_rows.specs.declared.row.Head.{Head}
+use Rattle.moo_rows.specs.declared.row.PropId.{PropId}
+use Rattle.moo_rows.specs.declared.row.SlotRow.{SlotRow}
+use Rattle.moo_rows.specs.declared.row.SlotState.TheVariants.{Set}
+use Rattle.moo_world.specs.Changes.{defined}
+use Rattle.moo_world.specs.Rows.{AreSound, look_ups, world_of, world_shown, prop_id}
+use Rattle.moo_world.specs.World.{IsWellFormed}
+use Rattle.std.specs.FinMap.{insert}
+use Rattle.moo_props.specs.declared.reparent.Origin.{Origin}
+use Rattle.moo_props.specs.Defining.{fresh_over, with_definition}
+use Rattle.moo_props.specs.Reparent.{owners_under}
+use Rattle.moo_props.proofs.NewProp.{sound_with, world_with, formed_with, with_property}
+use Rattle.moo_props.proofs.NewPropRows.{base-over, head-over, look_ups-with, held2}
+use Rattle.moo_props.proofs.defining.define.Goals as goal
+
+abbrev t : (g : _) → goal.After-drop-under-2 g → Maps
+t g c = (g.R.Rows.held c.args.rows.now).maps
+
+abbrev row : (g : _) → goal.After-drop-under-2 g → SlotRow
+row g c = record { owner = c.args.owner; bits = c.args.bits; state = Set c.args.value }
+
+id_is : (g : _) (c : goal.After-drop-under-2 g) → c.in_ok-id.id ≡ prop_id (t g c).head.next_prop
+id_is g c = ap prop_id c.in_ok-id.ensures.id
+
+ends : (g : _) (c : goal.After-drop-under-2 g) → g.R.Rows.held c.put_slot.new.self ≡ held2 (t g c) c.requires.good.formed.tree c.args.x c.requires.object c.args.name (row g c) (prop_id (t g c).head.next_prop) refl (g.R.Rows.held c.args.rows.now) refl
+ends g c =
+    c.in_ok-put_slot.ensures.ok
+    ∙ (λ i. put (id_is g c i) ((c.in_ok-put_on_all.ensures ∙ (λ k. fresh_over (record { id = id_is g c k; owner = c.args.owner; bits = c.args.bits }) ((c.as_slice.ensures.value ∙ c.in_ok-under.ensures) k) (c.in_ok-id.ensures.rows k))) i))
+  where
+    put : PropId → Held → Held
+    put id held = wrote held (record (held.maps) { slots = insert held.maps.slots (c.args.x, id) (row g c) })
+
+shown : (g : _) (c : goal.After-drop-under-2 g) → look_ups (g.R.Rows.held c.put_slot.new.self).maps ≡ with_property (look_ups (t g c)) c.args.x c.args.name (row g c)
+shown g c = ap (λ (h : Held). look_ups h.maps) (ends g c) ∙ look_ups-with (t g c) c.requires.good.formed.tree c.args.x c.requires.object c.args.name (row g c) (prop_id (t g c).head.next_prop) refl (g.R.Rows.held c.args.rows.now) refl
+
+world : (g : _) (c : goal.After-drop-under-2 g) → world_of (g.R.Rows.held c.put_slot.new.self).maps ≡ defined (world_of (t g c)) c.args.x c.args.name (record { definer = c.args.x; owner = c.args.owner; bits = c.args.bits; state = Set c.args.value })
+world g c = ap world_shown (shown g c) ∙ world_with (look_ups (t g c)) c.requires.good.sound c.requires.good.formed c.args.x c.args.name c.args.owner c.args.bits c.args.value c.requires.object c.requires.free
+
+pub returns-clause-world : goal.returns-clause-world
+returns-clause-world g c = world g c
+
+pub returns-clause-kept : goal.returns-clause-kept
+returns-clause-kept g c =
+    let m = look_ups (t g c) in
+    let o : Origin = record { id = prop_id (t g c).head.next_prop; owner = c.args.owner; bits = c.args.bits } in
+    let under = owners_under (t g c) c.args.x in
+    let first = with_definition c.args.x c.args.name (g.R.Rows.held c.args.rows.now) in
+    record {
+      good = record {
+        sound = subst AreSound (sym (shown g c)) (sound_with m c.requires.good.sound c.requires.good.formed c.args.x c.args.name c.args.owner c.args.bits c.args.value c.requires.object c.requires.free);
+        formed = subst IsWellFormed (sym (world g c)) (formed_with m c.requires.good.sound c.requires.good.formed c.args.x c.args.name c.args.owner c.args.bits c.args.value c.requires.object c.requires.free c.requires.name c.requires.left);
+      };
+      seq = ap (λ (h : Held). h.maps.head.seq) (ends g c) ∙ ap (λ (h : Head). h.seq) (head-over o under first);
+      base = ap (λ (h : Held). h.base) (ends g c) ∙ base-over o under first;
+    }

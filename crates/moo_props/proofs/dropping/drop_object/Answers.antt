@@ -1,0 +1,70 @@
+use Rattle.std.proofs.Common.{◌≡◌, refl, sym, ap, ◌∙◌, subst, [], ◌∷◌, Some}
+use Rattle.std.specs.Prelude.{is_some, Bool, map}
+use Rattle.std.specs.List.{filter}
+use Rattle.std.proofs.Math.Bool.{and-true}
+use Rattle.std.specs.FinMap.{get, entries, remove}
+use Rattle.std.proofs.lemmas.Bool.{false≢true}
+use Rattle.moo_value.specs.declared.value.ObjNo.{ObjNo}
+use Rattle.moo_world.specs.Objects.{is_among}
+use Rattle.moo_rows.specs.Maps.{Maps, Held, wrote}
+use Rattle.moo_world.specs.Recycling.{recycled}
+use Rattle.moo_world.specs.Rows.{AreSound, look_ups, world_of, world_shown}
+use Rattle.moo_world.specs.World.{IsWellFormed}
+use Rattle.moo_world.proofs.Seen.{is_object_seen}
+use Rattle.moo_props.specs.Dropping.{slots_dropped, props_removed, verbs_removed, rows_released}
+use Rattle.moo_props.specs.Touched.{props_of}
+use Rattle.moo_props.proofs.Lessened.{world_less, sound_less, formed_less, less_object}
+use Rattle.moo_props.proofs.LessRows.{look_ups-less, held1, held2, held3, held4, held5, only5, base5}
+use Rattle.moo_props.proofs.dropping.drop_object.Goals as goal
+
+abbrev before : (g : _) → goal.After-drop-under-2 g → Held
+before g c = g.R.Rows.held c.args.rows.now
+
+here : (g : _) (c : goal.After-drop-under-2 g) → get (before g c).maps.objects c.args.x ≡ Some c.in-Some.row.now
+here g c = sym c.in-Some.ensures
+
+own_is : (g : _) (c : goal.After-drop-under-2 g) → c.in_ok-own.own.items ≡ props_of (c.args.x ∷ []) (before g c).maps.props
+own_is g c =
+    c.in_ok-own.ensures
+    ∙ ap (λ (test : ObjNo → Bool). map (λ e. e.0) (filter (λ e. test e.1.definer) (entries (before g c).maps.props))) (λ i d. and-true (is_among d (c.args.x ∷ [])) i)
+
+first : (g : _) (c : goal.After-drop-under-2 g) → g.R.Rows.held c.drop_slots.new.rows ≡ held1 (before g c).maps c.requires.good c.args.x c.in-Some.row.now (here g c) (before g c) refl
+first g c =
+    c.in_ok-drop_slots.ensures.rows
+    ∙ (λ i. slots_dropped c.args.x ((c.as_slice.ensures.value ∙ c.in_ok-all.ensures) i) ((c.as_slice-2.ensures.value ∙ own_is g c) i) ((c.as_slice-3.ensures.value ∙ c.in_ok-under.ensures) i) (before g c))
+
+second : (g : _) (c : goal.After-drop-under-2 g) → g.R.Rows.held c.remove_props.new.rows ≡ held2 (before g c).maps c.requires.good c.args.x c.in-Some.row.now (here g c) (before g c) refl
+second g c = c.in_ok-remove_props.ensures ∙ (λ i. props_removed ((c.as_slice-4.ensures.value ∙ own_is g c) i) (first g c i))
+
+third : (g : _) (c : goal.After-drop-under-2 g) → g.R.Rows.held c.remove_verbs.new.rows ≡ held3 (before g c).maps c.requires.good c.args.x c.in-Some.row.now (here g c) (before g c) refl
+third g c = c.in_ok-remove_verbs.ensures ∙ (λ i. verbs_removed ((c.as_slice-5.ensures.value ∙ c.in_ok-verbs.ensures) i) (second g c i))
+
+fourth : (g : _) (c : goal.After-drop-under-2 g) → g.R.Rows.held c.release_all.new.rows ≡ held4 (before g c).maps c.requires.good c.args.x c.in-Some.row.now (here g c) (before g c) refl
+fourth g c = c.in_ok-release_all.ensures ∙ (λ i. rows_released c.args.x c.in-Some.row.now.parent ((c.as_slice-6.ensures.value ∙ c.in_ok-relinked.ensures) i) (third g c i))
+
+ends : (g : _) (c : goal.After-drop-under-2 g) → g.R.Rows.held c.remove_object.new.self ≡ held5 (before g c).maps c.requires.good c.args.x c.in-Some.row.now (here g c) (before g c) refl
+ends g c = c.in_ok-remove_object.ensures.ok ∙ (λ i. let h = fourth g c i in wrote h (record (h.maps) { objects = remove h.maps.objects c.args.x }))
+
+shown : (g : _) (c : goal.After-drop-under-2 g) → look_ups (g.R.Rows.held c.remove_object.new.self).maps ≡ less_object (look_ups (before g c).maps) c.args.x c.in-Some.row.now.parent
+shown g c = ap (λ (h : Held). look_ups h.maps) (ends g c) ∙ look_ups-less (before g c).maps c.requires.good c.args.x c.in-Some.row.now (here g c) (before g c) refl
+
+world : (g : _) (c : goal.After-drop-under-2 g) → world_of (g.R.Rows.held c.remove_object.new.self).maps ≡ recycled (world_of (before g c).maps) c.args.x
+world g c = ap world_shown (shown g c) ∙ world_less (look_ups (before g c).maps) c.requires.good.sound c.requires.good.formed c.args.x c.in-Some.row.now (here g c)
+
+pub unreachable-requires : goal.unreachable-requires
+unreachable-requires g c =
+    let m = look_ups (g.R.Rows.held c.args.rows.now).maps in
+    false≢true (ap is_some c.in-None.ensures ∙ sym (is_object_seen m c.args.x) ∙ c.requires.object)
+
+pub returns-clause-world : goal.returns-clause-world
+returns-clause-world g c = world g c
+
+pub returns-clause-kept : goal.returns-clause-kept
+returns-clause-kept g c = record {
+  good = record {
+    sound = subst AreSound (sym (shown g c)) (sound_less (look_ups (before g c).maps) c.requires.good.sound c.requires.good.formed c.args.x c.in-Some.row.now (here g c));
+    formed = subst IsWellFormed (sym (world g c)) (formed_less (look_ups (before g c).maps) c.requires.good.sound c.requires.good.formed c.args.x c.in-Some.row.now (here g c));
+  };
+  seq = ap (λ (h : Held). h.maps.head.seq) (ends g c) ∙ ap (λ (k : Maps). k.head.seq) (only5 (before g c).maps c.requires.good c.args.x c.in-Some.row.now (here g c) (before g c) refl);
+  base = ap (λ (h : Held). h.base) (ends g c) ∙ base5 (before g c).maps c.requires.good c.args.x c.in-Some.row.now (here g c) (before g c) refl;
+}

@@ -1,0 +1,31 @@
+use Rattle.std.proofs.Common.{FitsSigned, w32, rules, Some, sym, ap, ◌∙◌}
+use Rattle.std.proofs.lemmas.Int.{to_z-of_z}
+use Rattle.moo_world.specs.Objects.{folded}
+use Rattle.moo_world.specs.Quota.{quota_in}
+use Rattle.moo_world.specs.Rows.{world_of}
+use Rattle.moo_props.specs.Names.{name_of}
+use Rattle.moo_props.proofs.Quotas.{no_quota, no_integer, none_of, quota_is}
+use Rattle.moo_props.proofs.quota.quota_here.Goals as goal
+
+pub returns-in-None-clause-quota : goal.returns-in-None-clause-quota
+unfolding folded
+returns-in-None-clause-quota g c = let m = (g.R.Rows.held c.args.rows.now).maps in sym (no_quota (world_of m) c.requires.formed.tree c.args.o (none_of _ (sym c.in-None.ensures.exact)))
+
+pub returns-in-Int-clause-quota : goal.returns-in-Int-clause-quota
+unfolding folded
+returns-in-Int-clause-quota g c =
+    let f : FitsSigned w32 c.in-Int.quota = search rules in
+    let w = world_of (g.R.Rows.held c.args.rows.now).maps in
+    ap Some (to_z-of_z w32 c.in-Int.quota f) ∙ sym (quota_is w c.args.o (name_of (g.R.Rows.held c.args.rows.now).maps c.in-Some.id) c.value_of.result.now c.in-Some.ensures.named c.value_of.ensures ∙ ap (λ v. quota_in (Some v)) c.in-Int.is)
+
+pub returns-in-Int-clause-named : goal.returns-in-Int-clause-named
+unfolding folded
+returns-in-Int-clause-named g c = c.in-Some.ensures.named
+
+pub returns-in_default : goal.returns-in_default
+unfolding folded
+returns-in_default g c = record {
+  quota = sym (quota_is (world_of (g.R.Rows.held c.args.rows.now).maps) c.args.o (name_of (g.R.Rows.held c.args.rows.now).maps c.in-Some.id) c.value_of.result.now c.in-Some.ensures.named c.value_of.ensures ∙ no_integer c.value_of.result.now c.in_default.not-Int);
+  has = tt;
+  named = tt;
+}

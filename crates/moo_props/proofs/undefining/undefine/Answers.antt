@@ -1,0 +1,49 @@
+use Rattle.std.proofs.Common.{◌≡◌, Some, refl, sym, ap, ◌∙◌, subst}
+use Rattle.std.specs.FinMap.{get, remove}
+use Rattle.moo_rows.specs.declared.row.ObjRow.{ObjRow}
+use Rattle.moo_rows.specs.declared.row.PropRow.{PropRow}
+use Rattle.moo_rows.specs.Maps.{Maps, Held, wrote}
+use Rattle.moo_world.specs.Changes.{undefined}
+use Rattle.moo_world.specs.Rows.{AreSound, look_ups, world_of, world_shown}
+use Rattle.moo_world.specs.World.{IsWellFormed}
+use Rattle.moo_props.specs.Undefining.{less_over}
+use Rattle.moo_props.proofs.Gains.{some_of}
+use Rattle.moo_props.proofs.ShorterRows.{own_row, spelled, world_shorter, sound_shorter, formed_shorter, less_property, look_ups-shorter, only2, held2, base-over}
+use Rattle.moo_props.specs.Reparent.{owners_under}
+use Rattle.moo_props.proofs.undefining.undefine.Goals as goal
+
+abbrev t : (g : _) → goal.After-drop-under-2 g → Maps
+t g c = (g.R.Rows.held c.args.rows.now).maps
+
+prop : (g : _) (c : goal.After-drop-under-2 g) → (p : PropRow) × (get (t g c).props c.args.id ≡ Some p) × (p.definer ≡ c.args.x)
+prop g c = own_row (t g c) c.args.x c.args.id c.requires.own
+
+row : (g : _) (c : goal.After-drop-under-2 g) → (r : ObjRow) × (get (t g c).objects c.args.x ≡ Some r)
+row g c =
+    let p = prop g c in
+    let r = some_of (get (t g c).objects p.0.definer) (c.requires.good.sound.definers c.args.id.0 p.0 p.1) in
+    (r.0, ap (get (t g c).objects) (sym p.2) ∙ r.1)
+
+ends : (g : _) (c : goal.After-drop-under-2 g) → g.R.Rows.held c.remove_prop.new.self ≡ held2 (t g c) c.requires.good c.args.x c.args.id.0 (prop g c).0 (prop g c).1 (prop g c).2 (row g c).0 (row g c).1 (g.R.Rows.held c.args.rows.now) refl
+ends g c =
+    c.in_ok-remove_prop.ensures.ok
+    ∙ (λ i. let h = (c.in_ok-remove_over.ensures ∙ (λ k. less_over c.args.id ((c.as_slice.ensures.value ∙ c.in_ok-under.ensures) k) (g.R.Rows.held c.args.rows.now))) i in wrote h (record (h.maps) { props = remove h.maps.props c.args.id }))
+
+shown : (g : _) (c : goal.After-drop-under-2 g) → look_ups (g.R.Rows.held c.remove_prop.new.self).maps ≡ less_property (look_ups (t g c)) c.args.id.0
+shown g c = ap (λ (h : Held). look_ups h.maps) (ends g c) ∙ look_ups-shorter (t g c) c.requires.good c.args.x c.args.id.0 (prop g c).0 (prop g c).1 (prop g c).2 (row g c).0 (row g c).1 (g.R.Rows.held c.args.rows.now) refl
+
+world : (g : _) (c : goal.After-drop-under-2 g) → world_of (g.R.Rows.held c.remove_prop.new.self).maps ≡ undefined (world_of (t g c)) c.args.x (prop g c).0.name
+world g c = ap world_shown (shown g c) ∙ world_shorter (t g c) c.requires.good c.args.x c.args.id.0 (prop g c).0 (prop g c).1 (prop g c).2
+
+pub returns-clause-world : goal.returns-clause-world
+returns-clause-world g c = world g c ∙ ap (undefined (world_of (t g c)) c.args.x) (sym (spelled (t g c) c.args.id (prop g c).0 (prop g c).1))
+
+pub returns-clause-kept : goal.returns-clause-kept
+returns-clause-kept g c = record {
+  good = record {
+    sound = subst AreSound (sym (shown g c)) (sound_shorter (t g c) c.requires.good c.args.x c.args.id.0 (prop g c).0 (prop g c).1 (prop g c).2);
+    formed = subst IsWellFormed (sym (world g c)) (formed_shorter (t g c) c.requires.good c.args.x c.args.id.0 (prop g c).0 (prop g c).1 (prop g c).2);
+  };
+  seq = ap (λ (h : Held). h.maps.head.seq) (ends g c) ∙ ap (λ (k : Maps). k.head.seq) (only2 (t g c) c.requires.good c.args.x c.args.id.0 (prop g c).0 (prop g c).1 (prop g c).2 (row g c).0 (row g c).1 (g.R.Rows.held c.args.rows.now) refl);
+  base = ap (λ (h : Held). h.base) (ends g c) ∙ base-over (t g c) c.requires.good c.args.x c.args.id.0 (prop g c).0 (prop g c).1 (prop g c).2 (row g c).0 (row g c).1 (g.R.Rows.held c.args.rows.now) refl (owners_under (t g c) c.args.x) (g.R.Rows.held c.args.rows.now);
+}

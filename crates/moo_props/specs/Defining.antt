@@ -1,0 +1,22 @@
+-- A new property, at the level of the rows.
+use Rattle.std.specs.Prelude.{◌+◌, List, [], ◌∷◌}
+use Rattle.std.specs.FinMap.{insert}
+use Rattle.moo_value.specs.declared.value.ObjNo.{ObjNo}
+use Rattle.moo_rows.specs.Maps.{Held, wrote}
+use Rattle.moo_world.specs.Objects.{Name}
+use Rattle.moo_world.specs.Rows.{prop_id}
+use Rattle.moo_props.specs.declared.reparent.Origin.{Origin}
+use Rattle.moo_props.specs.Reparent.{fresh_row, slot_put}
+
+-- what is held once each of these objects, with its owner, has a fresh slot
+abbrev pub fresh_over : Origin → List (ObjNo × ObjNo) → Held → Held
+fresh_over o [] held = held
+fresh_over o (e ∷ es) held = fresh_over o es (slot_put e.0 o.id (fresh_row e.1 o) held)
+
+-- what is held once x defines a property of the next number
+abbrev pub with_definition : ObjNo → Name → Held → Held
+with_definition x name held =
+    wrote held (record (held.maps) {
+      head = record (held.maps.head) { next_prop = held.maps.head.next_prop + 1 };
+      props = insert held.maps.props (prop_id held.maps.head.next_prop) (record { definer = x; name = name });
+    })

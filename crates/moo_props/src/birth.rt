@@ -1,0 +1,120 @@
+//! A new object, with the slots that it inherits.
+//! LambdaMOO Programmer's Manual, 'Fundamental Operations on Objects': `create`.
+
+ghost use Rattle.std.specs.Prelude.{◌≡◌, ◌||◌, true, false, negsuc, [], Some, None, IfOk, OnOk};
+ghost use Rattle.moo_world.specs.Creation.{created, next_object};
+ghost use Rattle.moo_world.specs.Objects.{Name, nothing, same_object};
+ghost use Rattle.moo_world.specs.Rows.{world_of, IsGood};
+ghost use Rattle.moo_world.specs.World.{is_object, read_of};
+ghost use Rattle.moo_rows.specs.Walk.{slots_of_left};
+ghost use Rattle.moo_props.specs.Birth.{new_row, objects_with, origins_among};
+ghost use Rattle.moo_props.specs.Keeps.{Keeps};
+ghost use Rattle.moo_props.specs.Reparent.{with_fresh};
+
+use crate::reparent::Origin;
+use moo_rows::row::{ObjRow, PropId, SlotRow, SlotState};
+use moo_rows::rows::Rows;
+use moo_rows::walk::each_slot_of;
+use moo_value::text::MooStr;
+use moo_value::value::ObjNo;
+use std::alloc::{AllocError, Global};
+
+/// The properties that q has, with the owners and the bits of its slots.
+fn origins_on<R: Rows>(alloc: Global, rows: &R, q: ObjNo) -> Result<Vec<Origin>, AllocError>
+    ensures { IfOk result (λ v. v.items ≡ origins_among (slots_of_left q (record { 0 = 0 }) (R.held rows.now).maps)) }
+{
+    let mut found = Vec::new(alloc);
+    for (key, slot) in each_slot_of(rows, q, PropId(0)) {
+        found.push(Origin {
+            id: key.1,
+            owner: slot.owner,
+            bits: slot.bits,
+        })?;
+    }
+    Ok(found)
+}
+
+/// Puts fresh slots on x.
+fn put_fresh<R: Rows>(
+    rows: &mut R,
+    x: ObjNo,
+    owner: ObjNo,
+    origins: &[Origin],
+) -> Result<(), AllocError>
+    ensures { OnOk result (R.held rows.new ≡ with_fresh x owner origins.now (R.held rows.old)) }
+{
+    for origin in origins {
+        let fresh = SlotRow {
+            owner: if origin.bits.c { owner } else { origin.owner },
+            bits: origin.bits,
+            state: SlotState::Clear,
+        };
+        rows.put_slot((x, origin.id), fresh)?;
+    }
+    Ok(())
+}
+
+/// The row of a new object: no name, no place, all bits 0, no accept list.
+fn new_row(alloc: Global, parent: ObjNo, owner: ObjNo) -> Result<ObjRow, AllocError>
+    ensures { IfOk result (λ row. row ≡ new_row parent owner) }
+{
+    let name = match MooStr::from_bytes(alloc, b"") {
+        Ok(name) => name,
+        Err(_) => return Err(AllocError),
+    };
+    Ok(ObjRow {
+        name,
+        owner,
+        parent,
+        location: ObjNo(-1),
+        player: false,
+        programmer: false,
+        wizard: false,
+        r: false,
+        w: false,
+        f: false,
+        accept: None,
+    })
+}
+
+/// Puts the row of a new object, whose number is the greatest from now on.
+fn put_new<R: Rows>(
+    alloc: Global,
+    rows: &mut R,
+    x: ObjNo,
+    parent: ObjNo,
+    owner: ObjNo,
+) -> Result<(), AllocError>
+    ensures { OnOk result (R.held rows.new ≡ objects_with x parent owner (R.held rows.old)) }
+{
+    let row = new_row(alloc, parent, owner)?;
+    let mut head = rows.head();
+    head.top = x.0;
+    rows.set_head(head);
+    rows.put_object(x, row)?;
+    Ok(())
+}
+
+/// Makes the object of the next number under a parent. It inherits all properties of the parent: each of its slots is
+/// clear, has the bits of the parent's slot, and as owner its own where the bit c is set, else the owner of that slot.
+///
+/// The only error is want of memory, after which the rows may be half changed.
+pub fn make<R: Rows>(
+    alloc: Global,
+    rows: &mut R,
+    x: ObjNo,
+    parent: ObjNo,
+    owner: ObjNo,
+) -> Result<(), AllocError>
+    requires good { IsGood (R.held rows.old).maps }
+    requires next { next_object (world_of (R.held rows.old).maps) ≡ Some x }
+    requires parent { (is_object (world_of (R.held rows.old).maps) parent || same_object nothing parent) ≡ true }
+    ensures world { OnOk result (world_of (R.held rows.new).maps ≡ created (world_of (R.held rows.old).maps) x parent owner) }
+    ensures kept { OnOk result (Keeps (R.held rows.old) (R.held rows.new)) }
+    ensures reads { OnOk result ((o : ObjNo) (n : Name) → is_object (world_of (R.held rows.old).maps) o ≡ true → read_of (world_of (R.held rows.new).maps) o n ≡ read_of (world_of (R.held rows.old).maps) o n) }
+{
+    let inherited = origins_on(alloc, rows, parent)?;
+    put_new(alloc, rows, x, parent, owner)?;
+    put_fresh(rows, x, owner, inherited.as_slice())?;
+    Ok(())
+}

@@ -1,0 +1,85 @@
+//! New properties.
+
+ghost use Rattle.std.specs.Prelude.{◌≡◌, ◌<◌, true, false, IfOk, OnOk};
+ghost use Rattle.moo_world.specs.Changes.{clashes, defined};
+ghost use Rattle.moo_world.specs.Rows.{world_of, IsGood};
+ghost use Rattle.moo_world.specs.World.{is_object, is_property_name};
+ghost use Rattle.moo_props.specs.Defining.{fresh_over, with_definition};
+ghost use Rattle.moo_props.specs.Keeps.{Keeps};
+
+use crate::reparent::{Origin, owners_under};
+use moo_rows::row::{Bits, PropId, PropRow, SlotRow, SlotState};
+use moo_rows::rows::Rows;
+use moo_value::text::MooStr;
+use moo_value::value::{ObjNo, Value};
+use std::alloc::{AllocError, Global};
+
+/// Puts a fresh slot of a property on each of these objects.
+fn put_on_all<R: Rows>(
+    rows: &mut R,
+    under: &[(ObjNo, ObjNo)],
+    origin: Origin,
+) -> Result<(), AllocError>
+    ensures { OnOk result (R.held rows.new ≡ fresh_over origin under.now (R.held rows.old)) }
+{
+    for (y, owner) in under {
+        let fresh = SlotRow {
+            owner: if origin.bits.c { *owner } else { origin.owner },
+            bits: origin.bits,
+            state: SlotState::Clear,
+        };
+        rows.put_slot((*y, origin.id), fresh)?;
+    }
+    Ok(())
+}
+
+/// Puts the row of a new property under the next number, which it gives.
+fn put_definition<R: Rows>(rows: &mut R, x: ObjNo, name: MooStr) -> Result<PropId, AllocError>
+    requires { (R.held rows.old).maps.head.next_prop < 4294967295 }
+    ensures rows { OnOk result (R.held rows.new ≡ with_definition x name (R.held rows.old)) }
+    ensures id { IfOk result (λ id. id.0 ≡ (R.held rows.old).maps.head.next_prop) }
+{
+    let mut head = rows.head();
+    let id = PropId(head.next_prop);
+    head.next_prop += 1;
+    rows.set_head(head);
+    rows.put_prop(id, PropRow { definer: x, name })?;
+    Ok(id)
+}
+
+/// Defines a property on x, which no property of its name may stand in the way of: on x it has the value, owner and bits;
+/// each descendant of x gets a clear slot with the bits, and as owner its own where the bit c is set, else the owner. The
+/// answer is the number of the property, which is never given again.
+///
+/// The only error is want of memory, after which the rows may be half changed.
+///
+/// LambdaMOO Programmer's Manual, 'Built-in Functions', `add_property`.
+pub fn define<R: Rows>(
+    alloc: Global,
+    rows: &mut R,
+    x: ObjNo,
+    name: MooStr,
+    value: Value,
+    owner: ObjNo,
+    bits: Bits,
+) -> Result<PropId, AllocError>
+    requires good { IsGood (R.held rows.old).maps }
+    requires object { is_object (world_of (R.held rows.old).maps) x ≡ true }
+    requires name { is_property_name name ≡ true }
+    requires free { clashes (world_of (R.held rows.old).maps) x name ≡ false }
+    requires left { (R.held rows.old).maps.head.next_prop < 4294967295 }
+    ensures world { OnOk result (world_of (R.held rows.new).maps ≡ defined (world_of (R.held rows.old).maps) x name (record { definer = x; owner = owner; bits = bits; state = SlotState.Set value })) }
+    ensures kept { OnOk result (Keeps (R.held rows.old) (R.held rows.new)) }
+    ensures id { IfOk result (λ id. id.0 ≡ (R.held rows.old).maps.head.next_prop) }
+{
+    let under = owners_under(alloc, rows, x)?;
+    let id = put_definition(rows, x, name)?;
+    put_on_all(rows, under.as_slice(), Origin { id, owner, bits })?;
+    let own = SlotRow {
+        owner,
+        bits,
+        state: SlotState::Set(value),
+    };
+    rows.put_slot((x, id), own)?;
+    Ok(id)
+}

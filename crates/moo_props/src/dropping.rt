@@ -1,0 +1,261 @@
+//! The end of an object.
+//! LambdaMOO Programmer's Manual, 'Fundamental Operations on Objects': `recycle`.
+
+ghost use Rattle.std.specs.Prelude.{◌≡◌, ◌++◌, [], ◌∷◌, true, if◌then◌else◌, IfOk, OnOk};
+ghost use Rattle.std.specs.FinMap.{entries};
+ghost use Rattle.moo_rows.specs.Walk.{slots_of_left};
+ghost use Rattle.moo_world.specs.Objects.{same_object};
+ghost use Rattle.moo_world.specs.Recycling.{recycled};
+ghost use Rattle.moo_world.specs.Rows.{world_of, IsGood};
+ghost use Rattle.moo_world.specs.World.{is_object};
+ghost use Rattle.moo_props.specs.Dropping.{is_linked, released_row, ids_for, ids_among, verbs_among, linked_among, slots_dropped, dropped_over, dropped_keys, props_removed, verbs_removed, row_released, rows_released};
+ghost use Rattle.moo_props.specs.Keeps.{Keeps};
+ghost use Rattle.moo_props.specs.Touched.{props_of};
+
+use crate::reparent::{SlotKeys, owners_under, props_only_of, remove_on};
+use moo_rows::row::{ObjList, ObjRow, PropId, VerbId};
+use moo_rows::rows::Rows;
+use moo_rows::walk::{each_object, each_slot_of, each_verb};
+use moo_value::value::ObjNo;
+use std::alloc::{AllocError, Global};
+use std::marker::Model;
+
+/// Properties, in order.
+#[derive(Drop)]
+pub struct PropIds {
+    items: Vec<PropId>,
+}
+
+impl Model for PropIds {
+    ghost use Rattle.std.specs.Prelude.{List};
+    ghost use Rattle.moo_rows.specs.declared.row.PropId.{PropId};
+
+    ghost Value = { List PropId };
+
+    ghost view = { λ a. a.items.items };
+}
+
+impl PropIds {
+    /// The properties, in order.
+    pub fn items(&self) -> &[PropId]
+        ensures { result.now ≡ self.now }
+    {
+        self.items.as_slice()
+    }
+}
+
+/// Keys of verbs, in order.
+#[derive(Drop)]
+pub struct VerbKeys {
+    items: Vec<(ObjNo, VerbId)>,
+}
+
+impl Model for VerbKeys {
+    ghost use Rattle.std.specs.Prelude.{List};
+    ghost use Rattle.moo_value.specs.declared.value.ObjNo.{ObjNo};
+    ghost use Rattle.moo_rows.specs.declared.row.VerbId.{VerbId};
+
+    ghost Value = { List (ObjNo × VerbId) };
+
+    ghost view = { λ a. a.items.items };
+}
+
+impl VerbKeys {
+    /// The keys, in order.
+    pub fn items(&self) -> &[(ObjNo, VerbId)]
+        ensures { result.now ≡ self.now }
+    {
+        self.items.as_slice()
+    }
+}
+
+/// What went with an object: slots, properties and verbs; and the objects that have another parent or place.
+#[derive(Drop)]
+pub struct Dropped {
+    pub removed: SlotKeys,
+    pub props: PropIds,
+    pub verbs: VerbKeys,
+    pub relinked: ObjList,
+}
+
+/// The properties that x has.
+fn ids_on<R: Rows>(alloc: Global, rows: &R, x: ObjNo) -> Result<Vec<PropId>, AllocError>
+    ensures { IfOk result (λ v. v.items ≡ ids_among (slots_of_left x (record { 0 = 0 }) (R.held rows.now).maps)) }
+{
+    let mut found = Vec::new(alloc);
+    for (key, _slot) in each_slot_of(rows, x, PropId(0)) {
+        found.push(key.1)?;
+    }
+    Ok(found)
+}
+
+/// The verbs of x.
+fn verbs_on<R: Rows>(alloc: Global, rows: &R, x: ObjNo) -> Result<Vec<(ObjNo, VerbId)>, AllocError>
+    ensures { IfOk result (λ v. v.items ≡ verbs_among x (entries (R.held rows.now).maps.verbs)) }
+{
+    let mut found = Vec::new(alloc);
+    for (key, _verb) in each_verb(rows) {
+        if key.0 == x {
+            found.push(key)?;
+        }
+    }
+    Ok(found)
+}
+
+/// Whether an object's parent or place is x.
+#[tactic(auto, unfolding(moo_world::specs::Objects::same_object))]
+fn is_linked(row: &ObjRow, x: ObjNo) -> bool
+    ensures { result ≡ is_linked x row.now }
+{
+    if x == row.parent {
+        return true;
+    }
+    x == row.location
+}
+
+/// The objects whose parent or place is x.
+fn linked_to<R: Rows>(alloc: Global, rows: &R, x: ObjNo) -> Result<Vec<ObjNo>, AllocError>
+    ensures { IfOk result (λ v. v.items ≡ linked_among x (entries (R.held rows.now).maps.objects)) }
+{
+    let mut found = Vec::new(alloc);
+    for (y, row) in each_object(rows) {
+        if is_linked(row, x) {
+            found.push(y)?;
+        }
+    }
+    Ok(found)
+}
+
+/// All properties for x itself, and its own for a descendant.
+#[tactic(auto, unfolding(moo_world::specs::Objects::same_object))]
+fn ids_for<'a>(x: ObjNo, all: &'a [PropId], own: &'a [PropId], y: ObjNo) -> &'a [PropId]
+    ensures { result.now ≡ ids_for x all.now own.now y }
+{
+    if x == y { all } else { own }
+}
+
+/// Removes from x the slots of all its properties, and from each descendant those of x's own, and lists them.
+fn drop_slots<R: Rows>(
+    rows: &mut R,
+    x: ObjNo,
+    all: &[PropId],
+    own: &[PropId],
+    under: &[(ObjNo, ObjNo)],
+    removed: &mut Vec<(ObjNo, PropId)>,
+) -> Result<(), AllocError>
+    ensures rows { OnOk result (R.held rows.new ≡ slots_dropped x all.now own.now under.now (R.held rows.old)) }
+    ensures list { OnOk result (removed.new.items ≡ removed.old.items ++ dropped_over x all.now own.now under.now) }
+{
+    for (y, _owner) in under {
+        remove_on(rows, *y, ids_for(x, all, own, *y), removed)?;
+    }
+    Ok(())
+}
+
+/// Removes the rows of these properties.
+fn remove_props<R: Rows>(rows: &mut R, ids: &[PropId]) -> Result<(), AllocError>
+    ensures { OnOk result (R.held rows.new ≡ props_removed ids.now (R.held rows.old)) }
+{
+    for id in ids {
+        rows.remove_prop(*id)?;
+    }
+    Ok(())
+}
+
+/// Removes the rows of these verbs.
+fn remove_verbs<R: Rows>(rows: &mut R, keys: &[(ObjNo, VerbId)]) -> Result<(), AllocError>
+    ensures { OnOk result (R.held rows.new ≡ verbs_removed keys.now (R.held rows.old)) }
+{
+    for key in keys {
+        rows.remove_verb(*key)?;
+    }
+    Ok(())
+}
+
+/// A link, or where it leads to x another one.
+#[tactic(auto, unfolding(moo_world::specs::Objects::same_object))]
+fn redirected(x: ObjNo, link: ObjNo, to: ObjNo) -> ObjNo
+    ensures { result ≡ (if same_object x link then to else link) }
+{
+    if x == link { to } else { link }
+}
+
+/// Gives y, if its parent was x, another parent, and takes it out of x.
+fn release<R: Rows>(
+    alloc: Global,
+    rows: &mut R,
+    x: ObjNo,
+    parent: ObjNo,
+    y: ObjNo,
+) -> Result<(), AllocError>
+    ensures { OnOk result (R.held rows.new ≡ row_released x parent y (R.held rows.old)) }
+{
+    let mut row = match rows.object(y) {
+        None => return Ok(()),
+        Some(row) => row.copy(alloc)?,
+    };
+    row.parent = redirected(x, row.parent, parent);
+    row.location = redirected(x, row.location, ObjNo(-1));
+    rows.put_object(y, row)?;
+    Ok(())
+}
+
+/// Does so with each of these objects.
+fn release_all<R: Rows>(
+    alloc: Global,
+    rows: &mut R,
+    x: ObjNo,
+    parent: ObjNo,
+    objects: &[ObjNo],
+) -> Result<(), AllocError>
+    ensures { OnOk result (R.held rows.new ≡ rows_released x parent objects.now (R.held rows.old)) }
+{
+    for y in objects {
+        release(alloc, rows, x, parent, *y)?;
+    }
+    Ok(())
+}
+
+/// Removes an object with its slots, verbs and properties, and the slots of these properties on its descendants. Its
+/// children go to its parent, and what lies in it to `#-1`. What is listed is ascending.
+///
+/// The only error is want of memory, after which the rows may be half changed.
+pub fn drop_object<R: Rows>(alloc: Global, rows: &mut R, x: ObjNo) -> Result<Dropped, AllocError>
+    requires good { IsGood (R.held rows.old).maps }
+    requires object { is_object (world_of (R.held rows.old).maps) x ≡ true }
+    ensures world { OnOk result (world_of (R.held rows.new).maps ≡ recycled (world_of (R.held rows.old).maps) x) }
+    ensures kept { OnOk result (Keeps (R.held rows.old) (R.held rows.new)) }
+    ensures removed { IfOk result (λ dropped. dropped.removed ≡ dropped_keys (R.held rows.old).maps x) }
+    ensures props { IfOk result (λ dropped. dropped.props ≡ props_of (x ∷ []) (R.held rows.old).maps.props) }
+    ensures verbs { IfOk result (λ dropped. dropped.verbs ≡ verbs_among x (entries (R.held rows.old).maps.verbs)) }
+    ensures relinked { IfOk result (λ dropped. dropped.relinked ≡ linked_among x (entries (R.held rows.old).maps.objects)) }
+{
+    let parent = match rows.object(x) {
+        None => unreachable!(),
+        Some(row) => row.parent,
+    };
+    let under = owners_under(alloc, rows, x)?;
+    let all = ids_on(alloc, rows, x)?;
+    let own = props_only_of(alloc, rows, &[x], &[])?;
+    let verbs = verbs_on(alloc, rows, x)?;
+    let relinked = linked_to(alloc, rows, x)?;
+    let mut removed = Vec::new(alloc);
+    drop_slots(
+        rows,
+        x,
+        all.as_slice(),
+        own.as_slice(),
+        under.as_slice(),
+        &mut removed,
+    )?;
+    remove_props(rows, own.as_slice())?;
+    remove_verbs(rows, verbs.as_slice())?;
+    release_all(alloc, rows, x, parent, relinked.as_slice())?;
+    rows.remove_object(x)?;
+    Ok(Dropped {
+        removed: SlotKeys::from_vec(removed),
+        props: PropIds { items: own },
+        verbs: VerbKeys { items: verbs },
+        relinked: ObjList::from_vec(relinked),
+    })
+}

@@ -1,0 +1,92 @@
+//! The quota of an owner: how many more objects may be made for it.
+//! LambdaMOO Programmer's Manual, 'Fundamental Operations on Objects': `create` and `recycle`.
+
+ghost use Rattle.std.specs.Prelude.{◌≡◌, ◌+ℤ◌, is_some, true, option_map, negsuc, pos, IfSome, OnOk};
+ghost use Rattle.std.specs.FinMap.{get};
+ghost use Rattle.moo_world.specs.Quota.{quota_name, quota_of, quota_moved, quota_returned, has_quota_left};
+ghost use Rattle.moo_world.specs.Rows.{world_of, IsGood};
+ghost use Rattle.moo_props.specs.Keeps.{Keeps};
+ghost use Rattle.moo_props.specs.Names.{name_of};
+ghost use Rattle.moo_props.specs.Quotas.{HasRoom};
+
+use crate::finding::find_named;
+use crate::state::put_state;
+use crate::value::value_of;
+use moo_rows::row::{PropId, SlotState};
+use moo_rows::rows::Rows;
+use moo_value::value::{ObjNo, Value};
+use std::alloc::AllocError;
+
+/// The integer that o reads as its quota, with its property.
+fn quota_here<R: Rows>(rows: &R, o: ObjNo) -> Option<(PropId, i32)>
+    requires { IsGood (R.held rows.now).maps }
+    ensures quota { option_map (λ p. p.1) result ≡ quota_of (world_of (R.held rows.now).maps) o }
+    ensures has { IfSome result (λ p. is_some (get (R.held rows.now).maps.slots (o, p.0)) ≡ true) }
+    ensures named { IfSome result (λ p. name_of (R.held rows.now).maps p.0 ≡ quota_name) }
+{
+    let id = match find_named(rows, o, b"ownership_quota") {
+        None => return None,
+        Some(id) => id,
+    };
+    match value_of(rows, o, id) {
+        Value::Int(quota) => Some((id, *quota)),
+        _ => None,
+    }
+}
+
+/// The quota of o: the integer that it reads for `ownership_quota`. None where o has no such property, where its value
+/// is no integer, or where o is no object.
+pub fn quota_of<R: Rows>(rows: &R, o: ObjNo) -> Option<i32>
+    requires { IsGood (R.held rows.now).maps }
+    ensures { result ≡ quota_of (world_of (R.held rows.now).maps) o }
+{
+    match quota_here(rows, o) {
+        None => None,
+        Some((_, quota)) => Some(quota),
+    }
+}
+
+/// A slot set to a quota and so many more.
+fn set_to(quota: i32, by: i32) -> SlotState
+    requires { HasRoom (Some quota) by }
+    ensures { result ≡ SlotState.Set (Value.Int (quota +ℤ by)) }
+{
+    SlotState::Set(Value::Int(quota + by))
+}
+
+/// Adds to the quota of o, where it has one. What is stored is set on o itself; owner and bits of its slot stay.
+pub fn move_quota<R: Rows>(rows: &mut R, o: ObjNo, by: i32) -> Result<(), AllocError>
+    requires good { IsGood (R.held rows.old).maps }
+    requires room { HasRoom (quota_of (world_of (R.held rows.old).maps) o) by }
+    ensures world { OnOk result (world_of (R.held rows.new).maps ≡ quota_moved (world_of (R.held rows.old).maps) o by) }
+    ensures kept { OnOk result (Keeps (R.held rows.old) (R.held rows.new)) }
+{
+    let (id, quota) = match quota_here(rows, o) {
+        None => return Ok(()),
+        Some(here) => here,
+    };
+    put_state(rows, o, id, set_to(quota, by))?;
+    Ok(())
+}
+
+/// Takes one from the quota of o, where it has one.
+pub fn take_quota<R: Rows>(rows: &mut R, o: ObjNo) -> Result<(), AllocError>
+    requires good { IsGood (R.held rows.old).maps }
+    requires left { has_quota_left (world_of (R.held rows.old).maps) o ≡ true }
+    ensures world { OnOk result (world_of (R.held rows.new).maps ≡ quota_moved (world_of (R.held rows.old).maps) o (negsuc 0)) }
+    ensures kept { OnOk result (Keeps (R.held rows.old) (R.held rows.new)) }
+{
+    move_quota(rows, o, -1)
+}
+
+/// Gives one back to the quota of o, where it has one. A quota at the greatest integer stays.
+pub fn return_quota<R: Rows>(rows: &mut R, o: ObjNo) -> Result<(), AllocError>
+    requires { IsGood (R.held rows.old).maps }
+    ensures world { OnOk result (world_of (R.held rows.new).maps ≡ quota_returned (world_of (R.held rows.old).maps) o) }
+    ensures kept { OnOk result (Keeps (R.held rows.old) (R.held rows.new)) }
+{
+    match quota_of(rows, o) {
+        Some(quota) if quota < i32::MAX => move_quota(rows, o, 1),
+        _ => Ok(()),
+    }
+}

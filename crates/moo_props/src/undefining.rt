@@ -1,0 +1,50 @@
+//! The end of a property.
+
+ghost use Rattle.std.specs.Prelude.{◌≡◌, true, OnOk};
+ghost use Rattle.moo_world.specs.Changes.{undefined};
+ghost use Rattle.moo_world.specs.Rows.{world_of, IsGood};
+ghost use Rattle.moo_props.specs.Keeps.{Keeps};
+ghost use Rattle.moo_props.specs.Names.{defines, spelling_of};
+ghost use Rattle.moo_props.specs.Undefining.{less_over};
+
+use crate::reparent::owners_under;
+use moo_rows::row::PropId;
+use moo_rows::rows::Rows;
+use moo_value::value::ObjNo;
+use std::alloc::{AllocError, Global};
+
+/// Removes the slots of a property on these objects.
+fn remove_over<R: Rows>(
+    rows: &mut R,
+    id: PropId,
+    under: &[(ObjNo, ObjNo)],
+) -> Result<(), AllocError>
+    ensures { OnOk result (R.held rows.new ≡ less_over id under.now (R.held rows.old)) }
+{
+    for (y, _owner) in under {
+        rows.remove_slot((*y, id))?;
+    }
+    Ok(())
+}
+
+/// Removes a property that x defines, from x and all its descendants.
+///
+/// The only error is want of memory, after which the rows may be half changed.
+///
+/// LambdaMOO Programmer's Manual, 'Built-in Functions', `delete_property`.
+pub fn undefine<R: Rows>(
+    alloc: Global,
+    rows: &mut R,
+    x: ObjNo,
+    id: PropId,
+) -> Result<(), AllocError>
+    requires good { IsGood (R.held rows.old).maps }
+    requires own { defines (R.held rows.old).maps x id ≡ true }
+    ensures world { OnOk result (world_of (R.held rows.new).maps ≡ undefined (world_of (R.held rows.old).maps) x (spelling_of (R.held rows.old).maps id)) }
+    ensures kept { OnOk result (Keeps (R.held rows.old) (R.held rows.new)) }
+{
+    let under = owners_under(alloc, rows, x)?;
+    remove_over(rows, id, under.as_slice())?;
+    rows.remove_prop(id)?;
+    Ok(())
+}

@@ -1,0 +1,61 @@
+-- Tables of some rows, changed, are those of the next ones.
+use Rattle.std.proofs.Common.{◌≡◌, ◌⊎◌, inl, inr, Bool, true, false, Result, Ok, Err, OnOk, OnErr, IsTrue, refl, arith}
+use Rattle.sqlite.specs.State.{State as Database, HasCleanDisk, Survives}
+use Rattle.sqlite.specs.Tree.{Trees}
+use Rattle.sqlite_trees.specs.View.{doubt}
+use Rattle.moo_rows.specs.Maps.{Maps}
+use Rattle.moo_tables.specs.Tables.{Tables}
+use Rattle.moo_tables.specs.Cells.{tables_with}
+use Rattle.moo_tables.specs.Inside.{Rests, Leaves, no_tables}
+use Rattle.moo_tables.specs.declared.cells.CellChanges.{CellChanges}
+use Rattle.moo_tables.proofs.InsideLemmas.{clean_before}
+use Rattle.moo_batch.specs.declared.changes.Changes.{Changes}
+use Rattle.moo_batch.specs.Changes.{AreChanges}
+use Rattle.moo_store.specs.Shows.{ShowsRows}
+use Rattle.moo_store.specs.Printed.{Prints}
+use Rattle.moo_store.specs.States.{KeepsRows, LeavesRows}
+use Rattle.moo_store.proofs.Shown.{shows-written}
+
+module _ (cells : CellChanges) (changes : Changes) (base next : Maps) (printed : Prints cells changes) (exact : AreChanges base next changes) where
+  pub shows_next : (t : Tables) → ShowsRows t base → ShowsRows (tables_with cells t) next
+  shows_next t shows = shows-written cells changes base next t printed exact shows.no_head shows.maps
+
+  pub keeps_next : (old new : Database) → ((t : Tables) → Rests old t → Rests new (tables_with cells t)) → KeepsRows old base → KeepsRows new next
+  keeps_next old new rests it = record { tables = tables_with cells it.tables; rests = rests it.tables it.rests; shows = shows_next it.tables it.shows }
+
+pub at_written : {E : Type 0} (old new : Database) (cells : CellChanges) (r : Result (Unit {0}) E)
+    → OnOk r ((t : Tables) → Rests old t → Rests new (tables_with cells t))
+    → OnOk r ((changes : Changes) (base next : Maps) → Prints cells changes → AreChanges base next changes → KeepsRows old base → KeepsRows new next)
+at_written old new cells (Ok x) f = λ changes base next printed exact it. keeps_next cells changes base next printed exact old new f it
+at_written old new cells (Err e) f = tt
+
+pub at_undone : {E : Type 0} (old new : Database) (r : Result (Unit {0}) E) → OnErr r (IsTrue new.is_open → (t : Tables) → Rests old t → Rests new t)
+    → OnErr r (IsTrue new.is_open → (rows : Maps) → KeepsRows old rows → KeepsRows new rows)
+at_undone old new (Ok x) f = tt
+at_undone old new (Err e) f = λ opened rows it. record { tables = it.tables; rests = f opened it.tables it.rests; shows = it.shows }
+
+pub survives-map : (old new : Database) (P Q : Trees → Type 0) → Survives old new P → (HasCleanDisk old → (trees : Trees) → P trees → Q trees) → Survives old new Q
+survives-map old new P Q s f = record {
+  clean = s.clean;
+  shield = s.shield;
+  counts = s.counts;
+  limit = s.limit;
+  closes = s.closes;
+  crash = λ clean trees left. elim (s.crash clean trees left) [ inl was ↦ inl was | inr p ↦ inr (f (clean_before old new P s clean) trees p) ];
+}
+
+in_doubt : (b : Bool) → (doubt b ≡ 0) ⊎ (doubt b ≡ 0 → ⊥)
+unfolding doubt
+in_doubt true = inl refl
+in_doubt false = inr (λ e. omega (arith, e))
+
+-- The tables are known only of a clean disk, so the clean and the failed disk are told apart.
+pub survives_next : (old new : Database) (cells : CellChanges) (changes : Changes) (base next : Maps) → Prints cells changes → AreChanges base next changes
+    → ((t : Tables) → (HasCleanDisk old → Rests old t) → Survives old new (λ trees. Leaves trees (tables_with cells t)))
+    → (HasCleanDisk old → KeepsRows old base) → Survives old new (λ trees. LeavesRows trees next)
+survives_next old new cells changes base next printed exact survives keeps = elim (in_doubt old.is_clean) [
+  | inl clean ↦ (let it = keeps clean in survives-map old new (λ trees. Leaves trees (tables_with cells it.tables)) (λ trees. LeavesRows trees next) (survives it.tables (λ _. it.rests))
+      (λ _ trees lies. record { tables = tables_with cells it.tables; leaves = lies; shows = shows_next cells changes base next printed exact it.tables it.shows }))
+  | inr failed ↦ survives-map old new (λ trees. Leaves trees (tables_with cells no_tables)) (λ trees. LeavesRows trees next) (survives no_tables (λ clean. absurd (failed clean)))
+      (λ clean trees lies. absurd (failed clean))
+]

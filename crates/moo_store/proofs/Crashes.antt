@@ -1,0 +1,49 @@
+-- What a crash leaves of a connection, at rest and in a call.
+use Rattle.std.proofs.Common.{◌≡◌, ◌⊎◌, inl, inr, IsTrue}
+use Rattle.sqlite.specs.Tree.{Trees}
+use Rattle.sqlite.specs.State.{State as Database, HasCleanDisk, Survives}
+use Rattle.moo_tables.proofs.InsideLemmas.{left_by, clean_before}
+use Rattle.moo_rows.specs.Maps.{Maps}
+use Rattle.moo_world.specs.Rows.{IsGood}
+use Rattle.moo_world.specs.Judge.{State, state_of}
+use Rattle.moo_store.specs.States.{KeepsRows, LeavesRows, Keeps, LeavesState}
+use Rattle.moo_store.specs.World.{Left}
+
+-- the law of a store that is open: a crash leaves the last commit
+abbrev pub IsSettled : Database → Type 0
+IsSettled store = (trees : Trees) → IsTrue store.is_open → store.may_leave trees → trees ≡ store.committed.trees
+
+rows_at_rest : (store : Database) (rows : Maps) → IsSettled store → KeepsRows store rows → (trees : Trees) → store.may_leave trees → LeavesRows trees rows
+rows_at_rest store rows settled it trees left = record {
+  tables = it.tables;
+  leaves = left_by store it.tables trees it.rests (settled trees it.rests.is_open left);
+  shows = it.shows;
+}
+
+-- what tables at rest show, a crash leaves
+pub left_at_rest : (store : Database) (s : State) → IsSettled store → Keeps store s → Left store s
+left_at_rest store s settled it trees left = record {
+  rows = it.rows;
+  good = it.good;
+  state = it.state;
+  leaves = rows_at_rest store it.rows settled it.keeps trees left;
+}
+
+pub keeps_state : (store : Database) (rows : Maps) (s : State) → IsGood rows → state_of rows ≡ s → KeepsRows store rows → Keeps store s
+keeps_state store rows s good is it = record { rows = rows; good = good; state = is; keeps = it }
+
+leaves_state : (trees : Trees) (rows : Maps) (s : State) → IsGood rows → state_of rows ≡ s → LeavesRows trees rows → LeavesState trees s
+leaves_state trees rows s good is it = record { rows = rows; good = good; state = is; leaves = it }
+
+-- a crash at a write leaves the rows before it, or the next ones
+pub left_by_write : (old new : Database) (rows next : Maps) (s t : State) → IsGood rows → IsGood next → state_of rows ≡ s → state_of next ≡ t → IsSettled old → (HasCleanDisk old → KeepsRows old rows)
+    → Survives old new (λ trees. LeavesRows trees next) → HasCleanDisk new → (trees : Trees) → new.may_leave trees → LeavesState trees s ⊎ LeavesState trees t
+left_by_write old new rows next s t good good_next is is_next settled rests survives clean trees left = elim (survives.crash clean trees left) [
+  | inl was ↦ inl (leaves_state trees rows s good is (rows_at_rest old rows settled (rests (clean_before old new (λ x. LeavesRows x next) survives clean)) trees was))
+  | inr on ↦ inr (leaves_state trees next t good_next is_next on)
+]
+
+-- what was written is there
+pub rows_written : (old new : Database) (rows next : Maps) → (HasCleanDisk old → KeepsRows old rows) → Survives old new (λ trees. LeavesRows trees next) → (HasCleanDisk new → KeepsRows old rows → KeepsRows new next)
+    → HasCleanDisk new → KeepsRows new next
+rows_written old new rows next rests survives written clean = written clean (rests (clean_before old new (λ x. LeavesRows x next) survives clean))

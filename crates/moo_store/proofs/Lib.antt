@@ -1,0 +1,9 @@
+pub mod Written
+pub mod Shown
+pub mod Committed
+pub mod Crashes
+pub mod Running
+pub mod Items
+pub mod Writing
+pub mod WholeRuns
+pub mod Opened

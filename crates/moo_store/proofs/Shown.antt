@@ -1,0 +1,100 @@
+-- The five tables, after changes are written, show the new rows.
+use Rattle.std.proofs.Common.{◌≡◌, ◌≢◌, ℕ, ℤ, pos, negsuc, Bool, true, false, cond, None, Some, refl, ap, ◌∙◌}
+use Rattle.std.specs.Prelude.{◌&&◌}
+use Rattle.std.specs.Bool.{Decides}
+use Rattle.std.specs.Ordering.{eq_by_cmp}
+use Rattle.std.proofs.lemmas.Bool.{and_parts}
+use Rattle.std.proofs.lemmas.Bool.Decides.{Decides-int_eq}
+use Rattle.std.specs.FinMap.{get}
+use Rattle.moo_value.specs.declared.value.ObjNo.{ObjNo}
+use Rattle.moo_rows.specs.declared.row.PropId.{PropId}
+use Rattle.moo_rows.specs.declared.row.VerbId.{VerbId}
+use Rattle.moo_rows.specs.Maps.{Maps, object_cmp, prop_cmp, slot_cmp, verb_cmp}
+use Rattle.moo_rows.specs.Exact.{object_exact, prop_exact, slot_exact, verb_exact}
+use Rattle.moo_rows.proofs.Orders.{prop_total, slot_total, verb_total}
+use Rattle.moo_world.proofs.MapLaws.{decided_alike, key-Decides}
+use Rattle.moo_tables.specs.Tables.{Tables, same_number, same_pair}
+use Rattle.moo_tables.specs.Cells.{head_cells, object_cells, prop_cells, slot_cells, verb_cells, tables_with}
+use Rattle.moo_tables.specs.declared.cells.CellChanges.{CellChanges}
+use Rattle.moo_batch.specs.declared.changes.Changes.{Changes}
+use Rattle.moo_batch.specs.Changes.{AreChanges}
+use Rattle.moo_store.specs.Shows.{ShowsObject, ShowsProp, ShowsSlot, ShowsVerb, ShowsMaps, ShowsRows}
+use Rattle.moo_store.specs.Printed.{Prints}
+use Rattle.moo_store.proofs.Written.{written, elsewhere}
+
+-- a test of what doesn't hold is false
+decided_false : (b : Bool) (P : Type 0) → Decides b P → ¬ P → b ≡ false
+decided_false true P d n = absurd (n (d.0 refl))
+decided_false false P d n = refl
+
+same_number-Decides : (a b : ℤ) → Decides (same_number a b) (a ≡ b)
+same_number-Decides a b = Decides-int_eq a b
+
+same_pair-Decides : (a b : ℤ × ℤ) → Decides (same_pair a b) (a ≡ b)
+same_pair-Decides a b = (
+  λ e. let parts = and_parts (same_number a.0 b.0) (same_number a.1 b.1) e in λ i. ((same_number-Decides a.0 b.0).0 parts.0 i, (same_number-Decides a.1 b.1).0 parts.1 i),
+  λ e. λ i. (same_number-Decides a.0 b.0).1 (ap (λ (k : ℤ × ℤ). k.0) e) i && (same_number-Decides a.1 b.1).1 (ap (λ (k : ℤ × ℤ). k.1) e) i,
+)
+
+pos_inj : (m n : ℕ) → pos m ≡ pos n → m ≡ n
+pos_inj m n e = cc
+
+-- the tables' keys are the same where those of the maps are
+number_alike : (a b : ObjNo) → same_number a.0 b.0 ≡ eq_by_cmp object_cmp a b
+number_alike a b = refl
+
+id_alike : (a b : PropId) → same_number (pos a.0) (pos b.0) ≡ eq_by_cmp prop_cmp a b
+id_alike a b = decided_alike _ _ (a ≡ b)
+    (λ e. let n = pos_inj a.0 b.0 ((same_number-Decides (pos a.0) (pos b.0)).0 e) in λ i. record { 0 = n i }, λ e. (same_number-Decides (pos a.0) (pos b.0)).1 (ap (λ (id : PropId). pos id.0) e))
+    (key-Decides prop_cmp prop_total prop_exact a b)
+
+slot_alike : (a b : ObjNo × PropId) → same_pair (a.0.0, pos a.1.0) (b.0.0, pos b.1.0) ≡ eq_by_cmp slot_cmp a b
+slot_alike a b = decided_alike _ _ (a ≡ b) (
+  λ e.
+      let keys = (same_pair-Decides (a.0.0, pos a.1.0) (b.0.0, pos b.1.0)).0 e in
+      let x = ap (λ (k : ℤ × ℤ). k.0) keys in
+      let id = pos_inj a.1.0 b.1.0 (ap (λ (k : ℤ × ℤ). k.1) keys) in
+      λ i. (record { 0 = x i }, record { 0 = id i }),
+  λ e. (same_pair-Decides (a.0.0, pos a.1.0) (b.0.0, pos b.1.0)).1 (ap (λ (k : ObjNo × PropId). (k.0.0, pos k.1.0)) e),
+)
+    (key-Decides slot_cmp slot_total slot_exact a b)
+
+verb_alike : (a b : ObjNo × VerbId) → same_pair (a.0.0, pos a.1.0) (b.0.0, pos b.1.0) ≡ eq_by_cmp verb_cmp a b
+verb_alike a b = decided_alike _ _ (a ≡ b) (
+  λ e.
+      let keys = (same_pair-Decides (a.0.0, pos a.1.0) (b.0.0, pos b.1.0)).0 e in
+      let x = ap (λ (k : ℤ × ℤ). k.0) keys in
+      let id = pos_inj a.1.0 b.1.0 (ap (λ (k : ℤ × ℤ). k.1) keys) in
+      λ i. (record { 0 = x i }, record { 0 = id i }),
+  λ e. (same_pair-Decides (a.0.0, pos a.1.0) (b.0.0, pos b.1.0)).1 (ap (λ (k : ObjNo × VerbId). (k.0.0, pos k.1.0)) e),
+)
+    (key-Decides verb_cmp verb_total verb_exact a b)
+
+-- no number of a property or a verb is negative
+negative : (n m : ℕ) → negsuc n ≢ pos m
+negative n m e = cc
+
+no_id : (n : ℕ) (id : PropId) → same_number (negsuc n) (pos id.0) ≡ false
+no_id n id = decided_false _ _ (same_number-Decides (negsuc n) (pos id.0)) (negative n id.0)
+
+no_pair : (x : ℤ) (n : ℕ) (y : ℤ) (id : ℕ) → same_pair (x, negsuc n) (y, pos id) ≡ false
+no_pair x n y id = decided_false _ _ (same_pair-Decides (x, negsuc n) (y, pos id)) (λ e. negative n id (ap (λ (k : ℤ × ℤ). k.1) e))
+
+-- the number of the head is 1
+not_one : (n : ℤ) → n ≢ pos 1 → same_number n (pos 1) ≡ false
+not_one n h = decided_false _ _ (same_number-Decides n (pos 1)) h
+
+pub shows-written : (cells : CellChanges) (changes : Changes) (base new : Maps) (t : Tables) → Prints cells changes → AreChanges base new changes → ((n : ℤ) → n ≢ pos 1 → t.head n ≡ None) → ShowsMaps t base → ShowsRows (tables_with cells t) new
+shows-written cells changes base new t p c alone shows = record {
+  head = ap (λ b. cond b (Some (head_cells cells.head)) (t.head (pos 1))) ((same_number-Decides (pos 1) (pos 1)).1 refl) ∙ ap (λ h. Some (head_cells h)) (p.head ∙ c.head);
+  no_head = λ n h. ap (λ b. cond b (Some (head_cells cells.head)) (t.head n)) (not_one n h) ∙ alone n h;
+  maps = record {
+    objects = written object_cmp object_exact same_number (λ n. n.0) number_alike object_cells ShowsObject cells.objects.items changes.objects (get base.objects) (get new.objects) t.object p.objects c.objects shows.objects;
+    props = written prop_cmp prop_exact same_number (λ id. pos id.0) id_alike prop_cells ShowsProp cells.props.items changes.props (get base.props) (get new.props) t.prop p.props c.props shows.props;
+    no_prop = λ n. elsewhere prop_cmp prop_exact same_number (λ id. pos id.0) id_alike prop_cells ShowsProp cells.props.items t.prop (negsuc n) (no_id n) ∙ shows.no_prop n;
+    slots = written slot_cmp slot_exact same_pair (λ k. (k.0.0, pos k.1.0)) slot_alike slot_cells ShowsSlot cells.slots.items changes.slots (get base.slots) (get new.slots) t.slot p.slots c.slots shows.slots;
+    no_slot = λ x n. elsewhere slot_cmp slot_exact same_pair (λ k. (k.0.0, pos k.1.0)) slot_alike slot_cells ShowsSlot cells.slots.items t.slot (x, negsuc n) (λ k. no_pair x n k.0.0 k.1.0) ∙ shows.no_slot x n;
+    verbs = written verb_cmp verb_exact same_pair (λ k. (k.0.0, pos k.1.0)) verb_alike verb_cells ShowsVerb cells.verbs.items changes.verbs (get base.verbs) (get new.verbs) t.verb p.verbs c.verbs shows.verbs;
+    no_verb = λ x n. elsewhere verb_cmp verb_exact same_pair (λ k. (k.0.0, pos k.1.0)) verb_alike verb_cells ShowsVerb cells.verbs.items t.verb (x, negsuc n) (λ k. no_pair x n k.0.0 k.1.0) ∙ shows.no_verb x n;
+  };
+}

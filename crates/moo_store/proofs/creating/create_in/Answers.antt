@@ -1,0 +1,36 @@
+use Rattle.std.proofs.Common.{IsTrue, inr, sym, subst, rules}
+use Rattle.sqlite.specs.State.{Survives}
+use Rattle.sqlite.specs.Held.{state}
+use Rattle.moo_world.specs.Rows.{IsGood}
+use Rattle.moo_world.specs.Judge.{state_of}
+use Rattle.moo_rows.specs.Opening.{opening_maps}
+use Rattle.moo_store.specs.States.{LeavesState}
+use Rattle.moo_store.proofs.Opened.{has_no_tables, keeps_opening, survives_opening}
+use Rattle.moo_store.proofs.creating.create_in.Goals as goal
+
+pub over-requires-clause-shown : goal.over-requires-clause-shown
+over-requires-clause-shown g c clean =
+    let new : IsTrue c.is_new.result = search rules in
+    keeps_opening (state g.S.Store c.in-Ok-create_tables.connection) c.in-Ok.opening.0 c.in-Ok.opening.1.maps c.in-Ok.ensures.cells c.in-Ok.ensures.rows
+    (c.in-Ok-create_tables.ensures.made clean (has_no_tables (state g.S.Store c.args.conn).now (c.is_new.ensures.0 new)))
+
+pub returns-in-Ok-create_tables-clause-crash : goal.returns-in-Ok-create_tables-clause-crash
+returns-in-Ok-create_tables-clause-crash g c =
+    let new : IsTrue c.is_new.result = search rules in
+    let none = has_no_tables (state g.S.Store c.args.conn).now (c.is_new.ensures.0 new) in
+    let good = subst IsGood c.in-Ok.ensures.rows c.in-Ok.ensures.good in
+    subst (λ conn. Survives (state g.S.Store c.args.conn) (state g.S.Store conn) (λ trees. LeavesState trees (state_of opening_maps))) (sym c.over.ensures.connection)
+    (survives_opening (state g.S.Store c.args.conn) (state g.S.Store c.in-Ok-create_tables.connection) c.in-Ok.opening.0 c.in-Ok.ensures.cells good (c.in-Ok-create_tables.ensures.crash (λ clean. none)))
+
+pub returns-clause-undone : goal.returns-clause-undone
+returns-clause-undone g c =
+    let new : IsTrue c.is_new.result = search rules in
+    let none = has_no_tables (state g.S.Store c.args.conn).now (c.is_new.ensures.0 new) in
+    inr (λ clean opened. c.in-Err-create_tables.ensures.undone clean none opened)
+
+pub returns-clause-crash_refused : goal.returns-clause-crash_refused
+returns-clause-crash_refused g c =
+    let new : IsTrue c.is_new.result = search rules in
+    let none = has_no_tables (state g.S.Store c.args.conn).now (c.is_new.ensures.0 new) in
+    let good = subst IsGood c.in-Ok.ensures.rows c.in-Ok.ensures.good in
+    inr (survives_opening (state g.S.Store c.args.conn) (state g.S.Store c.in-Err-create_tables.conn) c.in-Ok.opening.0 c.in-Ok.ensures.cells good (c.in-Err-create_tables.ensures.crash_refused (λ clean. none)))

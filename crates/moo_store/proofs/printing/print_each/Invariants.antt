@@ -1,0 +1,7 @@
+use Rattle.std.proofs.Common.{take}
+use Rattle.moo_store.specs.Printed.{PrintEach}
+use Rattle.moo_store.proofs.printing.print_each.Given as goal
+
+-- so far, the changes that are passed
+abbrev pub invariant-loop-key : goal.invariant-loop-key
+invariant-loop-key g l = PrintEach g.V.Print.prints l.cells.items (take l.key-index l.key-items)

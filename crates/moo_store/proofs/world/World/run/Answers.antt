@@ -1,0 +1,75 @@
+use Rattle.std.proofs.Common.{◌≡◌, ◌+◌, vec_len, refl, arith, Ok, Err}
+use Rattle.std.specs.Prelude.{⊤}
+use Rattle.moo_store.specs.declared.fault.StoreFault.TheVariants.{OutOfMemory, Closed}
+use Rattle.moo_store.proofs.Running.{starts, goes_on, answers, is_at_end, stops, left_at}
+use Rattle.moo_store.proofs.world.World.run.Goals as goal
+
+-- before the first batch
+
+pub returns-then-self-clause-replies : goal.returns-then-self-clause-replies
+returns-then-self-clause-replies g c s it =
+    let p = starts g.S.Store c.args.self.now c.args.batches.now c.args.replies.now.items c.args.replies.now.items refl in
+    answers g.S.Store c.args.self.now c.args.self.now c.args.batches.now 0 c.args.replies.now.items c.args.replies.now.items p s it
+
+pub returns-then-self-clause-world : goal.returns-then-self-clause-world
+returns-then-self-clause-world g c s it =
+    let p = starts g.S.Store c.args.self.now c.args.batches.now c.args.replies.now.items c.args.replies.now.items refl in
+    is_at_end g.S.Store c.args.self.now c.args.self.now c.args.batches.now 0 c.args.replies.now.items c.args.replies.now.items p s it
+
+pub returns-then-self-clause-left : goal.returns-then-self-clause-left
+returns-then-self-clause-left g c s it =
+    let p = starts g.S.Store c.args.self.now c.args.batches.now c.args.replies.now.items c.args.replies.now.items refl in
+    left_at {T = Unit {0}} g.S.Store c.args.self.now _ (Err Closed) ⊤ (g.met.S.Store.settled c.args.self.now.connection.store)
+    (is_at_end g.S.Store c.args.self.now c.args.self.now c.args.batches.now 0 c.args.replies.now.items c.args.replies.now.items p s it)
+
+-- no room for the replies
+
+pub returns-then-is_err-clause-replies : goal.returns-then-is_err-clause-replies
+returns-then-is_err-clause-replies g c s it =
+    let p = starts g.S.Store c.args.self.now c.args.batches.now c.args.replies.now.items c.reserve.new.self.items c.reserve.ensures.items in
+    answers g.S.Store c.args.self.now c.args.self.now c.args.batches.now 0 c.args.replies.now.items c.reserve.new.self.items p s it
+
+pub returns-then-is_err-clause-world : goal.returns-then-is_err-clause-world
+returns-then-is_err-clause-world g c s it =
+    let p = starts g.S.Store c.args.self.now c.args.batches.now c.args.replies.now.items c.reserve.new.self.items c.reserve.ensures.items in
+    is_at_end g.S.Store c.args.self.now c.args.self.now c.args.batches.now 0 c.args.replies.now.items c.reserve.new.self.items p s it
+
+pub returns-then-is_err-clause-left : goal.returns-then-is_err-clause-left
+returns-then-is_err-clause-left g c s it =
+    let p = starts g.S.Store c.args.self.now c.args.batches.now c.args.replies.now.items c.reserve.new.self.items c.reserve.ensures.items in
+    left_at {T = Unit {0}} g.S.Store c.args.self.now _ (Err OutOfMemory) ⊤ (g.met.S.Store.settled c.args.self.now.connection.store)
+    (is_at_end g.S.Store c.args.self.now c.args.self.now c.args.batches.now 0 c.args.replies.now.items c.reserve.new.self.items p s it)
+
+-- one batch after another
+
+pub loop-batch-preserved : goal.loop-batch-preserved
+loop-batch-preserved g c = record {
+  progress = goes_on g.S.Store c.args.self.now c.loop-batch.self c.run_one.new.self c.args.batches.now c.loop-batch.batch-index c.args.replies.now.items c.loop-batch.replies.items c.push.new.self.items c.batch-item.result c.in-Ok.reply
+      c.loop-batch-test.true c.batch-item.is c.loop-batch.invariant.progress (rw c.unwrap.ensures at c.push.ensures.items) c.in-Ok.ensures.runs;
+  room = let longer : vec_len c.push.new.self ≡ vec_len c.loop-batch.replies + 1 = rw c.unwrap.ensures at c.push.ensures.len in omega (arith, longer, c.loop-batch.invariant.room, c.push.ensures.capacity, c.loop-batch-test.true);
+}
+
+pub returns-in-Err-clause-replies : goal.returns-in-Err-clause-replies
+returns-in-Err-clause-replies g c s it = answers g.S.Store c.args.self.now c.loop-batch.self c.args.batches.now c.loop-batch.batch-index c.args.replies.now.items c.loop-batch.replies.items c.loop-batch.invariant.progress s it
+
+pub returns-in-Err-clause-world : goal.returns-in-Err-clause-world
+returns-in-Err-clause-world g c s it =
+    stops (Unit {0}) g.S.Store c.args.self.now c.loop-batch.self c.run_one.new.self c.args.batches.now c.loop-batch.batch-index c.args.replies.now.items c.loop-batch.replies.items c.batch-item.result c.in-Err.fault
+    c.loop-batch-test.true c.batch-item.is c.loop-batch.invariant.progress c.in-Err.ensures.runs s it
+
+pub returns-in-Err-clause-left : goal.returns-in-Err-clause-left
+returns-in-Err-clause-left g c s it =
+    left_at {T = Unit {0}} g.S.Store c.run_one.new.self _ (Err c.in-Err.fault) _ (g.met.S.Store.settled c.run_one.new.self.connection.store)
+    (stops (Unit {0}) g.S.Store c.args.self.now c.loop-batch.self c.run_one.new.self c.args.batches.now c.loop-batch.batch-index c.args.replies.now.items c.loop-batch.replies.items c.batch-item.result c.in-Err.fault
+    c.loop-batch-test.true c.batch-item.is c.loop-batch.invariant.progress c.in-Err.ensures.runs s it)
+
+pub returns-clause-replies : goal.returns-clause-replies
+returns-clause-replies g c s it = answers g.S.Store c.args.self.now c.loop-batch.self c.args.batches.now c.loop-batch.batch-index c.args.replies.now.items c.loop-batch.replies.items c.loop-batch.invariant.progress s it
+
+pub returns-clause-world : goal.returns-clause-world
+returns-clause-world g c s it = is_at_end g.S.Store c.args.self.now c.loop-batch.self c.args.batches.now c.loop-batch.batch-index c.args.replies.now.items c.loop-batch.replies.items c.loop-batch.invariant.progress s it
+
+pub returns-clause-left : goal.returns-clause-left
+returns-clause-left g c s it =
+    left_at {T = Unit {0}} g.S.Store c.loop-batch.self _ (Ok tt) ⊤ (g.met.S.Store.settled c.loop-batch.self.connection.store)
+    (is_at_end g.S.Store c.args.self.now c.loop-batch.self c.args.batches.now c.loop-batch.batch-index c.args.replies.now.items c.loop-batch.replies.items c.loop-batch.invariant.progress s it)

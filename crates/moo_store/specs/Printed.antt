@@ -1,0 +1,43 @@
+-- Cells that are printed from changes of rows.
+use Rattle.std.specs.Prelude.{◌≡◌, List, [], ◌∷◌, Option, ⊤}
+use Rattle.moo_value.specs.declared.value.ObjNo.{ObjNo}
+use Rattle.moo_rows.specs.declared.row.ObjRow.{ObjRow}
+use Rattle.moo_rows.specs.declared.row.PropId.{PropId}
+use Rattle.moo_rows.specs.declared.row.PropRow.{PropRow}
+use Rattle.moo_rows.specs.declared.row.SlotRow.{SlotRow}
+use Rattle.moo_rows.specs.declared.row.VerbId.{VerbId}
+use Rattle.moo_rows.specs.declared.row.VerbRow.{VerbRow}
+use Rattle.moo_tables.specs.declared.cells.ObjectCells.{ObjectCells}
+use Rattle.moo_tables.specs.declared.cells.PropCells.{PropCells}
+use Rattle.moo_tables.specs.declared.cells.SlotCells.{SlotCells}
+use Rattle.moo_tables.specs.declared.cells.VerbCells.{VerbCells}
+use Rattle.moo_tables.specs.declared.cells.CellChanges.{CellChanges}
+use Rattle.moo_tables.specs.Cells.{object_cells, prop_cells, slot_cells, verb_cells}
+use Rattle.moo_batch.specs.declared.changes.Changes.{Changes}
+use Rattle.moo_store.specs.Shows.{ShowsObject, ShowsProp, ShowsSlot, ShowsVerb, ShowsOrNone}
+
+abbrev pub PrintsObject : ObjNo → ObjectCells → ObjRow → Type 0
+PrintsObject n cells row = ShowsObject n (object_cells n cells) row
+
+abbrev pub PrintsProp : PropId → PropCells → PropRow → Type 0
+PrintsProp id cells row = ShowsProp id (prop_cells id cells) row
+
+abbrev pub PrintsSlot : ObjNo × PropId → SlotCells → SlotRow → Type 0
+PrintsSlot key cells row = ShowsSlot key (slot_cells key cells) row
+
+abbrev pub PrintsVerb : ObjNo × VerbId → VerbCells → VerbRow → Type 0
+PrintsVerb key cells row = ShowsVerb key (verb_cells key cells) row
+
+-- the keys are the same, one after another, and at each the cells show the new row, or neither is there
+abbrev pub PrintEach : {K C X : Type 0} → (K → C → X → Type 0) → List (K × Option C) → List (K × Option X) → Type 0
+PrintEach prints [] [] = ⊤
+PrintEach prints (f ∷ fs) (e ∷ es) = (f.0 ≡ e.0) × ShowsOrNone (prints e.0) f.1 e.1 × PrintEach prints fs es
+PrintEach prints (f ∷ fs) [] = ⊥
+PrintEach prints [] (e ∷ es) = ⊥
+
+pub record Prints (cells : CellChanges) (changes : Changes) : Type 0 where
+  pub head : cells.head ≡ changes.head
+  pub objects : PrintEach PrintsObject cells.objects.items changes.objects
+  pub props : PrintEach PrintsProp cells.props.items changes.props
+  pub slots : PrintEach PrintsSlot cells.slots.items changes.slots
+  pub verbs : PrintEach PrintsVerb cells.verbs.items changes.verbs

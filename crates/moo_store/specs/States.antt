@@ -1,0 +1,36 @@
+-- What a store at rest and what a crash leave: the rows that their tables show, and the world of these rows.
+use Rattle.std.specs.Prelude.{◌≡◌}
+use Rattle.sqlite.specs.State.{State as Database}
+use Rattle.sqlite.specs.Tree.{Trees}
+use Rattle.moo_rows.specs.Maps.{Maps}
+use Rattle.moo_world.specs.Rows.{IsGood}
+use Rattle.moo_world.specs.Judge.{State, state_of}
+use Rattle.moo_tables.specs.Tables.{Tables}
+use Rattle.moo_tables.specs.Inside.{Rests, Leaves}
+use Rattle.moo_store.specs.Shows.{ShowsRows}
+
+-- the connection is open and in no transaction, and its tables show these rows
+pub record KeepsRows (store : Database) (rows : Maps) : Type 0 where
+  pub tables : Tables
+  pub rests : Rests store tables
+  pub shows : ShowsRows tables rows
+
+-- what a crash left shows these rows
+pub record LeavesRows (trees : Trees) (rows : Maps) : Type 0 where
+  pub tables : Tables
+  pub leaves : Leaves trees tables
+  pub shows : ShowsRows tables rows
+
+-- the tables show good rows of this world and number
+pub record Keeps (store : Database) (s : State) : Type 0 where
+  pub rows : Maps
+  pub good : IsGood rows
+  pub state : state_of rows ≡ s
+  pub keeps : KeepsRows store rows
+
+-- what a crash left shows good rows of this world and number
+pub record LeavesState (trees : Trees) (s : State) : Type 0 where
+  pub rows : Maps
+  pub good : IsGood rows
+  pub state : state_of rows ≡ s
+  pub leaves : LeavesRows trees rows

@@ -1,0 +1,57 @@
+-- What a World stands for, and what a crash leaves of it.
+use Rattle.std.specs.Prelude.{◌≡◌, ℕ, ◌≤◌, true, false, List, [], ◌∷◌, take, Result, Ok, Err}
+use Rattle.sqlite.specs.State.{State as Database, HasCleanDisk}
+use Rattle.sqlite.specs.Tree.{Trees}
+use Rattle.sqlite.specs.Store.{Ghosts}
+use Rattle.sqlite.specs.Held.{state}
+use Rattle.moo_world.specs.declared.call.Batch.{Batch}
+use Rattle.moo_batch.specs.declared.reply.Reply.{Reply}
+use Rattle.moo_world.specs.Judge.{State, state_of, after}
+use Rattle.moo_store.specs.States.{Keeps, LeavesState}
+use Rattle.moo_store.specs.Answered.{AnsweredOne}
+use Rattle.moo_store.specs.Kept.{World}
+use Rattle.moo_store.specs.declared.fault.StoreFault.{StoreFault}
+use Rattle.moo_store.specs.declared.fault.StoreFault.TheVariants.{Store, OutOfMemory, Closed}
+
+-- what the connection of a World shows
+abbrev pub store_of : {S : Type 0} (g : Ghosts S) → World S → Database
+store_of g world = state g world.connection
+
+-- The tables of the World show s, and so do its rows while it works. A failed World may be at a state too.
+pub record IsAt {S : Type 0} (g : Ghosts S) (world : World S) (s : State) : Type 0 where
+  pub tables : HasCleanDisk (store_of g world) → Keeps (store_of g world) s
+  pub rows : world.failed ≡ false → state_of world.rows.maps ≡ s
+
+-- the World works, and is at s
+pub record StandsFor {S : Type 0} (g : Ghosts S) (world : World S) (s : State) : Type 0 where
+  pub works : world.failed ≡ false
+  pub is_at : IsAt g world s
+
+-- whatever a crash leaves shows s
+abbrev pub Left : Database → State → Type 0
+Left store s = (trees : Trees) → store.may_leave trees → LeavesState trees s
+
+-- whatever a crash leaves shows s, or the state after the next of these batches
+abbrev pub LeftOrNext : Database → State → List Batch → Type 0
+LeftOrNext store s batches = (trees : Trees) → store.may_leave trees → (more : ℕ) × (more ≤ 1) × LeavesState trees (after s (take more batches))
+
+-- P, or Q where the store failed
+abbrev pub MatchStore : {T : Type 0} → Result T StoreFault → Type 0 → Type 0 → Type 0
+MatchStore (Ok x) P Q = P
+MatchStore (Err (Store error)) P Q = Q
+MatchStore (Err OutOfMemory) P Q = P
+MatchStore (Err Closed) P Q = P
+
+-- what running one batch at s leaves
+abbrev pub RunsOne : {S : Type 0} (g : Ghosts S) → World S → State → Batch → Result Reply StoreFault → Type 0
+RunsOne g new s batch (Ok reply) = (next : State) × AnsweredOne s batch reply next × IsAt g new next
+RunsOne g new s batch (Err (Store error)) = HasCleanDisk (store_of g new) → LeftOrNext (store_of g new) s (batch ∷ [])
+RunsOne g new s batch (Err Closed) = IsAt g new s
+RunsOne g new s batch (Err OutOfMemory) = ⊥
+
+-- the World has failed at a fault of the store, and at no other
+abbrev pub FailsAtStore : {T : Type 0} {S : Type 0} (g : Ghosts S) → World S → World S → Result T StoreFault → Type 0
+FailsAtStore g old new (Ok x) = old.failed ≡ false
+FailsAtStore g old new (Err (Store error)) = (old.failed ≡ false) × (new.failed ≡ true)
+FailsAtStore g old new (Err Closed) = (old.failed ≡ true) × (new ≡ old)
+FailsAtStore g old new (Err OutOfMemory) = ⊥

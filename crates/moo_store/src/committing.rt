@@ -1,0 +1,28 @@
+//! Changes of rows, committed to the tables of a store.
+
+ghost use Rattle.std.specs.Prelude.{◌≡◌, ◌<◌, ◌^◌, IsTrue, OnOk, OnErr, false};
+ghost use Rattle.sqlite.specs.State.{HasCleanDisk, Survives};
+ghost use Rattle.sqlite.specs.Held.{state};
+ghost use Rattle.moo_rows.specs.Maps.{Maps};
+ghost use Rattle.moo_batch.specs.declared.changes.Changes.{Changes};
+ghost use Rattle.moo_batch.specs.Changes.{AreChanges};
+ghost use Rattle.moo_store.specs.Printed.{Prints};
+ghost use Rattle.moo_store.specs.States.{KeepsRows, LeavesRows};
+
+use moo_tables::{CellChanges, commit_changes};
+use sqlite::{Alter, Connection, Error};
+
+/// Commits the printed changes of rows in one transaction, all or nothing.
+pub(crate) fn commit_cells<S: Alter>(
+    conn: &mut Connection<S>,
+    cells: &CellChanges,
+) -> Result<(), Error>
+    requires limit { cells.now.head.seq < 2 ^ 63 }
+    requires outside { (state S.Store conn.old).in_transaction ≡ false }
+    ensures outside { (state S.Store conn.new).in_transaction ≡ false }
+    ensures written { HasCleanDisk (state S.Store conn.new) → OnOk result ((changes : Changes) (base next : Maps) → Prints cells.now changes → AreChanges base next changes → KeepsRows (state S.Store conn.old) base → KeepsRows (state S.Store conn.new) next) }
+    ensures undone { HasCleanDisk (state S.Store conn.new) → OnErr result (IsTrue (state S.Store conn.new).is_open → (rows : Maps) → KeepsRows (state S.Store conn.old) rows → KeepsRows (state S.Store conn.new) rows) }
+    ensures crash { (changes : Changes) (base next : Maps) → Prints cells.now changes → AreChanges base next changes → (HasCleanDisk (state S.Store conn.old) → KeepsRows (state S.Store conn.old) base) → Survives (state S.Store conn.old) (state S.Store conn.new) (λ trees. LeavesRows trees next) }
+{
+    commit_changes(conn, cells)
+}

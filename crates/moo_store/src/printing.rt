@@ -1,0 +1,186 @@
+//! Rows that change, printed as the cells of their tables.
+
+ghost use Rattle.std.specs.Prelude.{◌≡◌, IfOk, map};
+ghost use Rattle.moo_value.specs.Literal.{Spells};
+ghost use Rattle.moo_store.specs.Shows.{object_list, ShowsAccept, ShowsState, ShowsOrNone};
+ghost use Rattle.moo_store.specs.Printed.{PrintEach, Prints};
+
+use moo_batch::changes::{ChangeList, Changes};
+use moo_rows::row::{ObjList, ObjRow, PropId, PropRow, SlotRow, SlotState, VerbId, VerbRow};
+use moo_tables::{CellChanges, ObjectCells, PropCells, SlotCells, VerbCells};
+use moo_value::text::MooStr;
+use moo_value::value::{ObjNo, Value, ValueList};
+use moo_value::writing::print_literal;
+use moo_verbs::prep::{print_place, print_prep};
+use std::alloc::{AllocError, Global};
+
+/// A row that is printed as cells.
+trait Print<K, C> {
+    /// The cells that show a row at its key.
+    ghost prints: { K → C → Self → Type 0 };
+
+    fn cells(&self, alloc: Global) -> Result<C, AllocError>
+        ensures { IfOk result (λ cells. (key : K) → prints key cells self.now) };
+}
+
+fn text_cell(alloc: Global, text: &MooStr) -> Result<Vec<u8>, AllocError>
+    ensures { IfOk result (λ cell. cell.items ≡ text.now) }
+{
+    text.bytes().to_vec(alloc)
+}
+
+/// A literal of a value, as a cell.
+fn literal_cell(alloc: Global, value: &Value) -> Result<Vec<u8>, AllocError>
+    ensures { IfOk result (λ cell. Spells value.now cell.items) }
+{
+    let mut cell = Vec::new(alloc);
+    print_literal(alloc, value, &mut cell)?;
+    Ok(cell)
+}
+
+/// A list of objects, as a value.
+fn object_list(alloc: Global, objects: &[ObjNo]) -> Result<Value, AllocError>
+    ensures { IfOk result (λ value. value ≡ object_list objects.now) }
+{
+    let mut values = Vec::with_capacity(alloc, objects.len())?;
+    for x in objects {
+        values.push(Value::Obj(*x))?;
+    }
+    Ok(Value::List(ValueList::from_vec(values)))
+}
+
+fn accept_cell(alloc: Global, accept: &Option<ObjList>) -> Result<Vec<u8>, AllocError>
+    ensures { IfOk result (λ cell. ShowsAccept cell.items accept.now) }
+{
+    match accept {
+        Some(list) => {
+            let value = object_list(alloc, list.items())?;
+            literal_cell(alloc, &value)
+        }
+        None => Ok(Vec::new(alloc)),
+    }
+}
+
+fn state_cell(alloc: Global, state: &SlotState) -> Result<Vec<u8>, AllocError>
+    ensures { IfOk result (λ cell. ShowsState cell.items state.now) }
+{
+    match state {
+        SlotState::Set(value) => literal_cell(alloc, value),
+        SlotState::Clear => Ok(Vec::new(alloc)),
+    }
+}
+
+impl Print<ObjNo, ObjectCells> for ObjRow {
+    ghost use Rattle.moo_store.specs.Printed.{PrintsObject};
+
+    ghost prints = { PrintsObject };
+
+    fn cells(&self, alloc: Global) -> Result<ObjectCells, AllocError> {
+        let name = text_cell(alloc, &self.name)?;
+        let accept = accept_cell(alloc, &self.accept)?;
+        Ok(ObjectCells {
+            name,
+            owner: self.owner,
+            parent: self.parent,
+            location: self.location,
+            player: self.player,
+            programmer: self.programmer,
+            wizard: self.wizard,
+            r: self.r,
+            w: self.w,
+            f: self.f,
+            accept,
+        })
+    }
+}
+
+impl Print<PropId, PropCells> for PropRow {
+    ghost use Rattle.moo_store.specs.Printed.{PrintsProp};
+
+    ghost prints = { PrintsProp };
+
+    fn cells(&self, alloc: Global) -> Result<PropCells, AllocError> {
+        let name = text_cell(alloc, &self.name)?;
+        Ok(PropCells {
+            definer: self.definer,
+            name,
+        })
+    }
+}
+
+impl Print<(ObjNo, PropId), SlotCells> for SlotRow {
+    ghost use Rattle.moo_store.specs.Printed.{PrintsSlot};
+
+    ghost prints = { PrintsSlot };
+
+    fn cells(&self, alloc: Global) -> Result<SlotCells, AllocError> {
+        let bits = self.bits.letters().as_bytes().to_vec(alloc)?;
+        let value = state_cell(alloc, &self.state)?;
+        Ok(SlotCells {
+            owner: self.owner,
+            bits,
+            value,
+        })
+    }
+}
+
+impl Print<(ObjNo, VerbId), VerbCells> for VerbRow {
+    ghost use Rattle.moo_store.specs.Printed.{PrintsVerb};
+
+    ghost prints = { PrintsVerb };
+
+    fn cells(&self, alloc: Global) -> Result<VerbCells, AllocError> {
+        let names = text_cell(alloc, &self.names)?;
+        let bits = self.bits.letters().as_bytes().to_vec(alloc)?;
+        let dobj = print_place(self.args.dobj).as_bytes().to_vec(alloc)?;
+        let prep = print_prep(self.args.prep).as_bytes().to_vec(alloc)?;
+        let iobj = print_place(self.args.iobj).as_bytes().to_vec(alloc)?;
+        Ok(VerbCells {
+            names,
+            owner: self.owner,
+            bits,
+            dobj,
+            prep,
+            iobj,
+        })
+    }
+}
+
+fn print_row<K, C, V: Print<K, C>>(alloc: Global, row: &Option<V>) -> Result<Option<C>, AllocError>
+    ensures { IfOk result (λ cells. (key : K) → ShowsOrNone (V.prints key) cells row.now) }
+{
+    match row {
+        Some(row) => Ok(Some(row.cells(alloc)?)),
+        None => Ok(None),
+    }
+}
+
+fn print_each<K: Copy + Drop, C: Drop, V: Print<K, C>>(
+    alloc: Global,
+    changes: &ChangeList<K, V>,
+) -> Result<Vec<(K, Option<C>)>, AllocError>
+    ensures { IfOk result (λ cells. PrintEach V.prints cells.items changes.now) }
+{
+    let mut cells = Vec::with_capacity(alloc, changes.items().len())?;
+    for (key, row) in changes.items() {
+        cells.push((*key, print_row(alloc, row)?))?;
+    }
+    Ok(cells)
+}
+
+/// The cells of changes. The only error is want of memory.
+pub fn print_changes(alloc: Global, changes: &Changes) -> Result<CellChanges, AllocError>
+    ensures { IfOk result (λ cells. Prints cells changes.now) }
+{
+    let objects = print_each(alloc, &changes.objects)?;
+    let props = print_each(alloc, &changes.props)?;
+    let slots = print_each(alloc, &changes.slots)?;
+    let verbs = print_each(alloc, &changes.verbs)?;
+    Ok(CellChanges {
+        head: changes.head,
+        objects,
+        props,
+        slots,
+        verbs,
+    })
+}

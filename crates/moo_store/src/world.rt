@@ -1,0 +1,218 @@
+//! A World: the rows in memory, over the tables of a store.
+
+use crate::committing::commit_cells;
+use crate::fault::StoreFault;
+use crate::printing::print_changes;
+use moo_batch::answers::Answers;
+use moo_batch::changes::{Changes, apply_changes};
+use moo_batch::judge::{Verdict, judge};
+use moo_batch::reply::Reply;
+use moo_rows::flat::Flat;
+use moo_rows::rows::Rows;
+use moo_tables::CellChanges;
+use moo_world::call::Batch;
+use sqlite::{Alter, Connection};
+use std::alloc::Global;
+use std::marker::Model;
+
+/// The rows of a database in memory, and the connection whose tables show them.
+///
+/// A World fails at a fault of its store, and where memory is refused after a commit. It then answers Closed to every call
+/// but `into_connection`; what was committed stands.
+#[derive(Drop)]
+pub struct World<S: Alter> {
+    alloc: Global,
+    connection: Connection<S>,
+    rows: Flat,
+    failed: bool,
+}
+
+impl<S: Alter> Model for World<S> {
+    ghost use Rattle.std.specs.Prelude.{◌≡◌, false};
+    ghost use Rattle.sqlite.specs.State.{HasCleanDisk};
+    ghost use Rattle.sqlite.specs.Held.{state};
+    ghost use Rattle.moo_world.specs.Rows.{IsGood};
+    ghost use Rattle.moo_store.specs.Kept.{World as Kept, world_code};
+    ghost use Rattle.moo_store.specs.States.{KeepsRows};
+
+    ghost Value = { Kept S };
+
+    ghost coded = { world_code S.code };
+
+    ghost view = { λ w. record { connection = w.connection; rows = w.rows; failed = w.failed } };
+
+    ghost invariant = { λ w. (w.connection.in_transaction ≡ false) × (w.failed ≡ false → IsGood w.rows.maps) × (w.failed ≡ false → HasCleanDisk (state S.Store w.connection) → KeepsRows (state S.Store w.connection) w.rows.maps) };
+}
+
+impl<S: Alter + Drop> World<S> {
+    ghost use Rattle.std.specs.Prelude.{◌≡◌, ◌⊎◌, ◌<◌, ◌^◌, false, true, IsTrue, [], ◌∷◌, length, take, drop, OnOk, OnErr, IfOk, IfErr, IsErrAnd, IsErrOf, IsOkAnd, ⊤, Ok, Err};
+    ghost use Rattle.sqlite.specs.State.{HasCleanDisk};
+    ghost use Rattle.sqlite.specs.Held.{state};
+    ghost use Rattle.moo_rows.specs.Maps.{Maps};
+    ghost use Rattle.moo_world.specs.Rows.{IsGood};
+    ghost use Rattle.moo_world.specs.Judge.{state_of, judge as verdict, after};
+    ghost use Rattle.moo_batch.specs.Changes.{AreChanges};
+    ghost use Rattle.moo_store.specs.Printed.{Prints};
+    ghost use Rattle.moo_store.specs.States.{KeepsRows, Keeps, LeavesState};
+    ghost use Rattle.moo_store.specs.Answered.{answer_of, AnsweredOne, Answered, acknowledged, added};
+    ghost use Rattle.moo_store.specs.World.{store_of, IsAt, StandsFor, Left, LeftOrNext, RunsOne, MatchStore, FailsAtStore};
+    ghost use Rattle.moo_store.specs.declared.fault.StoreFault.TheVariants.{Store, OutOfMemory, Closed};
+
+    /// The World of good rows that the tables of a connection show.
+    pub(crate) fn over(alloc: Global, connection: Connection<S>, rows: Flat) -> World<S>
+        requires outside { connection.in_transaction ≡ false }
+        requires good { IsGood rows.maps }
+        requires shown { HasCleanDisk (state S.Store connection) → KeepsRows (state S.Store connection) rows.maps }
+        ensures connection { result.connection ≡ connection }
+        ensures stands { StandsFor S.Store result (state_of rows.maps) }
+    {
+        World {
+            alloc,
+            connection,
+            rows,
+            failed: false,
+        }
+    }
+
+    /// Commits the changes of an accepted batch, and then changes the rows.
+    fn commit(
+        &mut self,
+        answers: Answers,
+        changes: Changes,
+        cells: &CellChanges,
+    ) -> Result<Reply, StoreFault>
+        requires works { self.old.failed ≡ false }
+        requires printed { Prints cells.now changes }
+        requires limit { cells.now.head.seq < 2 ^ 63 }
+        requires changes { (next : Maps) × AreChanges self.old.rows.maps next changes × IsGood next }
+        ensures reply { IfOk result (λ reply. reply ≡ Reply.Accepted changes.head.seq answers) }
+        ensures is_at { OnOk result ((next : Maps) → AreChanges self.old.rows.maps next changes → IsGood next → IsAt S.Store self.new (state_of next)) }
+        ensures fault { IfErr result (λ fault. (error : _) × (fault ≡ Store error)) }
+        ensures failed { OnErr result (self.new.failed ≡ true) }
+        ensures crash { OnErr result ((next : Maps) → AreChanges self.old.rows.maps next changes → IsGood next → HasCleanDisk (store_of S.Store self.new) → (trees : _) → (store_of S.Store self.new).may_leave trees → LeavesState trees (state_of self.old.rows.maps) ⊎ LeavesState trees (state_of next)) }
+    {
+        if let Err(error) = commit_cells(&mut self.connection, cells) {
+            self.failed = true;
+            return Err(StoreFault::Store(error));
+        }
+        let seq = changes.head.seq;
+        if apply_changes(&mut self.rows, changes).is_err() {
+            self.failed = true;
+        }
+        Ok(Reply::Accepted { seq, answers })
+    }
+
+    /// Runs one batch, and commits it where it is accepted.
+    pub(crate) fn run_one(&mut self, batch: &Batch) -> Result<Reply, StoreFault>
+        ensures runs { (s : _) → IsAt S.Store self.old s → RunsOne S.Store self.new s batch.now result }
+        ensures fails { FailsAtStore S.Store self.old self.new result }
+    {
+        if self.failed {
+            return Err(StoreFault::Closed);
+        }
+        match judge(self.alloc, &self.rows, batch) {
+            Verdict::Accepted { answers, changes } => match print_changes(self.alloc, &changes) {
+                Ok(cells) => self.commit(answers, changes, &cells),
+                Err(_) => Ok(Reply::NoMemory),
+            },
+            Verdict::Refused { call, code } => Ok(Reply::Refused { call, code }),
+            Verdict::Full { call } => Ok(Reply::Full { call }),
+            Verdict::Stale { seq } => Ok(Reply::Stale { seq }),
+            Verdict::OutOfMemory => Ok(Reply::NoMemory),
+        }
+    }
+
+    /// Runs batches in order, and commits each that is accepted before the next one is judged.
+    ///
+    /// One reply a batch is added behind those that stand, each after its commit. The faults: OutOfMemory where room for the
+    /// replies is refused, before anything is done; Store where the store failed, and then the batch in hand and those after
+    /// it have no reply; Closed where the World had failed.
+    pub fn run(&mut self, batches: &[Batch], replies: &mut Vec<Reply>) -> Result<(), StoreFault>
+        // The replies that stood stay, and behind them comes one for each batch before the run stopped.
+        ensures stood { take (length replies.old.items) replies.new.items ≡ replies.old.items }
+        ensures each { OnOk result (length (added replies.old.items replies.new.items) ≡ length batches.now) }
+
+        // Each is judged after the accepted batches before it, or NoMemory, which changes nothing.
+        ensures replies { (s : _) → IsAt S.Store self.old s →
+            let new = added replies.old.items replies.new.items in
+            Answered s (take (length new) batches.now) new (after s (acknowledged batches.now new)) }
+
+        // Then the World is at the state after the acknowledged batches. Where the store failed, a crash leaves that state,
+        // or the one after the batch in hand.
+        ensures world { (s : _) → IsAt S.Store self.old s →
+            let new = added replies.old.items replies.new.items in
+            let end = after s (acknowledged batches.now new) in
+            MatchStore result (IsAt S.Store self.new end) (HasCleanDisk (store_of S.Store self.new) → LeftOrNext (store_of S.Store self.new) end (drop (length new) batches.now)) }
+        ensures left { (s : _) → IsAt S.Store self.old s →
+            let end = after s (acknowledged batches.now (added replies.old.items replies.new.items)) in
+            MatchStore result (HasCleanDisk (store_of S.Store self.new) → Left (store_of S.Store self.new) end) ⊤ }
+
+        // Where room for the replies is refused, nothing has changed. A failed World changes no more.
+        ensures memory { IsErrOf result StoreFault.OutOfMemory → (self.new ≡ self.old) × (replies.new.items ≡ replies.old.items) }
+        ensures closed { IsTrue self.old.failed → IsErrOf result StoreFault.Closed × (self.new ≡ self.old) × (replies.new.items ≡ replies.old.items) }
+        ensures failed { IfErr result (λ fault. (fault ≡ StoreFault.OutOfMemory) ⊎ IsTrue self.new.failed) }
+    {
+        if self.failed {
+            return Err(StoreFault::Closed);
+        }
+        if replies.reserve(batches.len()).is_err() {
+            return Err(StoreFault::OutOfMemory);
+        }
+        for batch in batches {
+            match self.run_one(batch) {
+                Ok(reply) => replies.push(reply).unwrap(),
+                Err(fault) => return Err(fault),
+            }
+        }
+        Ok(())
+    }
+
+    /// What a batch would come to at present, with the present number. Nothing changes. The only fault is Closed.
+    pub fn ask(&self, batch: &Batch) -> Result<Reply, StoreFault>
+        ensures verdict { (s : _) → StandsFor S.Store self.now s → IsOkAnd result (λ reply. (reply ≡ Reply.NoMemory) ⊎ (reply ≡ answer_of s (verdict s batch.now))) }
+        ensures closed { IsTrue self.now.failed → IsErrOf result StoreFault.Closed }
+    {
+        if self.failed {
+            return Err(StoreFault::Closed);
+        }
+        Ok(match judge(self.alloc, &self.rows, batch) {
+            Verdict::Accepted {
+                answers,
+                changes: _changes,
+            } => Reply::Accepted {
+                seq: self.rows.head().seq,
+                answers,
+            },
+            Verdict::Refused { call, code } => Reply::Refused { call, code },
+            Verdict::Full { call } => Reply::Full { call },
+            Verdict::Stale { seq } => Reply::Stale { seq },
+            Verdict::OutOfMemory => Reply::NoMemory,
+        })
+    }
+
+    /// A World that works stands for the world of its rows.
+    pub fn stands(&self)
+        ensures { self.now.failed ≡ false → StandsFor S.Store self.now (state_of self.now.rows.maps) }
+    {
+        let _failed = self.failed;
+    }
+
+    /// The number of the batches that were accepted. The only fault is Closed.
+    pub fn seq(&self) -> Result<u64, StoreFault>
+        ensures number { (s : _) → StandsFor S.Store self.now s → result ≡ Ok s.seq }
+        ensures closed { IsTrue self.now.failed → IsErrOf result StoreFault.Closed }
+    {
+        if self.failed {
+            return Err(StoreFault::Closed);
+        }
+        Ok(self.rows.head().seq)
+    }
+
+    /// The connection, with its tables.
+    pub fn into_connection(self) -> Connection<S>
+        ensures { result ≡ self.connection }
+    {
+        let World { connection, .. } = self;
+        connection
+    }
+}

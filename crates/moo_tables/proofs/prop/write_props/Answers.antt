@@ -1,0 +1,27 @@
+use Rattle.std.proofs.Common.{◌∙◌, take, subst, sym, option_map, pos}
+use Rattle.std.proofs.lemmas.List.{take_all}
+use Rattle.sqlite.specs.Held.{state}
+use Rattle.moo_tables.specs.Cells.{prop_cells, with_prop, with_props}
+use Rattle.moo_tables.specs.Tables.{numbered_with}
+use Rattle.moo_tables.specs.Inside.{Sees}
+use Rattle.moo_tables.proofs.InsideLemmas.{stays_then, changes_then}
+use Rattle.moo_tables.proofs.ChangeLemmas.{fold_more}
+use Rattle.moo_tables.proofs.prop.write_props.Goals as goal
+
+pub loop-change-preserved : goal.loop-change-preserved
+loop-change-preserved g c =
+    let old = state g.S.Store c.args.tx.now.conn.now in
+    let mid = state g.S.Store c.loop-change.tx.conn.now in
+    let new = state g.S.Store c.write_prop.new.tx.conn.now in
+    let was = c.loop-change.invariant in
+    let done = c.in_ok-write_prop.ensures in
+    let x = c.change-item.result in (
+      done.same_reference ∙ was.0,
+      stays_then old mid new was.1 done.inside,
+      λ clean tables seen. subst (λ table. Sees new (record tables { prop = table })) (sym (fold_more (λ t x. numbered_with (pos x.0.0) (option_map (prop_cells x.0) x.1) t) tables.prop c.args.changes.now c.loop-change.change-index x c.loop-change-test.true c.change-item.is))
+          (changes_then old mid new (with_props (take c.loop-change.change-index c.args.changes.now)) (with_prop x.0 x.1) done.inside was.2 done.written clean tables seen),
+    )
+
+pub returns-clause-written : goal.returns-clause-written
+returns-clause-written g c clean tables seen =
+    subst (λ changes. Sees (state g.S.Store c.loop-change.tx.conn.now) (with_props changes tables)) (take_all c.loop-change.change-index c.args.changes.now c.loop-change-test.false) (c.loop-change.invariant.2 clean tables seen)

@@ -1,0 +1,11 @@
+use Rattle.std.proofs.Common.{◌≡◌, take}
+use Rattle.sqlite.specs.Held.{state}
+use Rattle.moo_tables.specs.Inside.{StaysInside, Changes}
+use Rattle.moo_tables.specs.Cells.{with_props}
+use Rattle.moo_tables.proofs.prop.write_props.Given as goal
+
+abbrev pub invariant-loop-change : goal.invariant-loop-change
+invariant-loop-change g l =
+    let old = state g.S.Store l.fn.tx.conn.now in
+    let now = state g.S.Store l.tx.conn.now in
+    (l.tx.conn.ghost_name ≡ l.fn.tx.conn.ghost_name) × StaysInside old now × Changes (with_props (take l.change-index l.changes)) old now

@@ -1,0 +1,6 @@
+use Rattle.sqlite.specs.Held.{state}
+use Rattle.moo_tables.proofs.SlotLemmas.{remove}
+use Rattle.moo_tables.proofs.slot.remove_slot.Goals as goal
+
+pub returns-clause-gone : goal.returns-clause-gone
+returns-clause-gone g c = remove (state g.S.Store c.args.tx.now.conn.now) (state g.S.Store c.run.new.tx.conn.now) c.args.key _ c.run.result c.slot_key.ensures c.run.ensures.ran

@@ -1,0 +1,90 @@
+-- What the calls of one transaction leave of a connection, and what a whole one leaves.
+use Rattle.std.specs.Prelude.{◌≡◌, ℕ, false, IsTrue, List, [], None}
+use Rattle.std.specs.List.{AllByRecursion}
+use Rattle.sqlite.specs.Schema.{Schema}
+use Rattle.sqlite.specs.Order.{Row}
+use Rattle.sqlite.specs.Tree.{Trees}
+use Rattle.sqlite_trees.specs.View.{IsShaped}
+use Rattle.sqlite_trees.specs.declared.store.Shape.TheVariants.{Table}
+use Rattle.sqlite.specs.Effect.{Database, IsDatabase}
+use Rattle.sqlite.specs.State.{State, HasCleanDisk, KeepsCommit, Survives, Opens}
+use Rattle.moo_tables.specs.Tables.{Tables, tables_in, no_schema, moo_schema}
+
+-- the rows rise by their numbers, which are whole
+abbrev pub AreKeyed : List Row → Type 0
+AreKeyed = IsShaped Table
+
+-- a sound database of exactly these tables, with these rows
+pub record Holds (db : Database) (tables : Tables) : Type 0 where
+  pub sound : IsDatabase db
+  pub schema : db.schema ≡ moo_schema
+  pub rows : tables_in db.trees ≡ tables
+  pub heads : AreKeyed (db.trees 0)
+  pub objects : AreKeyed (db.trees 1)
+  pub props : AreKeyed (db.trees 2)
+  pub slots : AreKeyed (db.trees 3)
+  pub verbs : AreKeyed (db.trees 5)
+
+-- a transaction is open, and sees these tables
+pub record Sees (s : State) (tables : Tables) : Type 0 where
+  pub is_open : IsTrue s.is_open
+  pub inside : IsTrue s.in_transaction
+  pub holds : Holds s.now tables
+
+-- the connection is open and in no transaction, and has these tables
+pub record Rests (s : State) (tables : Tables) : Type 0 where
+  pub is_open : IsTrue s.is_open
+  pub outside : s.in_transaction ≡ false
+  pub committed : s.now ≡ s.committed
+  pub holds : Holds s.now tables
+
+-- Nothing was committed: a crash leaves what it could leave before.
+pub record StaysInside (old new : State) : Type 0 where
+  pub kept : HasCleanDisk new → KeepsCommit old new
+  pub survives : Survives old new (λ _. ⊥)
+
+-- the transaction goes on, with its tables changed so
+abbrev pub Changes : (Tables → Tables) → State → State → Type 0
+Changes change old new = HasCleanDisk new → (tables : Tables) → Sees old tables → Sees new (change tables)
+
+-- Outside a transaction the tables were read, and are as they were.
+pub record Reads (old new : State) : Type 0 where
+  pub clean : HasCleanDisk new → HasCleanDisk old
+  pub rests : HasCleanDisk new → (tables : Tables) → Rests old tables → Rests new tables
+  pub crash : (tables : Tables) → (HasCleanDisk old → Rests old tables) → Survives old new (λ _. ⊥)
+
+-- The reading failed, and the tables are as they were, unless the connection was shut.
+pub record FailsToRead (old new : State) : Type 0 where
+  pub clean : HasCleanDisk new → HasCleanDisk old
+  pub kept : HasCleanDisk new → IsTrue new.is_open → (tables : Tables) → Rests old tables → Rests new tables
+  pub crash : (tables : Tables) → (HasCleanDisk old → Rests old tables) → Survives old new (λ _. ⊥)
+
+-- trees of exactly these tables, with these rows
+abbrev pub Leaves : Trees → Tables → Type 0
+Leaves trees tables = Holds (record { schema = moo_schema; trees = trees }) tables
+
+-- tables without rows
+abbrev pub no_tables : Tables
+no_tables = record { head = λ _. None; object = λ _. None; prop = λ _. None; slot = λ _. None; verb = λ _. None }
+
+-- the connection is in no transaction, and its database is this one, committed
+pub record RestsAt (s : State) (db : Database) : Type 0 where
+  pub outside : s.in_transaction ≡ false
+  pub now_is : s.now ≡ db
+  pub committed_is : s.committed ≡ db
+
+-- the connection was opened on one of the contents that a crash of the other may leave
+pub record MayOpenAs (crashed s : State) : Type 0 where
+  pub was_clean : HasCleanDisk crashed
+  pub opens : Opens s
+  pub sound : IsDatabase s.now
+  pub found : crashed.may_leave s.now.trees
+
+-- a database of this schema, in which these trees are empty
+pub record IsMade (schema : Schema) (trees : List ℕ) (db : Database) : Type 0 where
+  pub schema_is : db.schema ≡ schema
+  pub empty : AllByRecursion (λ tree. db.trees tree ≡ []) trees
+
+-- a database without tables
+abbrev pub HasNoTables : Database → Type 0
+HasNoTables = IsMade no_schema []

@@ -1,0 +1,104 @@
+//! The rows of the tables, each table's in the order of its keys.
+
+ghost use Rattle.std.specs.Prelude.{◌≡◌, false, IsTrue, IfOk, OnOk, OnErr};
+ghost use Rattle.sqlite.specs.State.{HasCleanDisk, Survives};
+ghost use Rattle.sqlite.specs.Held.{state};
+ghost use Rattle.moo_tables.specs.Inside.{Rests, Reads, FailsToRead};
+ghost use Rattle.moo_tables.specs.Listing.{ListsNumbers, ListsPairs, ListsTables};
+
+use sqlite::{Alter, Connection, Error, Row};
+
+/// The rows of each table, each key once, in the order of the keys.
+#[derive(Drop)]
+pub struct CellLists {
+    pub head: Vec<Row>,
+    pub object: Vec<Row>,
+    pub prop: Vec<Row>,
+    pub slot: Vec<Row>,
+    pub verb: Vec<Row>,
+}
+
+/// The row of the head.
+fn head_cells_of<S: Alter>(conn: &mut Connection<S>) -> Result<Vec<Row>, Error>
+    ensures outside { (state S.Store conn.old).in_transaction ≡ false → (state S.Store conn.new).in_transaction ≡ false }
+    ensures read { OnOk result (Reads (state S.Store conn.old) (state S.Store conn.new)) }
+    ensures listed { HasCleanDisk (state S.Store conn.new) → IfOk result (λ rows. (tables : _) → Rests (state S.Store conn.old) tables → ListsNumbers rows.items tables.head) }
+    ensures failed { OnErr result (FailsToRead (state S.Store conn.old) (state S.Store conn.new)) }
+{
+    conn.query_all(
+        "SELECT id, version, seq, top, next_prop, next_verb FROM head ORDER BY id",
+        &[],
+    )
+}
+
+/// The rows of `object`, in the order of their numbers.
+fn object_cells_of<S: Alter>(conn: &mut Connection<S>) -> Result<Vec<Row>, Error>
+    ensures outside { (state S.Store conn.old).in_transaction ≡ false → (state S.Store conn.new).in_transaction ≡ false }
+    ensures read { OnOk result (Reads (state S.Store conn.old) (state S.Store conn.new)) }
+    ensures listed { HasCleanDisk (state S.Store conn.new) → IfOk result (λ rows. (tables : _) → Rests (state S.Store conn.old) tables → ListsNumbers rows.items tables.object) }
+    ensures failed { OnErr result (FailsToRead (state S.Store conn.old) (state S.Store conn.new)) }
+{
+    conn.query_all(
+        "SELECT n, name, owner, parent, location, player, programmer, wizard, r, w, f, accept FROM object ORDER BY n",
+        &[],
+    )
+}
+
+/// The rows of `prop`, in the order of their numbers.
+fn prop_cells_of<S: Alter>(conn: &mut Connection<S>) -> Result<Vec<Row>, Error>
+    ensures outside { (state S.Store conn.old).in_transaction ≡ false → (state S.Store conn.new).in_transaction ≡ false }
+    ensures read { OnOk result (Reads (state S.Store conn.old) (state S.Store conn.new)) }
+    ensures listed { HasCleanDisk (state S.Store conn.new) → IfOk result (λ rows. (tables : _) → Rests (state S.Store conn.old) tables → ListsNumbers rows.items tables.prop) }
+    ensures failed { OnErr result (FailsToRead (state S.Store conn.old) (state S.Store conn.new)) }
+{
+    conn.query_all("SELECT id, definer, name FROM prop ORDER BY id", &[])
+}
+
+/// The rows of `slot`, in the order of their objects, then of their properties.
+fn slot_cells_of<S: Alter>(conn: &mut Connection<S>) -> Result<Vec<Row>, Error>
+    ensures outside { (state S.Store conn.old).in_transaction ≡ false → (state S.Store conn.new).in_transaction ≡ false }
+    ensures read { OnOk result (Reads (state S.Store conn.old) (state S.Store conn.new)) }
+    ensures listed { HasCleanDisk (state S.Store conn.new) → IfOk result (λ rows. (tables : _) → Rests (state S.Store conn.old) tables → ListsPairs rows.items tables.slot) }
+    ensures failed { OnErr result (FailsToRead (state S.Store conn.old) (state S.Store conn.new)) }
+{
+    conn.query_all(
+        "SELECT object, prop, owner, bits, value FROM slot ORDER BY object, prop",
+        &[],
+    )
+}
+
+/// The rows of `verb`, in the order of their objects, then of their numbers.
+fn verb_cells_of<S: Alter>(conn: &mut Connection<S>) -> Result<Vec<Row>, Error>
+    ensures outside { (state S.Store conn.old).in_transaction ≡ false → (state S.Store conn.new).in_transaction ≡ false }
+    ensures read { OnOk result (Reads (state S.Store conn.old) (state S.Store conn.new)) }
+    ensures listed { HasCleanDisk (state S.Store conn.new) → IfOk result (λ rows. (tables : _) → Rests (state S.Store conn.old) tables → ListsPairs rows.items tables.verb) }
+    ensures failed { OnErr result (FailsToRead (state S.Store conn.old) (state S.Store conn.new)) }
+{
+    conn.query_all(
+        "SELECT object, id, names, owner, bits, dobj, prep, iobj FROM verb ORDER BY object, id",
+        &[],
+    )
+}
+
+/// Reads the rows of all five tables.
+///
+/// Nothing is written. After a fault of the store the tables are as they were, unless the fault shut the connection.
+pub fn read_tables<S: Alter>(conn: &mut Connection<S>) -> Result<CellLists, Error>
+    ensures outside { (state S.Store conn.old).in_transaction ≡ false → (state S.Store conn.new).in_transaction ≡ false }
+    ensures read { HasCleanDisk (state S.Store conn.new) → IfOk result (λ lists. (tables : _) → Rests (state S.Store conn.old) tables → Rests (state S.Store conn.new) tables × ListsTables lists tables) }
+    ensures kept { HasCleanDisk (state S.Store conn.new) → OnErr result (IsTrue (state S.Store conn.new).is_open → (tables : _) → Rests (state S.Store conn.old) tables → Rests (state S.Store conn.new) tables) }
+    ensures crash { (tables : _) → (HasCleanDisk (state S.Store conn.old) → Rests (state S.Store conn.old) tables) → Survives (state S.Store conn.old) (state S.Store conn.new) (λ _. ⊥) }
+{
+    let head = head_cells_of(conn)?;
+    let object = object_cells_of(conn)?;
+    let prop = prop_cells_of(conn)?;
+    let slot = slot_cells_of(conn)?;
+    let verb = verb_cells_of(conn)?;
+    Ok(CellLists {
+        head,
+        object,
+        prop,
+        slot,
+        verb,
+    })
+}

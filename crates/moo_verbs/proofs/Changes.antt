@@ -1,0 +1,73 @@
+-- The rows after a verb was put or removed: the world that they show, and that they stay good.
+use Rattle.std.proofs.Common.{◌≡◌, ◌+◌, ◌<◌, ◌≤◌, true, Option, None, Some, ◌++◌, ◌∷◌, [], refl, sym, ◌∙◌, subst, arith}
+use Rattle.std.specs.Prelude.{is_some}
+use Rattle.std.specs.List.{remove}
+use Rattle.std.specs.FinMap.{get, insert, remove as less}
+use Rattle.std.proofs.lemmas.Bool.{false≢true}
+use Rattle.moo_value.specs.declared.value.ObjNo.{ObjNo}
+use Rattle.moo_rows.specs.declared.row.VerbId.{VerbId}
+use Rattle.moo_rows.specs.declared.row.VerbRow.{VerbRow}
+use Rattle.moo_rows.specs.Maps.{Maps}
+use Rattle.moo_world.specs.Rows.{IsGood, look_ups, world_of, world_shown}
+use Rattle.moo_world.specs.World.{IsWellFormed, is_object, has_word}
+use Rattle.moo_world.proofs.Seen.{is_object_seen}
+use Rattle.moo_verbs.specs.Directories.{verb_added, verb_removed, verb_changed, changed_at}
+use Rattle.moo_verbs.specs.Places.{has_verb, verb_place}
+use Rattle.moo_verbs.proofs.Directories.{put_last, put_changed, removed}
+use Rattle.moo_verbs.proofs.Forms.{stays_formed, added_named, removed_named, changed_named}
+use Rattle.moo_verbs.proofs.Soundness.{put_sound, rest_sound}
+
+some_of : {A : Type 0} (o : Option A) → is_some o ≡ true → (v : A) × (o ≡ Some v)
+some_of None e = absurd (false≢true e)
+some_of (Some v) e = (v, refl)
+
+verb_room : (m : Maps) → IsGood m → (0 < m.head.next_verb) × (m.head.next_verb ≤ 4294967295)
+unfolding world_shown
+verb_room m good = good.formed.limits.verbs
+
+module _ (m : Maps) (good : IsGood m) (x : ObjNo) where
+  -- a verb added
+  module _ (row : VerbRow) (id : VerbId) (last : id.0 ≡ m.head.next_verb) where
+    abbrev pub added_maps : Maps
+    added_maps = record m { head = record m.head { next_verb = m.head.next_verb + 1 }; verbs = insert m.verbs (x, id) row }
+
+    pub added_world : world_of added_maps ≡ verb_added (world_of m) x row
+    added_world = put_last m x id row good.sound last
+
+    pub added_good : is_object (world_of m) x ≡ true → m.head.next_verb < 4294967295 → has_word row.names ≡ true → IsGood added_maps
+    unfolding world_shown
+    added_good there left named =
+        let room = verb_room m good in
+        record {
+          sound = put_sound m good.sound x id row (m.head.next_verb + 1) (sym (is_object_seen (look_ups m) x) ∙ there) (omega (arith, room.0)) (omega arith) (omega arith);
+          formed = subst IsWellFormed (sym added_world) (stays_formed (world_of m) x (λ verbs. verbs ++ row ∷ []) (m.head.next_verb + 1) good.formed (omega arith, omega arith) (added_named row named));
+        }
+
+  module _ (id : VerbId) (held : has_verb m x id ≡ true) where
+    own : (v : VerbRow) × (get m.verbs (x, id) ≡ Some v)
+    own = some_of (get m.verbs (x, id)) held
+
+    -- a verb removed
+    pub removed_world : world_of (record m { verbs = less m.verbs (x, id) }) ≡ verb_removed (world_of m) x (verb_place m x id)
+    removed_world = removed m x id own.0 (good.sound.verbs x id.0 held).2 own.1
+
+    pub removed_good : IsGood (record m { verbs = less m.verbs (x, id) })
+    unfolding world_shown
+    removed_good = record {
+      sound = rest_sound m good.sound x id;
+      formed = subst IsWellFormed (sym removed_world) (stays_formed (world_of m) x (λ verbs. remove verbs (verb_place m x id)) m.head.next_verb good.formed (verb_room m good) (removed_named (verb_place m x id)));
+    }
+
+    -- a verb changed
+    module _ (v : VerbRow) (is : get m.verbs (x, id) ≡ Some v) (change : VerbRow → VerbRow) where
+      pub changed_world : world_of (record m { verbs = insert m.verbs (x, id) (change v) }) ≡ verb_changed (world_of m) x (verb_place m x id) change
+      changed_world = put_changed m x id (change v) v change (good.sound.verbs x id.0 held).2 is refl
+
+      pub changed_good : ((u : VerbRow) → has_word u.names ≡ true → has_word (change u).names ≡ true) → IsGood (record m { verbs = insert m.verbs (x, id) (change v) })
+      unfolding world_shown
+      changed_good named =
+          let at = good.sound.verbs x id.0 held in
+          record {
+            sound = put_sound m good.sound x id (change v) m.head.next_verb at.0 at.1 at.2 (omega arith);
+            formed = subst IsWellFormed (sym changed_world) (stays_formed (world_of m) x (changed_at (verb_place m x id) change) m.head.next_verb good.formed (verb_room m good) (changed_named change named (verb_place m x id)));
+          }

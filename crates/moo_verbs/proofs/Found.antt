@@ -1,0 +1,64 @@
+-- What the walk over the verbs of an object finds, by places in the directory.
+use Rattle.std.proofs.Common.{◌≡◌, ℕ, ◌+◌, Bool, true, not, cond, Option, None, Some, List, [], ◌∷◌, map, length, refl, sym, ap, ◌∙◌, subst}
+use Rattle.std.specs.Prelude.{is_some, slice_get, nat_lt, IfSome, if◌then◌else◌}
+use Rattle.std.specs.Option.{option_map}
+use Rattle.std.specs.List.{find, position_or_len}
+use Rattle.std.proofs.lemmas.List.Folds.{find_at}
+use Rattle.moo_value.specs.declared.value.ObjNo.{ObjNo}
+use Rattle.moo_rows.specs.declared.row.VerbId.{VerbId}
+use Rattle.moo_rows.specs.declared.row.VerbRow.{VerbRow}
+use Rattle.moo_rows.specs.Maps.{Maps}
+use Rattle.moo_rows.specs.Walk.{verbs_of_left}
+use Rattle.moo_world.specs.Rows.{IsSound, world_of}
+use Rattle.moo_world.specs.World.{verbs_of}
+use Rattle.moo_verbs.specs.Descriptors.{place_within}
+use Rattle.moo_verbs.specs.Places.{has_verb, verb_place}
+use Rattle.moo_verbs.proofs.Entries.{Entry, row_at, made, by_number, walked, verbs_shown}
+use Rattle.moo_verbs.proofs.Numbering.{placed, made_at, map-made}
+
+map_twice : {A B C : Type 0} (f : B → C) (h : A → B) (o : Option A) → option_map f (option_map h o) ≡ option_map (λ a. f (h a)) o
+map_twice f h None = refl
+map_twice f h (Some a) = refl
+
+position_of_map : {A B : Type 0} (f : A → B) (test : B → Bool) (l : List A) → position_or_len test (map f l) ≡ position_or_len (λ a. test (f a)) l
+position_of_map f test [] = refl
+position_of_map f test (a ∷ l) = ap (λ n. cond (not (test (f a))) (1 + n) 0) (position_of_map f test l)
+
+map_same : {A : Type 0} (l : List A) → map (λ a. a) l ≡ l
+map_same [] = refl
+map_same (a ∷ l) = ap (λ l. a ∷ l) (map_same l)
+
+abbrev pub walk : Maps → ObjNo → List Entry
+walk m x = verbs_of_left x (record { 0 = 0 }) m
+
+abbrev pub id_of : Entry → VerbId
+id_of e = e.0.1
+
+module _ (m : Maps) (sound : IsSound m) (x : ObjNo) where
+  -- what is read of the rows that the walk gives is read of the directory
+  pub walked_rows : {B : Type 0} (u : VerbRow → B) → map (λ (e : Entry). u e.1) (walk m x) ≡ map u (verbs_of (world_of m) x)
+  walked_rows u =
+      ap (map (λ (e : Entry). u e.1)) (walked m x sound) ∙ map-made (made m x) (row_at m x) (λ (e : Entry). u e.1) u (λ j v. refl) m.head.next_verb
+      ∙ ap (map u) (sym (verbs_shown m x sound))
+
+  -- so many entries on stands the verb of that place
+  pub found_place : (k : ℕ) → option_map (verb_place m x) (option_map id_of (slice_get (walk m x) k)) ≡ place_within (world_of m) x k
+  found_place k =
+      map_twice (verb_place m x) id_of (slice_get (walk m x) k) ∙ ap (λ l. option_map (λ e. verb_place m x (id_of e)) (slice_get l k)) (walked m x sound)
+      ∙ placed (made m x) (row_at m x) (λ e. verb_place m x (id_of e)) (λ j v. refl) m.head.next_verb k
+      ∙ ap (λ (l : List VerbRow). if nat_lt k (length l) then Some k else None) (sym (verbs_shown m x sound))
+
+  pub found_held : (k : ℕ) → IfSome (option_map id_of (slice_get (walk m x) k)) (λ id. has_verb m x id ≡ true)
+  found_held k = subst (λ (l : List Entry). IfSome (option_map id_of (slice_get l k)) (λ id. has_verb m x id ≡ true)) (sym (walked m x sound)) (by (slice_get (by_number m x m.head.next_verb) k) refl)
+    where
+      by : (o : Option Entry) → slice_get (by_number m x m.head.next_verb) k ≡ o → IfSome (option_map id_of o) (λ id. has_verb m x id ≡ true)
+      by None g = tt
+      by (Some e) g =
+          let at = made_at (made m x) (row_at m x) m.head.next_verb k e g in
+          ap (λ (f : Entry). has_verb m x (id_of f)) at.is ∙ ap is_some at.held
+
+  -- the first entry that passes stands at the place of the first verb that does
+  pub found_word : (test : VerbRow → Bool) → find (λ (e : Entry). test e.1) (walk m x) ≡ slice_get (walk m x) (position_or_len test (verbs_of (world_of m) x))
+  found_word test =
+      find_at (λ (e : Entry). test e.1) (walk m x)
+      ∙ ap (slice_get (walk m x)) (sym (position_of_map (λ (e : Entry). e.1) test (walk m x)) ∙ ap (position_or_len test) (walked_rows (λ v. v) ∙ map_same (verbs_of (world_of m) x)))

@@ -1,0 +1,9 @@
+pub mod TableLaw
+pub mod Numbering
+pub mod Entries
+pub mod Directories
+pub mod Forms
+pub mod Soundness
+pub mod Changes
+pub mod Found
+pub mod StarLaw

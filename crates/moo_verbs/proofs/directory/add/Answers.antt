@@ -1,0 +1,38 @@
+use Rattle.std.proofs.Common.{◌≡◌, ◌+◌, refl, sym, ap, ◌∙◌, subst}
+use Rattle.std.specs.FinMap.{insert}
+use Rattle.moo_value.specs.declared.value.ObjNo.{ObjNo}
+use Rattle.moo_rows.specs.declared.row.Head.{Head}
+use Rattle.moo_rows.specs.declared.row.VerbId.{VerbId}
+use Rattle.moo_rows.specs.declared.row.VerbRow.{VerbRow}
+use Rattle.moo_rows.specs.Maps.{Held, wrote}
+use Rattle.moo_world.specs.Rows.{world_of}
+use Rattle.moo_verbs.specs.Keeps.{Keeps}
+use Rattle.moo_verbs.proofs.Changes.{added_world, added_good}
+use Rattle.moo_verbs.proofs.directory.add.Goals as goal
+
+abbrev put_in : ObjNo → VerbRow → VerbId → Held → Held
+put_in x row id held = wrote held (record (held.maps) { verbs = insert held.maps.verbs (x, id) row })
+
+-- the rows after both writes, by the head that was read
+abbrev after : ObjNo → VerbRow → Held → Head → Held
+after x row old head = put_in x row (record { 0 = head.next_verb }) (record old { maps = record (old.maps) { head = record head { next_verb = head.next_verb + 1 } } })
+
+abbrev whole : (g : _) (c : goal.In_ok-put_verb g) → g.R.Rows.held c.put_verb.new.self ≡ after c.args.x c.args.verb (g.R.Rows.held c.args.rows.now) (g.R.Rows.held c.args.rows.now).maps.head
+whole g c =
+    c.in_ok-put_verb.ensures.ok ∙ ap (put_in c.args.x c.args.verb (record { 0 = c.head-head.result.next_verb })) c.set_head.ensures
+    ∙ ap (after c.args.x c.args.verb (g.R.Rows.held c.args.rows.now)) c.head-head.ensures
+
+pub returns-clause-world : goal.returns-clause-world
+returns-clause-world g c =
+    let old = (g.R.Rows.held c.args.rows.now).maps in
+    ap (λ (h : Held). world_of h.maps) (whole g c) ∙ added_world old c.requires.good c.args.x c.args.verb (record { 0 = old.head.next_verb }) refl
+
+pub returns-clause-kept : goal.returns-clause-kept
+returns-clause-kept g c =
+    let old = g.R.Rows.held c.args.rows.now in
+    subst (Keeps old) (sym (whole g c))
+    (record {
+      good = added_good old.maps c.requires.good c.args.x c.args.verb (record { 0 = old.maps.head.next_verb }) refl c.requires.object c.requires.left c.requires.names;
+      seq = refl;
+      base = refl;
+    })

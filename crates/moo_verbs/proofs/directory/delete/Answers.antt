@@ -1,0 +1,16 @@
+use Rattle.std.proofs.Common.{refl, sym, ap, ◌∙◌, subst}
+use Rattle.moo_rows.specs.Maps.{Held}
+use Rattle.moo_world.specs.Rows.{world_of}
+use Rattle.moo_verbs.specs.Keeps.{Keeps}
+use Rattle.moo_verbs.proofs.Changes.{removed_world, removed_good}
+use Rattle.moo_verbs.proofs.directory.delete.Goals as goal
+
+pub returns-clause-world : goal.returns-clause-world
+returns-clause-world g c =
+    ap (λ (h : Held). world_of h.maps) c.in_ok-remove_verb.ensures.ok
+    ∙ removed_world (g.R.Rows.held c.args.rows.now).maps c.requires.good c.args.x c.args.id c.requires.held
+
+pub returns-clause-kept : goal.returns-clause-kept
+returns-clause-kept g c =
+    let old = g.R.Rows.held c.args.rows.now in
+    subst (Keeps old) (sym c.in_ok-remove_verb.ensures.ok) (record { good = removed_good old.maps c.requires.good c.args.x c.args.id c.requires.held; seq = refl; base = refl })

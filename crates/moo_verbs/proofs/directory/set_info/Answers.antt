@@ -1,0 +1,24 @@
+use Rattle.std.proofs.Common.{refl, sym, ap, ◌∙◌, subst}
+use Rattle.moo_rows.specs.declared.row.VerbRow.{VerbRow}
+use Rattle.moo_rows.specs.Maps.{Held}
+use Rattle.moo_world.specs.Rows.{world_of}
+use Rattle.moo_verbs.specs.Keeps.{Keeps}
+use Rattle.moo_verbs.proofs.Changes.{changed_world, changed_good}
+use Rattle.moo_verbs.proofs.directory.set_info.Goals as goal
+
+pub returns-clause-world : goal.returns-clause-world
+returns-clause-world g c =
+    let change = λ (v : VerbRow). record v { owner = c.args.owner; bits = c.args.bits; names = c.args.names } in
+    ap (λ (h : Held). world_of h.maps) c.in_ok-put_verb.ensures.ok
+    ∙ changed_world (g.R.Rows.held c.args.rows.now).maps c.requires.good c.args.x c.args.id c.requires.held c.in-Some.row.now (sym c.in-Some.ensures) change
+
+pub returns-clause-kept : goal.returns-clause-kept
+returns-clause-kept g c =
+    let old = g.R.Rows.held c.args.rows.now in
+    let change = λ (v : VerbRow). record v { owner = c.args.owner; bits = c.args.bits; names = c.args.names } in
+    subst (Keeps old) (sym c.in_ok-put_verb.ensures.ok)
+    (record {
+      good = changed_good old.maps c.requires.good c.args.x c.args.id c.requires.held c.in-Some.row.now (sym c.in-Some.ensures) change (λ u named. c.requires.names);
+      seq = refl;
+      base = refl;
+    })

@@ -1,0 +1,16 @@
+use Rattle.std.proofs.Common.{sym, ap, ◌∙◌}
+use Rattle.std.specs.Option.{option_map}
+use Rattle.std.proofs.lemmas.Iterator.Consumers.{nth_from_yields_List, YieldsList-from_first}
+use Rattle.moo_rows.specs.Walk.{verbs_of_left}
+use Rattle.moo_verbs.proofs.Found.{walk, id_of}
+use Rattle.moo_verbs.proofs.find.verb_after.Goals as goal
+
+pub returns-in-None : goal.returns-in-None
+returns-in-None g c =
+    ap (λ o. option_map id_of (option_map (λ p. (p.0, p.1.now)) o)) (sym c.in-None.is)
+    ∙ ap (option_map id_of) (nth_from_yields_List c.nth.result c.nth.new.self c.args.count c.nth.ensures.ran (YieldsList-from_first (λ p. (p.0, p.1.now)) (λ s. verbs_of_left s.object s.last (g.R.Rows.held s.rows.now).maps) (walk (g.R.Rows.held c.args.rows.now).maps c.args.x) c.each_verb_of.ensures))
+
+pub returns-in-Some : goal.returns-in-Some
+returns-in-Some g c =
+    ap (λ o. option_map id_of (option_map (λ p. (p.0, p.1.now)) o)) (sym c.in-Some.is)
+    ∙ ap (option_map id_of) (nth_from_yields_List c.nth.result c.nth.new.self c.args.count c.nth.ensures.ran (YieldsList-from_first (λ p. (p.0, p.1.now)) (λ s. verbs_of_left s.object s.last (g.R.Rows.held s.rows.now).maps) (walk (g.R.Rows.held c.args.rows.now).maps c.args.x) c.each_verb_of.ensures))

@@ -1,0 +1,13 @@
+use Rattle.std.proofs.Common.{sym, ap, ◌∙◌}
+use Rattle.moo_verbs.specs.Prepositions.{prep_text}
+use Rattle.moo_verbs.proofs.TableLaw.{prep_reads}
+use Rattle.moo_verbs.proofs.prep.print_prep.Goals as goal
+
+pub returns-in-None-clause-read_again : goal.returns-in-None-clause-read_again
+returns-in-None-clause-read_again c = prep_reads _ c.args.prep (sym (ap prep_text c.in-None.is))
+
+pub returns-in-Any-clause-read_again : goal.returns-in-Any-clause-read_again
+returns-in-Any-clause-read_again c = prep_reads _ c.args.prep (sym (ap prep_text c.in-Any.is))
+
+pub returns-in-Set-clause-read_again : goal.returns-in-Set-clause-read_again
+returns-in-Set-clause-read_again c = prep_reads _ c.args.prep (c.set_text.ensures ∙ sym (ap prep_text c.in-Set.is))

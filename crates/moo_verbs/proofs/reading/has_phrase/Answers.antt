@@ -1,0 +1,14 @@
+use Rattle.std.proofs.Common.{rules, ◌∙◌}
+use Rattle.std.proofs.lemmas.Iterator.Search.{any_from_yields_List}
+use Rattle.std.proofs.lemmas.Iterator.Splits.{YieldsList-from_slice_split}
+use Rattle.moo_verbs.specs.Matching.{same_name}
+use Rattle.moo_verbs.specs.Prepositions.{set_text}
+use Rattle.moo_verbs.specs.Reading.{is_slash}
+use Rattle.moo_verbs.proofs.reading.has_phrase.Goals as goal
+use borrow.Author.Tests.{tests}
+
+pub returns : goal.returns
+returns c =
+    any_from_yields_List (λ p. same_name p c.args.phrase.now) _ _ c.any.result c.any.ensures.ran
+    (YieldsList-from_slice_split _ is_slash (set_text c.args.set) (c.split.ensures.rest ∙ c.as_bytes.ensures.value ∙ c.set_text.ensures) c.split.ensures.done c.split.ensures.closure (λ x b q k. search (rules, tests)))
+    (λ x b q k. search (rules, tests))

@@ -1,0 +1,26 @@
+-- What the definitions promise, in the manual's words.
+use Rattle.std.specs.Prelude.{◌≡◌, ◌⊎◌, false, [], ◌∷◌, ◌++◌, map, Some}
+use Rattle.std.specs.Bool.{Decides}
+use Rattle.std.specs.List.{list_any}
+use Rattle.moo_rows.specs.declared.row.Preposition.TheVariants.{Set}
+use Rattle.moo_rows.specs.declared.row.PrepositionSet.{PrepositionSet}
+use Rattle.moo_world.specs.Objects.{Name, folded}
+use Rattle.moo_verbs.specs.Matching.{is_star, matches}
+use Rattle.moo_verbs.specs.Reading.{phrases, prep_of}
+
+-- each phrase of a set is read as that set, so no phrase stands in two
+abbrev pub PhrasesAreRead : Type 0
+PhrasesAreRead = (set : PrepositionSet) → map prep_of (phrases set) ≡ map (λ phrase. Some (Set set)) (phrases set)
+
+-- the text before the star stands, and the rest of the word begins the text behind it, or is anything where that is empty
+abbrev pub MatchesStar : Name → Name → Name → Type 0
+MatchesStar front behind word =
+    (rest : Name) × (folded word ≡ folded front ++ rest) × ((behind ≡ []) ⊎ ((tail : Name) × (folded behind ≡ rest ++ tail)))
+
+-- the first star of a name counts
+abbrev pub StarsMatch : Type 0
+StarsMatch = (front behind word : Name) → list_any is_star front ≡ false → Decides (matches (front ++ 42 ∷ behind) word) (MatchesStar front behind word)
+
+-- a name without a star matches itself alone
+abbrev pub NamesMatch : Type 0
+NamesMatch = (name word : Name) → list_any is_star name ≡ false → Decides (matches name word) (folded name ≡ folded word)

@@ -1,0 +1,44 @@
+-- Which words a verb's names match.
+-- LambdaMOO Programmer's Manual, 'Verbs on Objects' in the chapter on the database. Names compare without case. That only
+-- the first star of a name counts, and a later one stands for itself, is this server's own.
+use Rattle.std.specs.Prelude.{ℕ, ◌+◌, ◌==◌, ◌&&◌, ◌||◌, not, Bool, List, length, take, drop, Option, None, Some}
+use Rattle.std.specs.List.{filter, list_any, position, slice_split}
+use Rattle.moo_world.specs.Objects.{Name, same_text, folded}
+
+abbrev pub is_star : ℕ → Bool
+is_star byte = byte == 42
+
+abbrev pub is_space : ℕ → Bool
+is_space byte = byte == 32
+
+abbrev pub is_empty : Name → Bool
+is_empty text = length text == 0
+
+-- the same but for the case of letters
+abbrev pub same_name : Name → Name → Bool
+same_name a b = same_text (folded a) (folded b)
+
+-- the text begins with that front
+abbrev pub begins_with : Name → Name → Bool
+begins_with text front = same_name (take (length front) text) front
+
+-- the front stands, and the rest of the word begins the text behind the star, or is anything where that is empty
+abbrev pub matches_around : Name → Name → Name → Bool
+matches_around front behind word =
+    begins_with word front && (is_empty behind || begins_with behind (drop (length front) word))
+
+-- around the first star of a name, or without one the name alone
+abbrev pub matches_at : Option ℕ → Name → Name → Bool
+matches_at None name word = same_name name word
+matches_at (Some star) name word = matches_around (take star name) (drop (star + 1) name) word
+
+abbrev pub matches : Name → Name → Bool
+matches name word = matches_at (position is_star name) name word
+
+-- names stand between spaces
+abbrev pub words : Name → List Name
+words names = filter (λ name. not (is_empty name)) (slice_split is_space names)
+
+-- one of the names matches
+abbrev pub one_matches : Name → Name → Bool
+one_matches names word = list_any (λ name. matches name word) (words names)

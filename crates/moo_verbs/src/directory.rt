@@ -1,0 +1,125 @@
+//! The verbs of an object: listed, added, removed and changed.
+
+ghost use Rattle.std.specs.Prelude.{◌≡◌, ◌<◌, true, map, IfOk, OnOk};
+ghost use Rattle.moo_world.specs.Rows.{world_of, IsSound, IsGood};
+ghost use Rattle.moo_world.specs.World.{is_object, has_word, verbs_of};
+ghost use Rattle.moo_verbs.specs.Directories.{verb_added, verb_removed, verb_info_set, verb_args_set};
+ghost use Rattle.moo_verbs.specs.Places.{has_verb, verb_place};
+ghost use Rattle.moo_verbs.specs.Keeps.{Keeps};
+
+use moo_rows::row::{ArgSpec, VerbBits, VerbId, VerbRow};
+use moo_rows::rows::Rows;
+use moo_rows::walk::each_verb_of;
+use moo_value::text::MooStr;
+use moo_value::value::ObjNo;
+use std::alloc::{AllocError, Global};
+
+/// The names strings of the verbs of x, whole as given, in the order of the directory. The only error is want of memory.
+///
+/// See `verbs()` in the LambdaMOO Programmer's Manual.
+pub fn list<R: Rows>(alloc: Global, rows: &R, x: ObjNo) -> Result<Vec<MooStr>, AllocError>
+    requires { IsSound (R.held rows.now).maps }
+    ensures { IfOk result (λ names. names.items ≡ map (λ v. v.names) (verbs_of (world_of (R.held rows.now).maps) x)) }
+{
+    let mut found = Vec::new(alloc);
+    for (_, row) in each_verb_of(rows, x, VerbId(0)) {
+        found.push(row.names.copy(alloc)?)?;
+    }
+    Ok(found)
+}
+
+/// Adds a verb to x, the last of its directory, and answers its number. The only error is want of memory, after which the
+/// rows may be half changed.
+///
+/// See `add_verb()` in the LambdaMOO Programmer's Manual.
+pub fn add<R: Rows>(rows: &mut R, x: ObjNo, verb: VerbRow) -> Result<VerbId, AllocError>
+    requires good { IsGood (R.held rows.old).maps }
+    requires object { is_object (world_of (R.held rows.old).maps) x ≡ true }
+    requires left { (R.held rows.old).maps.head.next_verb < 4294967295 }
+    requires names { has_word verb.names ≡ true }
+    ensures id { IfOk result (λ id. id.0 ≡ (R.held rows.old).maps.head.next_verb) }
+    ensures world { OnOk result
+        (world_of (R.held rows.new).maps ≡ verb_added (world_of (R.held rows.old).maps) x verb) }
+    ensures kept { OnOk result (Keeps (R.held rows.old) (R.held rows.new)) }
+{
+    let mut head = rows.head();
+    let id = VerbId(head.next_verb);
+    head.next_verb += 1;
+    rows.set_head(head);
+    rows.put_verb((x, id), verb)?;
+    Ok(id)
+}
+
+/// Removes a verb of x. The only error is want of memory.
+///
+/// See `delete_verb()` in the LambdaMOO Programmer's Manual.
+pub fn delete<R: Rows>(rows: &mut R, x: ObjNo, id: VerbId) -> Result<(), AllocError>
+    requires good { IsGood (R.held rows.old).maps }
+    requires held { has_verb (R.held rows.old).maps x id ≡ true }
+    ensures world { OnOk result
+        (world_of (R.held rows.new).maps
+        ≡ verb_removed (world_of (R.held rows.old).maps) x (verb_place (R.held rows.old).maps x id)) }
+    ensures kept { OnOk result (Keeps (R.held rows.old) (R.held rows.new)) }
+{
+    rows.remove_verb((x, id))?;
+    Ok(())
+}
+
+/// Changes the owner, the rights and the names of a verb of x. The only error is want of memory.
+///
+/// See `set_verb_info()` in the LambdaMOO Programmer's Manual.
+pub fn set_info<R: Rows>(
+    rows: &mut R,
+    x: ObjNo,
+    id: VerbId,
+    owner: ObjNo,
+    bits: VerbBits,
+    names: MooStr,
+) -> Result<(), AllocError>
+    requires good { IsGood (R.held rows.old).maps }
+    requires held { has_verb (R.held rows.old).maps x id ≡ true }
+    requires names { has_word names ≡ true }
+    ensures world { OnOk result
+        (world_of (R.held rows.new).maps
+        ≡ verb_info_set (world_of (R.held rows.old).maps) x (verb_place (R.held rows.old).maps x id) owner bits names) }
+    ensures kept { OnOk result (Keeps (R.held rows.old) (R.held rows.new)) }
+{
+    let args = match rows.verb((x, id)) {
+        None => unreachable!(),
+        Some(row) => row.args,
+    };
+    let row = VerbRow {
+        names,
+        owner,
+        bits,
+        args,
+    };
+    rows.put_verb((x, id), row)?;
+    Ok(())
+}
+
+/// Changes the arguments of a verb of x. The only error is want of memory.
+///
+/// See `set_verb_args()` in the LambdaMOO Programmer's Manual.
+pub fn set_args<R: Rows>(
+    alloc: Global,
+    rows: &mut R,
+    x: ObjNo,
+    id: VerbId,
+    args: ArgSpec,
+) -> Result<(), AllocError>
+    requires good { IsGood (R.held rows.old).maps }
+    requires held { has_verb (R.held rows.old).maps x id ≡ true }
+    ensures world { OnOk result
+        (world_of (R.held rows.new).maps
+        ≡ verb_args_set (world_of (R.held rows.old).maps) x (verb_place (R.held rows.old).maps x id) args) }
+    ensures kept { OnOk result (Keeps (R.held rows.old) (R.held rows.new)) }
+{
+    let mut row = match rows.verb((x, id)) {
+        None => unreachable!(),
+        Some(row) => row.copy(alloc)?,
+    };
+    row.args = args;
+    rows.put_verb((x, id), row)?;
+    Ok(())
+}

@@ -1,0 +1,12 @@
+//! Why something said of a verb is refused.
+
+/// Why something said of a verb is refused.
+#[derive(Clone, Copy, Debug, PartialEq, Eq)]
+pub enum VerbFault {
+    /// The names are empty or all spaces.
+    BadNames,
+    /// A letter of the rights is none of `r`, `w`, `x` and `d`.
+    BadBits,
+    /// An argument is none that a verb may have.
+    BadArgs,
+}

@@ -1,0 +1,97 @@
+//! Finding a verb in the directory of an object.
+
+ghost use Rattle.std.specs.Prelude.{◌≡◌, true, Some, option_map, slice_get, IfSome};
+ghost use Rattle.std.specs.List.{find};
+ghost use Rattle.moo_rows.specs.Walk.{verbs_of_left};
+ghost use Rattle.moo_world.specs.Rows.{world_of, IsSound};
+ghost use Rattle.moo_verbs.specs.Matching.{one_matches};
+ghost use Rattle.moo_verbs.specs.Descriptors.{place_numbered};
+ghost use Rattle.moo_verbs.specs.Directories.{verb_at};
+ghost use Rattle.moo_verbs.specs.Places.{has_verb, verb_place, described};
+
+use crate::matching::one_matches;
+use moo_rows::row::{VerbId, VerbRow};
+use moo_rows::rows::Rows;
+use moo_rows::walk::each_verb_of;
+use moo_value::text::MooStr;
+use moo_value::value::ObjNo;
+
+/// What names a verb of an object: its number in the directory, from 1 on, or a word that one of its names matches.
+#[derive(Drop)]
+pub enum Desc {
+    Index(i32),
+    Name(MooStr),
+}
+
+/// The place of a number from 1 on.
+fn place_numbered(number: &i32) -> Option<usize>
+    ensures { result ≡ place_numbered number.now }
+{
+    if *number < 1 {
+        None
+    } else {
+        Some((*number - 1) as usize)
+    }
+}
+
+/// The verb of x before which so many others stand.
+fn verb_after<R: Rows>(rows: &R, x: ObjNo, count: usize) -> Option<VerbId>
+    ensures { result
+        ≡ option_map (λ e. e.0.1) (slice_get (verbs_of_left x (record { 0 = 0 }) (R.held rows.now).maps) count) }
+{
+    match each_verb_of(rows, x, VerbId(0)).nth(count) {
+        None => None,
+        Some((key, _row)) => Some(key.1),
+    }
+}
+
+/// Whether one of the names of a verb matches a word.
+fn is_named(row: &VerbRow, word: &[u8]) -> bool
+    ensures { result ≡ one_matches row.now.names word.now }
+{
+    one_matches(row.names.bytes(), word)
+}
+
+/// The first verb of x one of whose names matches a word.
+fn verb_named<R: Rows>(rows: &R, x: ObjNo, word: &[u8]) -> Option<VerbId>
+    ensures { result
+        ≡ option_map (λ e. e.0.1)
+        (find (λ e. one_matches e.1.names word.now) (verbs_of_left x (record { 0 = 0 }) (R.held rows.now).maps)) }
+{
+    match each_verb_of(rows, x, VerbId(0)).find(|(_key, row)| is_named(row, word)) {
+        None => None,
+        Some((key, _row)) => Some(key.1),
+    }
+}
+
+/// The verb of x that a descriptor names: at a number from 1 on in the directory, or the first verb of x itself one of whose
+/// names matches a word. `None` for a number outside the directory and a word that no verb matches.
+///
+/// See "Operations on Verbs" in the LambdaMOO Programmer's Manual.
+pub fn find_verb<R: Rows>(rows: &R, x: ObjNo, desc: &Desc) -> Option<VerbId>
+    requires { IsSound (R.held rows.now).maps }
+    ensures place { option_map (verb_place (R.held rows.now).maps x) result
+        ≡ described (world_of (R.held rows.now).maps) x desc.now }
+    ensures held { IfSome result (λ id. has_verb (R.held rows.now).maps x id ≡ true) }
+{
+    match desc {
+        Desc::Index(number) => match place_numbered(number) {
+            None => None,
+            Some(place) => verb_after(rows, x, place),
+        },
+        Desc::Name(word) => verb_named(rows, x, word.bytes()),
+    }
+}
+
+/// The row of a verb that x has.
+pub fn verb<R: Rows>(rows: &R, x: ObjNo, id: VerbId) -> &VerbRow
+    requires sound { IsSound (R.held rows.now).maps }
+    requires held { has_verb (R.held rows.now).maps x id ≡ true }
+    ensures { Some result.now
+        ≡ verb_at (world_of (R.held rows.now).maps) x (verb_place (R.held rows.now).maps x id) }
+{
+    match rows.verb((x, id)) {
+        None => unreachable!(),
+        Some(row) => row,
+    }
+}

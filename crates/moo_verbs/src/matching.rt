@@ -1,0 +1,84 @@
+//! Which words a verb's names match.
+
+ghost use Rattle.std.specs.Prelude.{◌≡◌, ◌==◌, ◌<◌, length, take, drop, IfSome};
+ghost use Rattle.std.specs.List.{position};
+ghost use Rattle.moo_verbs.specs.Matching.{same_name, begins_with, matches_around, matches, one_matches};
+
+/// Whether two names are equal but for the case of their letters.
+#[tactic(auto, unfolding(moo_world::specs::Objects::same_text, moo_world::specs::Objects::folded))]
+pub(crate) fn same_name(a: &[u8], b: &[u8]) -> bool
+    ensures { result ≡ same_name a.now b.now }
+{
+    a.eq_ignore_ascii_case(b)
+}
+
+/// Where a byte stands first in a text.
+pub(crate) fn first(text: &[u8], byte: u8) -> Option<usize>
+    ensures place { result ≡ position (λ b. b == byte) text.now }
+    ensures within { IfSome result (λ i. i < length text.now) }
+{
+    text.iter().position(|other| *other == byte)
+}
+
+/// As many bytes of a text as a front has, or all.
+fn front_of<'a>(text: &'a [u8], front: &[u8]) -> &'a [u8]
+    ensures { result.now ≡ take (length front.now) text.now }
+{
+    if text.len() < front.len() {
+        text
+    } else {
+        &text[..front.len()]
+    }
+}
+
+/// What a text has past as many bytes as a front has.
+fn past_front<'a>(text: &'a [u8], front: &[u8]) -> &'a [u8]
+    ensures { result.now ≡ drop (length front.now) text.now }
+{
+    if text.len() < front.len() {
+        &[]
+    } else {
+        &text[front.len()..]
+    }
+}
+
+/// Whether a text begins with that front, in any case.
+fn begins_with(text: &[u8], front: &[u8]) -> bool
+    ensures { result ≡ begins_with text.now front.now }
+{
+    same_name(front_of(text, front), front)
+}
+
+/// Whether the front stands in a word whose rest begins the text behind the star, or that text is empty.
+fn matches_around(front: &[u8], behind: &[u8], word: &[u8]) -> bool
+    ensures { result ≡ matches_around front.now behind.now word.now }
+{
+    if !begins_with(word, front) {
+        return false;
+    }
+    behind.is_empty() || begins_with(behind, past_front(word, front))
+}
+
+/// Whether a name of a verb matches a word, in any case. A name without a star matches itself alone. Where it has one, the
+/// text before the first star must stand, and the rest of the word begins the text behind that star, or is anything where
+/// that text is empty. So `foo*bar` matches `foo`, `foob`, `fooba` and `foobar`.
+///
+/// See "Verbs on Objects" in the chapter on the database of the LambdaMOO Programmer's Manual.
+pub fn matches(name: &[u8], word: &[u8]) -> bool
+    ensures { result ≡ matches name.now word.now }
+{
+    match first(name, b'*') {
+        None => same_name(name, word),
+        Some(star) => matches_around(&name[..star], &name[star + 1..], word),
+    }
+}
+
+/// Whether one of the names, which stand between spaces, matches a word.
+pub fn one_matches(names: &[u8], word: &[u8]) -> bool
+    ensures { result ≡ one_matches names.now word.now }
+{
+    names
+        .split(|byte| *byte == b' ')
+        .filter(|name| !name.is_empty())
+        .any(|name| matches(name, word))
+}

@@ -1,0 +1,62 @@
+//! The prepositions of verbs, and the texts of the other arguments.
+
+ghost use Rattle.std.specs.Prelude.{◌≡◌, Some};
+ghost use Rattle.moo_value.specs.Text.{IsText};
+ghost use Rattle.moo_verbs.specs.Prepositions.{set_text, prep_text, place_text};
+ghost use Rattle.moo_verbs.specs.Reading.{prep_of, place_of};
+
+use moo_rows::row::{Place, Preposition, PrepositionSet};
+
+/// The phrases of a set, with slashes between them.
+pub(crate) fn set_text(set: PrepositionSet) -> &'static str
+    ensures { result.now ≡ set_text set }
+{
+    match set {
+        PrepositionSet::With => "with/using",
+        PrepositionSet::At => "at/to",
+        PrepositionSet::InFrontOf => "in front of",
+        PrepositionSet::In => "in/inside/into",
+        PrepositionSet::OnTopOf => "on top of/on/onto/upon",
+        PrepositionSet::OutOf => "out of/from inside/from",
+        PrepositionSet::Over => "over",
+        PrepositionSet::Through => "through",
+        PrepositionSet::Under => "under/underneath/beneath",
+        PrepositionSet::Behind => "behind",
+        PrepositionSet::Beside => "beside",
+        PrepositionSet::For => "for/about",
+        PrepositionSet::Is => "is",
+        PrepositionSet::As => "as",
+        PrepositionSet::Off => "off/off of",
+    }
+}
+
+/// The text of a preposition: `none`, `any`, or all phrases of its set with slashes between them.
+///
+/// See `verb_args()` in the LambdaMOO Programmer's Manual.
+pub fn print_prep(prep: Preposition) -> &'static str
+    ensures value { result.now ≡ prep_text prep }
+    ensures text { IsText result.now }
+    ensures read_again { prep_of result.now ≡ Some prep }
+{
+    match prep {
+        Preposition::None => "none",
+        Preposition::Any => "any",
+        Preposition::Set(set) => set_text(set),
+    }
+}
+
+/// The text of a direct or an indirect object: `this`, `any` or `none`.
+///
+/// See `verb_args()` in the LambdaMOO Programmer's Manual.
+#[tactic(auto, unfolding(moo_world::specs::Objects::same_text, moo_world::specs::Objects::folded))]
+pub fn print_place(place: Place) -> &'static str
+    ensures value { result.now ≡ place_text place }
+    ensures text { IsText result.now }
+    ensures read_again { place_of result.now ≡ Some place }
+{
+    match place {
+        Place::This => "this",
+        Place::Any => "any",
+        Place::None => "none",
+    }
+}

@@ -1,0 +1,152 @@
+//! What is said of a verb, as it is read: its names, its rights and its arguments.
+
+ghost use Rattle.std.specs.Prelude.{◌≡◌, ◌==◌, Ok, Err, ok_or, if◌then◌else◌};
+ghost use Rattle.moo_rows.specs.Bits.{verb_bits_of, verb_letters_of};
+ghost use Rattle.moo_world.specs.World.{has_word};
+ghost use Rattle.std.specs.List.{before_first};
+ghost use Rattle.moo_verbs.specs.Reading.{is_slash, has_phrase, first_with, prep_of, place_of, args_of};
+
+use crate::fault::VerbFault;
+use crate::matching::{first, same_name};
+use crate::prep::{print_place, set_text};
+use moo_rows::row::{ArgSpec, Place, Preposition, PrepositionSet, VerbBits};
+use moo_value::text::MooStr;
+
+/// Whether some byte of the names is no space.
+fn has_word(names: &[u8]) -> bool
+    ensures { result ≡ has_word names.now }
+{
+    names.iter().any(|byte| *byte != b' ')
+}
+
+/// Refuses the names of a verb that are empty or all spaces. Any other text is taken; a tab is no space.
+///
+/// See `add_verb()` in the LambdaMOO Programmer's Manual.
+pub fn check_names(names: &MooStr) -> Result<(), VerbFault>
+    ensures { result ≡ (if has_word names.now then Ok tt else Err VerbFault.BadNames) }
+{
+    if has_word(names.bytes()) {
+        Ok(())
+    } else {
+        Err(VerbFault::BadNames)
+    }
+}
+
+/// The rights that a text of the letters `r`, `w`, `x` and `d` gives, in any order and case, with repeats.
+/// Another byte in it is BadBits.
+///
+/// See "Verbs on Objects" in the chapter on the database of the LambdaMOO Programmer's Manual.
+pub fn read_bits(text: &MooStr) -> Result<VerbBits, VerbFault>
+    ensures { result ≡ ok_or (verb_bits_of text.now) VerbFault.BadBits }
+{
+    VerbBits::read(text).ok_or(VerbFault::BadBits)
+}
+
+/// The letters of the rights, in the order `rwxd`.
+///
+/// See `verb_info()` in the LambdaMOO Programmer's Manual.
+pub fn bits_letters(bits: VerbBits) -> &'static str
+    ensures letters { result.now ≡ verb_letters_of bits }
+    ensures read_again { verb_bits_of result.now ≡ Some bits }
+{
+    bits.letters()
+}
+
+/// Every set, in the order of their texts.
+const ALL_SETS: [PrepositionSet; 15] = [
+    PrepositionSet::With,
+    PrepositionSet::At,
+    PrepositionSet::InFrontOf,
+    PrepositionSet::In,
+    PrepositionSet::OnTopOf,
+    PrepositionSet::OutOf,
+    PrepositionSet::Over,
+    PrepositionSet::Through,
+    PrepositionSet::Under,
+    PrepositionSet::Behind,
+    PrepositionSet::Beside,
+    PrepositionSet::For,
+    PrepositionSet::Is,
+    PrepositionSet::As,
+    PrepositionSet::Off,
+];
+
+/// Whether a phrase, in any case, is one of a set.
+fn has_phrase(set: PrepositionSet, phrase: &[u8]) -> bool
+    ensures { result ≡ has_phrase set phrase.now }
+{
+    set_text(set)
+        .as_bytes()
+        .split(|byte| *byte == b'/')
+        .any(|other| same_name(other, phrase))
+}
+
+/// The first of these sets that has the phrase.
+fn first_with(sets: &[PrepositionSet], phrase: &[u8]) -> Option<PrepositionSet>
+    ensures { result ≡ first_with sets.now phrase.now }
+{
+    sets.iter().copied().find(|set| has_phrase(*set, phrase))
+}
+
+/// What stands before the first slash of a text.
+fn before_slash(text: &[u8]) -> &[u8]
+    ensures { result.now ≡ before_first is_slash text.now }
+{
+    match first(text, b'/') {
+        None => text,
+        Some(slash) => &text[..slash],
+    }
+}
+
+/// The preposition that a text names.
+fn prep_named(text: &[u8]) -> Option<Preposition>
+    ensures { result ≡ prep_of text.now }
+{
+    if same_name(text, b"none") {
+        return Some(Preposition::None);
+    }
+    if same_name(text, b"any") {
+        return Some(Preposition::Any);
+    }
+    first_with(&ALL_SETS, before_slash(text)).map(Preposition::Set)
+}
+
+/// The place that a text names.
+fn place_named(text: &[u8]) -> Option<Place>
+    ensures { result ≡ place_of text.now }
+{
+    [Place::This, Place::Any, Place::None]
+        .into_iter()
+        .find(|place| same_name(text, print_place(*place).as_bytes()))
+}
+
+/// The arguments that three texts name.
+fn args_named(dobj: &[u8], prep: &[u8], iobj: &[u8]) -> Option<ArgSpec>
+    ensures { result ≡ args_of dobj.now prep.now iobj.now }
+{
+    let dobj = place_named(dobj)?;
+    let prep = prep_named(prep)?;
+    let iobj = place_named(iobj)?;
+    Some(ArgSpec { dobj, prep, iobj })
+}
+
+/// The preposition that a text names, in any case: `none`, `any`, or one phrase of a set, with single spaces between its
+/// words. A slash and all behind it are dropped from a phrase, so that `in/inside/into` names the set of `in`; `none` and
+/// `any` stand alone. Anything else is BadArgs.
+///
+/// See `set_verb_args()` in the LambdaMOO Programmer's Manual.
+pub fn read_prep(text: &MooStr) -> Result<Preposition, VerbFault>
+    ensures { result ≡ ok_or (prep_of text.now) VerbFault.BadArgs }
+{
+    prep_named(text.bytes()).ok_or(VerbFault::BadArgs)
+}
+
+/// The arguments that three texts name, in any case: `this`, `any` or `none` for the direct and the indirect object, and
+/// between them a preposition as `read_prep` takes it. Anything else is BadArgs.
+///
+/// See `set_verb_args()` in the LambdaMOO Programmer's Manual.
+pub fn read_args(dobj: &MooStr, prep: &MooStr, iobj: &MooStr) -> Result<ArgSpec, VerbFault>
+    ensures { result ≡ ok_or (args_of dobj.now prep.now iobj.now) VerbFault.BadArgs }
+{
+    args_named(dobj.bytes(), prep.bytes(), iobj.bytes()).ok_or(VerbFault::BadArgs)
+}

@@ -1,0 +1,170 @@
+-- The opening rows are sound, and their world is well formed.
+use Rattle.std.proofs.Common.{◌≡◌, ◌≢◌, ℕ, ◌≤◌, pos, Bool, true, false, cond, List, [], ◌∷◌, ◌++◌, map, length, Option, Some, None, is_some, Less, Equal, Greater, Ordering, refl, sym, ap, ◌∙◌, subst, arith}
+use Rattle.std.specs.Prelude.{◌≤ℤ◌, unwrap_or}
+use Rattle.std.specs.Option.{option_map, option_and_then}
+use Rattle.std.specs.List.{list_all, IsDistinct}
+use Rattle.std.specs.Ordering.{eq_by_cmp, is_eq}
+use Rattle.std.specs.FinMap.{get, get-insert, get-empty}
+use Rattle.moo_value.specs.declared.value.ObjNo.{ObjNo}
+use Rattle.moo_rows.specs.declared.row.ObjRow.{ObjRow}
+use Rattle.moo_rows.specs.Maps.{object_cmp, prop_cmp, slot_cmp, verb_cmp}
+use Rattle.moo_rows.specs.Exact.{object_exact}
+use Rattle.moo_rows.specs.Opening.{opening_maps, system_object, root_class, first_room, wizard}
+use Rattle.moo_rows.proofs.Orders.{object_total}
+use Rattle.moo_world.specs.Objects.{Name, Pair, nothing}
+use Rattle.moo_world.specs.World.{World, Record, Slot, IsTree, IsWellFormed, KeepsLimits, Chain, Places, is_object, slot_of, names_of, owed_by, pair_named, is_property_name, has_word, without_slots, with_slots, NamesDiffer}
+use Rattle.moo_world.specs.Rows.{IsGood, LookUps, AreSound, world_shown, look_ups, prop_id, verb_id, record_of}
+
+abbrev no : ℕ → ObjNo
+no n = record { 0 = pos n }
+
+-- the row of an object, by whether it is #3, #2, #1 or #0
+abbrev row_by : Bool → Bool → Bool → Bool → Option ObjRow
+row_by b3 b2 b1 b0 = cond b3 (Some wizard) (cond b2 (Some first_room) (cond b1 (Some root_class) (cond b0 (Some system_object) None)))
+
+abbrev row_at : ObjNo → Option ObjRow
+row_at x = row_by (eq_by_cmp object_cmp x (no 3)) (eq_by_cmp object_cmp x (no 2)) (eq_by_cmp object_cmp x (no 1)) (eq_by_cmp object_cmp x (no 0))
+
+abbrev opening_look_ups : LookUps
+opening_look_ups = record { head = opening_maps.head; object = row_at; prop = λ id. None; slot = λ x id. None; verb = λ x id. None }
+
+rows_are : (x : ObjNo) → get opening_maps.objects x ≡ row_at x
+rows_are x =
+    get-insert object_total _ (no 3) wizard x
+    ∙ ap (cond (eq_by_cmp object_cmp x (no 3)) (Some wizard)) (get-insert object_total _ (no 2) first_room x
+    ∙ ap (cond (eq_by_cmp object_cmp x (no 2)) (Some first_room)) (get-insert object_total _ (no 1) root_class x
+    ∙ ap (cond (eq_by_cmp object_cmp x (no 1)) (Some root_class)) (get-insert object_total _ (no 0) system_object x
+    ∙ ap (cond (eq_by_cmp object_cmp x (no 0)) (Some system_object)) (get-empty object_cmp x))))
+
+maps_are : look_ups opening_maps ≡ opening_look_ups
+maps_are = λ i. record {
+  head = opening_maps.head;
+  object = λ x. rows_are x i;
+  prop = λ id. get-empty prop_cmp (prop_id id) i;
+  slot = λ x id. get-empty slot_cmp (x, prop_id id) i;
+  verb = λ x id. get-empty verb_cmp (x, verb_id id) i;
+}
+
+false_true : false ≢ true
+false_true e = cc
+
+none_some : {X : Type 0} (x : X) → None ≢ Some x
+none_some x e = cc
+
+equal_of : (o : Ordering) → is_eq o ≡ true → o ≡ Equal
+equal_of Less p = cc
+equal_of Equal p = refl
+equal_of Greater p = cc
+
+sound : AreSound opening_look_ups
+sound = record {
+  props_below = λ id h. absurd (false_true h);
+  definers = λ id p h. absurd (none_some p h);
+  slots = λ x id h. absurd (false_true h);
+  one_name = λ x i j p q h. absurd (false_true h);
+  verbs = λ x id h. absurd (false_true h);
+}
+
+abbrev world : World
+world = world_shown opening_look_ups
+
+of_row : (x : ObjNo) (o : Option ObjRow) → is_some (option_map (record_of opening_look_ups x) o) ≡ true → is_some o ≡ true
+of_row x None h = h
+of_row x (Some row) h = refl
+
+-- what holds of the four holds of each object
+each : (P : ObjNo → Type 0) → P (no 0) → P (no 1) → P (no 2) → P (no 3) → (x : ObjNo) → is_object world x ≡ true → P x
+unfolding world_shown
+each P p0 p1 p2 p3 x h =
+    elim (eq_by_cmp object_cmp x (no 3)) as (λ b. eq_by_cmp object_cmp x (no 3) ≡ b → is_some (row_by b (eq_by_cmp object_cmp x (no 2)) (eq_by_cmp object_cmp x (no 1)) (eq_by_cmp object_cmp x (no 0))) ≡ true → P x) [
+      | true ↦ λ t _. subst P (sym (object_exact x (no 3) (equal_of _ t))) p3
+      | false ↦ λ _. elim (eq_by_cmp object_cmp x (no 2)) as (λ b. eq_by_cmp object_cmp x (no 2) ≡ b → is_some (row_by false b (eq_by_cmp object_cmp x (no 1)) (eq_by_cmp object_cmp x (no 0))) ≡ true → P x) [
+        | true ↦ λ t _. subst P (sym (object_exact x (no 2) (equal_of _ t))) p2
+        | false ↦ λ _. elim (eq_by_cmp object_cmp x (no 1)) as (λ b. eq_by_cmp object_cmp x (no 1) ≡ b → is_some (row_by false false b (eq_by_cmp object_cmp x (no 0))) ≡ true → P x) [
+          | true ↦ λ t _. subst P (sym (object_exact x (no 1) (equal_of _ t))) p1
+          | false ↦ λ _. elim (eq_by_cmp object_cmp x (no 0)) as (λ b. eq_by_cmp object_cmp x (no 0) ≡ b → is_some (row_by false false false b) ≡ true → P x) [
+            | true ↦ λ t _. subst P (sym (object_exact x (no 0) (equal_of _ t))) p0
+            | false ↦ λ _ h. absurd (false_true h)
+          ] refl
+        ] refl
+      ] refl
+    ] refl (of_row x (row_at x) h)
+
+tree : IsTree world
+unfolding world_shown
+tree = record {
+  numbers = each (λ x. (pos 0 ≤ℤ x.0) × (x.0 ≤ℤ pos 3)) (omega arith, omega arith) (omega arith, omega arith) (omega arith, omega arith) (omega arith, omega arith);
+  chains = each (λ x. (l : List ObjNo) × Chain world x l)
+      (no 0 ∷ no 1 ∷ [], (refl, no 1, refl, (refl, nothing, refl, refl)))
+      (no 1 ∷ [], (refl, nothing, refl, refl))
+      (no 2 ∷ no 1 ∷ [], (refl, no 1, refl, (refl, nothing, refl, refl)))
+      (no 3 ∷ no 1 ∷ [], (refl, no 1, refl, (refl, nothing, refl, refl)));
+  places = each (λ x. (l : List ObjNo) × Places world x l)
+      (no 0 ∷ [], (refl, nothing, refl, refl))
+      (no 1 ∷ [], (refl, nothing, refl, refl))
+      (no 2 ∷ [], (refl, nothing, refl, refl))
+      (no 3 ∷ no 2 ∷ [], (refl, no 2, refl, (refl, nothing, refl, refl)));
+}
+
+-- no names, no slots, no verbs
+no_names_by : (x : ObjNo) (o : Option ObjRow) → unwrap_or (option_map (λ (r : Record). r.defines) (option_map (record_of opening_look_ups x) o)) [] ≡ []
+no_names_by x None = refl
+no_names_by x (Some row) = refl
+
+no_names : (x : ObjNo) → names_of world x ≡ []
+unfolding world_shown
+no_names x = no_names_by x (row_at x)
+
+none_owed : (l : List ObjNo) → owed_by world l ≡ []
+none_owed [] = refl
+none_owed (d ∷ l) = λ i. map (λ n. (d, n)) (no_names d i) ++ none_owed l i
+
+no_slot_by : (x : ObjNo) (n : Name) (o : Option ObjRow) → option_and_then (λ (r : Record). r.slot n) (option_map (record_of opening_look_ups x) o) ≡ None
+no_slot_by x n None = refl
+no_slot_by x n (Some row) = refl
+
+no_slot : (x : ObjNo) (n : Name) → slot_of world x n ≡ None
+unfolding world_shown
+no_slot x n = no_slot_by x n (row_at x)
+
+limits : KeepsLimits (without_slots world)
+unfolding world_shown
+limits = record {
+  top = (omega arith, omega arith);
+  props = (omega arith, omega arith);
+  verbs = (omega arith, omega arith);
+  names = λ x. names_by x (row_at x);
+  words = λ x. words_by x (row_at x);
+  accepts = λ x. accepts_by x (eq_by_cmp object_cmp x (no 3)) (eq_by_cmp object_cmp x (no 2)) (eq_by_cmp object_cmp x (no 1)) (eq_by_cmp object_cmp x (no 0));
+}
+  where
+    names_by : (x : ObjNo) (o : Option ObjRow) → list_all is_property_name (unwrap_or (option_map (λ (r : Record). r.defines) (option_map (with_slots (λ n. None)) (option_map (record_of opening_look_ups x) o))) []) ≡ true
+    names_by x None = refl
+    names_by x (Some row) = refl
+
+    words_by : (x : ObjNo) (o : Option ObjRow) → list_all (λ v. has_word v.names) (unwrap_or (option_map (λ (r : Record). r.verbs) (option_map (with_slots (λ n. None)) (option_map (record_of opening_look_ups x) o))) []) ≡ true
+    words_by x None = refl
+    words_by x (Some row) = refl
+
+    accepts_by : (x : ObjNo) (b3 b2 b1 b0 : Bool) → length (unwrap_or (option_and_then (λ (r : Record). r.row.accept) (option_map (with_slots (λ n. None)) (option_map (record_of opening_look_ups x) (row_by b3 b2 b1 b0)))) []) ≤ 1000
+    accepts_by x true b2 b1 b0 = omega arith
+    accepts_by x false true b1 b0 = omega arith
+    accepts_by x false false true b0 = omega arith
+    accepts_by x false false false true = omega arith
+    accepts_by x false false false false = omega arith
+
+none_differ : NamesDiffer []
+unfolding IsDistinct
+none_differ = tt
+
+well_formed : IsWellFormed world
+well_formed = record {
+  tree = tree;
+  names = λ x l c. subst NamesDiffer (sym (none_owed l)) none_differ;
+  slots = λ x l n is c. ap (option_map (λ (s : Slot). s.definer)) (no_slot x n) ∙ sym (ap (λ owed. option_map (λ (p : Pair). p.0) (pair_named owed n)) (none_owed l));
+  set = λ x n s e d c. none_some s (sym (no_slot x n) ∙ e);
+  limits = limits;
+}
+
+pub opening-good : IsGood opening_maps
+opening-good = record { sound = subst AreSound (sym maps_are) sound; formed = subst (λ m. IsWellFormed (world_shown m)) (sym maps_are) well_formed }

@@ -1,0 +1,6 @@
+use Rattle.moo_world.specs.Objects.{folded}
+use Rattle.moo_world.proofs.Naming.{spelled_is}
+use Rattle.moo_world.proofs.name.CallName.read.Goals as goal
+
+pub returns : goal.returns
+returns c name = rw c.first_spelled.ensures (spelled_is (folded c.args.bytes.now) name)

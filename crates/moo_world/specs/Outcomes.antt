@@ -1,0 +1,27 @@
+-- What a call comes to. A call is its checks, in their order, and then its answer and the world that it leaves.
+use Rattle.std.specs.Prelude.{Bool, true, false, Option, Some, None, Result, Ok, Err}
+use Rattle.moo_value.specs.declared.value.Value.{Value}
+use Rattle.moo_value.specs.declared.value.ObjNo.{ObjNo}
+use Rattle.moo_value.specs.declared.code.Code.{Code}
+use Rattle.moo_world.specs.World.{World}
+
+-- an answer and the next world, an error, or no number left
+pub data Outcome : Type 0 where
+  Done : Value → World → Outcome
+  Failed : Code → Outcome
+  Full : Outcome
+
+-- the check has to hold, or the call has this outcome
+abbrev pub check : Bool → Outcome → Outcome → Outcome
+check true failed rest = rest
+check false failed rest = failed
+
+-- what is given to a call, or the error that it isn't what the call takes
+abbrev pub given : {A : Type 0} → Result A Code → (A → Outcome) → Outcome
+given (Ok a) rest = rest a
+given (Err code) rest = Failed code
+
+-- the number of a new object, where one is left
+abbrev pub with_next : Option ObjNo → (ObjNo → Outcome) → Outcome
+with_next None rest = Full
+with_next (Some x) rest = rest x

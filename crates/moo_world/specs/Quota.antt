@@ -1,0 +1,44 @@
+-- The quota of an owner.
+-- LambdaMOO Programmer's Manual, 'Fundamental Operations on Objects': `create` and `recycle`.
+use Rattle.std.specs.Prelude.{ℤ, pos, negsuc, ◌+ℤ◌, int_lt, Bool, true, false, ◌||◌, codes, Option, Some, None, unwrap_or, if◌then◌else◌}
+use Rattle.std.specs.Option.{option_map}
+use Rattle.moo_value.specs.declared.value.ObjNo.{ObjNo}
+use Rattle.moo_value.specs.declared.value.Value.{Value}
+use Rattle.moo_value.specs.declared.value.Value.TheVariants.{Int}
+use Rattle.moo_rows.specs.declared.row.SlotState.{SlotState}
+use Rattle.moo_rows.specs.declared.row.SlotState.TheVariants.{Set}
+use Rattle.moo_world.specs.Objects.{Name, nothing, same_object, same_text}
+use Rattle.moo_world.specs.World.{World, Record, Slot, with_record, read_of}
+
+-- the name of the quota property, folded
+abbrev pub quota_name : Name
+quota_name = codes "ownership_quota"
+
+-- the integer that an object reads as its quota
+abbrev pub quota_in : Option Value → Option ℤ
+quota_in (Some (Int k)) = Some k
+quota_in v = None
+
+abbrev pub quota_of : World → ObjNo → Option ℤ
+quota_of w o = quota_in (read_of w o quota_name)
+
+abbrev pub set_slot : Name → SlotState → Record → Record
+set_slot n state r = record r { slot = λ m. if same_text n m then option_map (λ (s : Slot). record s { state = state }) (r.slot m) else r.slot m }
+
+-- the quota of o is set to k more; the slot's owner and bits stay
+abbrev pub quota_moved : World → ObjNo → ℤ → World
+quota_moved w o k = elim (quota_of w o) [ None ↦ w | Some had ↦ with_record w o (set_slot quota_name (Set (Int (had +ℤ k)))) ]
+
+abbrev pub has_quota_left : World → ObjNo → Bool
+has_quota_left w o = unwrap_or (option_map (λ k. int_lt (pos 0) k) (quota_of w o)) true
+
+-- no quota is consulted where #-1 was given as owner
+abbrev pub may_afford : World → ObjNo → Bool
+may_afford w owner = same_object nothing owner || has_quota_left w owner
+
+abbrev pub charged : World → ObjNo → World
+charged w owner = if same_object nothing owner then w else quota_moved w owner (negsuc 0)
+
+-- a quota at the greatest integer stays
+abbrev pub quota_returned : World → ObjNo → World
+quota_returned w o = if unwrap_or (option_map (λ k. int_lt k (pos 2147483647)) (quota_of w o)) false then quota_moved w o (pos 1) else w
