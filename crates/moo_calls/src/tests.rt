@@ -1,12 +1,19 @@
-ghost use Rattle.std.specs.Prelude.{◌≡◌, OnOk};
+ghost use Rattle.std.specs.Prelude.{◌≡◌, true, OnOk};
 ghost use Rattle.std.specs.List.{list_all};
 ghost use Rattle.moo_world.specs.Arguments.{fits};
 ghost use Rattle.moo_world.specs.Rows.{IsGood};
+ghost use Rattle.moo_world.specs.World.{is_property_name};
 
 use crate::fault::Fault;
 use crate::step::step;
+use moo_props::clashing::clashes;
+use moo_props::defining::define;
 use moo_rows::flat::Flat;
+use moo_rows::row::Bits;
+use moo_rows::rows::Rows;
+use moo_tree::valid;
 use moo_value::reading::read_literal;
+use moo_value::text::MooStr;
 use moo_value::value::{ObjNo, Value, fits};
 use moo_value::writing::print_literal;
 use moo_world::call::{Args, Call};
@@ -159,4 +166,48 @@ fn names_are_read_and_set_and_each_check_comes_in_its_order(rt: HostRuntime) -> 
             (0, "get", "{#3, \"name\"}", "\"Merlin\""),
         ],
     )
+}
+
+/// Defines a readable property on `#1`, which its descendants inherit, where that may be done.
+fn define_on_root(alloc: Global, rows: &mut Flat, name: &[u8], value: i32) -> Result<bool, Fail>
+    requires good { IsGood rows.old.maps }
+    requires name { is_property_name name.now ≡ true }
+    ensures { OnOk result (IsGood rows.new.maps) }
+{
+    let name = MooStr::from_bytes(alloc, name)?;
+    if !valid(rows, ObjNo(1))
+        || clashes(rows, ObjNo(1), &name)
+        || rows.head().next_prop == u32::MAX
+    {
+        return Ok(false);
+    }
+    let bits = Bits {
+        r: true,
+        w: false,
+        c: false,
+    };
+    define(
+        alloc,
+        rows,
+        ObjNo(1),
+        name,
+        Value::Int(value),
+        ObjNo(3),
+        bits,
+    )?;
+    Ok(true)
+}
+
+#[test]
+fn each_new_object_takes_one_from_its_owners_quota(rt: HostRuntime) -> Result<(), Fail> {
+    let mut rows = good_opening(rt.alloc())?;
+    assert!(rt; define_on_root(rt.alloc(), &mut rows, b"ownership_quota", 2)?);
+    run(&rt, rt.alloc(), &mut rows, (3, "create", "{#1}", "#4"))?;
+    run(&rt, rt.alloc(), &mut rows, (3, "create", "{#1}", "#5"))?;
+    run(&rt, rt.alloc(), &mut rows, (3, "create", "{#1}", "E_QUOTA"))?;
+    run(&rt, rt.alloc(), &mut rows, (3, "create", "{#9}", "E_PERM"))?;
+    run(&rt, rt.alloc(), &mut rows, (3, "max_object", "{}", "#5"))?;
+    run(&rt, rt.alloc(), &mut rows, (4, "create", "{#1}", "#6"))?;
+    run(&rt, rt.alloc(), &mut rows, (3, "max_object", "{}", "#6"))?;
+    Ok(())
 }
