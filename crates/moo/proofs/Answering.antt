@@ -4,7 +4,7 @@ use Rattle.std.specs.Prelude.{IfSome}
 use Rattle.sqlite.specs.Store.{Ghosts}
 use Rattle.moo_rows.specs.Opening.{opening_maps}
 use Rattle.moo_world.specs.Judge.{state_of}
-use Rattle.moo_batch.specs.Items.{items}
+use Rattle.moo_text.specs.Items.{items}
 use Rattle.moo_store.specs.Kept.{World}
 use Rattle.moo_store.specs.Text.{Applies}
 use Rattle.moo.specs.Run.{AnswersText}

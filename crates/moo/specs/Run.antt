@@ -3,8 +3,8 @@ use Rattle.std.specs.Prelude.{ℕ, List, Option}
 use Rattle.std.specs.Io.KnownBytes.{Appends}
 use Rattle.moo_rows.specs.Opening.{opening_maps}
 use Rattle.moo_world.specs.Judge.{State, state_of}
-use Rattle.moo_batch.specs.Items.{items}
-use Rattle.moo_batch.specs.declared.reply.Answer.{Answer}
+use Rattle.moo_text.specs.Items.{items}
+use Rattle.moo_text.specs.declared.reply.Answer.{Answer}
 use Rattle.moo_store.specs.Text.{AnsweredItems, text_of}
 
 -- the items of the text are answered, from the opening world on, and their answers are written and nothing else

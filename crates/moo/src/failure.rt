@@ -2,8 +2,8 @@
 
 ghost use Rattle.std.specs.Prelude.{◌<◌};
 
-use moo_batch::fault::TextFault;
 use moo_store::fault::StoreFault;
+use moo_text::fault::TextFault;
 
 /// How a run of the program fails.
 #[derive(Clone, Copy, Debug, PartialEq, Eq)]

@@ -7,6 +7,10 @@ mod run;
 mod table_tests;
 #[cfg(test)]
 mod tests;
+#[cfg(test)]
+mod worked_rows;
+#[cfg(test)]
+mod worked_tests;
 
 use run::run_words;
 use std::process::ExitCode;

@@ -3,11 +3,3 @@ pub mod Changing
 pub mod Running
 pub mod Verdicts
 pub mod Exactly
-pub mod Words
-pub mod Places
-pub mod Kept
-pub mod Reading
-pub mod Carrying
-pub mod Headers
-pub mod Calls
-pub mod Cutting

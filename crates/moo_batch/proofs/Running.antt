@@ -10,7 +10,8 @@ use Rattle.moo_world.specs.Rows.{IsGood}
 use Rattle.moo_world.specs.Outcomes.{Outcome, Done, Failed, Full}
 use Rattle.moo_world.specs.Step.{step}
 use Rattle.moo_world.specs.Judge.{Ran, Through, FailedAt, FullAt, after_one, run_calls}
-use Rattle.moo_calls.specs.Outcomes.{world_in, Keeps}
+use Rattle.moo_rights.specs.Outcomes.{world_in}
+use Rattle.moo_world.specs.Keeps.{Keeps}
 
 -- answers, and then what the later calls come to
 abbrev pub after_all : List Value → Ran → Ran

@@ -3,11 +3,3 @@ pub mod Changes
 pub mod Without
 pub mod Judge
 pub mod Laws
-pub mod Replies
-pub mod Line
-pub mod Grammar
-pub mod LineReading
-pub mod Cut
-pub mod Items
-pub mod Feed
-pub mod Left

@@ -3,17 +3,18 @@
 ghost use Rattle.std.specs.Prelude.{◌≡◌, ◌≤◌, length, OnOk};
 ghost use Rattle.moo_world.specs.Rows.{IsGood};
 ghost use Rattle.moo_world.specs.Judge.{is_due, run_calls};
-ghost use Rattle.moo_calls.specs.Outcomes.{world_in, Keeps};
+ghost use Rattle.moo_rights.specs.Outcomes.{world_in};
+ghost use Rattle.moo_world.specs.Keeps.{Keeps};
 ghost use Rattle.moo_batch.specs.Judge.{ComeTo, IsVerdict};
 
-use crate::answers::Answers;
 use crate::changes::Changes;
 use crate::draft::Draft;
-use moo_calls::fault::Fault;
 use moo_calls::step::step;
+use moo_rights::fault::Fault;
 use moo_rows::rows::Rows;
 use moo_value::code::Code;
 use moo_value::value::{ObjNo, Value};
+use moo_world::answers::Answers;
 use moo_world::call::{Batch, Call};
 use std::alloc::Global;
 

@@ -1,7 +1,8 @@
-ghost use Rattle.std.specs.Prelude.{◌≤◌, length, OnOk};
+ghost use Rattle.std.specs.Prelude.{◌≡◌, ◌≤◌, true, length, OnOk};
+ghost use Rattle.std.specs.List.{list_all};
+ghost use Rattle.moo_world.specs.Arguments.{fits};
 ghost use Rattle.moo_world.specs.Rows.{IsGood};
 
-use crate::answers::Answers;
 use crate::changes::{Changes, apply_changes};
 use crate::draft::Draft;
 use crate::judge::{Verdict, judge};
@@ -11,11 +12,14 @@ use moo_rows::row::{Bits, PropId, SlotRow, SlotState};
 use moo_rows::rows::Rows;
 use moo_rows::walk::{children, each_slot, each_slot_of};
 use moo_value::code::Code;
-use moo_value::value::{ObjNo, Value};
+use moo_value::reading::read_literal;
+use moo_value::value::{ObjNo, Value, fits};
+use moo_world::answers::Answers;
 use moo_world::call::{Args, Batch, Call, Calls};
 use moo_world::name::CallName;
 use moo_world::opening::good_opening;
 use std::alloc::{AllocError, Global};
+use std::process::Abort;
 use std::test::Fail;
 
 fn slot(object: ObjNo, value: i32) -> SlotRow {
@@ -258,6 +262,113 @@ fn a_new_object_is_one_change(rt: HostRuntime) -> Result<(), Fail> {
     match taken(alloc, &mut rows, &made)? {
         Some(_) => assert!(rt; rows.object(ObjNo(4)).is_some()),
         None => assert!(rt; false),
+    }
+    Ok(())
+}
+
+/// Whether a value may be an argument.
+fn may_be_given(value: &Value) -> bool
+    ensures { result ≡ fits value.now }
+{
+    fits(value)
+}
+
+fn may_all_be_given(values: &[Value]) -> bool
+    ensures { result ≡ list_all fits values.now }
+{
+    values.iter().all(|value| may_be_given(value))
+}
+
+/// A call by its name and the list of its arguments.
+fn written(
+    rt: &impl Abort,
+    alloc: Global,
+    name: &'static str,
+    args: &'static str,
+) -> Result<Call, Fail> {
+    let (value, _) = read_literal(alloc, args.as_bytes())?;
+    let Value::List(list) = value else {
+        panic!(rt; "{args} is no list");
+    };
+    let values = list.into_vec();
+    assert!(rt; may_all_be_given(&values));
+    Ok(Call {
+        name: CallName::read(name.as_bytes()).expect(rt, "the name of a call"),
+        args: Args::from_vec(values),
+    })
+}
+
+/// A batch of the wizard's.
+fn by_the_wizard(
+    rt: &impl Abort,
+    alloc: Global,
+    calls: &[(&'static str, &'static str)],
+) -> Result<Batch, Fail> {
+    let mut items = Vec::new(alloc);
+    for (name, args) in calls {
+        items.push(written(rt, alloc, name, args)?)?;
+    }
+    assert!(rt; items.len() <= 1000);
+    Ok(Batch {
+        programmer: ObjNo(3),
+        at: None,
+        calls: Calls::from_vec(items),
+    })
+}
+
+/// #4 under #1 defines a, #5 under #4 defines b, #6 is under #5, and #7 under #1 defines c.
+const SMALL_TREE: [(&str, &str); 7] = [
+    ("create", "{#1}"),
+    ("add_property", "{#4, \"a\", 10, {#3, \"r\"}}"),
+    ("create", "{#4}"),
+    ("add_property", "{#5, \"b\", 20, {#3, \"r\"}}"),
+    ("create", "{#5}"),
+    ("create", "{#1}"),
+    ("add_property", "{#7, \"c\", 30, {#3, \"r\"}}"),
+];
+
+#[test]
+fn the_changes_of_a_move_are_its_slots_and_one_link(rt: HostRuntime) -> Result<(), Fail> {
+    let alloc = rt.alloc();
+    let mut rows = good_opening(alloc)?;
+    let tree = by_the_wizard(&rt, alloc, &SMALL_TREE)?;
+    assert!(rt; taken(alloc, &mut rows, &tree)?.is_some());
+    let moved = by_the_wizard(&rt, alloc, &[("chparent", "{#5, #7}")])?;
+    match judge(alloc, &rows, &moved) {
+        Verdict::Accepted { changes, .. } => {
+            assert_eq!(rt; changes.head.seq, 2);
+            assert_eq!(rt; changes.objects.items().len(), 1);
+            assert!(rt; changes.objects.items()[0].0 == ObjNo(5));
+            let slots = changes.slots.items();
+            assert_eq!(rt; slots.len(), 4);
+            assert!(rt; slots[0].0 == (ObjNo(5), PropId(1)) && slots[0].1.is_none());
+            assert!(rt; slots[1].0 == (ObjNo(5), PropId(3)) && slots[1].1.is_some());
+            assert!(rt; slots[2].0 == (ObjNo(6), PropId(1)) && slots[2].1.is_none());
+            assert!(rt; slots[3].0 == (ObjNo(6), PropId(3)) && slots[3].1.is_some());
+            assert!(rt; changes.props.items().is_empty() && changes.verbs.items().is_empty());
+        }
+        _ => assert!(rt; false),
+    }
+    Ok(())
+}
+
+#[test]
+fn a_move_away_and_back_changes_the_head_alone(rt: HostRuntime) -> Result<(), Fail> {
+    let alloc = rt.alloc();
+    let mut rows = good_opening(alloc)?;
+    let tree = by_the_wizard(&rt, alloc, &SMALL_TREE)?;
+    assert!(rt; taken(alloc, &mut rows, &tree)?.is_some());
+    let moved = by_the_wizard(
+        &rt,
+        alloc,
+        &[("chparent", "{#5, #7}"), ("chparent", "{#5, #4}")],
+    )?;
+    match judge(alloc, &rows, &moved) {
+        Verdict::Accepted { changes, .. } => {
+            assert_eq!(rt; changes.head.seq, 2);
+            assert!(rt; has_only_its_head(&changes));
+        }
+        _ => assert!(rt; false),
     }
     Ok(())
 }

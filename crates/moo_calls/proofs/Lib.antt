@@ -1,4 +1,4 @@
-mod Shapes
-mod RowForm
-mod Changed
 mod Created
+mod OwnProperty
+mod PropertyNames
+mod Renamed

@@ -5,12 +5,13 @@ ghost use Rattle.moo_world.specs.Rows.{IsGood};
 ghost use Rattle.moo_world.specs.Creation.{next_object, owner_or_self};
 ghost use Rattle.moo_world.specs.Quota.{may_afford, charged};
 ghost use Rattle.moo_world.specs.Calls.{create};
-ghost use Rattle.moo_calls.specs.Outcomes.{world_in, ComesTo, Keeps};
+ghost use Rattle.moo_rights.specs.Outcomes.{world_in, ComesTo};
+ghost use Rattle.moo_world.specs.Keeps.{Keeps};
 
-use crate::fault::Fault;
-use crate::rights;
 use moo_props::birth::make;
 use moo_props::quota::{quota_of, take_quota};
+use moo_rights::fault::Fault;
+use moo_rights::rights;
 use moo_rows::rows::Rows;
 use moo_tree::is_nothing;
 use moo_value::code::Code;

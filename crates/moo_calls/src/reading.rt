@@ -1,25 +1,84 @@
-//! The calls that only read.
+//! Calls that only read, and that anybody may make.
+//! LambdaMOO Programmer's Manual, 'Fundamental Operations on Objects' and 'Operations on Player Objects'.
 
-ghost use Rattle.std.specs.Prelude.{◌≡◌};
-ghost use Rattle.moo_world.specs.Calls.{max_object, is_name, get};
-ghost use Rattle.moo_calls.specs.Outcomes.{world_in, Answers};
+ghost use Rattle.std.specs.Prelude.{◌≡◌, false, Some, IfOk, IfErr};
+ghost use Rattle.moo_value.specs.declared.code.Code.TheVariants.{InvalidArgument};
+ghost use Rattle.moo_rights.specs.declared.fault.Fault.TheVariants.{Moo};
+ghost use Rattle.moo_world.specs.Calls.{valid, parent, children, is_player, players, max_object, accept_list};
+ghost use Rattle.moo_world.specs.Rows.{IsGood};
+ghost use Rattle.moo_world.specs.World.{is_object, row_of};
+ghost use Rattle.moo_rights.specs.Outcomes.{world_in, Answers};
 
-use crate::fault::Fault;
+use moo_rights::accept_lists::accept_value;
+use moo_rights::answers::{flag, object_list};
+use moo_rights::fault::Fault;
+use moo_rows::row::ObjRow;
 use moo_rows::rows::Rows;
 use moo_value::code::Code;
-use moo_value::text::MooStr;
 use moo_value::value::{ObjNo, Value};
 use std::alloc::Global;
 
-/// Whether a property's name is `name`, in any case.
-#[tactic(auto, unfolding(moo_world::specs::Objects::same_text, moo_world::specs::Objects::folded))]
-pub(crate) fn is_name(property: &MooStr) -> bool
-    ensures { result ≡ is_name property.now }
+/// The row of an object, or E_INVARG.
+fn object<R: Rows>(rows: &R, x: ObjNo) -> Result<&ObjRow, Fault>
+    ensures there { IfOk result (λ row. row_of (world_in (R.held rows.now)) x ≡ Some row.now) }
+    ensures error { IfErr result (λ fault. fault ≡ Moo InvalidArgument) }
+    ensures missing { IfErr result (λ fault. is_object (world_in (R.held rows.now)) x ≡ false) }
 {
-    property.bytes().eq_ignore_ascii_case(b"name")
+    match rows.object(x) {
+        Some(row) => Ok(row),
+        None => Err(Fault::Moo(Code::InvalidArgument)),
+    }
 }
 
-/// `max_object()`: the greatest number that an object has had so far, `#-1` where there was none. No errors.
+/// `valid(object)`: 1 where the number is that of an object, and 0 where it isn't. It has no error.
+/// LambdaMOO Programmer's Manual, 'Fundamental Operations on Objects'.
+pub fn valid<R: Rows>(rows: &R, x: ObjNo) -> Result<Value, Fault>
+    ensures { Answers (valid (world_in (R.held rows.now)) x) (R.held rows.now) result }
+{
+    Ok(flag(moo_tree::valid(rows, x)))
+}
+
+/// `parent(object)`: the parent, `#-1` for none. E_INVARG where there is no such object.
+/// LambdaMOO Programmer's Manual, 'Fundamental Operations on Objects'.
+pub fn parent<R: Rows>(rows: &R, x: ObjNo) -> Result<Value, Fault>
+    ensures { Answers (parent (world_in (R.held rows.now)) x) (R.held rows.now) result }
+{
+    Ok(Value::Obj(object(rows, x)?.parent))
+}
+
+/// `children(object)`: the list of its children, ascending. E_INVARG where there is no such object.
+/// LambdaMOO Programmer's Manual, 'Fundamental Operations on Objects'.
+pub fn children<R: Rows>(rows: &R, alloc: Global, x: ObjNo) -> Result<Value, Fault>
+    requires { IsGood (R.held rows.now).maps }
+    ensures { Answers (children (world_in (R.held rows.now)) x) (R.held rows.now) result }
+{
+    if !moo_tree::valid(rows, x) {
+        return Err(Fault::Moo(Code::InvalidArgument));
+    }
+    let found = moo_tree::children(alloc, rows, x)?;
+    Ok(object_list(alloc, found.as_slice())?)
+}
+
+/// `is_player(object)`: 1 where the object's player flag is set, else 0. E_INVARG where there is no such object.
+/// LambdaMOO Programmer's Manual, 'Operations on Player Objects'.
+pub fn is_player<R: Rows>(rows: &R, x: ObjNo) -> Result<Value, Fault>
+    ensures { Answers (is_player (world_in (R.held rows.now)) x) (R.held rows.now) result }
+{
+    Ok(flag(object(rows, x)?.player))
+}
+
+/// `players()`: the list of all players, ascending. It has no error.
+/// LambdaMOO Programmer's Manual, 'Operations on Player Objects'.
+pub fn players<R: Rows>(rows: &R, alloc: Global) -> Result<Value, Fault>
+    requires { IsGood (R.held rows.now).maps }
+    ensures { Answers (players (world_in (R.held rows.now))) (R.held rows.now) result }
+{
+    let found = moo_tree::players(alloc, rows)?;
+    Ok(object_list(alloc, found.as_slice())?)
+}
+
+/// `max_object()`: the greatest number that was ever given to an object, also where that object is gone; `#-1` where
+/// none was given. It has no error.
 /// LambdaMOO Programmer's Manual, 'Fundamental Operations on Objects'.
 pub fn max_object<R: Rows>(rows: &R) -> Result<Value, Fault>
     ensures { Answers (max_object (world_in (R.held rows.now))) (R.held rows.now) result }
@@ -27,16 +86,11 @@ pub fn max_object<R: Rows>(rows: &R) -> Result<Value, Fault>
     Ok(Value::Obj(ObjNo(rows.head().top)))
 }
 
-/// `get(x, property)`: what an object says of itself, its name so far. E_INVIND where x is no object, and then
-/// E_PROPNF at a property that it doesn't have.
-pub fn get<R: Rows>(rows: &R, alloc: Global, x: ObjNo, property: &MooStr) -> Result<Value, Fault>
-    ensures { Answers (get (world_in (R.held rows.now)) x property.now) (R.held rows.now) result }
+/// `accept_list(object)`: the list of objects that the object itself accepts with their descendants, or 0 where it holds
+/// none. E_INVARG where there is no such object. This server's own.
+pub fn accept_list<R: Rows>(rows: &R, alloc: Global, x: ObjNo) -> Result<Value, Fault>
+    ensures { Answers (accept_list (world_in (R.held rows.now)) x) (R.held rows.now) result }
 {
-    let Some(row) = rows.object(x) else {
-        return Err(Fault::Moo(Code::InvalidIndirection));
-    };
-    if !is_name(property) {
-        return Err(Fault::Moo(Code::PropertyNotFound));
-    }
-    Ok(Value::Str(row.name.copy(alloc)?))
+    let row = object(rows, x)?;
+    Ok(accept_value(alloc, &row.accept)?)
 }

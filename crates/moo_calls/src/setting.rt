@@ -1,48 +1,90 @@
-//! Setting what an object says of itself.
+//! Setting built-in properties.
 
-ghost use Rattle.std.specs.Prelude.{OnOk};
+ghost use Rattle.std.specs.Prelude.{◌≡◌, true, OnOk};
+ghost use Rattle.moo_world.specs.Keeps.{Keeps};
+ghost use Rattle.moo_world.specs.PropertyCalls.{change_of, may_set, names_object, set_built_in};
 ghost use Rattle.moo_world.specs.Rows.{IsGood};
-ghost use Rattle.moo_world.specs.Calls.{set};
-ghost use Rattle.moo_calls.specs.Outcomes.{world_in, ComesTo, Keeps};
+ghost use Rattle.moo_world.specs.World.{is_object};
+ghost use Rattle.moo_rights.specs.Outcomes.{world_in, ComesTo, GivenOrNot};
 
-use crate::change::rename;
-use crate::fault::Fault;
-use crate::reading::is_name;
-use crate::rights;
+use moo_rights::answers::ZERO;
+use moo_rights::changing::change_row;
+use moo_rights::fault::Fault;
+use moo_rights::rights;
 use moo_rows::rows::Rows;
 use moo_tree::valid;
 use moo_value::code::Code;
-use moo_value::text::MooStr;
 use moo_value::value::{ObjNo, Value};
+use moo_world::built_in::BuiltIn;
+use moo_world::change::Change;
 use std::alloc::Global;
 
-/// `set(x, property, value)`: sets what an object says of itself, its name so far, and answers 0. E_INVIND where x is no
-/// object, then E_PROPNF at a property that it doesn't have, E_TYPE where the value is no string, and E_PERM where the
-/// programmer may not name x.
-pub fn set<R: Rows>(
+/// The change that a value is for a built-in property. E_PERM for `location` and `contents`, which `set` doesn't write;
+/// E_TYPE for a `name` that is no string and for an `owner` that is no object. Any value is one for the others, by its truth.
+/// OutOfMemory is want of memory alone.
+fn change_of(alloc: Global, field: BuiltIn, value: &Value) -> Result<Change, Fault>
+    ensures { GivenOrNot (change_of field value.now) result }
+{
+    match (field, value) {
+        (BuiltIn::Location | BuiltIn::Contents, _) => Err(Fault::Moo(Code::Permission)),
+        (BuiltIn::Name, Value::Str(name)) => Ok(Change::Name(name.copy(alloc)?)),
+        (BuiltIn::Owner, Value::Obj(owner)) => Ok(Change::Owner(*owner)),
+        (BuiltIn::Name | BuiltIn::Owner, _) => Err(Fault::Moo(Code::Type)),
+        (BuiltIn::Programmer, _) => Ok(Change::Programmer(value.is_true())),
+        (BuiltIn::Wizard, _) => Ok(Change::Wizard(value.is_true())),
+        (BuiltIn::R, _) => Ok(Change::Readable(value.is_true())),
+        (BuiltIn::W, _) => Ok(Change::Writable(value.is_true())),
+        (BuiltIn::F, _) => Ok(Change::Fertile(value.is_true())),
+    }
+}
+
+/// Whether the programmer may set a built-in property of the object: `name` where it may name the object, `r`, `w` and `f`
+/// where it controls it, and the others where it is a wizard.
+fn may_set<R: Rows>(rows: &R, programmer: ObjNo, x: ObjNo, field: BuiltIn) -> bool
+    ensures { result ≡ may_set (world_in (R.held rows.now)) programmer x field }
+{
+    match field {
+        BuiltIn::Name => rights::may_name(rows, programmer, x),
+        BuiltIn::R | BuiltIn::W | BuiltIn::F => rights::controls(rows, programmer, x),
+        _ => rights::is_wizard(rows, programmer),
+    }
+}
+
+/// Whether the owner that the change gives, if it gives one, is an object.
+fn names_object<R: Rows>(rows: &R, change: &Change) -> bool
+    ensures { result ≡ names_object (world_in (R.held rows.now)) change.now }
+{
+    match change {
+        Change::Owner(owner) => valid(rows, *owner),
+        _ => true,
+    }
+}
+
+/// Sets a built-in property of an object, and answers 0. E_PERM for `location` and `contents`; E_TYPE for a `name` that is
+/// no string and an `owner` that is no object; E_PERM where the programmer may not set it: a wizard may, and the object's
+/// owner may set `r`, `w`, `f` and, unless the object is a player, `name`; E_INVARG where the new owner isn't there.
+///
+/// LambdaMOO Programmer's Manual, 'Properties on Objects' in the chapter on the database.
+pub fn set_built_in<R: Rows>(
     rows: &mut R,
     alloc: Global,
     programmer: ObjNo,
     x: ObjNo,
-    property: &MooStr,
+    field: BuiltIn,
     value: &Value,
 ) -> Result<Value, Fault>
-    requires { IsGood (R.held rows.old).maps }
-    ensures comes { ComesTo (set (world_in (R.held rows.old)) programmer x property.now value.now) (R.held rows.old) (R.held rows.new) result }
+    requires good { IsGood (R.held rows.old).maps }
+    requires there { is_object (world_in (R.held rows.old)) x ≡ true }
+    ensures comes { ComesTo (set_built_in (world_in (R.held rows.old)) programmer x field value.now) (R.held rows.old) (R.held rows.new) result }
     ensures kept { OnOk result (Keeps (R.held rows.old) (R.held rows.new)) }
 {
-    if !valid(rows, x) {
-        return Err(Fault::Moo(Code::InvalidIndirection));
-    }
-    if !is_name(property) {
-        return Err(Fault::Moo(Code::PropertyNotFound));
-    }
-    let Value::Str(name) = value else {
-        return Err(Fault::Moo(Code::Type));
-    };
-    if !rights::may_name(rows, programmer, x) {
+    let change = change_of(alloc, field, value)?;
+    if !may_set(rows, programmer, x, field) {
         return Err(Fault::Moo(Code::Permission));
     }
-    rename(rows, alloc, x, name)?;
-    Ok(Value::Int(0))
+    if !names_object(rows, &change) {
+        return Err(Fault::Moo(Code::InvalidArgument));
+    }
+    change_row(rows, alloc, x, change)?;
+    Ok(ZERO)
 }

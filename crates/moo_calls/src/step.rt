@@ -1,13 +1,25 @@
 //! One call.
 
-ghost use Rattle.std.specs.Prelude.{OnOk};
+ghost use Rattle.std.specs.Prelude.{◌≡◌, true, OnOk};
+ghost use Rattle.std.specs.List.{list_all};
+ghost use Rattle.moo_rights.specs.Outcomes.{world_in, ComesTo};
+ghost use Rattle.moo_world.specs.Arguments.{fits};
+ghost use Rattle.moo_world.specs.Keeps.{Keeps};
 ghost use Rattle.moo_world.specs.Rows.{IsGood};
 ghost use Rattle.moo_world.specs.Step.{step, named_call};
-ghost use Rattle.moo_calls.specs.Outcomes.{world_in, ComesTo, Keeps};
 
-use crate::args::{no_values, object_and_text, object_text_and_value, parent_and_owner};
-use crate::fault::Fault;
-use crate::{creating, reading, setting};
+use crate::{
+    changing, clearing, creating, definitions, deleting, moving, parents, property_info,
+    property_reading, reading, recycling, values, verb_adding, verb_changing, verb_reading,
+};
+use moo_rights::accept_lists::object_and_accept;
+use moo_rights::args::{
+    no_values, object_and_text, object_and_value, object_text_and_value, one_object,
+    parent_and_owner, two_objects,
+};
+use moo_rights::fault::Fault;
+use moo_rights::infos::{new_property, new_property_info};
+use moo_rights::verb_args::{new_verb, new_verb_args, new_verb_info, object_and_desc};
 use moo_rows::rows::Rows;
 use moo_tree::valid;
 use moo_value::code::Code;
@@ -24,14 +36,19 @@ fn named_call<R: Rows>(
     name: CallName,
     args: &[Value],
 ) -> Result<Value, Fault>
-    requires { IsGood (R.held rows.old).maps }
+    requires good { IsGood (R.held rows.old).maps }
+    requires fit { list_all fits args.now ≡ true }
     ensures comes { ComesTo (named_call (world_in (R.held rows.old)) programmer name args.now) (R.held rows.old) (R.held rows.new) result }
     ensures kept { OnOk result (Keeps (R.held rows.old) (R.held rows.new)) }
 {
     match name {
-        CallName::Create => {
-            let (parent, owner) = parent_and_owner(args, programmer)?;
-            creating::create(rows, alloc, programmer, parent, owner)
+        CallName::Valid => reading::valid(rows, one_object(args)?),
+        CallName::Parent => reading::parent(rows, one_object(args)?),
+        CallName::Children => reading::children(rows, alloc, one_object(args)?),
+        CallName::IsPlayer => reading::is_player(rows, one_object(args)?),
+        CallName::Players => {
+            no_values(args)?;
+            reading::players(rows, alloc)
         }
         CallName::MaxObject => {
             no_values(args)?;
@@ -39,16 +56,105 @@ fn named_call<R: Rows>(
         }
         CallName::Get => {
             let (x, property) = object_and_text(args)?;
-            reading::get(rows, alloc, x, property)
+            values::get(rows, alloc, programmer, x, property)
+        }
+        CallName::Properties => property_reading::properties(
+            rows,
+            alloc,
+            programmer,
+            one_object(args)?,
+        ),
+        CallName::PropertyInfo => {
+            let (x, property) = object_and_text(args)?;
+            property_reading::property_info(rows, alloc, programmer, x, property)
+        }
+        CallName::IsClearProperty => {
+            let (x, property) = object_and_text(args)?;
+            clearing::is_clear_property(rows, programmer, x, property)
+        }
+        CallName::Verbs => verb_reading::verbs(rows, alloc, programmer, one_object(args)?),
+        CallName::VerbInfo => {
+            let (x, desc) = object_and_desc(alloc, args)?;
+            verb_reading::verb_info(rows, alloc, programmer, x, &desc)
+        }
+        CallName::VerbArgs => {
+            let (x, desc) = object_and_desc(alloc, args)?;
+            verb_reading::verb_args(rows, alloc, programmer, x, &desc)
+        }
+        CallName::AcceptList => reading::accept_list(rows, alloc, one_object(args)?),
+        CallName::Create => {
+            let (parent, owner) = parent_and_owner(args, programmer)?;
+            creating::create(rows, alloc, programmer, parent, owner)
+        }
+        CallName::Chparent => {
+            let (x, new) = two_objects(args)?;
+            parents::chparent(rows, alloc, programmer, x, new)
+        }
+        CallName::Recycle => recycling::recycle(rows, alloc, programmer, one_object(args)?),
+        CallName::Move => {
+            let (x, destination) = two_objects(args)?;
+            moving::move_into(rows, alloc, programmer, x, destination)
+        }
+        CallName::SetPlayerFlag => {
+            let (x, value) = object_and_value(args)?;
+            changing::set_player_flag(rows, alloc, programmer, x, value)
         }
         CallName::Set => {
             let (x, property, value) = object_text_and_value(args)?;
-            setting::set(rows, alloc, programmer, x, property, value)
+            values::set(rows, alloc, programmer, x, property, value)
+        }
+        CallName::AddProperty => {
+            let new = new_property(args)?;
+            definitions::add_property(
+                rows, alloc, programmer, new.object, new.name, new.value, new.info,
+            )
+        }
+        CallName::DeleteProperty => {
+            let (x, property) = object_and_text(args)?;
+            deleting::delete_property(rows, alloc, programmer, x, property)
+        }
+        CallName::SetPropertyInfo => {
+            let new = new_property_info(args)?;
+            property_info::set_property_info(
+                rows,
+                alloc,
+                programmer,
+                new.object,
+                new.name,
+                new.info,
+                new.new_name,
+            )
+        }
+        CallName::ClearProperty => {
+            let (x, property) = object_and_text(args)?;
+            clearing::clear_property(rows, programmer, x, property)
+        }
+        CallName::AddVerb => {
+            let new = new_verb(args)?;
+            verb_adding::add_verb(rows, alloc, programmer, new.object, new.verb, new.args)
+        }
+        CallName::DeleteVerb => {
+            let (x, desc) = object_and_desc(alloc, args)?;
+            verb_changing::delete_verb(rows, programmer, x, &desc)
+        }
+        CallName::SetVerbInfo => {
+            let new = new_verb_info(alloc, args)?;
+            verb_changing::set_verb_info(rows, alloc, programmer, new.object, &new.desc, new.verb)
+        }
+        CallName::SetVerbArgs => {
+            let new = new_verb_args(alloc, args)?;
+            verb_changing::set_verb_args(rows, alloc, programmer, new.object, &new.desc, new.args)
+        }
+        CallName::SetAccept => {
+            let (x, list) = object_and_accept(alloc, args)?;
+            changing::set_accept(rows, alloc, programmer, x, list)
         }
     }
 }
 
-/// One call of the programmer's. After want of memory the rows may be half changed, and the caller drops them.
+/// One call of the programmer's. E_PERM where the programmer is no object; then E_ARGS and E_TYPE; then the errors of the
+/// call. At an error, and where a number is wanted and none is left (Full), the rows are as they were. After want of memory they may be
+/// half changed, and the caller drops them.
 #[tactic(auto, unfolding(moo_world::specs::Step::step))]
 pub fn step<R: Rows>(
     rows: &mut R,

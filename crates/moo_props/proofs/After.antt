@@ -25,8 +25,9 @@ use Rattle.moo_world.proofs.Subtrees.{owed_listed}
 use Rattle.moo_world.proofs.Trees.{Chain-chain, chain_of_none}
 use Rattle.moo_props.specs.Touched.{is_defined_among, fresh_from, slot_after, row_after}
 use Rattle.moo_props.proofs.Definers.{new_is, no_clash, leaving, arriving, staying}
-use Rattle.moo_props.proofs.Gains.{some_of, object_row, defines_pair, new_object, slot_of_owed}
-use Rattle.moo_props.proofs.Shown.{SlotHere, slot_from, no_slot_from}
+use Rattle.moo_world.proofs.PairLists.{some_of}
+use Rattle.moo_props.proofs.Gains.{object_row, defines_pair, new_object, slot_of_owed}
+use Rattle.moo_world.proofs.Shown.{SlotHere, slot_from, no_slot_from}
 
 module _ (t : Maps) (sound : IsSound t) (x q : ObjNo) (may : MayReparent (world_of t) x q) where
   abbrev m : LookUps

@@ -1,25 +1,26 @@
--- The keys of slots that a change of parent touches are in order.
+-- The keys that a change touches are in order.
 use Rattle.std.proofs.Common.{◌≡◌, Bool, true, false, cond, T, List, [], ◌∷◌, ◌++◌, map, Ordering, Less, refl, sym, ap, ◌∙◌, subst}
 use Rattle.std.specs.Cmp.{tied_itself}
-use Rattle.std.specs.Ordering.{ordering_then}
+use Rattle.std.specs.Ordering.{int_eq, ordering_then}
 use Rattle.std.specs.List.{filter, AllByRecursion}
 use Rattle.std.specs.FinMap.{entries, is_sorted, entries_sorted}
 use Rattle.std.specs.FinMap.Entries.{below_all}
 use Rattle.moo_value.specs.declared.value.ObjNo.{ObjNo}
 use Rattle.moo_rows.specs.declared.row.PropId.{PropId}
-use Rattle.moo_rows.specs.Maps.{Maps, object_cmp, prop_cmp, slot_cmp}
+use Rattle.moo_rows.specs.Maps.{Maps, object_cmp, prop_cmp, slot_cmp, verb_cmp}
 use Rattle.moo_rows.proofs.Orders.{object_total}
 use Rattle.moo_rows.proofs.Walking.{first_of, second_of, less_of}
 use Rattle.moo_world.specs.World.{chain}
 use Rattle.moo_world.specs.Objects.{is_among}
 use Rattle.moo_world.specs.Rows.{world_of}
 use Rattle.moo_world.specs.Manual.{lost, gained}
+use Rattle.moo_props.specs.Dropping.{is_linked, linked_among, verbs_among}
 use Rattle.moo_props.specs.Present.{AreAscending}
 use Rattle.moo_props.specs.Reparent.{owners_under, keys_on, keys_over}
 use Rattle.moo_props.specs.Touched.{props_of, removed_keys, added_keys}
 
 -- each is below all after it, by a key
-abbrev Rises : {K A : Type 0} → (K → K → Ordering) → (A → K) → List A → Type 0
+abbrev pub Rises : {K A : Type 0} → (K → K → Ordering) → (A → K) → List A → Type 0
 Rises cmp key [] = Unit {0}
 Rises cmp key (a ∷ l) = AllByRecursion (λ b. cmp (key a) (key b) ≡ Less) l × Rises cmp key l
 
@@ -33,7 +34,7 @@ module _ {K X B : Type 0} (cmp : K → K → Ordering) (key : B → K) (test : K
       by false r = r
 
   -- what is made of sorted entries rises
-  rises_made : (es : List (K × X)) → T (is_sorted cmp es) → Rises cmp key (map made (filter test es))
+  pub rises_made : (es : List (K × X)) → T (is_sorted cmp es) → Rises cmp key (map made (filter test es))
   rises_made [] h = tt
   rises_made (e ∷ es) h = by (test e) (rises_made es (second_of _ _ h))
     where
@@ -56,31 +57,54 @@ all_append : {A : Type 0} (P : A → Type 0) (l m : List A) → AllByRecursion P
 all_append P [] m h k = k
 all_append P (x ∷ l) m h k = (h.0, all_append P l m h.1 k)
 
-module _ (ids : List PropId) (rises : Rises prop_cmp (λ j. j) ids) where
-  later_object : (y : ObjNo) (i : PropId) (es : List (ObjNo × ObjNo)) → AllByRecursion (λ e. object_cmp y e.0 ≡ Less) es → AllByRecursion (λ other. slot_cmp (y, i) other ≡ Less) (keys_over ids es)
+-- the keys of properties of each of these objects
+abbrev pub keys_by : (ObjNo → List PropId) → List (ObjNo × ObjNo) → List (ObjNo × PropId)
+keys_by ids [] = []
+keys_by ids (e ∷ es) = keys_on e.0 (ids e.0) ++ keys_by ids es
+
+module _ (ids : ObjNo → List PropId) (rises : (y : ObjNo) → Rises prop_cmp (λ j. j) (ids y)) where
+  later_object : (y : ObjNo) (i : PropId) (es : List (ObjNo × ObjNo)) → AllByRecursion (λ e. object_cmp y e.0 ≡ Less) es → AllByRecursion (λ other. slot_cmp (y, i) other ≡ Less) (keys_by ids es)
   later_object y i [] h = tt
-  later_object y i (e ∷ es) h = all_append (λ other. slot_cmp (y, i) other ≡ Less) (keys_on e.0 ids) (keys_over ids es) (each ids) (later_object y i es h.1)
+  later_object y i (e ∷ es) h = all_append (λ other. slot_cmp (y, i) other ≡ Less) (keys_on e.0 (ids e.0)) (keys_by ids es) (each (ids e.0)) (later_object y i es h.1)
     where
       each : (l : List PropId) → AllByRecursion (λ other. slot_cmp (y, i) other ≡ Less) (keys_on e.0 l)
       each [] = tt
       each (j ∷ l) = (by_object y e.0 i j h.0, each l)
 
-  keys_rise : (es : List (ObjNo × ObjNo)) → Rises object_cmp (λ e. e.0) es → AreAscending (keys_over ids es)
+  pub keys_rise : (es : List (ObjNo × ObjNo)) → Rises object_cmp (λ e. e.0) es → AreAscending slot_cmp (keys_by ids es)
   keys_rise [] h = tt
-  keys_rise (e ∷ es) h = front ids rises (keys_rise es h.1)
+  keys_rise (e ∷ es) h = front (ids e.0) (rises e.0) (keys_rise es h.1)
     where
-      front : (l : List PropId) → Rises prop_cmp (λ j. j) l → AreAscending (keys_over ids es) → AreAscending (keys_on e.0 l ++ keys_over ids es)
+      front : (l : List PropId) → Rises prop_cmp (λ j. j) l → AreAscending slot_cmp (keys_by ids es) → AreAscending slot_cmp (keys_on e.0 l ++ keys_by ids es)
       front [] r k = k
-      front (i ∷ l) r k = (all_append (λ other. slot_cmp (e.0, i) other ≡ Less) (keys_on e.0 l) (keys_over ids es) (on_one e.0 i l r.0) (later_object e.0 i es h.0), front l r.1 k)
+      front (i ∷ l) r k = (all_append (λ other. slot_cmp (e.0, i) other ≡ Less) (keys_on e.0 l) (keys_by ids es) (on_one e.0 i l r.0) (later_object e.0 i es h.0), front l r.1 k)
 
-keys_ascend : (t : Maps) (x : ObjNo) (definers : List ObjNo) → AreAscending (keys_over (props_of definers t.props) (owners_under t x))
-keys_ascend t x definers = keys_rise (props_of definers t.props)
-    (rises_made prop_cmp (λ j. j) (λ e. is_among e.1.definer definers) (λ e. e.0) (λ e. refl) (entries t.props) (entries_sorted t.props))
-    (owners_under t x)
-    (rises_made object_cmp (λ e. e.0) (λ e. is_among x (chain (world_of t) e.0)) (λ e. (e.0, e.1.owner)) (λ e. refl) (entries t.objects) (entries_sorted t.objects))
+over_by : (ids : List PropId) (es : List (ObjNo × ObjNo)) → keys_over ids es ≡ keys_by (λ y. ids) es
+over_by ids [] = refl
+over_by ids (e ∷ es) = ap (λ l. keys_on e.0 ids ++ l) (over_by ids es)
 
-pub removed_ascend : (t : Maps) (x q : ObjNo) → AreAscending (removed_keys t x q)
+pub props_rise : (t : Maps) (definers : List ObjNo) → Rises prop_cmp (λ j. j) (props_of definers t.props)
+props_rise t definers = rises_made prop_cmp (λ j. j) (λ e. is_among e.1.definer definers) (λ e. e.0) (λ e. refl) (entries t.props) (entries_sorted t.props)
+
+pub under_rise : (t : Maps) (x : ObjNo) → Rises object_cmp (λ e. e.0) (owners_under t x)
+under_rise t x = rises_made object_cmp (λ e. e.0) (λ e. is_among x (chain (world_of t) e.0)) (λ e. (e.0, e.1.owner)) (λ e. refl) (entries t.objects) (entries_sorted t.objects)
+
+-- keys that rise are ascending
+pub ascend : {K : Type 0} (cmp : K → K → Ordering) (l : List K) → Rises cmp (λ k. k) l → AreAscending cmp l
+ascend cmp [] r = tt
+ascend cmp (k ∷ l) r = (r.0, ascend cmp l r.1)
+
+keys_ascend : (t : Maps) (x : ObjNo) (definers : List ObjNo) → AreAscending slot_cmp (keys_over (props_of definers t.props) (owners_under t x))
+keys_ascend t x definers = subst (AreAscending slot_cmp) (sym (over_by (props_of definers t.props) (owners_under t x))) (keys_rise (λ y. props_of definers t.props) (λ y. props_rise t definers) (owners_under t x) (under_rise t x))
+
+pub removed_ascend : (t : Maps) (x q : ObjNo) → AreAscending slot_cmp (removed_keys t x q)
 removed_ascend t x q = keys_ascend t x (lost (world_of t) x q)
 
-pub added_ascend : (t : Maps) (x q : ObjNo) → AreAscending (added_keys t x q)
+pub added_ascend : (t : Maps) (x q : ObjNo) → AreAscending slot_cmp (added_keys t x q)
 added_ascend t x q = keys_ascend t x (gained (world_of t) x q)
+
+pub verbs_ascend : (t : Maps) (x : ObjNo) → AreAscending verb_cmp (verbs_among x (entries t.verbs))
+verbs_ascend t x = ascend verb_cmp (verbs_among x (entries t.verbs)) (rises_made verb_cmp (λ k. k) (λ e. int_eq e.0.0.0 x.0) (λ e. e.0) (λ e. refl) (entries t.verbs) (entries_sorted t.verbs))
+
+pub linked_ascend : (t : Maps) (x : ObjNo) → AreAscending object_cmp (linked_among x (entries t.objects))
+linked_ascend t x = ascend object_cmp (linked_among x (entries t.objects)) (rises_made object_cmp (λ k. k) (λ e. is_linked x e.1) (λ e. e.0) (λ e. refl) (entries t.objects) (entries_sorted t.objects))

@@ -1,8 +1,8 @@
 -- A property that x gains has a slot on q.
-use Rattle.std.proofs.Common.{◌≡◌, ℕ, ◌<◌, Bool, true, false, ◌||◌, Option, None, Some, List, [], ◌∷◌, ◌++◌, map, refl, sym, ap, ◌∙◌, subst, ◌⊎◌, inl, inr}
+use Rattle.std.proofs.Common.{◌≡◌, ℕ, ◌<◌, Bool, true, false, Option, None, Some, ◌∷◌, ◌++◌, refl, sym, ap, ◌∙◌, subst, ◌⊎◌, inl, inr}
 use Rattle.std.specs.Prelude.{is_some, if◌then◌else◌}
 use Rattle.std.specs.Option.{option_map, option_and_then}
-use Rattle.std.specs.List.{filter_map, list_any, IsDistinct, AllByRecursion}
+use Rattle.std.specs.List.{filter_map, list_any, IsDistinct}
 use Rattle.std.proofs.lemmas.Bool.{false≢true, and_parts, cases_order}
 use Rattle.std.proofs.lemmas.Option.{none-some, same_Some}
 use Rattle.moo_value.specs.declared.value.ObjNo.{ObjNo}
@@ -19,35 +19,10 @@ use Rattle.moo_world.proofs.RowLaws.{names_shown}
 use Rattle.moo_world.proofs.Seen.{is_object_seen, object_seen}
 use Rattle.moo_world.proofs.Subtrees.{owed_listed}
 use Rattle.moo_world.proofs.Trees.{Chain-chain, chain_of_none, chain-step}
+use Rattle.moo_world.proofs.PairLists.{some_of, any_map, distinct_map, pairs_left}
 use Rattle.moo_props.proofs.Definers.{only_gained}
-use Rattle.moo_props.proofs.Numbered.{any_from, no_later}
-use Rattle.moo_props.proofs.Shown.{SlotHere, slot_from}
-
-pub some_of : {A : Type 0} (o : Option A) → is_some o ≡ true → (a : A) × (o ≡ Some a)
-some_of None e = absurd (false≢true e)
-some_of (Some a) e = (a, refl)
-
-pub any_map : {A B : Type 0} (test : B → Bool) (f : A → B) (l : List A) → list_any test (map f l) ≡ list_any (λ a. test (f a)) l
-any_map test f [] = refl
-any_map test f (a ∷ l) = ap (λ b. test (f a) || b) (any_map test f l)
-
-distinct_map : {A B : Type 0} (differ : B → B → Bool) (f : A → B) (l : List A) → IsDistinct differ (map f l) → IsDistinct (λ a b. differ (f a) (f b)) l
-unfolding IsDistinct
-distinct_map differ f [] d = tt
-distinct_map differ f (a ∷ l) d = (all l d.0, distinct_map differ f l d.1)
-  where
-    all : (l : List _) → AllByRecursion (λ y. differ (f a) y ≡ false) (map f l) → AllByRecursion (λ b. differ (f a) (f b) ≡ false) l
-    all [] h = tt
-    all (b ∷ l) h = (h.0, all l h.1)
-
-pairs_left : (l m : List Pair) → NamesDiffer (l ++ m) → NamesDiffer l
-unfolding IsDistinct
-pairs_left [] m d = tt
-pairs_left (p ∷ l) m d = (first l d.0, pairs_left l m d.1)
-  where
-    first : (l : List Pair) → AllByRecursion (λ y. same_text (folded p.1) (folded y.1) ≡ false) (l ++ m) → AllByRecursion (λ y. same_text (folded p.1) (folded y.1) ≡ false) l
-    first [] a = tt
-    first (y ∷ l) a = (a.0, first l a.1)
+use Rattle.moo_world.proofs.Numbered.{any_from, no_later}
+use Rattle.moo_world.proofs.Shown.{SlotHere, slot_from}
 
 module _ (t : Maps) (sound : IsSound t) where
   abbrev pub m : LookUps

@@ -29,9 +29,9 @@ use Rattle.moo_props.specs.Names.{name_of}
 use Rattle.moo_props.specs.Reparent.{owners_under, without_on}
 use Rattle.moo_props.specs.Touched.{props_of}
 use Rattle.moo_props.proofs.Folding.{has_id, is_id, slot_at-without}
-use Rattle.moo_props.proofs.Gains.{some_of}
+use Rattle.moo_world.proofs.PairLists.{some_of}
 use Rattle.moo_props.proofs.Lessened.{is_own, less_object}
-use Rattle.moo_props.proofs.Listed.{listed}
+use Rattle.moo_world.proofs.Listed.{listed}
 use Rattle.moo_props.proofs.Moved.{IsSlotsOnly, onward, only-without, base-without, under_is, has}
 use Rattle.moo_props.proofs.NewSlots.{has_all}
 use Rattle.moo_props.proofs.Walked.{walk, slot_here}
@@ -207,7 +207,7 @@ module _ (t : Maps) (good : IsGood t) (x : ObjNo) (row : ObjRow) (here : get t.o
   abbrev pub held5 : Held
   held5 = wrote held4 (record (held4.maps) { objects = remove held4.maps.objects x })
 
-  only1 : held1.maps ≡ record t { slots = held1.maps.slots }
+  pub only1 : held1.maps ≡ record t { slots = held1.maps.slots }
   only1 = only-dropped x all own (owners_under t x) held ∙ ap (λ (k : Maps). record k { slots = held1.maps.slots }) same
 
   only2 : held2.maps ≡ record t { slots = held1.maps.slots; props = held2.maps.props }
@@ -229,7 +229,7 @@ module _ (t : Maps) (good : IsGood t) (x : ObjNo) (row : ObjRow) (here : get t.o
 
   -- ---- the properties of x
 
-  is_own_id : (j : PropId) → has_id j own ≡ is_own m x j.0
+  pub is_own_id : (j : PropId) → has_id j own ≡ is_own m x j.0
   is_own_id j = has t (x ∷ []) j ∙ by (get t.props j)
     where
       plain : (b : Bool) → (b || false) ≡ b
@@ -240,7 +240,7 @@ module _ (t : Maps) (good : IsGood t) (x : ObjNo) (row : ObjRow) (here : get t.o
       by None = refl
       by (Some p) = plain (same_object p.definer x)
 
-  props5 : (j : ℕ) → get held2.maps.props (prop_id j) ≡ (if is_own m x j then None else m.prop j)
+  pub props5 : (j : ℕ) → get held2.maps.props (prop_id j) ≡ (if is_own m x j then None else m.prop j)
   props5 j =
       props-removed (prop_id j) own held1
       ∙ (λ i. cond (is_own_id (prop_id j) i) None (get (only1 i).props (prop_id j)))
@@ -265,7 +265,7 @@ module _ (t : Maps) (good : IsGood t) (x : ObjNo) (row : ObjRow) (here : get t.o
   own_chain : is_among x (chain (world_of t) x) ≡ true
   own_chain = ap (is_among x) (chain_of_row m good.formed.tree x row (sym here)) ∙ ap (λ b. b || is_among x (chain (world_of t) row.parent)) ((same_object-Decides x x).1 refl)
 
-  slots5 : (z : ObjNo) (j : PropId) → get held1.maps.slots (z, j) ≡ (if same_object x z then None else (if is_own m x j.0 then None else get t.slots (z, j)))
+  pub slots5 : (z : ObjNo) (j : PropId) → get held1.maps.slots (z, j) ≡ (if same_object x z then None else (if is_own m x j.0 then None else get t.slots (z, j)))
   slots5 z j =
       slots-dropped x all own z j (owners_under t x) held
       ∙ (λ i. cond (under_is t x z i && has_id j (ids_for x all own z)) None (get (same i).slots (z, j)))
@@ -295,7 +295,7 @@ module _ (t : Maps) (good : IsGood t) (x : ObjNo) (row : ObjRow) (here : get t.o
 
   -- ---- verbs
 
-  verbs5 : (z : ObjNo) (j : ℕ) → get held3.maps.verbs (z, verb_id j) ≡ (if same_object x z then None else m.verb z j)
+  pub verbs5 : (z : ObjNo) (j : ℕ) → get held3.maps.verbs (z, verb_id j) ≡ (if same_object x z then None else m.verb z j)
   verbs5 z j =
       verbs-removed (z, verb_id j) (verbs_among x (entries t.verbs)) held2
       ∙ (λ i. cond (listed verb_cmp verb_total verb_exact (z, verb_id j) (λ e. int_eq e.0.0.0 x.0) (λ e. e.0) (eq_by_cmp verb_cmp (z, verb_id j)) (λ e. refl) (entries t.verbs) (entries_sorted t.verbs) i) None (get (only2 i).verbs (z, verb_id j)))
@@ -311,7 +311,7 @@ module _ (t : Maps) (good : IsGood t) (x : ObjNo) (row : ObjRow) (here : get t.o
 
   -- ---- objects
 
-  objects5 : (z : ObjNo) → get (remove held4.maps.objects x) z ≡ (if same_object x z then None else option_map (released_row x row.parent) (m.object z))
+  pub objects5 : (z : ObjNo) → get (remove held4.maps.objects x) z ≡ (if same_object x z then None else option_map (released_row x row.parent) (m.object z))
   objects5 z =
       get-remove object_total held4.maps.objects x z
       ∙ (λ i. cond (object_key x z i) None (rows-released x row.parent z (linked_among x (entries t.objects)) held3 i))

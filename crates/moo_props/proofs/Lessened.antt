@@ -18,8 +18,8 @@ use Rattle.moo_world.proofs.Recycling.{IsWellFormed-recycled, recycle_law}
 use Rattle.moo_world.proofs.RowLaws.{slot_shown}
 use Rattle.moo_world.proofs.Seen.{is_object_seen, object_seen}
 use Rattle.moo_props.specs.Dropping.{released_row}
-use Rattle.moo_props.proofs.Gains.{some_of}
-use Rattle.moo_props.proofs.Shown.{SlotHere, slot_from}
+use Rattle.moo_world.proofs.PairLists.{some_of}
+use Rattle.moo_world.proofs.Shown.{SlotHere, slot_from}
 
 -- x defines the property under a number
 abbrev pub is_own : LookUps → ObjNo → ℕ → Bool

@@ -24,7 +24,7 @@ use Rattle.moo_world.proofs.MapLaws.{object_key}
 use Rattle.moo_props.specs.declared.reparent.Origin.{Origin}
 use Rattle.moo_props.specs.Reparent.{owners_under, props_only_of, id_of, origin_of, origins, fresh_row, slot_removed, slot_put, without_on, with_fresh, slots_moved, keys_on, keys_over, relinked, relinked_list}
 use Rattle.moo_props.specs.Touched.{props_of, is_defined_among, fresh_from, slot_after, row_after, IsSameButSlotsAndObjects}
-use Rattle.moo_props.proofs.Listed.{listed, own_entries, all_made}
+use Rattle.moo_world.proofs.Listed.{listed, own_entries, all_made}
 use Rattle.moo_props.proofs.Folding.{has_id, is_id, all_moved}
 use Rattle.moo_props.proofs.Definers.{only_lost, only_gained}
 use Rattle.moo_props.proofs.Gains.{slot_on_new}
@@ -54,7 +54,7 @@ only-moved lost gained (e ∷ es) held =
     (onward held.maps (without_on e.0 lost held).maps after.maps (only-without e.0 lost held) (only-fresh e.0 e.1 gained (without_on e.0 lost held)))
     (only-moved lost gained es after)
 
-writes-without : (y : ObjNo) (ids : List PropId) (held : Held) → (without_on y ids held).writes ≡ held.writes + length ids
+pub writes-without : (y : ObjNo) (ids : List PropId) (held : Held) → (without_on y ids held).writes ≡ held.writes + length ids
 writes-without y [] held = omega arith
 writes-without y (id ∷ ids) held = omega (arith, writes-without y ids (slot_removed y id held))
 
@@ -76,7 +76,7 @@ base-moved lost gained (e ∷ es) held =
     base-moved lost gained es (with_fresh e.0 e.1 gained (without_on e.0 lost held))
     ∙ base-fresh e.0 e.1 gained (without_on e.0 lost held) ∙ base-without e.0 lost held
 
-length-made : {A B : Type 0} (f : A → B) (l : List A) → length (map f l) ≡ length l
+pub length-made : {A B : Type 0} (f : A → B) (l : List A) → length (map f l) ≡ length l
 length-made f [] = refl
 length-made f (x ∷ l) = omega (arith, length-made f l)
 

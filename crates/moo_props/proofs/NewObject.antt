@@ -22,8 +22,8 @@ use Rattle.moo_world.proofs.Trees.{Chain-chain, chain_of_none, linked}
 use Rattle.moo_props.specs.Birth.{new_row}
 use Rattle.moo_props.specs.Touched.{fresh_from}
 use Rattle.moo_props.proofs.NewSlots.{with_new}
-use Rattle.moo_props.proofs.Numbered.{first_from, no_first}
-use Rattle.moo_props.proofs.Shown.{here-slot_on, slots_shown}
+use Rattle.moo_world.proofs.Numbered.{first_from, no_first}
+use Rattle.moo_world.proofs.Shown.{here-slot_on, slots_shown}
 
 -- ---- lists
 

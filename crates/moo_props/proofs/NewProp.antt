@@ -15,16 +15,16 @@ use Rattle.moo_rows.specs.declared.row.SlotRow.{SlotRow}
 use Rattle.moo_rows.specs.declared.row.SlotState.TheVariants.{Set}
 use Rattle.moo_world.specs.Changes.{clashes, defined}
 use Rattle.moo_world.specs.Objects.{Name, nothing, same_object, same_text, folded, is_among, same_object-Decides, same_text-Decides}
-use Rattle.moo_world.specs.World.{World, Record, Slot, IsWellFormed, is_object, is_property_name, chain, owner_of, slot_of, names_of, fresh}
+use Rattle.moo_world.specs.World.{World, Record, Slot, IsWellFormed, is_object, is_property_name, chain, owner_of, slot_of, names_of, fresh, state_fits}
 use Rattle.moo_world.specs.Rows.{LookUps, AreSound, numbers_below, name_on, slot_on, slot_seen, record_of, world_shown}
 use Rattle.moo_world.proofs.RowLaws.{with_prop, names_shown, names_with_prop, other_names_with_prop, slot_shown}
 use Rattle.moo_world.proofs.Seen.{is_object_seen, object_seen}
 use Rattle.moo_world.proofs.Trees.{Chain-chain, chain_of_none}
 use Rattle.moo_props.specs.Reparent.{fresh_row}
-use Rattle.moo_props.proofs.Gains.{some_of}
-use Rattle.moo_props.proofs.Insertion.{IsWellFormed-defined, none_owed}
+use Rattle.moo_world.proofs.PairLists.{some_of}
+use Rattle.moo_world.proofs.Insertion.{IsWellFormed-defined, none_owed}
 use Rattle.moo_props.proofs.Owing.{has_owed}
-use Rattle.moo_props.proofs.Shown.{slots_shown}
+use Rattle.moo_world.proofs.Shown.{slots_shown}
 
 -- the look-ups with a property of the next number: on x its slot, on each descendant a fresh one
 abbrev pub with_property : LookUps → ObjNo → Name → SlotRow → LookUps
@@ -33,7 +33,7 @@ with_property m x name row =
       slot = λ y j. if eqb j m.head.next_prop && is_among x (chain (world_shown m) y) then Some (if same_object x y then row else fresh_row (owner_of (world_shown m) y) (record { id = record { 0 = m.head.next_prop }; owner = row.owner; bits = row.bits })) else m.slot y j;
     }
 
-same_below : {X : Type 0} (h g : ℕ → Option X) (n : ℕ) → ((j : ℕ) → j < n → h j ≡ g j) → filter_map h (numbers_below n) ≡ filter_map g (numbers_below n)
+pub same_below : {X : Type 0} (h g : ℕ → Option X) (n : ℕ) → ((j : ℕ) → j < n → h j ≡ g j) → filter_map h (numbers_below n) ≡ filter_map g (numbers_below n)
 same_below h g zero e = refl
 same_below h g (suc n) e =
     filter_map-append h (numbers_below n) (n ∷ [])
@@ -181,8 +181,8 @@ module _ (m : LookUps) (sound : AreSound m) (wf : IsWellFormed (world_shown m)) 
       at y None e = refl
       at y (Some r) e = λ i. Some (record (record_of m2 y r) { defines = names y r e i; slot = λ n. slots y r e n i })
 
-  pub formed_with : is_property_name name ≡ true → next < 4294967295 → IsWellFormed (defined w x name s)
-  formed_with n l = IsWellFormed-defined w wf x name s xo free refl (λ c. absurd (cc)) n (subst (λ k. k < 4294967295) (sym counter) l)
+  pub formed_with : is_property_name name ≡ true → next < 4294967295 → state_fits s.state ≡ true → IsWellFormed (defined w x name s)
+  formed_with n l f = IsWellFormed-defined w wf x name s xo free refl (λ c. absurd (cc)) n (subst (λ k. k < 4294967295) (sym counter) l) f
 
   -- ---- the rows are sound
 

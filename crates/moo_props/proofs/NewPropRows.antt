@@ -18,7 +18,7 @@ use Rattle.moo_props.specs.declared.reparent.Origin.{Origin}
 use Rattle.moo_props.specs.Defining.{fresh_over, with_definition}
 use Rattle.moo_props.specs.Reparent.{owners_under, fresh_row, slot_put}
 use Rattle.moo_props.proofs.Folding.{is_id, key_parts}
-use Rattle.moo_props.proofs.Gains.{some_of}
+use Rattle.moo_world.proofs.PairLists.{some_of}
 use Rattle.moo_props.proofs.Moved.{IsSlotsOnly, onward, under_is, owners_are}
 use Rattle.moo_props.proofs.NewProp.{with_property}
 

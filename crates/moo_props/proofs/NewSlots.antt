@@ -20,7 +20,7 @@ use Rattle.moo_props.specs.Birth.{new_row, objects_with, origins_among}
 use Rattle.moo_props.specs.Reparent.{origin_of, origins, fresh_row, slot_put, with_fresh}
 use Rattle.moo_props.specs.Touched.{fresh_from}
 use Rattle.moo_props.proofs.Folding.{is_id, has_id, is_id-Decides, slot_at-fresh, fresh_in, fresh_in-origins}
-use Rattle.moo_props.proofs.Gains.{any_map}
+use Rattle.moo_world.proofs.PairLists.{any_map}
 use Rattle.moo_props.proofs.Moved.{only-fresh}
 use Rattle.moo_props.proofs.Walked.{Entry, walk, walk_held, walk_meets}
 

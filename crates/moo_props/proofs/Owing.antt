@@ -28,8 +28,9 @@ use Rattle.moo_world.proofs.Seen.{is_object_seen}
 use Rattle.moo_world.proofs.Subtrees.{among_filter, object_listed, owed_listed}
 use Rattle.moo_world.proofs.Trees.{Chain-chain, chain_of_none}
 use Rattle.moo_props.specs.Clashes.{clashes_with, meets_with}
-use Rattle.moo_props.proofs.Gains.{any_map, defines_pair}
-use Rattle.moo_props.proofs.Listed.{own_entries}
+use Rattle.moo_world.proofs.PairLists.{any_map}
+use Rattle.moo_props.proofs.Gains.{defines_pair}
+use Rattle.moo_world.proofs.Listed.{own_entries}
 use Rattle.moo_props.proofs.Walked.{any_held}
 
 -- ---- lists

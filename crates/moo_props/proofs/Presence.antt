@@ -23,7 +23,7 @@ use Rattle.moo_world.proofs.Trees.{chain_of_none}
 use Rattle.moo_props.specs.Reparent.{owners_under, keys_on, keys_over}
 use Rattle.moo_props.specs.Touched.{props_of, is_defined_among, fresh_from, slot_after, removed_keys, added_keys}
 use Rattle.moo_props.specs.Present.{ArePresent, AreAbsent}
-use Rattle.moo_props.proofs.Listed.{own_entries, all_made}
+use Rattle.moo_world.proofs.Listed.{own_entries, all_made}
 use Rattle.moo_props.proofs.Definers.{new_is, no_clash, only_lost, only_gained}
 use Rattle.moo_props.proofs.Gains.{object_row, slot_on_heir, slot_on_new}
 use Rattle.moo_props.proofs.After.{slot_is, tests, gained_named, no_both}

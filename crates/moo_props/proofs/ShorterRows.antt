@@ -25,12 +25,13 @@ use Rattle.moo_props.specs.Names.{defines, spelling_of}
 use Rattle.moo_props.specs.Reparent.{owners_under, slot_removed}
 use Rattle.moo_props.specs.Undefining.{less_over}
 use Rattle.moo_props.proofs.Folding.{is_id, key_parts}
-use Rattle.moo_props.proofs.Gains.{some_of, one_prop}
+use Rattle.moo_world.proofs.PairLists.{some_of}
+use Rattle.moo_props.proofs.Gains.{one_prop}
 use Rattle.moo_props.proofs.Lessened.{is_own}
 use Rattle.moo_props.proofs.LessRows.{own_under}
 use Rattle.moo_props.proofs.Moved.{IsSlotsOnly, onward, under_is}
-use Rattle.moo_props.proofs.Shorter.{s, kept_slot, objects, undefined_law, IsWellFormed-undefined}
-use Rattle.moo_props.proofs.Shown.{SlotHere, slot_from}
+use Rattle.moo_world.proofs.Shorter.{s, kept_slot, objects, undefined_law, IsWellFormed-undefined}
+use Rattle.moo_world.proofs.Shown.{SlotHere, slot_from}
 
 -- the look-ups without a property and its slots
 abbrev pub less_property : LookUps → ℕ → LookUps

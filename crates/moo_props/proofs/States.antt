@@ -14,13 +14,13 @@ use Rattle.moo_rows.specs.declared.row.SlotState.TheVariants.{Clear}
 use Rattle.moo_rows.specs.Maps.{Maps}
 use Rattle.moo_world.specs.Changes.{with_slot_of}
 use Rattle.moo_world.specs.Objects.{Name, same_object, same_text, folded, same_object-Decides, same_text-Decides}
-use Rattle.moo_world.specs.World.{World, Record, IsWellFormed, Slot, slot_of, with_record}
+use Rattle.moo_world.specs.World.{World, Record, IsWellFormed, Slot, slot_of, with_record, state_fits}
 use Rattle.moo_world.specs.Rows.{LookUps, IsSound, IsGood, look_ups, world_of, world_shown, slot_seen, prop_id}
 use Rattle.moo_world.proofs.RowLaws.{slot_shown, world_shown-with_slot}
 use Rattle.moo_world.proofs.MapLaws.{look_ups-put_slot}
 use Rattle.moo_props.specs.Names.{name_of, spelling_of, defines}
-use Rattle.moo_props.proofs.Formed.{IsWellFormed-with_slot_of}
-use Rattle.moo_props.proofs.Gains.{some_of}
+use Rattle.moo_world.proofs.Formed.{IsWellFormed-with_slot_of}
+use Rattle.moo_world.proofs.PairLists.{some_of}
 use Rattle.moo_props.proofs.Walked.{slot_here}
 
 module _ (t : Maps) (sound : IsSound t) (x : ObjNo) (id : PropId) (k : SlotRow) (held : get t.slots (x, id) ≡ Some k) (next : SlotRow) (change : Slot → Slot) (agrees : (d : ObjNo) → change (slot_seen d k) ≡ slot_seen d next) where
@@ -87,7 +87,7 @@ module _ (t : Maps) (sound : IsSound t) (x : ObjNo) (id : PropId) (k : SlotRow) 
   spelled : spelling_of t id ≡ prop.0.name
   spelled = ap (λ o. unwrap_or (option_map (λ (p : PropRow). p.name) o) []) prop.1
 
-  module _ (wf : IsWellFormed w) (keeps : (s : Slot) → (change s).definer ≡ s.definer) (set : next.state ≡ Clear → defines t x id ≡ false) where
+  module _ (wf : IsWellFormed w) (keeps : (s : Slot) → (change s).definer ≡ s.definer) (set : next.state ≡ Clear → defines t x id ≡ false) (fits_still : (s : Slot) → state_fits s.state ≡ true → state_fits (change s).state ≡ true) where
     stays_set : (s : Slot) → slot_of w x (folded prop.0.name) ≡ Some s → s.definer ≡ x → (change s).state ≡ Clear → ⊥
     stays_set s e d c =
         let is : slot_seen prop.0.definer k ≡ s = same_Some (slot_seen prop.0.definer k) s (sym shown ∙ e) in
@@ -99,7 +99,7 @@ module _ (t : Maps) (sound : IsSound t) (x : ObjNo) (id : PropId) (k : SlotRow) 
     pub put_slot_good : IsGood (record t { slots = insert t.slots (x, id) next })
     put_slot_good = record {
       sound = put_slot_sound;
-      formed = subst IsWellFormed (sym (put_slot_world ∙ ap (λ n. with_slot_of w x n change) spelled)) (IsWellFormed-with_slot_of w x prop.0.name change wf keeps stays_set);
+      formed = subst IsWellFormed (sym (put_slot_world ∙ ap (λ n. with_slot_of w x n change) spelled)) (IsWellFormed-with_slot_of w x prop.0.name change wf keeps stays_set fits_still);
     }
 
 -- a slot that is clear isn't the definer's

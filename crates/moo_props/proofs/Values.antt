@@ -22,7 +22,8 @@ use Rattle.moo_world.proofs.RowLaws.{slot_shown}
 use Rattle.moo_world.proofs.Seen.{is_object_seen, chain_of_row, object_seen}
 use Rattle.moo_world.proofs.Trees.{Chain-chain, chain_of_none}
 use Rattle.moo_props.specs.Names.{name_of}
-use Rattle.moo_props.proofs.Gains.{some_of, slot_on_heir}
+use Rattle.moo_world.proofs.PairLists.{some_of}
+use Rattle.moo_props.proofs.Gains.{slot_on_heir}
 
 module _ (t : Maps) (sound : IsSound t) (wf : IsWellFormed (world_of t)) (x : ObjNo) (id : PropId) (k : SlotRow) (held : get t.slots (x, id) ≡ Some k) where
   abbrev m : LookUps

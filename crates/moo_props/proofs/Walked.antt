@@ -27,9 +27,9 @@ use Rattle.moo_world.proofs.Owed.{find_passes}
 use Rattle.moo_world.proofs.RowLaws.{slot_shown}
 use Rattle.moo_world.proofs.Seen.{is_object_seen}
 use Rattle.moo_props.specs.Names.{name_of, is_called}
-use Rattle.moo_props.proofs.Gains.{some_of}
-use Rattle.moo_props.proofs.Listed.{own_entries}
-use Rattle.moo_props.proofs.Shown.{SlotHere, slot_from}
+use Rattle.moo_world.proofs.PairLists.{some_of}
+use Rattle.moo_world.proofs.Listed.{own_entries}
+use Rattle.moo_world.proofs.Shown.{SlotHere, slot_from}
 
 abbrev pub Entry : Type 0
 Entry = (ObjNo × PropId) × SlotRow

@@ -9,11 +9,9 @@ use Rattle.moo_rows.specs.declared.row.PropId.{PropId}
 use Rattle.moo_rows.specs.declared.row.SlotRow.{SlotRow}
 use Rattle.moo_rows.specs.declared.row.VerbId.{VerbId}
 use Rattle.moo_rows.specs.declared.row.VerbRow.{VerbRow}
-use Rattle.moo_rows.specs.Maps.{Maps, Held, wrote}
-use Rattle.moo_rows.specs.Walk.{slots_of_left}
+use Rattle.moo_rows.specs.Maps.{Held, wrote}
 use Rattle.moo_world.specs.Objects.{nothing, same_object}
-use Rattle.moo_props.specs.Reparent.{owners_under, keys_on, without_on}
-use Rattle.moo_props.specs.Touched.{props_of}
+use Rattle.moo_props.specs.Reparent.{keys_on, without_on}
 
 -- ---- who is concerned
 
@@ -37,13 +35,10 @@ ids_among es = map (λ e. e.0.1) es
 abbrev pub ids_for : ObjNo → List PropId → List PropId → ObjNo → List PropId
 ids_for x all own y = if same_object x y then all else own
 
+-- on each of these objects the keys of those properties
 abbrev pub dropped_over : ObjNo → List PropId → List PropId → List (ObjNo × ObjNo) → List (ObjNo × PropId)
 dropped_over x all own [] = []
 dropped_over x all own (e ∷ es) = keys_on e.0 (ids_for x all own e.0) ++ dropped_over x all own es
-
--- all slots of x, and on each descendant those of the properties that x defines, ascending
-abbrev pub dropped_keys : Maps → ObjNo → List (ObjNo × PropId)
-dropped_keys t x = dropped_over x (ids_among (slots_of_left x (record { 0 = 0 }) t)) (props_of (x ∷ []) t.props) (owners_under t x)
 
 -- the row of an object that has x as parent or place no more
 abbrev pub released_row : ObjNo → ObjNo → ObjRow → ObjRow

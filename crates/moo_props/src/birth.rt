@@ -8,7 +8,7 @@ ghost use Rattle.moo_world.specs.Rows.{world_of, IsGood};
 ghost use Rattle.moo_world.specs.World.{is_object, read_of};
 ghost use Rattle.moo_rows.specs.Walk.{slots_of_left};
 ghost use Rattle.moo_props.specs.Birth.{new_row, objects_with, origins_among};
-ghost use Rattle.moo_props.specs.Keeps.{Keeps};
+ghost use Rattle.moo_world.specs.Keeps.{Keeps};
 ghost use Rattle.moo_props.specs.Reparent.{with_fresh};
 
 use crate::reparent::Origin;

@@ -1,11 +1,12 @@
 //! New properties.
 
 ghost use Rattle.std.specs.Prelude.{◌≡◌, ◌<◌, true, false, IfOk, OnOk};
+ghost use Rattle.moo_world.specs.Arguments.{fits};
 ghost use Rattle.moo_world.specs.Changes.{clashes, defined};
 ghost use Rattle.moo_world.specs.Rows.{world_of, IsGood};
 ghost use Rattle.moo_world.specs.World.{is_object, is_property_name};
 ghost use Rattle.moo_props.specs.Defining.{fresh_over, with_definition};
-ghost use Rattle.moo_props.specs.Keeps.{Keeps};
+ghost use Rattle.moo_world.specs.Keeps.{Keeps};
 
 use crate::reparent::{Origin, owners_under};
 use moo_rows::row::{Bits, PropId, PropRow, SlotRow, SlotState};
@@ -68,6 +69,7 @@ pub fn define<R: Rows>(
     requires name { is_property_name name ≡ true }
     requires free { clashes (world_of (R.held rows.old).maps) x name ≡ false }
     requires left { (R.held rows.old).maps.head.next_prop < 4294967295 }
+    requires fit { fits value ≡ true }
     ensures world { OnOk result (world_of (R.held rows.new).maps ≡ defined (world_of (R.held rows.old).maps) x name (record { definer = x; owner = owner; bits = bits; state = SlotState.Set value })) }
     ensures kept { OnOk result (Keeps (R.held rows.old) (R.held rows.new)) }
     ensures id { IfOk result (λ id. id.0 ≡ (R.held rows.old).maps.head.next_prop) }

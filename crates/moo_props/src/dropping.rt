@@ -1,15 +1,18 @@
 //! The end of an object.
 //! LambdaMOO Programmer's Manual, 'Fundamental Operations on Objects': `recycle`.
 
-ghost use Rattle.std.specs.Prelude.{◌≡◌, ◌++◌, [], ◌∷◌, true, if◌then◌else◌, IfOk, OnOk};
-ghost use Rattle.std.specs.FinMap.{entries};
+ghost use Rattle.std.specs.Prelude.{◌≡◌, ◌≤◌, ◌+◌, ◌++◌, [], ◌∷◌, length, true, if◌then◌else◌, IfOk, OnOk};
+ghost use Rattle.std.specs.FinMap.{get, entries};
+ghost use Rattle.moo_rows.specs.Maps.{object_cmp, prop_cmp, slot_cmp, verb_cmp};
 ghost use Rattle.moo_rows.specs.Walk.{slots_of_left};
 ghost use Rattle.moo_world.specs.Objects.{same_object};
 ghost use Rattle.moo_world.specs.Recycling.{recycled};
 ghost use Rattle.moo_world.specs.Rows.{world_of, IsGood};
 ghost use Rattle.moo_world.specs.World.{is_object};
-ghost use Rattle.moo_props.specs.Dropping.{is_linked, released_row, ids_for, ids_among, verbs_among, linked_among, slots_dropped, dropped_over, dropped_keys, props_removed, verbs_removed, row_released, rows_released};
-ghost use Rattle.moo_props.specs.Keeps.{Keeps};
+ghost use Rattle.moo_props.specs.Dropped.{dropped_keys, slot_left, prop_left, verb_left, row_left};
+ghost use Rattle.moo_props.specs.Dropping.{is_linked, released_row, ids_for, ids_among, verbs_among, linked_among, slots_dropped, dropped_over, props_removed, verbs_removed, row_released, rows_released};
+ghost use Rattle.moo_world.specs.Keeps.{Keeps};
+ghost use Rattle.moo_props.specs.Present.{ArePresent, AreAbsent, AreAscending};
 ghost use Rattle.moo_props.specs.Touched.{props_of};
 
 use crate::reparent::{SlotKeys, owners_under, props_only_of, remove_on};
@@ -217,18 +220,32 @@ fn release_all<R: Rows>(
 }
 
 /// Removes an object with its slots, verbs and properties, and the slots of these properties on its descendants. Its
-/// children go to its parent, and what lies in it to `#-1`. What is listed is ascending.
+/// children go to its parent, and what lies in it to `#-1`; these are listed as relinked, and are still there. What is
+/// listed is ascending.
 ///
 /// The only error is want of memory, after which the rows may be half changed.
 pub fn drop_object<R: Rows>(alloc: Global, rows: &mut R, x: ObjNo) -> Result<Dropped, AllocError>
     requires good { IsGood (R.held rows.old).maps }
     requires object { is_object (world_of (R.held rows.old).maps) x ≡ true }
-    ensures world { OnOk result (world_of (R.held rows.new).maps ≡ recycled (world_of (R.held rows.old).maps) x) }
-    ensures kept { OnOk result (Keeps (R.held rows.old) (R.held rows.new)) }
     ensures removed { IfOk result (λ dropped. dropped.removed ≡ dropped_keys (R.held rows.old).maps x) }
     ensures props { IfOk result (λ dropped. dropped.props ≡ props_of (x ∷ []) (R.held rows.old).maps.props) }
     ensures verbs { IfOk result (λ dropped. dropped.verbs ≡ verbs_among x (entries (R.held rows.old).maps.verbs)) }
     ensures relinked { IfOk result (λ dropped. dropped.relinked ≡ linked_among x (entries (R.held rows.old).maps.objects)) }
+    ensures removed_order { IfOk result (λ dropped. AreAscending slot_cmp dropped.removed) }
+    ensures props_order { IfOk result (λ dropped. AreAscending prop_cmp dropped.props) }
+    ensures verbs_order { IfOk result (λ dropped. AreAscending verb_cmp dropped.verbs) }
+    ensures relinked_order { IfOk result (λ dropped. AreAscending object_cmp dropped.relinked) }
+    ensures had { OnOk result (ArePresent (R.held rows.old).maps.slots (dropped_keys (R.held rows.old).maps x)) }
+    ensures gone { OnOk result (AreAbsent (R.held rows.new).maps.slots (dropped_keys (R.held rows.old).maps x)) }
+    ensures stay { OnOk result (ArePresent (R.held rows.new).maps.objects (linked_among x (entries (R.held rows.old).maps.objects))) }
+    ensures slots_left { OnOk result ((key : ObjNo × PropId) → get (R.held rows.new).maps.slots key ≡ slot_left (R.held rows.old).maps x key) }
+    ensures props_left { OnOk result ((id : PropId) → get (R.held rows.new).maps.props id ≡ prop_left (R.held rows.old).maps x id) }
+    ensures verbs_left { OnOk result ((key : ObjNo × VerbId) → get (R.held rows.new).maps.verbs key ≡ verb_left (R.held rows.old).maps x key) }
+    ensures objects_left { OnOk result ((y : ObjNo) → get (R.held rows.new).maps.objects y ≡ row_left (R.held rows.old).maps x y) }
+    ensures head { OnOk result ((R.held rows.new).maps.head ≡ (R.held rows.old).maps.head) }
+    ensures world { OnOk result (world_of (R.held rows.new).maps ≡ recycled (world_of (R.held rows.old).maps) x) }
+    ensures kept { OnOk result (Keeps (R.held rows.old) (R.held rows.new)) }
+    ensures writes { IfOk result (λ dropped. (R.held rows.new).writes ≤ (R.held rows.old).writes + (length dropped.removed + length dropped.props + length dropped.verbs + length dropped.relinked + 1)) }
 {
     let parent = match rows.object(x) {
         None => unreachable!(),

@@ -5,7 +5,7 @@ ghost use Rattle.std.specs.Prelude.{◌≡◌, ◌+ℤ◌, is_some, true, option
 ghost use Rattle.std.specs.FinMap.{get};
 ghost use Rattle.moo_world.specs.Quota.{quota_name, quota_of, quota_moved, quota_returned, has_quota_left};
 ghost use Rattle.moo_world.specs.Rows.{world_of, IsGood};
-ghost use Rattle.moo_props.specs.Keeps.{Keeps};
+ghost use Rattle.moo_world.specs.Keeps.{Keeps};
 ghost use Rattle.moo_props.specs.Names.{name_of};
 ghost use Rattle.moo_props.specs.Quotas.{HasRoom};
 

@@ -2,11 +2,12 @@
 
 ghost use Rattle.std.specs.Prelude.{◌≡◌, ◌++◌, ◌+◌, ◌≤◌, map, length, IfOk, OnOk};
 ghost use Rattle.std.specs.FinMap.{get, entries};
+ghost use Rattle.moo_rows.specs.Maps.{slot_cmp};
 ghost use Rattle.moo_world.specs.Objects.{is_among};
 ghost use Rattle.moo_world.specs.World.{IsTree, reparented};
 ghost use Rattle.moo_world.specs.Rows.{world_of, IsGood};
 ghost use Rattle.moo_world.specs.Laws.{MayReparent};
-ghost use Rattle.moo_props.specs.Keeps.{Keeps};
+ghost use Rattle.moo_world.specs.Keeps.{Keeps};
 ghost use Rattle.moo_props.specs.Reparent.{owners_under, props_only_of, origins, id_of, keys_on, keys_over, without_on, with_fresh, slots_moved, relinked, relinked_list};
 ghost use Rattle.moo_props.specs.Present.{ArePresent, AreAbsent, AreAscending};
 ghost use Rattle.moo_props.specs.Touched.{removed_keys, added_keys, relinked_objects, slot_after, row_after, IsSameButSlotsAndObjects};
@@ -14,7 +15,7 @@ ghost use Rattle.moo_props.specs.Touched.{removed_keys, added_keys, relinked_obj
 use moo_rows::row::{Bits, ObjList, ObjRow, PropId, SlotRow, SlotState};
 use moo_rows::rows::Rows;
 use moo_rows::walk::{each_object, each_prop};
-use moo_tree::{chain, is_under};
+use moo_tree::{Known, chain};
 use moo_value::value::ObjNo;
 use std::alloc::{AllocError, Global};
 use std::marker::Model;
@@ -74,7 +75,7 @@ fn is_among(list: &[ObjNo], x: ObjNo) -> bool
     list.contains(&x)
 }
 
-/// The objects under x with their owners, ascending.
+/// The objects under x with their owners, ascending. Each object is climbed over once.
 pub(crate) fn owners_under<R: Rows>(
     alloc: Global,
     rows: &R,
@@ -83,9 +84,10 @@ pub(crate) fn owners_under<R: Rows>(
     requires { IsTree (world_of (R.held rows.now).maps) }
     ensures { IfOk result (λ v. v.items ≡ owners_under (R.held rows.now).maps x) }
 {
+    let mut known = Known::new(alloc, rows, x);
     let mut found = Vec::new(alloc);
     for (y, row) in each_object(rows) {
-        if is_under(rows, y, x) {
+        if known.is_under(y)? {
             found.push((y, row.owner))?;
         }
     }
@@ -215,7 +217,11 @@ fn relink<R: Rows>(
 }
 
 /// Puts x under another parent: x and all under it lose the slots of definers that they are under no more, and get
-/// fresh ones of those that they are under now.
+/// fresh ones of those that they are under now. What is listed is ascending. Under the present parent nothing is written.
+///
+/// The only error is want of memory, after which the rows may be half changed.
+///
+/// LambdaMOO Programmer's Manual, 'Built-in Functions', `chparent`.
 pub fn reparent<R: Rows>(
     alloc: Global,
     rows: &mut R,
@@ -227,8 +233,8 @@ pub fn reparent<R: Rows>(
     ensures removed { IfOk result (λ touched. touched.removed ≡ removed_keys (R.held rows.old).maps x new) }
     ensures added { IfOk result (λ touched. touched.added ≡ added_keys (R.held rows.old).maps x new) }
     ensures relinked { IfOk result (λ touched. touched.relinked ≡ relinked_objects (R.held rows.old).maps x new) }
-    ensures removed_order { IfOk result (λ touched. AreAscending touched.removed) }
-    ensures added_order { IfOk result (λ touched. AreAscending touched.added) }
+    ensures removed_order { IfOk result (λ touched. AreAscending slot_cmp touched.removed) }
+    ensures added_order { IfOk result (λ touched. AreAscending slot_cmp touched.added) }
     ensures had { OnOk result (ArePresent (R.held rows.old).maps.slots (removed_keys (R.held rows.old).maps x new)) }
     ensures gone { OnOk result (AreAbsent (R.held rows.new).maps.slots (removed_keys (R.held rows.old).maps x new)) }
     ensures lacked { OnOk result (AreAbsent (R.held rows.old).maps.slots (added_keys (R.held rows.old).maps x new)) }

@@ -4,7 +4,9 @@ ghost use Rattle.std.specs.Prelude.{◌≡◌, is_some, true, false, OnOk};
 ghost use Rattle.std.specs.FinMap.{get};
 ghost use Rattle.moo_world.specs.Changes.{cleared, value_set, info_set, with_slot_of};
 ghost use Rattle.moo_world.specs.Rows.{world_of, IsGood};
-ghost use Rattle.moo_props.specs.Keeps.{Keeps};
+ghost use Rattle.moo_world.specs.Arguments.{fits};
+ghost use Rattle.moo_world.specs.World.{state_fits};
+ghost use Rattle.moo_world.specs.Keeps.{Keeps};
 ghost use Rattle.moo_props.specs.Names.{defines, spelling_of};
 
 use moo_rows::row::{Bits, PropId, SlotRow, SlotState};
@@ -22,6 +24,7 @@ pub(crate) fn put_state<R: Rows>(
     requires good { IsGood (R.held rows.old).maps }
     requires has { is_some (get (R.held rows.old).maps.slots (x, id)) ≡ true }
     requires set { state ≡ SlotState.Clear → defines (R.held rows.old).maps x id ≡ false }
+    requires fit { state_fits state ≡ true }
     ensures world { OnOk result (world_of (R.held rows.new).maps ≡ with_slot_of (world_of (R.held rows.old).maps) x (spelling_of (R.held rows.old).maps id) (λ s. record s { state = state })) }
     ensures kept { OnOk result (Keeps (R.held rows.old) (R.held rows.new)) }
 {
@@ -33,7 +36,7 @@ pub(crate) fn put_state<R: Rows>(
     Ok(())
 }
 
-/// Sets the value of a property that x has. The owner and the bits stay.
+/// Sets the value of a property that x has, in which lists nest at most 32 deep. The owner and the bits stay.
 pub fn set_value<R: Rows>(
     rows: &mut R,
     x: ObjNo,
@@ -41,6 +44,7 @@ pub fn set_value<R: Rows>(
     value: Value,
 ) -> Result<(), AllocError>
     requires good { IsGood (R.held rows.old).maps }
+    requires fit { fits value ≡ true }
     requires has { is_some (get (R.held rows.old).maps.slots (x, id)) ≡ true }
     ensures world { OnOk result (world_of (R.held rows.new).maps ≡ value_set (world_of (R.held rows.old).maps) x (spelling_of (R.held rows.old).maps id) value) }
     ensures kept { OnOk result (Keeps (R.held rows.old) (R.held rows.new)) }
@@ -59,7 +63,7 @@ pub fn clear<R: Rows>(rows: &mut R, x: ObjNo, id: PropId) -> Result<(), AllocErr
     put_state(rows, x, id, SlotState::Clear)
 }
 
-/// Sets the owner and the bits of a property on x alone. What x and its descendants read stays.
+/// Sets the owner and the bits of a property on x alone. What x and its descendants read stays, and so does its definition.
 pub fn set_info<R: Rows>(
     alloc: Global,
     rows: &mut R,
@@ -72,6 +76,7 @@ pub fn set_info<R: Rows>(
     requires has { is_some (get (R.held rows.old).maps.slots (x, id)) ≡ true }
     ensures world { OnOk result (world_of (R.held rows.new).maps ≡ info_set (world_of (R.held rows.old).maps) x (spelling_of (R.held rows.old).maps id) owner bits) }
     ensures kept { OnOk result (Keeps (R.held rows.old) (R.held rows.new)) }
+    ensures props { OnOk result ((R.held rows.new).maps.props ≡ (R.held rows.old).maps.props) }
 {
     let state = match rows.slot((x, id)) {
         None => unreachable!(),

@@ -3,7 +3,7 @@
 ghost use Rattle.std.specs.Prelude.{◌≡◌, true, OnOk};
 ghost use Rattle.moo_world.specs.Changes.{undefined};
 ghost use Rattle.moo_world.specs.Rows.{world_of, IsGood};
-ghost use Rattle.moo_props.specs.Keeps.{Keeps};
+ghost use Rattle.moo_world.specs.Keeps.{Keeps};
 ghost use Rattle.moo_props.specs.Names.{defines, spelling_of};
 ghost use Rattle.moo_props.specs.Undefining.{less_over};
 

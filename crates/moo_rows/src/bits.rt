@@ -6,6 +6,14 @@ ghost use Rattle.moo_rows.specs.Bits.{has_letter, has_only, bits_of, verb_bits_o
 use crate::row::{Bits, VerbBits};
 use moo_value::text::MooStr;
 
+/// The letters of rights, by the number whose binary digits they are.
+static LETTERS: [&str; 8] = ["", "c", "w", "wc", "r", "rc", "rw", "rwc"];
+
+/// The same of the rights on a verb.
+static VERB_LETTERS: [&str; 16] = [
+    "", "d", "x", "xd", "w", "wd", "wx", "wxd", "r", "rd", "rx", "rxd", "rw", "rwd", "rwx", "rwxd",
+];
+
 /// Whether a letter stands in a text, in any case.
 fn has_letter(text: &[u8], letter: u8) -> bool
     ensures { result ≡ has_letter text.now letter }
@@ -29,10 +37,7 @@ impl Bits {
         ensures { result ≡ bits_of text.now }
     {
         let text = text.bytes();
-        if !has_only(b"rwc", text) {
-            return None;
-        }
-        Some(Bits {
+        has_only(b"rwc", text).then(|| Bits {
             r: has_letter(text, b'r'),
             w: has_letter(text, b'w'),
             c: has_letter(text, b'c'),
@@ -44,16 +49,7 @@ impl Bits {
         ensures letters { result.now ≡ letters_of self }
         ensures read_again { bits_of result.now ≡ Some self }
     {
-        match (self.r, self.w, self.c) {
-            (false, false, false) => "",
-            (false, false, true) => "c",
-            (false, true, false) => "w",
-            (false, true, true) => "wc",
-            (true, false, false) => "r",
-            (true, false, true) => "rc",
-            (true, true, false) => "rw",
-            (true, true, true) => "rwc",
-        }
+        LETTERS[4 * usize::from(self.r) + 2 * usize::from(self.w) + usize::from(self.c)]
     }
 }
 
@@ -66,10 +62,7 @@ impl VerbBits {
         ensures { result ≡ verb_bits_of text.now }
     {
         let text = text.bytes();
-        if !has_only(b"rwxd", text) {
-            return None;
-        }
-        Some(VerbBits {
+        has_only(b"rwxd", text).then(|| VerbBits {
             r: has_letter(text, b'r'),
             w: has_letter(text, b'w'),
             x: has_letter(text, b'x'),
@@ -82,23 +75,7 @@ impl VerbBits {
         ensures letters { result.now ≡ verb_letters_of self }
         ensures read_again { verb_bits_of result.now ≡ Some self }
     {
-        match (self.r, self.w, self.x, self.d) {
-            (false, false, false, false) => "",
-            (false, false, false, true) => "d",
-            (false, false, true, false) => "x",
-            (false, false, true, true) => "xd",
-            (false, true, false, false) => "w",
-            (false, true, false, true) => "wd",
-            (false, true, true, false) => "wx",
-            (false, true, true, true) => "wxd",
-            (true, false, false, false) => "r",
-            (true, false, false, true) => "rd",
-            (true, false, true, false) => "rx",
-            (true, false, true, true) => "rxd",
-            (true, true, false, false) => "rw",
-            (true, true, false, true) => "rwd",
-            (true, true, true, false) => "rwx",
-            (true, true, true, true) => "rwxd",
-        }
+        let high = 8 * usize::from(self.r) + 4 * usize::from(self.w);
+        VERB_LETTERS[high + 2 * usize::from(self.x) + usize::from(self.d)]
     }
 }

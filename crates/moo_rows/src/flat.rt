@@ -1,11 +1,12 @@
 //! Rows in ordered maps.
 
 ghost use Rattle.std.specs.Prelude.{◌≡◌, IfOk, IsOk};
-ghost use Rattle.std.specs.FinMap as map;
-ghost use Rattle.moo_rows.specs.Maps.{wrote, no_maps};
+ghost use Rattle.moo_rows.specs.Maps.{no_maps, without_object, without_prop, without_slot, without_verb};
+ghost use Rattle.moo_rows.specs.Exact.{object_exact, prop_exact, slot_exact, verb_exact};
+ghost use Rattle.moo_rows.specs.SameRows.{object_row-exact, prop_row-exact, slot_row-exact, verb_row-exact};
 
 use crate::ordered;
-use crate::ordered::Key;
+use crate::ordered::{Key, Row};
 use crate::row::{Head, ObjRow, PropId, PropRow, SlotRow, VerbId, VerbRow};
 use crate::rows::Rows;
 use crate::writes::Writes;
@@ -15,27 +16,35 @@ use std::collections::BTreeMap;
 use std::marker::Model;
 
 impl Key for ObjNo {
-    ghost use Rattle.moo_rows.specs.Exact.{object_exact};
-
     ghost exact = { object_exact };
 }
 
 impl Key for PropId {
-    ghost use Rattle.moo_rows.specs.Exact.{prop_exact};
-
     ghost exact = { prop_exact };
 }
 
 impl Key for (ObjNo, PropId) {
-    ghost use Rattle.moo_rows.specs.Exact.{slot_exact};
-
     ghost exact = { slot_exact };
 }
 
 impl Key for (ObjNo, VerbId) {
-    ghost use Rattle.moo_rows.specs.Exact.{verb_exact};
-
     ghost exact = { verb_exact };
+}
+
+impl Row for ObjRow {
+    ghost exact = { object_row-exact };
+}
+
+impl Row for PropRow {
+    ghost exact = { prop_row-exact };
+}
+
+impl Row for SlotRow {
+    ghost exact = { slot_row-exact };
+}
+
+impl Row for VerbRow {
+    ghost exact = { verb_row-exact };
 }
 
 /// Rows in ordered maps. Its look-ups, next keys and removals take no memory, and its removals never fail.
@@ -92,19 +101,15 @@ impl Flat {
     }
 
     /// Equal rows, with a count of writes of their own. An `Err` is want of memory.
-    pub fn copy(&self, alloc: Global) -> Result<Flat, AllocError>
+    pub fn copy(&self, _alloc: Global) -> Result<Flat, AllocError>
         ensures { IfOk result (λ copy. copy.maps ≡ self.now.maps) }
     {
-        let objects = ordered::copy(alloc, &self.objects)?;
-        let props = ordered::copy(alloc, &self.props)?;
-        let slots = ordered::copy(alloc, &self.slots)?;
-        let verbs = ordered::copy(alloc, &self.verbs)?;
         Ok(Flat {
             head: self.head,
-            objects,
-            props,
-            slots,
-            verbs,
+            objects: self.objects.clone()?,
+            props: self.props.clone()?,
+            slots: self.slots.clone()?,
+            verbs: self.verbs.clone()?,
             writes: Writes::new(),
         })
     }
@@ -122,8 +127,7 @@ impl Rows for Flat {
     }
 
     fn object(&self, key: ObjNo) -> Option<&ObjRow> {
-        let rows = &self.objects;
-        ordered::get(rows, key)
+        ordered::get(&self.objects, key)
     }
 
     fn next_object(&self, from: Option<ObjNo>) -> Option<ObjNo> {
@@ -137,8 +141,7 @@ impl Rows for Flat {
     }
 
     fn remove_object(&mut self, key: ObjNo) -> Result<(), AllocError>
-        ensures ok { self.new ≡ wrote self.old
-            (record (self.old.maps) { objects = map.remove self.old.maps.objects key }) }
+        ensures ok { self.new ≡ without_object self.old key }
         ensures succeeds { IsOk result }
     {
         ordered::remove(&mut self.objects, key);
@@ -161,8 +164,7 @@ impl Rows for Flat {
     }
 
     fn remove_prop(&mut self, key: PropId) -> Result<(), AllocError>
-        ensures ok { self.new ≡ wrote self.old
-            (record (self.old.maps) { props = map.remove self.old.maps.props key }) }
+        ensures ok { self.new ≡ without_prop self.old key }
         ensures succeeds { IsOk result }
     {
         ordered::remove(&mut self.props, key);
@@ -185,8 +187,7 @@ impl Rows for Flat {
     }
 
     fn remove_slot(&mut self, key: (ObjNo, PropId)) -> Result<(), AllocError>
-        ensures ok { self.new ≡ wrote self.old
-            (record (self.old.maps) { slots = map.remove self.old.maps.slots key }) }
+        ensures ok { self.new ≡ without_slot self.old key }
         ensures succeeds { IsOk result }
     {
         ordered::remove(&mut self.slots, key);
@@ -209,8 +210,7 @@ impl Rows for Flat {
     }
 
     fn remove_verb(&mut self, key: (ObjNo, VerbId)) -> Result<(), AllocError>
-        ensures ok { self.new ≡ wrote self.old
-            (record (self.old.maps) { verbs = map.remove self.old.maps.verbs key }) }
+        ensures ok { self.new ≡ without_verb self.old key }
         ensures succeeds { IsOk result }
     {
         ordered::remove(&mut self.verbs, key);

@@ -1,14 +1,13 @@
 //! The rows that a new world begins with.
 
-ghost use Rattle.std.specs.Prelude.{◌≡◌, IfOk, OnOk, None, Some, List, [], ◌∷◌, pos, negsuc, true, false};
+ghost use Rattle.std.specs.Prelude.{◌≡◌, IfOk, OnOk};
 ghost use Rattle.moo_value.specs.Text.{IsText};
 ghost use Rattle.moo_rows.specs.Maps.{no_maps};
-ghost use Rattle.moo_rows.specs.Opening.{opening_maps, plain_row, root_class, first_room, wizard};
+ghost use Rattle.moo_rows.specs.Opening.{opening_maps, plain_row};
 
 use crate::flat::Flat;
 use crate::row::{Head, ObjList, ObjRow};
 use crate::rows::Rows;
-use moo_value::fault::LiteralFault;
 use moo_value::text::MooStr;
 use moo_value::value::ObjNo;
 use std::alloc::{AllocError, Global};
@@ -17,26 +16,12 @@ const NOTHING: ObjNo = ObjNo(-1);
 
 const WIZARD: ObjNo = ObjNo(3);
 
-/// A name as a string. The name is one, so that only memory can be wanting.
-fn text(alloc: Global, name: &[u8]) -> Result<MooStr, AllocError>
-    requires { IsText name.now }
-    ensures { IfOk result (λ text. text ≡ name.now) }
-{
-    match MooStr::from_bytes(alloc, name) {
-        Ok(text) => Ok(text),
-        Err(fault) => match fault {
-            LiteralFault::OutOfMemory => Err(AllocError),
-            _ => unreachable!(),
-        },
-    }
-}
-
 /// An object of the wizard's with no rights, no place and no accept list.
 fn row(alloc: Global, name: &[u8], parent: ObjNo) -> Result<ObjRow, AllocError>
     requires { IsText name.now }
     ensures { IfOk result (λ row. row ≡ plain_row name.now parent) }
 {
-    let name = text(alloc, name)?;
+    let name = MooStr::from_vec(name.to_vec(alloc)?);
     Ok(ObjRow {
         name,
         owner: WIZARD,
@@ -52,35 +37,6 @@ fn row(alloc: Global, name: &[u8], parent: ObjNo) -> Result<ObjRow, AllocError>
     })
 }
 
-fn root_class(alloc: Global) -> Result<ObjRow, AllocError>
-    ensures { IfOk result (λ row. row ≡ root_class) }
-{
-    let mut root = row(alloc, b"Root Class", NOTHING)?;
-    root.f = true;
-    Ok(root)
-}
-
-fn first_room(alloc: Global) -> Result<ObjRow, AllocError>
-    ensures { IfOk result (λ row. row ≡ first_room) }
-{
-    let mut room = row(alloc, b"The First Room", ObjNo(1))?;
-    let mut accept = Vec::new(alloc);
-    accept.push(ObjNo(1))?;
-    room.accept = Some(ObjList::from_vec(accept));
-    Ok(room)
-}
-
-fn wizard(alloc: Global) -> Result<ObjRow, AllocError>
-    ensures { IfOk result (λ row. row ≡ wizard) }
-{
-    let mut wizard = row(alloc, b"Wizard", ObjNo(1))?;
-    wizard.location = ObjNo(2);
-    wizard.player = true;
-    wizard.programmer = true;
-    wizard.wizard = true;
-    Ok(wizard)
-}
-
 /// Puts the rows that a new world begins with where none are: the system object, the root class, the first room and the
 /// wizard. An `Err` is want of memory, and some of them may stand then.
 pub fn put_opening<R: Rows>(rows: &mut R, alloc: Global) -> Result<(), AllocError>
@@ -94,9 +50,18 @@ pub fn put_opening<R: Rows>(rows: &mut R, alloc: Global) -> Result<(), AllocErro
         seq: 0,
     });
     rows.put_object(ObjNo(0), row(alloc, b"System Object", ObjNo(1))?)?;
-    rows.put_object(ObjNo(1), root_class(alloc)?)?;
-    rows.put_object(ObjNo(2), first_room(alloc)?)?;
-    rows.put_object(WIZARD, wizard(alloc)?)?;
+    let mut root_class = row(alloc, b"Root Class", NOTHING)?;
+    root_class.f = true;
+    rows.put_object(ObjNo(1), root_class)?;
+    let mut first_room = row(alloc, b"The First Room", ObjNo(1))?;
+    first_room.accept = Some(ObjList::from_vec(vec![in alloc; ObjNo(1)]?));
+    rows.put_object(ObjNo(2), first_room)?;
+    let mut wizard = row(alloc, b"Wizard", ObjNo(1))?;
+    wizard.location = ObjNo(2);
+    wizard.player = true;
+    wizard.programmer = true;
+    wizard.wizard = true;
+    rows.put_object(WIZARD, wizard)?;
     Ok(())
 }
 

@@ -1,6 +1,7 @@
 //! The rows of the four maps.
 
-ghost use Rattle.std.specs.Prelude.{◌≡◌, ◌↔◌, IfOk, IsTrue};
+ghost use Rattle.std.specs.Prelude.{◌≡◌, IfOk};
+ghost use Rattle.moo_rows.specs.Equal.{list_eq, list_laws};
 
 use moo_value::text::MooStr;
 use moo_value::value::{ObjNo, Value};
@@ -16,7 +17,7 @@ pub struct PropId(pub u32);
 pub struct VerbId(pub u32);
 
 /// A list of objects, in the order given. Objects may stand in it more than once.
-#[derive(Drop)]
+#[derive(Clone, Drop)]
 pub struct ObjList {
     items: Vec<ObjNo>,
 }
@@ -28,6 +29,16 @@ impl Model for ObjList {
     ghost Value = { List ObjNo };
 
     ghost view = { λ a. a.items.items };
+}
+
+impl PartialEq for ObjList {
+    ghost eq = { list_eq };
+
+    ghost laws = { list_laws };
+
+    fn eq(&self, other: &ObjList) -> bool {
+        self.items() == other.items()
+    }
 }
 
 impl ObjList {
@@ -44,27 +55,12 @@ impl ObjList {
     {
         self.items.as_slice()
     }
-
-    /// Whether two lists are equal.
-    pub fn same(&self, other: &ObjList) -> bool
-        ensures { IsTrue result ↔ (self.now ≡ other.now) }
-    {
-        self.items() == other.items()
-    }
-
-    /// An equal list. An `Err` is want of memory.
-    pub fn copy(&self, alloc: Global) -> Result<ObjList, AllocError>
-        ensures { IfOk result (λ copy. copy ≡ self.now) }
-    {
-        let items = self.items.as_slice().to_vec(alloc)?;
-        Ok(ObjList { items })
-    }
 }
 
 /// An object. Its children and contents are those objects whose rows name it as parent and location.
 ///
 /// See "Fundamental Object Attributes" in the chapter on the database of the LambdaMOO Programmer's Manual.
-#[derive(Drop)]
+#[derive(Clone, PartialEq, Drop)]
 pub struct ObjRow {
     pub name: MooStr,
     pub owner: ObjNo,
@@ -85,11 +81,29 @@ pub struct ObjRow {
     pub accept: Option<ObjList>,
 }
 
+impl ObjRow {
+    /// An equal row. An `Err` is want of memory.
+    pub fn copy(&self, _alloc: Global) -> Result<ObjRow, AllocError>
+        ensures { IfOk result (λ copy. copy ≡ self.now) }
+    {
+        self.clone()
+    }
+}
+
 /// A property, by the object that defines it.
-#[derive(Drop)]
+#[derive(Clone, PartialEq, Drop)]
 pub struct PropRow {
     pub definer: ObjNo,
     pub name: MooStr,
+}
+
+impl PropRow {
+    /// An equal row. An `Err` is want of memory.
+    pub fn copy(&self, _alloc: Global) -> Result<PropRow, AllocError>
+        ensures { IfOk result (λ copy. copy ≡ self.now) }
+    {
+        self.clone()
+    }
 }
 
 /// The rights on a property.
@@ -106,19 +120,37 @@ pub struct Bits {
 }
 
 /// What a slot holds.
-#[derive(Drop)]
+#[derive(Clone, PartialEq, Drop)]
 pub enum SlotState {
     /// No value of its own: it reads as the parent's slot of that property.
     Clear,
     Set(Value),
 }
 
+impl SlotState {
+    /// An equal state. An `Err` is want of memory.
+    pub fn copy(&self, _alloc: Global) -> Result<SlotState, AllocError>
+        ensures { IfOk result (λ copy. copy ≡ self.now) }
+    {
+        self.clone()
+    }
+}
+
 /// A slot: what one property is on one object, the definer or a descendant of it.
-#[derive(Drop)]
+#[derive(Clone, PartialEq, Drop)]
 pub struct SlotRow {
     pub owner: ObjNo,
     pub bits: Bits,
     pub state: SlotState,
+}
+
+impl SlotRow {
+    /// An equal row. An `Err` is want of memory.
+    pub fn copy(&self, _alloc: Global) -> Result<SlotRow, AllocError>
+        ensures { IfOk result (λ copy. copy ≡ self.now) }
+    {
+        self.clone()
+    }
 }
 
 /// The rights on a verb.
@@ -181,13 +213,22 @@ pub struct ArgSpec {
 }
 
 /// A verb.
-#[derive(Drop)]
+#[derive(Clone, PartialEq, Drop)]
 pub struct VerbRow {
     /// Its names, between spaces.
     pub names: MooStr,
     pub owner: ObjNo,
     pub bits: VerbBits,
     pub args: ArgSpec,
+}
+
+impl VerbRow {
+    /// An equal row. An `Err` is want of memory.
+    pub fn copy(&self, _alloc: Global) -> Result<VerbRow, AllocError>
+        ensures { IfOk result (λ copy. copy ≡ self.now) }
+    {
+        self.clone()
+    }
 }
 
 /// The counters.
@@ -201,120 +242,4 @@ pub struct Head {
     pub next_verb: u32,
     /// How many batches were accepted.
     pub seq: u64,
-}
-
-/// Whether two accept lists are equal. No list and the empty one differ.
-fn same_accept(a: &Option<ObjList>, b: &Option<ObjList>) -> bool
-    ensures { IsTrue result ↔ (a.now ≡ b.now) }
-{
-    match (a, b) {
-        (None, None) => true,
-        (Some(a), Some(b)) => a.same(b),
-        _ => false,
-    }
-}
-
-impl PropRow {
-    /// Whether two rows are equal.
-    pub fn same(&self, other: &PropRow) -> bool
-        ensures { IsTrue result ↔ (self.now ≡ other.now) }
-    {
-        self.definer == other.definer && self.name.same(&other.name)
-    }
-}
-
-impl SlotRow {
-    /// Whether two rows are equal.
-    pub fn same(&self, other: &SlotRow) -> bool
-        ensures { IsTrue result ↔ (self.now ≡ other.now) }
-    {
-        self.owner == other.owner && self.bits == other.bits && self.state.same(&other.state)
-    }
-}
-
-impl SlotState {
-    /// Whether two states are equal.
-    pub fn same(&self, other: &SlotState) -> bool
-        ensures { IsTrue result ↔ (self.now ≡ other.now) }
-    {
-        match (self, other) {
-            (SlotState::Clear, SlotState::Clear) => true,
-            (SlotState::Set(a), SlotState::Set(b)) => a.same(b),
-            _ => false,
-        }
-    }
-}
-
-impl PrepositionSet {
-    /// Whether two sets are the same.
-    pub fn same(self, other: PrepositionSet) -> bool
-        ensures { IsTrue result ↔ (self ≡ other) }
-    {
-        self == other
-    }
-}
-
-impl Preposition {
-    /// Whether two prepositions are the same.
-    pub fn same(self, other: Preposition) -> bool
-        ensures { IsTrue result ↔ (self ≡ other) }
-    {
-        match (self, other) {
-            (Preposition::None, Preposition::None) => true,
-            (Preposition::Any, Preposition::Any) => true,
-            (Preposition::Set(a), Preposition::Set(b)) => a.same(b),
-            _ => false,
-        }
-    }
-}
-
-impl ArgSpec {
-    /// Whether two verbs take the same arguments.
-    pub fn same(&self, other: &ArgSpec) -> bool
-        ensures { IsTrue result ↔ (self.now ≡ other.now) }
-    {
-        if self.dobj != other.dobj || self.iobj != other.iobj {
-            return false;
-        }
-        self.prep.same(other.prep)
-    }
-}
-
-impl VerbRow {
-    /// Whether two rows are equal.
-    pub fn same(&self, other: &VerbRow) -> bool
-        ensures { IsTrue result ↔ (self.now ≡ other.now) }
-    {
-        if self.owner != other.owner || self.bits != other.bits {
-            return false;
-        }
-        if !self.args.same(&other.args) {
-            return false;
-        }
-        self.names.same(&other.names)
-    }
-}
-
-impl ObjRow {
-    /// Whether two rows are equal.
-    pub fn same(&self, other: &ObjRow) -> bool
-        ensures { IsTrue result ↔ (self.now ≡ other.now) }
-    {
-        if self.owner != other.owner || self.parent != other.parent {
-            return false;
-        }
-        if self.location != other.location || self.player != other.player {
-            return false;
-        }
-        if self.programmer != other.programmer || self.wizard != other.wizard {
-            return false;
-        }
-        if self.r != other.r || self.w != other.w || self.f != other.f {
-            return false;
-        }
-        if !self.name.same(&other.name) {
-            return false;
-        }
-        same_accept(&self.accept, &other.accept)
-    }
 }

@@ -3,7 +3,7 @@
 ghost use Rattle.std.specs.Prelude.{◌≡◌, option_map, OnErr, OnOk};
 ghost use Rattle.std.specs.FinMap as map;
 ghost use Rattle.moo_rows.specs.Ordered.{IsNext};
-ghost use Rattle.moo_rows.specs.Maps.{Held, wrote};
+ghost use Rattle.moo_rows.specs.Maps.{Held, with_object, without_object, with_prop, without_prop, with_slot, without_slot, with_verb, without_verb};
 
 use crate::row::{Head, ObjRow, PropId, PropRow, SlotRow, VerbId, VerbRow};
 use moo_value::value::ObjNo;
@@ -34,18 +34,14 @@ pub trait Rows {
     fn next_object(&self, from: Option<ObjNo>) -> Option<ObjNo>
         ensures { IsNext (held self.now).maps.objects from result };
 
-    /// Sets the row of an object, in place of the one that it has, if any. After an `Err`, want of memory, nothing is changed;
-    /// else the count of writes is one more.
+    /// Sets the row of an object, in place of the one that it has, if any. An `Err` is want of memory.
     fn put_object(&mut self, key: ObjNo, row: ObjRow) -> Result<(), AllocError>
-        ensures ok { OnOk result (held self.new ≡ wrote (held self.old)
-            (record ((held self.old).maps) { objects = map.insert (held self.old).maps.objects key row })) }
+        ensures ok { OnOk result (held self.new ≡ with_object (held self.old) key row) }
         ensures err { OnErr result (held self.new ≡ held self.old) };
 
-    /// Takes the row of an object away; it need not have one. After an `Err`, want of memory, nothing is changed;
-    /// else the count of writes is one more.
+    /// Takes the row of an object away; it need not have one. An `Err` is want of memory.
     fn remove_object(&mut self, key: ObjNo) -> Result<(), AllocError>
-        ensures ok { OnOk result (held self.new ≡ wrote (held self.old)
-            (record ((held self.old).maps) { objects = map.remove (held self.old).maps.objects key })) }
+        ensures ok { OnOk result (held self.new ≡ without_object (held self.old) key) }
         ensures err { OnErr result (held self.new ≡ held self.old) };
 
     /// The row of a property, or none where the map doesn't hold it.
@@ -56,18 +52,14 @@ pub trait Rows {
     fn next_prop(&self, from: Option<PropId>) -> Option<PropId>
         ensures { IsNext (held self.now).maps.props from result };
 
-    /// Sets the row of a property, in place of the one that it has, if any. After an `Err`, want of memory, nothing is changed;
-    /// else the count of writes is one more.
+    /// Sets the row of a property, in place of the one that it has, if any. An `Err` is want of memory.
     fn put_prop(&mut self, key: PropId, row: PropRow) -> Result<(), AllocError>
-        ensures ok { OnOk result (held self.new ≡ wrote (held self.old)
-            (record ((held self.old).maps) { props = map.insert (held self.old).maps.props key row })) }
+        ensures ok { OnOk result (held self.new ≡ with_prop (held self.old) key row) }
         ensures err { OnErr result (held self.new ≡ held self.old) };
 
-    /// Takes the row of a property away; it need not have one. After an `Err`, want of memory, nothing is changed;
-    /// else the count of writes is one more.
+    /// Takes the row of a property away; it need not have one. An `Err` is want of memory.
     fn remove_prop(&mut self, key: PropId) -> Result<(), AllocError>
-        ensures ok { OnOk result (held self.new ≡ wrote (held self.old)
-            (record ((held self.old).maps) { props = map.remove (held self.old).maps.props key })) }
+        ensures ok { OnOk result (held self.new ≡ without_prop (held self.old) key) }
         ensures err { OnErr result (held self.new ≡ held self.old) };
 
     /// The row of a slot, or none where the map doesn't hold it.
@@ -78,18 +70,14 @@ pub trait Rows {
     fn next_slot(&self, from: Option<(ObjNo, PropId)>) -> Option<(ObjNo, PropId)>
         ensures { IsNext (held self.now).maps.slots from result };
 
-    /// Sets the row of a slot, in place of the one that it has, if any. After an `Err`, want of memory, nothing is changed;
-    /// else the count of writes is one more.
+    /// Sets the row of a slot, in place of the one that it has, if any. An `Err` is want of memory.
     fn put_slot(&mut self, key: (ObjNo, PropId), row: SlotRow) -> Result<(), AllocError>
-        ensures ok { OnOk result (held self.new ≡ wrote (held self.old)
-            (record ((held self.old).maps) { slots = map.insert (held self.old).maps.slots key row })) }
+        ensures ok { OnOk result (held self.new ≡ with_slot (held self.old) key row) }
         ensures err { OnErr result (held self.new ≡ held self.old) };
 
-    /// Takes the row of a slot away; it need not have one. After an `Err`, want of memory, nothing is changed;
-    /// else the count of writes is one more.
+    /// Takes the row of a slot away; it need not have one. An `Err` is want of memory.
     fn remove_slot(&mut self, key: (ObjNo, PropId)) -> Result<(), AllocError>
-        ensures ok { OnOk result (held self.new ≡ wrote (held self.old)
-            (record ((held self.old).maps) { slots = map.remove (held self.old).maps.slots key })) }
+        ensures ok { OnOk result (held self.new ≡ without_slot (held self.old) key) }
         ensures err { OnErr result (held self.new ≡ held self.old) };
 
     /// The row of a verb, or none where the map doesn't hold it.
@@ -100,17 +88,13 @@ pub trait Rows {
     fn next_verb(&self, from: Option<(ObjNo, VerbId)>) -> Option<(ObjNo, VerbId)>
         ensures { IsNext (held self.now).maps.verbs from result };
 
-    /// Sets the row of a verb, in place of the one that it has, if any. After an `Err`, want of memory, nothing is changed;
-    /// else the count of writes is one more.
+    /// Sets the row of a verb, in place of the one that it has, if any. An `Err` is want of memory.
     fn put_verb(&mut self, key: (ObjNo, VerbId), row: VerbRow) -> Result<(), AllocError>
-        ensures ok { OnOk result (held self.new ≡ wrote (held self.old)
-            (record ((held self.old).maps) { verbs = map.insert (held self.old).maps.verbs key row })) }
+        ensures ok { OnOk result (held self.new ≡ with_verb (held self.old) key row) }
         ensures err { OnErr result (held self.new ≡ held self.old) };
 
-    /// Takes the row of a verb away; it need not have one. After an `Err`, want of memory, nothing is changed;
-    /// else the count of writes is one more.
+    /// Takes the row of a verb away; it need not have one. An `Err` is want of memory.
     fn remove_verb(&mut self, key: (ObjNo, VerbId)) -> Result<(), AllocError>
-        ensures ok { OnOk result (held self.new ≡ wrote (held self.old)
-            (record ((held self.old).maps) { verbs = map.remove (held self.old).maps.verbs key })) }
+        ensures ok { OnOk result (held self.new ≡ without_verb (held self.old) key) }
         ensures err { OnErr result (held self.new ≡ held self.old) };
 }

@@ -1,3 +1,6 @@
+//! What no clause says: that the definitions mean what the manual means, and that each call succeeds where memory is left.
+ghost use Rattle.std.specs.Iterator.{IsFinite};
+
 use crate::flat::Flat;
 use crate::opening::opening_world;
 use crate::row::*;
@@ -5,7 +8,6 @@ use crate::rows::Rows;
 use crate::walk::*;
 use moo_value::text::MooStr;
 use moo_value::value::{ObjNo, Value};
-use std::alloc::Global;
 use std::test::*;
 
 const LEAST: ObjNo = ObjNo(-2147483648);
@@ -14,56 +16,34 @@ const GREATEST: ObjNo = ObjNo(2147483647);
 
 const LAST: u32 = 4294967295;
 
-/// The objects that `put_ends` puts, and their slots and verbs.
-const ENDS: [ObjNo; 3] = [LEAST, ObjNo(0), GREATEST];
+/// What `put_ends` puts: objects, properties, and the objects with the numbers of their slots and of their verbs.
+const OBJECTS: [ObjNo; 3] = [LEAST, ObjNo(0), GREATEST];
 
-const SLOTS: [(ObjNo, PropId); 6] = [
-    (LEAST, PropId(1)),
-    (LEAST, PropId(LAST)),
-    (ObjNo(0), PropId(1)),
-    (ObjNo(0), PropId(LAST)),
-    (GREATEST, PropId(1)),
-    (GREATEST, PropId(LAST)),
-];
+const PROPS: [PropId; 2] = [PropId(0), PropId(LAST)];
 
-const VERBS: [(ObjNo, VerbId); 6] = [
-    (LEAST, VerbId(1)),
-    (LEAST, VerbId(LAST)),
-    (ObjNo(0), VerbId(1)),
-    (ObjNo(0), VerbId(LAST)),
-    (GREATEST, VerbId(1)),
-    (GREATEST, VerbId(LAST)),
+const PARTS: [(ObjNo, u32); 6] = [
+    (LEAST, 1),
+    (LEAST, LAST),
+    (ObjNo(0), 1),
+    (ObjNo(0), LAST),
+    (GREATEST, 1),
+    (GREATEST, LAST),
 ];
 
 fn text(rt: &HostRuntime, bytes: &[u8]) -> Result<MooStr, Fail> {
     Ok(MooStr::from_bytes(rt.alloc(), bytes)?)
 }
 
-/// A row of the wizard's with no bit set and no accept list.
-fn plain_row(
-    rt: &HostRuntime,
-    name: &[u8],
-    parent: ObjNo,
-    location: ObjNo,
-) -> Result<ObjRow, Fail> {
-    Ok(ObjRow {
-        name: text(rt, name)?,
-        owner: ObjNo(3),
-        parent,
-        location,
-        player: false,
-        programmer: false,
-        wizard: false,
-        r: false,
-        w: false,
-        f: false,
-        accept: None,
-    })
-}
-
-fn objects_are<R: Rows>(rows: &R, want: &[ObjNo]) -> bool {
+/// Whether a walk gives these keys, in this order.
+fn gives<K: PartialEq + Drop, V: Drop, I: Iterator<Item = (K, V)> + Drop>(
+    walk: I,
+    want: &[K],
+) -> bool
+    requires can { I.can_next walk }
+    requires ends { IsFinite (I.remaining walk) }
+{
     let mut rest = want;
-    for (key, _) in each_object(rows) {
+    for (key, _) in walk {
         match rest {
             [first, after @ ..] if *first == key => rest = after,
             _ => return false,
@@ -72,120 +52,14 @@ fn objects_are<R: Rows>(rows: &R, want: &[ObjNo]) -> bool {
     rest.is_empty()
 }
 
-fn props_are<R: Rows>(rows: &R, want: &[PropId]) -> bool {
-    let mut rest = want;
-    for (key, _) in each_prop(rows) {
-        match rest {
-            [first, after @ ..] if *first == key => rest = after,
-            _ => return false,
-        }
-    }
-    rest.is_empty()
-}
-
-fn slots_are<R: Rows>(rows: &R, want: &[(ObjNo, PropId)]) -> bool {
-    let mut rest = want;
-    for (key, _) in each_slot(rows) {
-        match rest {
-            [first, after @ ..] if *first == key => rest = after,
-            _ => return false,
-        }
-    }
-    rest.is_empty()
-}
-
-fn verbs_are<R: Rows>(rows: &R, want: &[(ObjNo, VerbId)]) -> bool {
-    let mut rest = want;
-    for (key, _) in each_verb(rows) {
-        match rest {
-            [first, after @ ..] if *first == key => rest = after,
-            _ => return false,
-        }
-    }
-    rest.is_empty()
-}
-
-fn slots_of_are<R: Rows>(rows: &R, x: ObjNo, from: PropId, want: &[(ObjNo, PropId)]) -> bool {
-    let mut rest = want;
-    for (key, _) in each_slot_of(rows, x, from) {
-        match rest {
-            [first, after @ ..] if *first == key => rest = after,
-            _ => return false,
-        }
-    }
-    rest.is_empty()
-}
-
-fn verbs_of_are<R: Rows>(rows: &R, x: ObjNo, from: VerbId, want: &[(ObjNo, VerbId)]) -> bool {
-    let mut rest = want;
-    for (key, _) in each_verb_of(rows, x, from) {
-        match rest {
-            [first, after @ ..] if *first == key => rest = after,
-            _ => return false,
-        }
-    }
-    rest.is_empty()
-}
-
-fn walks_give(
-    rows: &Flat,
-    objects: &[ObjNo],
-    props: &[PropId],
-    slots: &[(ObjNo, PropId)],
-    verbs: &[(ObjNo, VerbId)],
-) -> bool {
-    objects_are(rows, objects)
-        && props_are(rows, props)
-        && slots_are(rows, slots)
-        && verbs_are(rows, verbs)
-}
-
-fn root_class(rt: &HostRuntime) -> Result<ObjRow, Fail> {
-    let mut row = plain_row(rt, b"Root Class", ObjNo(-1), ObjNo(-1))?;
-    row.f = true;
-    Ok(row)
-}
-
-fn first_room(rt: &HostRuntime) -> Result<ObjRow, Fail> {
-    let mut row = plain_row(rt, b"The First Room", ObjNo(1), ObjNo(-1))?;
-    row.accept = Some(ObjList::from_vec(vec![in rt.alloc(); ObjNo(1)]?));
-    Ok(row)
-}
-
-fn wizard(rt: &HostRuntime) -> Result<ObjRow, Fail> {
-    let mut row = plain_row(rt, b"Wizard", ObjNo(1), ObjNo(2))?;
-    row.player = true;
-    row.programmer = true;
-    row.wizard = true;
-    Ok(row)
-}
-
-fn has_object(rows: &Flat, key: ObjNo, want: ObjRow) -> bool {
-    match rows.object(key) {
-        None => false,
-        Some(row) => row.same(&want),
-    }
-}
-
-fn has_slot(rows: &Flat, key: (ObjNo, PropId), want: SlotRow) -> bool {
-    match rows.slot(key) {
-        None => false,
-        Some(row) => row.same(&want),
-    }
-}
-
-fn has_verb(rows: &Flat, key: (ObjNo, VerbId), want: VerbRow) -> bool {
-    match rows.verb(key) {
-        None => false,
-        Some(row) => row.same(&want),
-    }
-}
-
-fn are_children(rows: &Flat, alloc: Global, x: ObjNo, want: &[ObjNo]) -> bool {
-    match children(rows, alloc, x) {
-        Err(_) => false,
-        Ok(list) => list.items() == want,
-    }
+/// Whether the rows are those of these objects, properties, slots and verbs.
+fn walks_give(rows: &Flat, objects: &[ObjNo], props: &[PropId], parts: &[(ObjNo, u32)]) -> bool {
+    let slots = each_slot(rows).map(|((x, id), row)| ((x, id.0), row));
+    let verbs = each_verb(rows).map(|((x, id), row)| ((x, id.0), row));
+    gives(each_object(rows), objects)
+        && gives(each_prop(rows), props)
+        && gives(slots, parts)
+        && gives(verbs, parts)
 }
 
 #[test]
@@ -199,80 +73,78 @@ fn the_opening_world_is_the_four_objects(rt: HostRuntime) -> Result<(), Fail> {
     };
     assert_eq!(rt; rows.head(), head);
     let objects = [ObjNo(0), ObjNo(1), ObjNo(2), ObjNo(3)];
-    assert!(rt; walks_give(&rows, &objects, &[], &[], &[]));
-    let system = plain_row(&rt, b"System Object", ObjNo(1), ObjNo(-1))?;
-    assert!(rt; has_object(&rows, ObjNo(0), system));
-    assert!(rt; has_object(&rows, ObjNo(1), root_class(&rt)?));
-    assert!(rt; has_object(&rows, ObjNo(2), first_room(&rt)?));
-    assert!(rt; has_object(&rows, ObjNo(3), wizard(&rt)?));
-    let under_root = [ObjNo(0), ObjNo(2), ObjNo(3)];
-    assert!(rt; are_children(&rows, rt.alloc(), ObjNo(1), &under_root));
+    assert!(rt; walks_give(&rows, &objects, &[], &[]));
+    for (number, name, parent, location, is_wizard, is_fertile) in [
+        (0, "System Object", 1, -1, false, false),
+        (1, "Root Class", -1, -1, false, true),
+        (2, "The First Room", 1, -1, false, false),
+        (3, "Wizard", 1, 2, true, false),
+    ] {
+        let row = rows.object(ObjNo(number)).ok_or("no object")?;
+        assert!(rt; row.name.bytes() == name.as_bytes(), "{name}");
+        assert_eq!(rt;
+            [row.owner.0, row.parent.0, row.location.0],
+            [3, parent, location]
+        );
+        assert_eq!(rt; [row.player, row.programmer, row.wizard], [is_wizard; 3]);
+        assert_eq!(rt; [row.r, row.w, row.f], [false, false, is_fertile]);
+        assert_eq!(rt; row.accept.is_some(), number == 2);
+        if let Some(list) = &row.accept {
+            assert!(rt; list.items() == [ObjNo(1)].as_slice());
+        }
+    }
+    let under_root = children(&rows, rt.alloc(), ObjNo(1))?;
+    assert!(rt; under_root.items() == [ObjNo(0), ObjNo(2), ObjNo(3)].as_slice());
     Ok(())
 }
 
-/// What a text of letters says: for a property and for a verb, `-` where it says nothing.
-const LETTERS: [(&str, &str, &str); 13] = [
-    ("", "", ""),
-    ("r", "r", "r"),
-    ("rwc", "rwc", "-"),
-    ("CWR", "rwc", "-"),
-    ("cr", "rc", "-"),
-    ("wwWrw", "rw", "rw"),
-    ("dxwr", "-", "rwxd"),
-    ("XdX", "-", "xd"),
-    ("rw c", "-", "-"),
-    ("rwf", "-", "-"),
-    ("r1", "-", "-"),
-    ("D", "-", "d"),
-    ("{r}", "-", "-"),
-];
-
 #[test]
 fn letters_in_any_order_and_case_are_rights(rt: HostRuntime) -> Result<(), Fail> {
-    for (letters, property, verb) in LETTERS {
+    // What a text of letters says for a property and for a verb, `-` where it says nothing.
+    for (letters, property, verb) in [
+        ("", "", ""),
+        ("r", "r", "r"),
+        ("rwc", "rwc", "-"),
+        ("CWR", "rwc", "-"),
+        ("cr", "rc", "-"),
+        ("wwWrw", "rw", "rw"),
+        ("dxwr", "-", "rwxd"),
+        ("XdX", "-", "xd"),
+        ("rw c", "-", "-"),
+        ("rwf", "-", "-"),
+        ("r1", "-", "-"),
+        ("D", "-", "d"),
+        ("{r}", "-", "-"),
+    ] {
         let letters = text(&rt, letters.as_bytes())?;
-        let read = match Bits::read(&letters) {
-            None => "-",
-            Some(bits) => bits.letters(),
-        };
-        assert_eq!(rt; read, property);
-        let read = match VerbBits::read(&letters) {
-            None => "-",
-            Some(bits) => bits.letters(),
-        };
-        assert_eq!(rt; read, verb);
+        assert_eq!(rt;
+            Bits::read(&letters).map_or("-", |bits| bits.letters()),
+            property
+        );
+        assert_eq!(rt;
+            VerbBits::read(&letters).map_or("-", |bits| bits.letters()),
+            verb
+        );
     }
     Ok(())
 }
 
-fn object_row(rt: &HostRuntime, parent: ObjNo) -> Result<ObjRow, Fail> {
-    Ok(ObjRow {
-        name: text(rt, b"a thing")?,
-        owner: GREATEST,
-        parent,
-        location: LEAST,
-        player: true,
-        programmer: false,
-        wizard: true,
-        r: false,
-        w: true,
-        f: false,
-        accept: Some(ObjList::from_vec(Vec::new(rt.alloc()))),
-    })
-}
-
-fn slot_row(owner: ObjNo, state: SlotState) -> SlotRow {
+fn slot_row(state: SlotState) -> SlotRow {
     let bits = Bits {
         r: true,
         w: false,
         c: true,
     };
-    SlotRow { owner, bits, state }
+    SlotRow {
+        owner: LEAST,
+        bits,
+        state,
+    }
 }
 
-fn verb_row(rt: &HostRuntime, names: &[u8]) -> Result<VerbRow, Fail> {
+fn verb_row(rt: &HostRuntime) -> Result<VerbRow, Fail> {
     Ok(VerbRow {
-        names: text(rt, names)?,
+        names: text(rt, b"get take")?,
         owner: ObjNo(3),
         bits: VerbBits {
             r: true,
@@ -289,85 +161,69 @@ fn verb_row(rt: &HostRuntime, names: &[u8]) -> Result<VerbRow, Fail> {
 }
 
 fn put_ends(rt: &HostRuntime, rows: &mut Flat) -> Result<(), Fail> {
+    let opening = opening_world(rt.alloc())?;
+    let room = opening.object(ObjNo(2)).ok_or("no room")?;
     for key in [GREATEST, ObjNo(0), LEAST] {
-        rows.put_object(key, object_row(rt, LEAST)?)?;
+        rows.put_object(key, room.copy(rt.alloc())?)?;
         for id in [LAST, 1] {
-            rows.put_slot((key, PropId(id)), slot_row(key, SlotState::Clear))?;
-            rows.put_verb((key, VerbId(id)), verb_row(rt, b"get take")?)?;
+            rows.put_slot((key, PropId(id)), slot_row(SlotState::Clear))?;
+            rows.put_verb((key, VerbId(id)), verb_row(rt)?)?;
         }
     }
     for id in [LAST, 0] {
         let name = text(rt, b"a name")?;
-        rows.put_prop(
-            PropId(id),
-            PropRow {
-                definer: LEAST,
-                name,
-            },
-        )?;
+        let definer = LEAST;
+        rows.put_prop(PropId(id), PropRow { definer, name })?;
     }
     Ok(())
-}
-
-/// The walks over one object's rows, at rows put by `put_ends`.
-fn parts_are_walked(rows: &Flat, x: ObjNo) -> bool {
-    slots_of_are(rows, x, PropId(0), &[(x, PropId(1)), (x, PropId(LAST))])
-        && slots_of_are(rows, x, PropId(1), &[(x, PropId(LAST))])
-        && slots_of_are(rows, x, PropId(LAST), &[])
-        && verbs_of_are(rows, x, VerbId(0), &[(x, VerbId(1)), (x, VerbId(LAST))])
-        && verbs_of_are(rows, x, VerbId(1), &[(x, VerbId(LAST))])
-        && verbs_of_are(rows, x, VerbId(LAST), &[])
-}
-
-/// The rows that `put_ends` puts, without those of `remove_first`.
-fn first_are_removed(rows: &Flat) -> bool {
-    let objects = [ObjNo(0), GREATEST];
-    walks_give(rows, &objects, &[PropId(LAST)], &SLOTS[1..], &VERBS[1..])
-        && rows.object(LEAST).is_none()
-        && rows.prop(PropId(0)).is_none()
-        && rows.slot(SLOTS[0]).is_none()
-        && rows.verb(VERBS[0]).is_none()
 }
 
 #[test]
 fn walks_go_from_end_to_end(rt: HostRuntime) -> Result<(), Fail> {
     let mut rows = Flat::new(rt.alloc());
-    assert!(rt; walks_give(&rows, &[], &[], &[], &[]));
-    rows.put_object(GREATEST, object_row(&rt, LEAST)?)?;
-    assert!(rt; walks_give(&rows, &[GREATEST], &[], &[], &[]));
+    assert!(rt; walks_give(&rows, &[], &[], &[]));
+    let opening = opening_world(rt.alloc())?;
+    let room = opening.object(ObjNo(2)).ok_or("no room")?;
+    rows.put_object(GREATEST, room.copy(rt.alloc())?)?;
+    assert!(rt; walks_give(&rows, &[GREATEST], &[], &[]));
     put_ends(&rt, &mut rows)?;
-    assert!(rt; walks_give(&rows, &ENDS, &[PropId(0), PropId(LAST)], &SLOTS, &VERBS));
-    for x in ENDS {
-        assert!(rt; parts_are_walked(&rows, x));
+    assert!(rt; walks_give(&rows, &OBJECTS, &PROPS, &PARTS));
+    for x in OBJECTS {
+        for (last, want) in [
+            (0, [(x, 1), (x, LAST)].as_slice()),
+            (1, &[(x, LAST)]),
+            (LAST, &[]),
+        ] {
+            let slots = each_slot_of(&rows, x, PropId(last));
+            assert!(rt; gives(slots.map(|((x, id), row)| ((x, id.0), row)), want));
+            let verbs = each_verb_of(&rows, x, VerbId(last));
+            assert!(rt; gives(verbs.map(|((x, id), row)| ((x, id.0), row)), want));
+        }
     }
-    assert!(rt; slots_of_are(&rows, ObjNo(1), PropId(0), &[]));
-    assert!(rt; verbs_of_are(&rows, ObjNo(-1), VerbId(0), &[]));
+    assert!(rt; gives(each_slot_of(&rows, ObjNo(1), PropId(0)), &[]));
+    assert!(rt; gives(each_verb_of(&rows, ObjNo(-1), VerbId(0)), &[]));
     Ok(())
-}
-
-fn remove_first(rows: &mut Flat) -> Result<(), Fail> {
-    remove_slots(rows, &[(LEAST, PropId(1)), (ObjNo(7), PropId(7))])?;
-    rows.remove_object(LEAST)?;
-    rows.remove_prop(PropId(0))?;
-    rows.remove_verb((LEAST, VerbId(1)))?;
-    Ok(())
-}
-
-fn seven() -> SlotRow {
-    slot_row(ObjNo(3), SlotState::Set(Value::Int(7)))
 }
 
 #[test]
 fn copies_keep_what_the_rows_lose(rt: HostRuntime) -> Result<(), Fail> {
     let mut rows = Flat::new(rt.alloc());
     put_ends(&rt, &mut rows)?;
-    rows.put_slot(SLOTS[0], seven())?;
+    let (slot, verb) = ((LEAST, PropId(1)), (LEAST, VerbId(1)));
+    let seven = slot_row(SlotState::Set(Value::Int(7)));
+    rows.put_slot(slot, seven.copy(rt.alloc())?)?;
     let copy = rows.copy(rt.alloc())?;
-    remove_first(&mut rows)?;
-    assert!(rt; first_are_removed(&rows));
-    assert!(rt; walks_give(&copy, &ENDS, &[PropId(0), PropId(LAST)], &SLOTS, &VERBS));
-    assert!(rt; has_slot(&copy, SLOTS[0], seven()));
-    assert!(rt; has_slot(&copy, SLOTS[1], slot_row(LEAST, SlotState::Clear)));
-    assert!(rt; has_verb(&copy, VERBS[5], verb_row(&rt, b"get take")?));
+    rows.remove_object(LEAST)?;
+    rows.remove_prop(PropId(0))?;
+    rows.remove_slot(slot)?;
+    rows.remove_slot((ObjNo(7), PropId(7)))?;
+    rows.remove_verb(verb)?;
+    assert!(rt; walks_give(&rows, &OBJECTS[1..], &PROPS[1..], &PARTS[1..]));
+    assert!(rt; rows.object(LEAST).is_none() && rows.prop(PropId(0)).is_none());
+    assert!(rt; rows.slot(slot).is_none() && rows.verb(verb).is_none());
+    assert!(rt; walks_give(&copy, &OBJECTS, &PROPS, &PARTS));
+    assert!(rt; copy.slot(slot) == Some(&seven));
+    assert!(rt; copy.slot((LEAST, PropId(LAST))) == Some(&slot_row(SlotState::Clear)));
+    assert!(rt; copy.verb(verb) == Some(&verb_row(&rt)?));
     Ok(())
 }

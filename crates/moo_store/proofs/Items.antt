@@ -10,16 +10,16 @@ use Rattle.sqlite.specs.Tree.{Trees}
 use Rattle.sqlite.specs.State.{HasCleanDisk}
 use Rattle.sqlite.specs.Store.{Ghosts}
 use Rattle.moo_world.specs.declared.call.Batch.{Batch}
-use Rattle.moo_batch.specs.Items.{between, items}
-use Rattle.moo_batch.specs.Feed.{Carries, TakesNext}
-use Rattle.moo_batch.specs.Replies.{answer_text}
-use Rattle.moo_batch.specs.declared.next.Next.{Next}
-use Rattle.moo_batch.specs.declared.next.Next.TheVariants.{Batch as Whole, Malformed, Truncated, End}
-use Rattle.moo_batch.specs.declared.reply.Answer.{Answer}
-use Rattle.moo_batch.specs.declared.reply.Answer.TheVariants as answer
-use Rattle.moo_batch.specs.declared.reply.Reply.{Reply}
-use Rattle.moo_batch.specs.declared.fault.TextFault.{TextFault}
-use Rattle.moo_batch.specs.declared.fault.TextFault.TheVariants.{Read}
+use Rattle.moo_text.specs.Items.{between, items}
+use Rattle.moo_text.specs.Feed.{Carries, TakesNext}
+use Rattle.moo_text.specs.Replies.{answer_text}
+use Rattle.moo_text.specs.declared.next.Next.{Next}
+use Rattle.moo_text.specs.declared.next.Next.TheVariants.{Batch as Whole, Malformed, Truncated, End}
+use Rattle.moo_text.specs.declared.reply.Answer.{Answer}
+use Rattle.moo_text.specs.declared.reply.Answer.TheVariants as answer
+use Rattle.moo_text.specs.declared.reply.Reply.{Reply}
+use Rattle.moo_text.specs.declared.fault.TextFault.{TextFault}
+use Rattle.moo_text.specs.declared.fault.TextFault.TheVariants.{Read}
 use Rattle.moo_world.specs.Judge.{State, after}
 use Rattle.moo_store.specs.States.{LeavesState}
 use Rattle.moo_store.specs.Answered.{AnsweredOne}

@@ -2,11 +2,11 @@
 use Rattle.std.proofs.Common.{◌≡◌, inl, inr, true, false, List, [], ◌∷◌, ◌++◌, refl, sym, ap, ◌∙◌}
 use Rattle.std.specs.List.{AllByRecursion}
 use Rattle.moo_world.specs.declared.call.Batch.{Batch}
-use Rattle.moo_batch.specs.declared.next.Next.{Next}
-use Rattle.moo_batch.specs.declared.next.Next.TheVariants.{Batch as Whole, Malformed, Truncated, End}
-use Rattle.moo_batch.specs.declared.reply.Reply.{Reply}
-use Rattle.moo_batch.specs.declared.reply.Answer.{Answer}
-use Rattle.moo_batch.specs.declared.reply.Answer.TheVariants as answer
+use Rattle.moo_text.specs.declared.next.Next.{Next}
+use Rattle.moo_text.specs.declared.next.Next.TheVariants.{Batch as Whole, Malformed, Truncated, End}
+use Rattle.moo_text.specs.declared.reply.Reply.{Reply}
+use Rattle.moo_text.specs.declared.reply.Answer.{Answer}
+use Rattle.moo_text.specs.declared.reply.Answer.TheVariants as answer
 use Rattle.moo_world.specs.Judge.{State, judge, after}
 use Rattle.moo_store.specs.Answered.{reply_of, next_of}
 use Rattle.moo_store.specs.Answered.{AnsweredOne}

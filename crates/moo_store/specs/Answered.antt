@@ -3,8 +3,8 @@ use Rattle.std.specs.Prelude.{◌≡◌, ◌⊎◌, List, [], ◌∷◌, length,
 use Rattle.moo_world.specs.declared.call.Batch.{Batch}
 use Rattle.moo_world.specs.Judge as model
 use Rattle.moo_world.specs.Judge.{State, judge, left_by}
-use Rattle.moo_batch.specs.declared.reply.Reply.{Reply}
-use Rattle.moo_batch.specs.declared.reply.Reply.TheVariants.{Accepted, Refused, Full, Stale, NoMemory}
+use Rattle.moo_text.specs.declared.reply.Reply.{Reply}
+use Rattle.moo_text.specs.declared.reply.Reply.TheVariants.{Accepted, Refused, Full, Stale, NoMemory}
 
 abbrev pub reply_of : model.Verdict → Reply
 reply_of (model.Accepted answers next) = Accepted next.seq answers

@@ -6,14 +6,14 @@ use Rattle.sqlite.specs.State.{State as Database, HasCleanDisk}
 use Rattle.sqlite.specs.Tree.{Trees}
 use Rattle.sqlite.specs.Store.{Ghosts}
 use Rattle.moo_world.specs.declared.call.Batch.{Batch}
-use Rattle.moo_batch.specs.Replies.{answer_text}
-use Rattle.moo_batch.specs.declared.next.Next.{Next}
-use Rattle.moo_batch.specs.declared.next.Next.TheVariants.{Batch as Whole, Malformed, Truncated, End}
-use Rattle.moo_batch.specs.declared.fault.TextFault.{TextFault}
-use Rattle.moo_batch.specs.declared.fault.TextFault.TheVariants.{Read}
-use Rattle.moo_batch.specs.declared.reply.Answer.{Answer}
-use Rattle.moo_batch.specs.declared.reply.Answer.TheVariants as answer
-use Rattle.moo_batch.specs.declared.reply.Reply.TheVariants.{Accepted, Refused, Full, Stale, NoMemory}
+use Rattle.moo_text.specs.Replies.{answer_text}
+use Rattle.moo_text.specs.declared.next.Next.{Next}
+use Rattle.moo_text.specs.declared.next.Next.TheVariants.{Batch as Whole, Malformed, Truncated, End}
+use Rattle.moo_text.specs.declared.fault.TextFault.{TextFault}
+use Rattle.moo_text.specs.declared.fault.TextFault.TheVariants.{Read}
+use Rattle.moo_text.specs.declared.reply.Answer.{Answer}
+use Rattle.moo_text.specs.declared.reply.Answer.TheVariants as answer
+use Rattle.moo_text.specs.declared.reply.Reply.TheVariants.{Accepted, Refused, Full, Stale, NoMemory}
 use Rattle.moo_world.specs.Judge.{State, judge, after}
 use Rattle.moo_store.specs.Answered.{reply_of, next_of}
 use Rattle.moo_store.specs.States.{LeavesState}

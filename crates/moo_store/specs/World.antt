@@ -5,7 +5,7 @@ use Rattle.sqlite.specs.Tree.{Trees}
 use Rattle.sqlite.specs.Store.{Ghosts}
 use Rattle.sqlite.specs.Held.{state}
 use Rattle.moo_world.specs.declared.call.Batch.{Batch}
-use Rattle.moo_batch.specs.declared.reply.Reply.{Reply}
+use Rattle.moo_text.specs.declared.reply.Reply.{Reply}
 use Rattle.moo_world.specs.Judge.{State, state_of, after}
 use Rattle.moo_store.specs.States.{Keeps, LeavesState}
 use Rattle.moo_store.specs.Answered.{AnsweredOne}

@@ -2,18 +2,18 @@
 
 ghost use Rattle.std.specs.Prelude.{◌≡◌, ◌<◌, ◌+◌, ◌^◌, cond, ◌++◌, ◌∷◌, ℕ, take, IfOk, IfErr, IfSome, IfNone, IsSome, ◌≢◌, OnOk, OnErr};
 ghost use Rattle.std.specs.Io.KnownBytes.{Appends};
-ghost use Rattle.moo_batch.specs.Items.{items};
-ghost use Rattle.moo_batch.specs.Replies.{answer_text};
+ghost use Rattle.moo_text.specs.Items.{items};
+ghost use Rattle.moo_text.specs.Replies.{answer_text};
 ghost use Rattle.moo_store.specs.World.{IsAt};
 ghost use Rattle.moo_store.specs.Text.{IsAtOrFailed, Answers, Applies, Stops, is_batch, is_lost};
 
 use crate::fault::StoreFault;
 use crate::output::put_all;
 use crate::world::World;
-use moo_batch::fault::TextFault;
-use moo_batch::feed::{Feed, LONGEST_TEXT};
-use moo_batch::next::Next;
-use moo_batch::reply::{Answer, print_answer};
+use moo_text::fault::TextFault;
+use moo_text::feed::{Feed, LONGEST_TEXT};
+use moo_text::next::Next;
+use moo_text::reply::{Answer, print_answer};
 use sqlite::Alter;
 use std::alloc::Global;
 use std::io::{Read, Write};

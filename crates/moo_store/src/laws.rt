@@ -3,9 +3,9 @@
 ghost use Rattle.std.specs.Prelude.{◌≡◌, ◌++◌, true, List};
 ghost use Rattle.std.specs.List.{AllByRecursion};
 ghost use Rattle.moo_world.specs.declared.call.Batch.{Batch};
-ghost use Rattle.moo_batch.specs.declared.next.Next.{Next};
-ghost use Rattle.moo_batch.specs.declared.reply.Reply.{Reply};
-ghost use Rattle.moo_batch.specs.declared.reply.Answer.{Answer};
+ghost use Rattle.moo_text.specs.declared.next.Next.{Next};
+ghost use Rattle.moo_text.specs.declared.reply.Reply.{Reply};
+ghost use Rattle.moo_text.specs.declared.reply.Answer.{Answer};
 ghost use Rattle.moo_world.specs.Judge.{State, after};
 ghost use Rattle.moo_store.specs.Answered.{Answered, acknowledged};
 ghost use Rattle.moo_store.specs.Text.{AnsweredItems, is_plain, replies, batches_of};

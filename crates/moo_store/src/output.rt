@@ -3,7 +3,7 @@
 ghost use Rattle.std.specs.Prelude.{◌≡◌, ℕ, take, IfErr, OnOk, OnErr};
 ghost use Rattle.std.specs.Io.KnownBytes.{Appends};
 
-use moo_batch::fault::TextFault;
+use moo_text::fault::TextFault;
 use std::io::Write;
 
 /// Writes all of the bytes. An error of the writer, or a count of 0, is a fault; a front of the bytes is written then.

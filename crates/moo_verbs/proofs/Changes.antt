@@ -11,7 +11,7 @@ use Rattle.moo_rows.specs.Maps.{Maps}
 use Rattle.moo_world.specs.Rows.{IsGood, look_ups, world_of, world_shown}
 use Rattle.moo_world.specs.World.{IsWellFormed, is_object, has_word}
 use Rattle.moo_world.proofs.Seen.{is_object_seen}
-use Rattle.moo_verbs.specs.Directories.{verb_added, verb_removed, verb_changed, changed_at}
+use Rattle.moo_world.specs.Directories.{verb_added, verb_removed, verb_changed, changed_at}
 use Rattle.moo_verbs.specs.Places.{has_verb, verb_place}
 use Rattle.moo_verbs.proofs.Directories.{put_last, put_changed, removed}
 use Rattle.moo_verbs.proofs.Forms.{stays_formed, added_named, removed_named, changed_named}

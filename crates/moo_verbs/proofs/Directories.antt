@@ -17,7 +17,7 @@ use Rattle.moo_world.specs.Objects.{same_object, same_object-Decides}
 use Rattle.moo_world.specs.World.{World, Record}
 use Rattle.moo_world.specs.Rows.{LookUps, IsSound, look_ups, world_of, world_shown, record_of, verb_id}
 use Rattle.moo_world.proofs.MapLaws.{decided_alike, key-Decides}
-use Rattle.moo_verbs.specs.Directories.{with_verbs, verb_added, verb_removed, verb_changed, verb_at, changed_at}
+use Rattle.moo_world.specs.Directories.{with_verbs, verb_added, verb_removed, verb_changed, verb_at, changed_at}
 use Rattle.moo_verbs.specs.Places.{verb_place}
 use Rattle.moo_verbs.proofs.Numbering.{below, one_more, none_more, get_at, removed_at, changed_below}
 use Rattle.moo_verbs.proofs.Entries.{row_at, verbs_shown, past}

@@ -9,7 +9,7 @@ use Rattle.moo_value.specs.declared.value.ObjNo.{ObjNo}
 use Rattle.moo_rows.specs.declared.row.VerbRow.{VerbRow}
 use Rattle.moo_world.specs.Objects.{same_object}
 use Rattle.moo_world.specs.World.{World, Record, IsWellFormed, KeepsLimits, Climbs, Chain, NamesDiffer, is_object, parent_of, location_of, names_of, owed_by, pair_named, slot_of, accept_of, without_slots, with_slots, is_property_name, has_word}
-use Rattle.moo_verbs.specs.Directories.{changed_at}
+use Rattle.moo_world.specs.Directories.{changed_at}
 use Rattle.moo_verbs.proofs.Directories.{with_directory}
 
 -- ---- each verb has a name
@@ -109,5 +109,6 @@ module _ (w : World) (x : ObjNo) (change : List VerbRow → List VerbRow) (next 
       names = λ y l c. subst NamesDiffer (sym (owed_as_before l)) (formed.names y l (Chain_before y l c));
       slots = λ y l n e c. ap (λ f. option_map (λ s. s.definer) (f y n)) slots ∙ formed.slots y l n (object_before y e) (Chain_before y l c) ∙ ap (λ owed. option_map (λ p. p.0) (pair_named owed n)) (sym (owed_as_before l));
       set = λ y n s e. formed.set y n s (sym (ap (λ f. f y n) slots) ∙ e);
+      fit = λ y n s e. formed.fit y n s (sym (ap (λ f. f y n) slots) ∙ e);
       limits = limits;
     }

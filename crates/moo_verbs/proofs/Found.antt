@@ -11,7 +11,7 @@ use Rattle.moo_rows.specs.Maps.{Maps}
 use Rattle.moo_rows.specs.Walk.{verbs_of_left}
 use Rattle.moo_world.specs.Rows.{IsSound, world_of}
 use Rattle.moo_world.specs.World.{verbs_of}
-use Rattle.moo_verbs.specs.Descriptors.{place_within}
+use Rattle.moo_world.specs.Descriptors.{place_within}
 use Rattle.moo_verbs.specs.Places.{has_verb, verb_place}
 use Rattle.moo_verbs.proofs.Entries.{Entry, row_at, made, by_number, walked, verbs_shown}
 use Rattle.moo_verbs.proofs.Numbering.{placed, made_at, map-made}

@@ -9,7 +9,7 @@ use Rattle.std.proofs.lemmas.List.{map-append}
 use Rattle.std.proofs.lemmas.Option.{none-some, same_Some, slice_get_within}
 use Rattle.moo_rows.specs.declared.row.VerbRow.{VerbRow}
 use Rattle.moo_world.specs.Rows.{numbers_below}
-use Rattle.moo_verbs.specs.Directories.{changed_at}
+use Rattle.moo_world.specs.Directories.{changed_at}
 
 -- ---- lists with one element between a front and a back
 

@@ -9,7 +9,7 @@ use Rattle.std.proofs.lemmas.List.{length-append, length-map, map-append, take-a
 use Rattle.std.proofs.Math.Seq.{take-append_seam, drop-append_seam, drop-append-add}
 use Rattle.moo_world.specs.Objects.{Name, folded, same_text-Decides}
 use Rattle.moo_verbs.specs.Laws.{MatchesStar, StarsMatch, NamesMatch}
-use Rattle.moo_verbs.specs.Matching.{is_star, is_empty, same_name, begins_with, matches_around, matches, matches_at}
+use Rattle.moo_world.specs.Matching.{is_star, is_empty, same_name, begins_with, matches_around, matches, matches_at}
 
 -- ---- what a text begins with
 

@@ -5,8 +5,8 @@ use Rattle.moo_rows.specs.declared.row.Preposition.TheVariants.{None as no_prepo
 use Rattle.moo_rows.specs.declared.row.PrepositionSet.TheVariants.{With}
 use Rattle.moo_world.specs.Objects.{Name, same_text, folded}
 use Rattle.moo_verbs.specs.Laws.{PhrasesAreRead}
-use Rattle.moo_verbs.specs.Prepositions.{prep_text}
-use Rattle.moo_verbs.specs.Reading.{prep_of}
+use Rattle.moo_world.specs.Prepositions.{prep_text}
+use Rattle.moo_world.specs.VerbReading.{prep_of}
 
 -- each text is read as what it is the text of
 pub prep_read_again : (prep : Preposition) → prep_of (prep_text prep) ≡ Some prep

@@ -5,8 +5,8 @@ use Rattle.std.specs.List.{list_any}
 use Rattle.moo_rows.specs.declared.row.Preposition.TheVariants.{Set}
 use Rattle.moo_rows.specs.declared.row.PrepositionSet.{PrepositionSet}
 use Rattle.moo_world.specs.Objects.{Name, folded}
-use Rattle.moo_verbs.specs.Matching.{is_star, matches}
-use Rattle.moo_verbs.specs.Reading.{phrases, prep_of}
+use Rattle.moo_world.specs.Matching.{is_star, matches}
+use Rattle.moo_world.specs.VerbReading.{phrases, prep_of}
 
 -- each phrase of a set is read as that set, so no phrase stands in two
 abbrev pub PhrasesAreRead : Type 0

@@ -1,15 +1,11 @@
 -- Where a verb of the rows stands in the directory of its object.
-use Rattle.std.specs.Prelude.{ℕ, Bool, Option, length, is_some}
+use Rattle.std.specs.Prelude.{ℕ, Bool, length, is_some}
 use Rattle.std.specs.FinMap.{get}
 use Rattle.std.specs.List.{filter_map}
 use Rattle.moo_value.specs.declared.value.ObjNo.{ObjNo}
 use Rattle.moo_rows.specs.declared.row.VerbId.{VerbId}
 use Rattle.moo_rows.specs.Maps.{Maps}
-use Rattle.moo_verbs.specs.declared.find.Desc.{Desc}
-use Rattle.moo_verbs.specs.declared.find.Desc.TheVariants.{Index, Name as a_name}
 use Rattle.moo_world.specs.Rows.{LookUps, look_ups, numbers_below}
-use Rattle.moo_world.specs.World.{World}
-use Rattle.moo_verbs.specs.Descriptors.{verb_by_number, verb_by_word}
 
 abbrev pub has_verb : Maps → ObjNo → VerbId → Bool
 has_verb m x id = is_some (get m.verbs (x, id))
@@ -20,8 +16,3 @@ verbs_before m x id = length (filter_map (m.verb x) (numbers_below id))
 
 abbrev pub verb_place : Maps → ObjNo → VerbId → ℕ
 verb_place m x id = verbs_before (look_ups m) x id.0
-
--- the place of the verb that a descriptor names
-abbrev pub described : World → ObjNo → Desc → Option ℕ
-described w x (Index number) = verb_by_number w x number
-described w x (a_name word) = verb_by_word w x word

@@ -3,9 +3,9 @@
 ghost use Rattle.std.specs.Prelude.{◌≡◌, ◌<◌, true, map, IfOk, OnOk};
 ghost use Rattle.moo_world.specs.Rows.{world_of, IsSound, IsGood};
 ghost use Rattle.moo_world.specs.World.{is_object, has_word, verbs_of};
-ghost use Rattle.moo_verbs.specs.Directories.{verb_added, verb_removed, verb_info_set, verb_args_set};
+ghost use Rattle.moo_world.specs.Directories.{verb_added, verb_removed, verb_info_set, verb_args_set};
 ghost use Rattle.moo_verbs.specs.Places.{has_verb, verb_place};
-ghost use Rattle.moo_verbs.specs.Keeps.{Keeps};
+ghost use Rattle.moo_world.specs.Keeps.{Keeps};
 
 use moo_rows::row::{ArgSpec, VerbBits, VerbId, VerbRow};
 use moo_rows::rows::Rows;

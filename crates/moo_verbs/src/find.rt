@@ -4,10 +4,10 @@ ghost use Rattle.std.specs.Prelude.{◌≡◌, true, Some, option_map, slice_get
 ghost use Rattle.std.specs.List.{find};
 ghost use Rattle.moo_rows.specs.Walk.{verbs_of_left};
 ghost use Rattle.moo_world.specs.Rows.{world_of, IsSound};
-ghost use Rattle.moo_verbs.specs.Matching.{one_matches};
-ghost use Rattle.moo_verbs.specs.Descriptors.{place_numbered};
-ghost use Rattle.moo_verbs.specs.Directories.{verb_at};
-ghost use Rattle.moo_verbs.specs.Places.{has_verb, verb_place, described};
+ghost use Rattle.moo_world.specs.Matching.{one_matches};
+ghost use Rattle.moo_world.specs.Descriptors.{place_numbered, described, found_verb};
+ghost use Rattle.moo_world.specs.Directories.{verb_at};
+ghost use Rattle.moo_verbs.specs.Places.{has_verb, verb_place};
 
 use crate::matching::one_matches;
 use moo_rows::row::{VerbId, VerbRow};
@@ -15,13 +15,7 @@ use moo_rows::rows::Rows;
 use moo_rows::walk::each_verb_of;
 use moo_value::text::MooStr;
 use moo_value::value::ObjNo;
-
-/// What names a verb of an object: its number in the directory, from 1 on, or a word that one of its names matches.
-#[derive(Drop)]
-pub enum Desc {
-    Index(i32),
-    Name(MooStr),
-}
+use moo_world::descriptor::Desc;
 
 /// The place of a number from 1 on.
 fn place_numbered(number: &i32) -> Option<usize>
@@ -93,5 +87,30 @@ pub fn verb<R: Rows>(rows: &R, x: ObjNo, id: VerbId) -> &VerbRow
     match rows.verb((x, id)) {
         None => unreachable!(),
         Some(row) => row,
+    }
+}
+
+/// A verb of an object, with its number.
+#[derive(Clone, Copy)]
+pub struct Found<'a> {
+    pub id: VerbId,
+    pub row: &'a VerbRow,
+}
+
+/// The verb of x that a descriptor names, as `find_verb` finds it, with its row.
+///
+/// See "Operations on Verbs" in the LambdaMOO Programmer's Manual.
+pub fn found_verb<'a, R: Rows>(rows: &'a R, x: ObjNo, desc: &Desc) -> Option<Found<'a>>
+    requires { IsSound (R.held rows.now).maps }
+    ensures verb { option_map (λ f. (verb_place (R.held rows.now).maps x f.id, f.row.now)) result
+        ≡ found_verb (world_of (R.held rows.now).maps) x desc.now }
+    ensures held { IfSome result (λ f. has_verb (R.held rows.now).maps x f.id ≡ true) }
+{
+    match find_verb(rows, x, desc) {
+        None => None,
+        Some(id) => Some(Found {
+            id,
+            row: verb(rows, x, id),
+        }),
     }
 }

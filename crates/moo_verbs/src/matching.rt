@@ -2,7 +2,7 @@
 
 ghost use Rattle.std.specs.Prelude.{◌≡◌, ◌==◌, ◌<◌, length, take, drop, IfSome};
 ghost use Rattle.std.specs.List.{position};
-ghost use Rattle.moo_verbs.specs.Matching.{same_name, begins_with, matches_around, matches, one_matches};
+ghost use Rattle.moo_world.specs.Matching.{same_name, begins_with, matches_around, matches, one_matches};
 
 /// Whether two names are equal but for the case of their letters.
 #[tactic(auto, unfolding(moo_world::specs::Objects::same_text, moo_world::specs::Objects::folded))]

@@ -2,8 +2,8 @@
 
 ghost use Rattle.std.specs.Prelude.{◌≡◌, Some};
 ghost use Rattle.moo_value.specs.Text.{IsText};
-ghost use Rattle.moo_verbs.specs.Prepositions.{set_text, prep_text, place_text};
-ghost use Rattle.moo_verbs.specs.Reading.{prep_of, place_of};
+ghost use Rattle.moo_world.specs.Prepositions.{set_text, prep_text, place_text};
+ghost use Rattle.moo_world.specs.VerbReading.{prep_of, place_of};
 
 use moo_rows::row::{Place, Preposition, PrepositionSet};
 

@@ -1,10 +1,11 @@
 //! What is said of a verb, as it is read: its names, its rights and its arguments.
 
 ghost use Rattle.std.specs.Prelude.{◌≡◌, ◌==◌, Ok, Err, ok_or, if◌then◌else◌};
+ghost use Rattle.moo_value.specs.Text.{IsText};
 ghost use Rattle.moo_rows.specs.Bits.{verb_bits_of, verb_letters_of};
 ghost use Rattle.moo_world.specs.World.{has_word};
 ghost use Rattle.std.specs.List.{before_first};
-ghost use Rattle.moo_verbs.specs.Reading.{is_slash, has_phrase, first_with, prep_of, place_of, args_of};
+ghost use Rattle.moo_world.specs.VerbReading.{is_slash, has_phrase, first_with, prep_of, place_of, args_of};
 
 use crate::fault::VerbFault;
 use crate::matching::{first, same_name};
@@ -47,6 +48,7 @@ pub fn read_bits(text: &MooStr) -> Result<VerbBits, VerbFault>
 /// See `verb_info()` in the LambdaMOO Programmer's Manual.
 pub fn bits_letters(bits: VerbBits) -> &'static str
     ensures letters { result.now ≡ verb_letters_of bits }
+    ensures text { IsText result.now }
     ensures read_again { verb_bits_of result.now ≡ Some bits }
 {
     bits.letters()

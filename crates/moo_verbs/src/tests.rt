@@ -4,7 +4,7 @@ ghost use Rattle.moo_verbs.specs.Places.{has_verb};
 
 use crate::directory::{add, delete, list, set_args, set_info};
 use crate::fault::VerbFault;
-use crate::find::{Desc, find_verb, verb};
+use crate::find::{find_verb, verb};
 use crate::matching::{matches, one_matches};
 use crate::prep::{print_place, print_prep};
 use crate::reading::{bits_letters, check_names, read_args, read_bits, read_prep};
@@ -14,6 +14,7 @@ use moo_rows::rows::Rows;
 use moo_tree::valid;
 use moo_value::text::MooStr;
 use moo_value::value::ObjNo;
+use moo_world::descriptor::Desc;
 use moo_world::opening::good_opening;
 use std::test::*;
 

@@ -3,7 +3,7 @@ use Rattle.std.proofs.Common.{◌≡◌, ℕ, Bool, true, false, cond, List, [],
 use Rattle.std.specs.List.{find}
 use Rattle.std.proofs.lemmas.Option.{none-some, same_Some}
 use Rattle.moo_world.specs.declared.name.CallName.{CallName}
-use Rattle.moo_world.specs.declared.name.CallName.TheVariants.{Create, MaxObject, Get, Set}
+use Rattle.moo_world.specs.declared.name.CallName.TheVariants.{Valid, Parent, Children, IsPlayer, Players, MaxObject, Get, Properties, PropertyInfo, IsClearProperty, Verbs, VerbInfo, VerbArgs, AcceptList, Create, Chparent, Recycle, Move, SetPlayerFlag, Set, AddProperty, DeleteProperty, SetPropertyInfo, ClearProperty, AddVerb, DeleteVerb, SetVerbInfo, SetVerbArgs, SetAccept}
 use Rattle.moo_world.specs.Objects.{same_text, same_text-Decides}
 use Rattle.moo_world.specs.Names.{spelling, all_names}
 
@@ -21,10 +21,35 @@ spelled bytes = find (λ name. same_text bytes (spelling name)) all_names
 
 spelled-spelling : (name : CallName) → spelled (spelling name) ≡ Some name
 unfolding same_text
-spelled-spelling Create = refl
+spelled-spelling Valid = refl
+spelled-spelling Parent = refl
+spelled-spelling Children = refl
+spelled-spelling IsPlayer = refl
+spelled-spelling Players = refl
 spelled-spelling MaxObject = refl
 spelled-spelling Get = refl
+spelled-spelling Properties = refl
+spelled-spelling PropertyInfo = refl
+spelled-spelling IsClearProperty = refl
+spelled-spelling Verbs = refl
+spelled-spelling VerbInfo = refl
+spelled-spelling VerbArgs = refl
+spelled-spelling AcceptList = refl
+spelled-spelling Create = refl
+spelled-spelling Chparent = refl
+spelled-spelling Recycle = refl
+spelled-spelling Move = refl
+spelled-spelling SetPlayerFlag = refl
 spelled-spelling Set = refl
+spelled-spelling AddProperty = refl
+spelled-spelling DeleteProperty = refl
+spelled-spelling SetPropertyInfo = refl
+spelled-spelling ClearProperty = refl
+spelled-spelling AddVerb = refl
+spelled-spelling DeleteVerb = refl
+spelled-spelling SetVerbInfo = refl
+spelled-spelling SetVerbArgs = refl
+spelled-spelling SetAccept = refl
 
 pub spelled_is : (bytes : List ℕ) (name : CallName) → (spelled bytes ≡ Some name) ↔ (bytes ≡ spelling name)
 spelled_is bytes name = (λ e. (same_text-Decides bytes (spelling name)).0 (find_passes (λ n. same_text bytes (spelling n)) all_names name e), λ e. ap spelled e ∙ spelled-spelling name)

@@ -163,6 +163,7 @@ well_formed = record {
   names = λ x l c. subst NamesDiffer (sym (none_owed l)) none_differ;
   slots = λ x l n is c. ap (option_map (λ (s : Slot). s.definer)) (no_slot x n) ∙ sym (ap (λ owed. option_map (λ (p : Pair). p.0) (pair_named owed n)) (none_owed l));
   set = λ x n s e d c. none_some s (sym (no_slot x n) ∙ e);
+  fit = λ x n s e. absurd (none_some s (sym (no_slot x n) ∙ e));
   limits = limits;
 }
 

@@ -24,10 +24,10 @@ use Rattle.moo_world.specs.Step.{step}
 use Rattle.moo_world.specs.Judge.{Verdict, Accepted, Refused, NoRoom, Stale, judge}
 use Rattle.moo_world.specs.Rows.{LookUps, world_shown}
 
-abbrev no : ℕ → ObjNo
+abbrev pub no : ℕ → ObjNo
 no n = record { 0 = pos n }
 
-abbrev row : ObjNo → ObjRow
+abbrev pub row : ObjNo → ObjRow
 row parent = record { name = []; owner = no 3; parent = parent; location = nothing; player = false; programmer = false; wizard = false; r = false; w = false; f = false; accept = None }
 
 abbrev reading : Bits
@@ -55,7 +55,7 @@ rows_T = record {
   verb = λ x id. None;
 }
 
-abbrev T : World
+abbrev pub T : World
 T = world_shown rows_T
 
 chain_of_6 : chain T (no 6) ≡ no 6 ∷ no 5 ∷ no 4 ∷ no 1 ∷ []

@@ -1,24 +1,47 @@
--- What a call is given. A wrong number of arguments is E_ARGS, and a wrong type E_TYPE.
-use Rattle.std.specs.Prelude.{ℕ, nat_le, Bool, List, [], ◌∷◌, Result, Ok, Err}
+-- What a call is given. A wrong number of arguments is E_ARGS, and a wrong type E_TYPE, which is also said of the length of a
+-- list of an owner and rights and of what stands in it.
+use Rattle.std.specs.Prelude.{ℕ, nat_le, pos, Bool, List, [], ◌∷◌, Option, Some, None, Result, Ok, Err, ok_or, if◌then◌else◌}
+use Rattle.std.specs.Option.{option_map}
+use Rattle.std.specs.Ordering.{int_eq}
 use Rattle.moo_value.specs.declared.code.Code.{Code}
 use Rattle.moo_value.specs.declared.code.Code.TheVariants.{«Type» as wrong_type, Arguments}
 use Rattle.moo_value.specs.declared.value.ObjNo.{ObjNo}
 use Rattle.moo_value.specs.declared.value.Value.{Value}
-use Rattle.moo_value.specs.declared.value.Value.TheVariants.{Obj, Str}
-use Rattle.moo_value.specs.Value.{nesting}
+use Rattle.moo_value.specs.declared.value.Value.TheVariants.{Int, Obj, Str, List as a_list}
+use Rattle.moo_value.specs.Value.{nesting, spread}
+use Rattle.moo_world.specs.declared.descriptor.Desc.{Desc}
+use Rattle.moo_world.specs.declared.descriptor.Desc.TheVariants.{Index, Name as a_word}
+use Rattle.moo_world.specs.Objects.{Name}
 
 -- lists nest at most 32 deep in the value
 abbrev pub fits : Value → Bool
 fits v = nat_le (nesting v) 32
 
+-- ---- objects, names and values
+
 abbrev pub no_values : List Value → Result (Unit {0}) Code
 no_values [] = Ok tt
 no_values args = Err Arguments
+
+abbrev pub one_object : List Value → Result ObjNo Code
+one_object (Obj x ∷ []) = Ok x
+one_object (a ∷ []) = Err wrong_type
+one_object args = Err Arguments
+
+abbrev pub two_objects : List Value → Result (ObjNo × ObjNo) Code
+two_objects (Obj x ∷ Obj y ∷ []) = Ok (x, y)
+two_objects (a ∷ b ∷ []) = Err wrong_type
+two_objects args = Err Arguments
 
 abbrev pub object_and_text : List Value → Result (ObjNo × List ℕ) Code
 object_and_text (Obj x ∷ Str name ∷ []) = Ok (x, name)
 object_and_text (a ∷ b ∷ []) = Err wrong_type
 object_and_text args = Err Arguments
+
+abbrev pub object_and_value : List Value → Result (ObjNo × Value) Code
+object_and_value (Obj x ∷ v ∷ []) = Ok (x, v)
+object_and_value (a ∷ b ∷ []) = Err wrong_type
+object_and_value args = Err Arguments
 
 abbrev pub object_text_and_value : List Value → Result (ObjNo × List ℕ × Value) Code
 object_text_and_value (Obj x ∷ Str name ∷ v ∷ []) = Ok (x, name, v)
@@ -32,3 +55,98 @@ parent_and_owner p (Obj q ∷ Obj owner ∷ []) = Ok (q, owner)
 parent_and_owner p (a ∷ []) = Err wrong_type
 parent_and_owner p (a ∷ b ∷ []) = Err wrong_type
 parent_and_owner p args = Err Arguments
+
+-- an object with what was read beside it, or the wrong type
+abbrev pub with_object : {A : Type 0} → ObjNo → Option A → Result (ObjNo × A) Code
+with_object x found = ok_or (option_map (λ a. (x, a)) found) wrong_type
+
+-- ---- accept lists
+
+-- the objects of a list that has only objects
+abbrev pub objects_among : List Value → Option (List ObjNo)
+objects_among [] = Some []
+objects_among (Obj x ∷ vs) = option_map (λ l. x ∷ l) (objects_among vs)
+objects_among (v ∷ vs) = None
+
+-- what set_accept takes: an object, and a list of objects, or 0 for none
+abbrev pub object_and_accept : List Value → Result (ObjNo × Option (List ObjNo)) Code
+object_and_accept (Obj x ∷ a_list l ∷ []) = with_object x (option_map Some (objects_among (spread l)))
+object_and_accept (Obj x ∷ Int n ∷ []) = if int_eq n (pos 0) then Ok (x, None) else Err wrong_type
+object_and_accept (a ∷ b ∷ []) = Err wrong_type
+object_and_accept args = Err Arguments
+
+-- ---- properties
+
+-- an owner and the letters of rights
+abbrev pub Info : Type 0
+Info = ObjNo × List ℕ
+
+-- {owner, perms}
+abbrev pub info_in : List Value → Option Info
+info_in (Obj owner ∷ Str perms ∷ []) = Some (owner, perms)
+info_in other = None
+
+-- {owner, perms} or {owner, perms, new-name}
+abbrev pub info_and_name_in : List Value → Option (Info × Option Name)
+info_and_name_in (Obj owner ∷ Str perms ∷ []) = Some ((owner, perms), None)
+info_and_name_in (Obj owner ∷ Str perms ∷ Str name ∷ []) = Some ((owner, perms), Some name)
+info_and_name_in other = None
+
+-- what add_property takes
+abbrev pub new_property : List Value → Result (ObjNo × (Name × Value × Info)) Code
+new_property (Obj x ∷ Str name ∷ v ∷ a_list info ∷ []) = with_object x (option_map (λ i. (name, v, i)) (info_in (spread info)))
+new_property (a ∷ b ∷ c ∷ d ∷ []) = Err wrong_type
+new_property args = Err Arguments
+
+-- what set_property_info takes
+abbrev pub new_property_info : List Value → Result (ObjNo × (Name × (Info × Option Name))) Code
+new_property_info (Obj x ∷ Str name ∷ a_list info ∷ []) = with_object x (option_map (λ i. (name, i)) (info_and_name_in (spread info)))
+new_property_info (a ∷ b ∷ c ∷ []) = Err wrong_type
+new_property_info args = Err Arguments
+
+-- ---- verbs
+
+-- a number or a word
+abbrev pub desc_of : Value → Option Desc
+desc_of (Int n) = Some (Index n)
+desc_of (Str word) = Some (a_word word)
+desc_of v = None
+
+-- {owner, perms, names}
+abbrev pub verb_info_in : List Value → Option (Info × Name)
+verb_info_in (Obj owner ∷ Str perms ∷ Str names ∷ []) = Some ((owner, perms), names)
+verb_info_in other = None
+
+-- {dobj, prep, iobj}
+abbrev pub texts_in : List Value → Option (Name × Name × Name)
+texts_in (Str dobj ∷ Str prep ∷ Str iobj ∷ []) = Some (dobj, prep, iobj)
+texts_in other = None
+
+-- what verb_info, verb_args and delete_verb take
+abbrev pub object_and_desc : List Value → Result (ObjNo × Desc) Code
+object_and_desc (Obj x ∷ d ∷ []) = with_object x (desc_of d)
+object_and_desc (a ∷ b ∷ []) = Err wrong_type
+object_and_desc args = Err Arguments
+
+-- both, or none
+abbrev pub both : {A B : Type 0} → Option A → Option B → Option (A × B)
+both None b = None
+both (Some a) b = option_map (λ y. (a, y)) b
+
+-- what add_verb takes
+abbrev pub new_verb : List Value → Result (ObjNo × ((Info × Name) × (Name × Name × Name))) Code
+new_verb (Obj x ∷ a_list info ∷ a_list args ∷ []) = with_object x (both (verb_info_in (spread info)) (texts_in (spread args)))
+new_verb (a ∷ b ∷ c ∷ []) = Err wrong_type
+new_verb args = Err Arguments
+
+-- what set_verb_info takes
+abbrev pub new_verb_info : List Value → Result (ObjNo × (Desc × (Info × Name))) Code
+new_verb_info (Obj x ∷ d ∷ a_list info ∷ []) = with_object x (both (desc_of d) (verb_info_in (spread info)))
+new_verb_info (a ∷ b ∷ c ∷ []) = Err wrong_type
+new_verb_info args = Err Arguments
+
+-- what set_verb_args takes
+abbrev pub new_verb_args : List Value → Result (ObjNo × (Desc × (Name × Name × Name))) Code
+new_verb_args (Obj x ∷ d ∷ a_list args ∷ []) = with_object x (both (desc_of d) (texts_in (spread args)))
+new_verb_args (a ∷ b ∷ c ∷ []) = Err wrong_type
+new_verb_args args = Err Arguments

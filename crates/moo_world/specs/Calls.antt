@@ -1,28 +1,62 @@
--- What each call comes to: its checks, in their order, and then its answer and the world that it leaves.
--- LambdaMOO Programmer's Manual, 'Manipulating Objects' in the part on built-in functions. That `get` and `set` read and write
--- `object.name` is this server's own.
-use Rattle.std.specs.Prelude.{ℕ, pos, Bool, not, ◌||◌, List, [], codes, Result, Ok, Err, unwrap_or}
-use Rattle.std.specs.Option.{option_map}
+-- What each call on objects comes to: its checks, in their order, and then its answer and the world that it leaves.
+-- LambdaMOO Programmer's Manual, 'Fundamental Operations on Objects', 'Movement of Objects' and 'Operations on Objects' in the part
+-- on built-in functions. The order of the checks, and accept lists, are this server's own.
+use Rattle.std.specs.Prelude.{nat_le, not, ◌||◌, List, [], length, Option, None, Some, unwrap_or}
+use Rattle.std.specs.Option.{option_and_then}
 use Rattle.moo_value.specs.declared.value.ObjNo.{ObjNo}
 use Rattle.moo_value.specs.declared.value.Value.{Value}
-use Rattle.moo_value.specs.declared.value.Value.TheVariants.{Int, Obj, Str}
-use Rattle.moo_value.specs.declared.code.Code.{Code}
-use Rattle.moo_value.specs.declared.code.Code.TheVariants.{«Type» as WrongType, Permission, PropertyNotFound, InvalidIndirection, InvalidArgument, RecursiveMove, Quota}
-use Rattle.moo_rows.specs.declared.row.ObjRow.{ObjRow}
-use Rattle.moo_world.specs.Objects.{Name, nothing, same_object, same_text, folded, is_among}
-use Rattle.moo_world.specs.World.{World, is_object, row_of, chain, with_record, reparented}
-use Rattle.moo_world.specs.Outcomes.{Outcome, Done, Failed, check, given, with_next}
-use Rattle.moo_world.specs.ObjectLists.{meets}
-use Rattle.moo_world.specs.Rights.{controls, may_be_parent, may_own, may_name}
-use Rattle.moo_world.specs.Quota.{may_afford, charged}
+use Rattle.moo_value.specs.declared.value.Value.TheVariants.{Obj}
+use Rattle.moo_value.specs.declared.code.Code.TheVariants.{Permission, InvalidArgument, RecursiveMove, NotAccepted, Quota}
+use Rattle.moo_value.specs.Value.{is_true}
+use Rattle.moo_world.specs.declared.change.Change.TheVariants as to
+use Rattle.moo_world.specs.Objects.{nothing, same_object, is_among}
+use Rattle.moo_world.specs.World.{World, is_object, row_of, row_passes, owner_of, parent_of, chain, reparented}
+use Rattle.moo_world.specs.Outcomes.{Outcome, Done, Failed, check, with_next}
+use Rattle.moo_world.specs.Answers.{zero, flag, object_list}
+use Rattle.moo_world.specs.ObjectLists.{children_of, players_of, meets}
+use Rattle.moo_world.specs.Rights.{is_wizard, controls, may_be_parent, may_own, accepts, is_within}
+use Rattle.moo_world.specs.Quota.{may_afford, charged, quota_returned}
 use Rattle.moo_world.specs.Creation.{next_object, owner_or_self, created}
+use Rattle.moo_world.specs.Recycling.{recycled}
+use Rattle.moo_world.specs.Fields.{field_changed}
 
--- w with the row of x changed
-abbrev pub with_row : World → ObjNo → (ObjRow → ObjRow) → World
-with_row w x change = with_record w x (λ r. record r { row = change r.row })
+-- ---- the calls that only read
+
+abbrev pub valid : World → ObjNo → Outcome
+valid w x = Done (flag (is_object w x)) w
+
+abbrev pub parent : World → ObjNo → Outcome
+parent w x =
+    check (is_object w x) (Failed InvalidArgument)
+    (Done (Obj (unwrap_or (parent_of w x) nothing)) w)
+
+abbrev pub children : World → ObjNo → Outcome
+children w x =
+    check (is_object w x) (Failed InvalidArgument)
+    (Done (object_list (children_of w x)) w)
+
+abbrev pub is_player : World → ObjNo → Outcome
+is_player w x =
+    check (is_object w x) (Failed InvalidArgument)
+    (Done (flag (row_passes (λ r. r.player) w x)) w)
+
+abbrev pub players : World → Outcome
+players w = Done (object_list (players_of w)) w
 
 abbrev pub max_object : World → Outcome
 max_object w = Done (Obj (record { 0 = w.top })) w
+
+-- the list, or 0 where none is held
+abbrev pub accept_value : Option (List ObjNo) → Value
+accept_value None = zero
+accept_value (Some objects) = object_list objects
+
+abbrev pub accept_list : World → ObjNo → Outcome
+accept_list w x =
+    check (is_object w x) (Failed InvalidArgument)
+    (Done (accept_value (option_and_then (λ r. r.accept) (row_of w x))) w)
+
+-- ---- the calls that change something
 
 abbrev pub create : World → ObjNo → ObjNo → ObjNo → Outcome
 create w p q owner =
@@ -40,31 +74,33 @@ chparent w p x new =
     (check (may_be_parent w p new) (Failed Permission)
     (check (not (is_among x (chain w new))) (Failed RecursiveMove)
     (check (not (meets w x new)) (Failed InvalidArgument)
-    (Done (Int (pos 0)) (reparented w x new)))))))
+    (Done zero (reparented w x new)))))))
 
--- ---- what an object says of itself: its name so far, and no other property
+-- the quota of the former owner is read when the object is gone
+abbrev pub recycle : World → ObjNo → ObjNo → Outcome
+recycle w p x =
+    check (is_object w x) (Failed InvalidArgument)
+    (check (controls w p x) (Failed Permission)
+    (Done zero (quota_returned (recycled w x) (owner_of w x))))
 
-abbrev pub is_name : Name → Bool
-is_name n = same_text (folded n) (codes "name")
+abbrev pub move : World → ObjNo → ObjNo → ObjNo → Outcome
+move w p x destination =
+    check (is_object w x) (Failed InvalidArgument)
+    (check (is_object w destination || same_object nothing destination) (Failed InvalidArgument)
+    (check (controls w p x) (Failed Permission)
+    (check (is_wizard w p || accepts w destination x) (Failed NotAccepted)
+    (check (not (is_within w destination x)) (Failed RecursiveMove)
+    (Done zero (field_changed w x (to.Location destination)))))))
 
-abbrev pub name_of : World → ObjNo → List ℕ
-name_of w x = unwrap_or (option_map (λ r. r.name) (row_of w x)) []
+abbrev pub set_player_flag : World → ObjNo → ObjNo → Value → Outcome
+set_player_flag w p x v =
+    check (is_object w x) (Failed InvalidArgument)
+    (check (is_wizard w p) (Failed Permission)
+    (Done zero (field_changed w x (to.Player (is_true v)))))
 
-abbrev pub get : World → ObjNo → Name → Outcome
-get w x n =
-    check (is_object w x) (Failed InvalidIndirection)
-    (check (is_name n) (Failed PropertyNotFound)
-    (Done (Str (name_of w x)) w))
-
--- an object's name is a string
-abbrev pub new_name : Value → Result (List ℕ) Code
-new_name (Str s) = Ok s
-new_name v = Err WrongType
-
-abbrev pub set : World → ObjNo → ObjNo → Name → Value → Outcome
-set w p x n v =
-    check (is_object w x) (Failed InvalidIndirection)
-    (check (is_name n) (Failed PropertyNotFound)
-    (given (new_name v) (λ s.
-    check (may_name w p x) (Failed Permission)
-    (Done (Int (pos 0)) (with_row w x (λ r. record r { name = s }))))))
+abbrev pub set_accept : World → ObjNo → ObjNo → Option (List ObjNo) → Outcome
+set_accept w p x list =
+    check (is_object w x) (Failed InvalidArgument)
+    (check (controls w p x) (Failed Permission)
+    (check (nat_le (length (unwrap_or list [])) 1000) (Failed InvalidArgument)
+    (Done zero (field_changed w x (to.Accept list)))))

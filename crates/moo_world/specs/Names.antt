@@ -1,14 +1,44 @@
 -- The names of the calls.
 use Rattle.std.specs.Prelude.{ℕ, List, [], ◌∷◌, codes}
 use Rattle.moo_world.specs.declared.name.CallName.{CallName}
-use Rattle.moo_world.specs.declared.name.CallName.TheVariants.{Create, MaxObject, Get, Set}
+use Rattle.moo_world.specs.declared.name.CallName.TheVariants.{Valid, Parent, Children, IsPlayer, Players, MaxObject, Get, Properties, PropertyInfo, IsClearProperty, Verbs, VerbInfo, VerbArgs, AcceptList, Create, Chparent, Recycle, Move, SetPlayerFlag, Set, AddProperty, DeleteProperty, SetPropertyInfo, ClearProperty, AddVerb, DeleteVerb, SetVerbInfo, SetVerbArgs, SetAccept}
 
 -- the name of a call, in lower case
 abbrev pub spelling : CallName → List ℕ
-spelling Create = codes "create"
+spelling Valid = codes "valid"
+spelling Parent = codes "parent"
+spelling Children = codes "children"
+spelling IsPlayer = codes "is_player"
+spelling Players = codes "players"
 spelling MaxObject = codes "max_object"
 spelling Get = codes "get"
+spelling Properties = codes "properties"
+spelling PropertyInfo = codes "property_info"
+spelling IsClearProperty = codes "is_clear_property"
+spelling Verbs = codes "verbs"
+spelling VerbInfo = codes "verb_info"
+spelling VerbArgs = codes "verb_args"
+spelling AcceptList = codes "accept_list"
+spelling Create = codes "create"
+spelling Chparent = codes "chparent"
+spelling Recycle = codes "recycle"
+spelling Move = codes "move"
+spelling SetPlayerFlag = codes "set_player_flag"
 spelling Set = codes "set"
+spelling AddProperty = codes "add_property"
+spelling DeleteProperty = codes "delete_property"
+spelling SetPropertyInfo = codes "set_property_info"
+spelling ClearProperty = codes "clear_property"
+spelling AddVerb = codes "add_verb"
+spelling DeleteVerb = codes "delete_verb"
+spelling SetVerbInfo = codes "set_verb_info"
+spelling SetVerbArgs = codes "set_verb_args"
+spelling SetAccept = codes "set_accept"
 
 abbrev pub all_names : List CallName
-all_names = Create ∷ MaxObject ∷ Get ∷ Set ∷ []
+all_names =
+    Valid ∷ Parent ∷ Children ∷ IsPlayer ∷ Players ∷ MaxObject ∷ Get ∷ Properties
+    ∷ PropertyInfo ∷ IsClearProperty ∷ Verbs ∷ VerbInfo ∷ VerbArgs ∷ AcceptList ∷ Create ∷ Chparent
+    ∷ Recycle ∷ Move ∷ SetPlayerFlag ∷ Set ∷ AddProperty ∷ DeleteProperty ∷ SetPropertyInfo ∷ ClearProperty
+    ∷ AddVerb ∷ DeleteVerb ∷ SetVerbInfo ∷ SetVerbArgs ∷ SetAccept
+    ∷ []

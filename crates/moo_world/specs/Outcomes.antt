@@ -25,3 +25,8 @@ given (Err code) rest = Failed code
 abbrev pub with_next : Option ObjNo → (ObjNo → Outcome) → Outcome
 with_next None rest = Full
 with_next (Some x) rest = rest x
+
+-- what is there, or the error
+abbrev pub found_or : {A : Type 0} → Option A → Code → (A → Outcome) → Outcome
+found_or None code rest = Failed code
+found_or (Some a) code rest = rest a

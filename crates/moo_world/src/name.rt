@@ -5,21 +5,71 @@ ghost use Rattle.std.specs.List.{find};
 ghost use Rattle.moo_world.specs.Objects.{same_text, folded};
 ghost use Rattle.moo_world.specs.Names.{spelling, all_names};
 
-/// The calls.
+/// The calls, those that only read first.
 #[derive(Clone, Copy, Debug, PartialEq, Eq)]
 pub enum CallName {
-    Create,
+    Valid,
+    Parent,
+    Children,
+    IsPlayer,
+    Players,
     MaxObject,
     Get,
+    Properties,
+    PropertyInfo,
+    IsClearProperty,
+    Verbs,
+    VerbInfo,
+    VerbArgs,
+    AcceptList,
+    Create,
+    Chparent,
+    Recycle,
+    Move,
+    SetPlayerFlag,
     Set,
+    AddProperty,
+    DeleteProperty,
+    SetPropertyInfo,
+    ClearProperty,
+    AddVerb,
+    DeleteVerb,
+    SetVerbInfo,
+    SetVerbArgs,
+    SetAccept,
 }
 
 /// Every call.
-const ALL: [CallName; 4] = [
-    CallName::Create,
+const ALL: [CallName; 29] = [
+    CallName::Valid,
+    CallName::Parent,
+    CallName::Children,
+    CallName::IsPlayer,
+    CallName::Players,
     CallName::MaxObject,
     CallName::Get,
+    CallName::Properties,
+    CallName::PropertyInfo,
+    CallName::IsClearProperty,
+    CallName::Verbs,
+    CallName::VerbInfo,
+    CallName::VerbArgs,
+    CallName::AcceptList,
+    CallName::Create,
+    CallName::Chparent,
+    CallName::Recycle,
+    CallName::Move,
+    CallName::SetPlayerFlag,
     CallName::Set,
+    CallName::AddProperty,
+    CallName::DeleteProperty,
+    CallName::SetPropertyInfo,
+    CallName::ClearProperty,
+    CallName::AddVerb,
+    CallName::DeleteVerb,
+    CallName::SetVerbInfo,
+    CallName::SetVerbArgs,
+    CallName::SetAccept,
 ];
 
 impl CallName {
@@ -28,10 +78,35 @@ impl CallName {
         ensures { result.now ≡ spelling self }
     {
         match self {
-            CallName::Create => b"create",
+            CallName::Valid => b"valid",
+            CallName::Parent => b"parent",
+            CallName::Children => b"children",
+            CallName::IsPlayer => b"is_player",
+            CallName::Players => b"players",
             CallName::MaxObject => b"max_object",
             CallName::Get => b"get",
+            CallName::Properties => b"properties",
+            CallName::PropertyInfo => b"property_info",
+            CallName::IsClearProperty => b"is_clear_property",
+            CallName::Verbs => b"verbs",
+            CallName::VerbInfo => b"verb_info",
+            CallName::VerbArgs => b"verb_args",
+            CallName::AcceptList => b"accept_list",
+            CallName::Create => b"create",
+            CallName::Chparent => b"chparent",
+            CallName::Recycle => b"recycle",
+            CallName::Move => b"move",
+            CallName::SetPlayerFlag => b"set_player_flag",
             CallName::Set => b"set",
+            CallName::AddProperty => b"add_property",
+            CallName::DeleteProperty => b"delete_property",
+            CallName::SetPropertyInfo => b"set_property_info",
+            CallName::ClearProperty => b"clear_property",
+            CallName::AddVerb => b"add_verb",
+            CallName::DeleteVerb => b"delete_verb",
+            CallName::SetVerbInfo => b"set_verb_info",
+            CallName::SetVerbArgs => b"set_verb_args",
+            CallName::SetAccept => b"set_accept",
         }
     }
 

@@ -1,5 +1,5 @@
 use Rattle.std.proofs.Common.{sym, ◌∙◌}
-use Rattle.moo_calls.specs.Outcomes.{world_in}
+use Rattle.moo_rights.specs.Outcomes.{world_in}
 use Rattle.moo_calls.proofs.Created.{afford_still}
 use Rattle.moo_calls.proofs.creating.create.Goals as goal
 

@@ -50,7 +50,7 @@ returns-clause-kept g c =
     record {
       good = record {
         sound = subst AreSound (sym (shown g c)) (sound_with m c.requires.good.sound c.requires.good.formed c.args.x c.args.name c.args.owner c.args.bits c.args.value c.requires.object c.requires.free);
-        formed = subst IsWellFormed (sym (world g c)) (formed_with m c.requires.good.sound c.requires.good.formed c.args.x c.args.name c.args.owner c.args.bits c.args.value c.requires.object c.requires.free c.requires.name c.requires.left);
+        formed = subst IsWellFormed (sym (world g c)) (formed_with m c.requires.good.sound c.requires.good.formed c.args.x c.args.name c.args.owner c.args.bits c.args.value c.requires.object c.requires.free c.requires.name c.requires.left c.requires.fit);
       };
       seq = ap (λ (h : Held). h.maps.head.seq) (ends g c) ∙ ap (λ (h : Head). h.seq) (head-over o under first);
       base = ap (λ (h : Held). h.base) (ends g c) ∙ base-over o under first;

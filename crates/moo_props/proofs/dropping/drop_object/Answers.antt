@@ -1,4 +1,4 @@
-use Rattle.std.proofs.Common.{◌≡◌, refl, sym, ap, ◌∙◌, subst, [], ◌∷◌, Some}
+use Rattle.std.proofs.Common.{◌≡◌, refl, sym, ap, ◌∙◌, subst, [], ◌∷◌, ◌++◌, length, arith, Some}
 use Rattle.std.specs.Prelude.{is_some, Bool, map}
 use Rattle.std.specs.List.{filter}
 use Rattle.std.proofs.Math.Bool.{and-true}
@@ -6,15 +6,20 @@ use Rattle.std.specs.FinMap.{get, entries, remove}
 use Rattle.std.proofs.lemmas.Bool.{false≢true}
 use Rattle.moo_value.specs.declared.value.ObjNo.{ObjNo}
 use Rattle.moo_world.specs.Objects.{is_among}
-use Rattle.moo_rows.specs.Maps.{Maps, Held, wrote}
+use Rattle.moo_rows.specs.Maps.{Maps, Held, wrote, object_cmp, prop_cmp, slot_cmp, verb_cmp}
 use Rattle.moo_world.specs.Recycling.{recycled}
 use Rattle.moo_world.specs.Rows.{AreSound, look_ups, world_of, world_shown}
 use Rattle.moo_world.specs.World.{IsWellFormed}
 use Rattle.moo_world.proofs.Seen.{is_object_seen}
-use Rattle.moo_props.specs.Dropping.{slots_dropped, props_removed, verbs_removed, rows_released}
+use Rattle.moo_props.specs.Dropped.{dropped_keys}
+use Rattle.moo_props.specs.Dropping.{linked_among, dropped_over, slots_dropped, props_removed, verbs_removed, rows_released}
+use Rattle.moo_props.specs.Present.{ArePresent, AreAbsent, AreAscending}
 use Rattle.moo_props.specs.Touched.{props_of}
 use Rattle.moo_props.proofs.Lessened.{world_less, sound_less, formed_less, less_object}
 use Rattle.moo_props.proofs.LessRows.{look_ups-less, held1, held2, held3, held4, held5, only5, base5}
+use Rattle.moo_props.proofs.Ascending.{ascend, props_rise, verbs_ascend, linked_ascend}
+use Rattle.moo_props.proofs.DroppedKeys.{dropped_list, dropped_ascend, dropped_had}
+use Rattle.moo_props.proofs.LeftRows.{writes5, slots_left, props_left, verbs_left, objects_left, head5, dropped_gone, relinked_there}
 use Rattle.moo_props.proofs.dropping.drop_object.Goals as goal
 
 abbrev before : (g : _) → goal.After-drop-under-2 g → Held
@@ -68,3 +73,67 @@ returns-clause-kept g c = record {
   seq = ap (λ (h : Held). h.maps.head.seq) (ends g c) ∙ ap (λ (k : Maps). k.head.seq) (only5 (before g c).maps c.requires.good c.args.x c.in-Some.row.now (here g c) (before g c) refl);
   base = ap (λ (h : Held). h.base) (ends g c) ∙ base5 (before g c).maps c.requires.good c.args.x c.in-Some.row.now (here g c) (before g c) refl;
 }
+
+-- ---- what is listed
+
+removed_is : (g : _) (c : goal.After-drop-under-2 g) → c.from_vec.result ≡ dropped_keys (before g c).maps c.args.x
+removed_is g c =
+    c.from_vec.ensures
+    ∙ c.in_ok-drop_slots.ensures.list
+    ∙ (λ i. c.new-removed.ensures.items i ++ dropped_over c.args.x ((c.as_slice.ensures.value ∙ c.in_ok-all.ensures) i) ((c.as_slice-2.ensures.value ∙ own_is g c) i) ((c.as_slice-3.ensures.value ∙ c.in_ok-under.ensures) i))
+    ∙ dropped_list (before g c).maps c.requires.good c.args.x c.in-Some.row.now (here g c)
+
+relinked_is : (g : _) (c : goal.After-drop-under-2 g) → c.from_vec-2.result ≡ linked_among c.args.x (entries (before g c).maps.objects)
+relinked_is g c = c.from_vec-2.ensures ∙ c.in_ok-relinked.ensures
+
+pub returns-clause-removed : goal.returns-clause-removed
+returns-clause-removed g c = removed_is g c
+
+pub returns-clause-removed_order : goal.returns-clause-removed_order
+returns-clause-removed_order g c = subst (AreAscending slot_cmp) (sym (removed_is g c)) (dropped_ascend (before g c).maps c.requires.good c.args.x c.in-Some.row.now (here g c))
+
+pub returns-clause-props_order : goal.returns-clause-props_order
+returns-clause-props_order g c = subst (AreAscending prop_cmp) (sym (own_is g c)) (ascend prop_cmp (props_of (c.args.x ∷ []) (before g c).maps.props) (props_rise (before g c).maps (c.args.x ∷ [])))
+
+pub returns-clause-verbs_order : goal.returns-clause-verbs_order
+returns-clause-verbs_order g c = subst (AreAscending verb_cmp) (sym c.in_ok-verbs.ensures) (verbs_ascend (before g c).maps c.args.x)
+
+pub returns-clause-relinked_order : goal.returns-clause-relinked_order
+returns-clause-relinked_order g c = subst (AreAscending object_cmp) (sym (relinked_is g c)) (linked_ascend (before g c).maps c.args.x)
+
+pub returns-clause-had : goal.returns-clause-had
+returns-clause-had g c = dropped_had (before g c).maps c.requires.good c.args.x c.in-Some.row.now (here g c)
+
+-- ---- the rows that are left
+
+pub returns-clause-gone : goal.returns-clause-gone
+returns-clause-gone g c = subst (λ (h : Held). AreAbsent h.maps.slots (dropped_keys (before g c).maps c.args.x)) (sym (ends g c)) (dropped_gone (before g c).maps c.requires.good c.args.x c.in-Some.row.now (here g c) (before g c) refl)
+
+pub returns-clause-stay : goal.returns-clause-stay
+returns-clause-stay g c = subst (λ (h : Held). ArePresent h.maps.objects (linked_among c.args.x (entries (before g c).maps.objects))) (sym (ends g c)) (relinked_there (before g c).maps c.requires.good c.args.x c.in-Some.row.now (here g c) (before g c) refl)
+
+pub returns-clause-slots_left : goal.returns-clause-slots_left
+returns-clause-slots_left g c key = ap (λ (h : Held). get h.maps.slots key) (ends g c) ∙ slots_left (before g c).maps c.requires.good c.args.x c.in-Some.row.now (here g c) (before g c) refl key
+
+pub returns-clause-props_left : goal.returns-clause-props_left
+returns-clause-props_left g c id = ap (λ (h : Held). get h.maps.props id) (ends g c) ∙ props_left (before g c).maps c.requires.good c.args.x c.in-Some.row.now (here g c) (before g c) refl id
+
+pub returns-clause-verbs_left : goal.returns-clause-verbs_left
+returns-clause-verbs_left g c key = ap (λ (h : Held). get h.maps.verbs key) (ends g c) ∙ verbs_left (before g c).maps c.requires.good c.args.x c.in-Some.row.now (here g c) (before g c) refl key
+
+pub returns-clause-objects_left : goal.returns-clause-objects_left
+returns-clause-objects_left g c y = ap (λ (h : Held). get h.maps.objects y) (ends g c) ∙ objects_left (before g c).maps c.requires.good c.args.x c.in-Some.row.now (here g c) (before g c) refl y
+
+pub returns-clause-head : goal.returns-clause-head
+returns-clause-head g c = ap (λ (h : Held). h.maps.head) (ends g c) ∙ head5 (before g c).maps c.requires.good c.args.x c.in-Some.row.now (here g c) (before g c) refl
+
+pub returns-clause-writes : goal.returns-clause-writes
+returns-clause-writes g c =
+    let t = (before g c).maps in
+    let total = ap (λ (h : Held). h.writes) (ends g c) in
+    let most = writes5 t c.requires.good c.args.x c.in-Some.row.now (here g c) (before g c) refl in
+    let removed = ap length (removed_is g c ∙ sym (dropped_list t c.requires.good c.args.x c.in-Some.row.now (here g c))) in
+    let props = ap length (own_is g c) in
+    let verbs = ap length c.in_ok-verbs.ensures in
+    let relinked = ap length (relinked_is g c) in
+    omega (arith, total, most, removed, props, verbs, relinked)

@@ -4,7 +4,7 @@ use Rattle.std.specs.FinMap.{get, entries}
 use Rattle.std.proofs.lemmas.Bool.{false≢true}
 use Rattle.moo_value.specs.declared.value.ObjNo.{ObjNo}
 use Rattle.moo_rows.specs.declared.row.PropId.{PropId}
-use Rattle.moo_rows.specs.Maps.{Maps, Held}
+use Rattle.moo_rows.specs.Maps.{Maps, Held, slot_cmp}
 use Rattle.moo_world.specs.Manual.{lost, gained}
 use Rattle.moo_world.specs.World.{IsWellFormed}
 use Rattle.moo_world.specs.Rows.{look_ups, world_of, IsSound}
@@ -71,10 +71,10 @@ pub returns-clause-added : goal.returns-clause-added
 returns-clause-added g c = added_is g c
 
 pub returns-clause-removed_order : goal.returns-clause-removed_order
-returns-clause-removed_order g c = subst AreAscending (sym (removed_is g c)) (removed_ascend (before g c).maps c.args.x c.args.new)
+returns-clause-removed_order g c = subst (AreAscending slot_cmp) (sym (removed_is g c)) (removed_ascend (before g c).maps c.args.x c.args.new)
 
 pub returns-clause-added_order : goal.returns-clause-added_order
-returns-clause-added_order g c = subst AreAscending (sym (added_is g c)) (added_ascend (before g c).maps c.args.x c.args.new)
+returns-clause-added_order g c = subst (AreAscending slot_cmp) (sym (added_is g c)) (added_ascend (before g c).maps c.args.x c.args.new)
 
 pub returns-clause-had : goal.returns-clause-had
 returns-clause-had g c = removed_had (before g c).maps c.requires.good.sound c.args.x c.args.new c.requires.may

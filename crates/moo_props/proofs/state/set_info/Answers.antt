@@ -30,7 +30,7 @@ returns-clause-world g c =
 pub returns-clause-kept : goal.returns-clause-kept
 returns-clause-kept g c = record {
   good = subst (λ (h : Held). IsGood h.maps) (sym c.in_ok-put_slot.ensures.ok)
-      (put_slot_good (g.R.Rows.held c.args.rows.now).maps c.requires.good.sound c.args.x c.args.id c.in-Some.slot.now (sym c.in-Some.ensures) (next g c) (change g c) (agrees g c) c.requires.good.formed (λ s. refl) (stays_set g c));
+      (put_slot_good (g.R.Rows.held c.args.rows.now).maps c.requires.good.sound c.args.x c.args.id c.in-Some.slot.now (sym c.in-Some.ensures) (next g c) (change g c) (agrees g c) c.requires.good.formed (λ s. refl) (stays_set g c) (λ s h. h));
   seq = ap (λ (h : Held). h.maps.head.seq) c.in_ok-put_slot.ensures.ok;
   base = ap (λ (h : Held). h.base) c.in_ok-put_slot.ensures.ok;
 }

@@ -1,4 +1,4 @@
-use Rattle.std.proofs.Common.{ap, ◌∙◌, pos}
+use Rattle.std.proofs.Common.{◌≡◌, ap, ◌∙◌, pos, true, Some, [], ◌∷◌}
 use Rattle.std.specs.FinMap.{insert}
 use Rattle.moo_value.specs.declared.value.ObjNo.{ObjNo}
 use Rattle.moo_rows.specs.declared.row.Head.{Head}
@@ -20,9 +20,11 @@ returns-clause-maps g c none =
     let head : Head = record { top = pos 3; next_prop = 1; next_verb = 1; seq = 0 } in
     let e0 = ap of c.set_head.ensures ∙ ap (with_head head) none in
     let e1 = ap of c.in_ok-put_object.ensures.ok ∙ (λ i. put_on (record { 0 = pos 0 }) (c.in_ok-row.ensures i) (e0 i)) in
-    let e2 = ap of c.in_ok-put_object-2.ensures.ok ∙ (λ i. put_on (record { 0 = pos 1 }) (c.in_ok-root_class.ensures i) (e1 i)) in
-    let e3 = ap of c.in_ok-put_object-3.ensures.ok ∙ (λ i. put_on (record { 0 = pos 2 }) (c.in_ok-first_room.ensures i) (e2 i)) in
-    ap of c.in_ok-put_object-4.ensures.ok ∙ (λ i. put_on (record { 0 = pos 3 }) (c.in_ok-wizard.ensures i) (e3 i))
+    let e2 = ap of c.in_ok-put_object-2.ensures.ok ∙ (λ i. put_on (record { 0 = pos 1 }) (record (c.in_ok-root_class.ensures i) { f = true }) (e1 i)) in
+    let list : c.from_vec.result ≡ record { 0 = pos 1 } ∷ [] = c.from_vec.ensures ∙ c.in_ok-vec.ensures.items in
+    let e3 = ap of c.in_ok-put_object-3.ensures.ok ∙ (λ i. put_on (record { 0 = pos 2 }) (record (c.in_ok-first_room.ensures i) { accept = Some (list i) }) (e2 i)) in
+    ap of c.in_ok-put_object-4.ensures.ok
+    ∙ (λ i. put_on (record { 0 = pos 3 }) (record (c.in_ok-wizard.ensures i) { location = record { 0 = pos 2 }; player = true; programmer = true; wizard = true }) (e3 i))
 
 abbrev base_of : Held → Maps
 base_of h = h.base

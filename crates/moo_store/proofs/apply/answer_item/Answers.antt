@@ -1,7 +1,7 @@
 use Rattle.std.proofs.Common.{◌≡◌, ◌++◌, ◌∷◌, refl, sym, subst}
-use Rattle.moo_batch.specs.declared.next.Next.{Next}
-use Rattle.moo_batch.specs.declared.next.Next.TheVariants.{Batch as Whole, Malformed, Truncated}
-use Rattle.moo_batch.specs.declared.reply.Answer.TheVariants as answer
+use Rattle.moo_text.specs.declared.next.Next.{Next}
+use Rattle.moo_text.specs.declared.next.Next.TheVariants.{Batch as Whole, Malformed, Truncated}
+use Rattle.moo_text.specs.declared.reply.Answer.TheVariants as answer
 use Rattle.moo_store.specs.Text.{Answers}
 use Rattle.moo_store.proofs.Items.{replied, faulted, passed_by}
 use Rattle.moo_store.proofs.apply.answer_item.Goals as goal

@@ -1,12 +1,12 @@
 use Rattle.std.proofs.Common.{◌≡◌, ◌≤◌, ◌+◌, cond, ℕ, List, take, Bool, true, false, refl, arith, sym, subst, ◌∙◌}
 use Rattle.std.specs.Prelude.{IfSome}
 use Rattle.std.specs.Io.KnownBytes.{Appends}
-use Rattle.moo_batch.specs.Items.{items}
-use Rattle.moo_batch.specs.Feed.{TakesNext}
-use Rattle.moo_batch.specs.Left.{feed_left}
-use Rattle.moo_batch.specs.declared.next.Next.{Next}
-use Rattle.moo_batch.specs.declared.fault.TextFault.{TextFault}
-use Rattle.moo_batch.specs.declared.fault.TextFault.TheVariants.{Read, Write, OutOfMemory, Long}
+use Rattle.moo_text.specs.Items.{items}
+use Rattle.moo_text.specs.Feed.{TakesNext}
+use Rattle.moo_text.specs.Left.{feed_left}
+use Rattle.moo_text.specs.declared.next.Next.{Next}
+use Rattle.moo_text.specs.declared.fault.TextFault.{TextFault}
+use Rattle.moo_text.specs.declared.fault.TextFault.TheVariants.{Read, Write, OutOfMemory, Long}
 use Rattle.moo_store.specs.Text.{Applies, is_batch, is_lost}
 use Rattle.moo_store.proofs.Items.{known_before, known_start, known_on, known_inside, known_through, takes_one}
 use Rattle.moo_store.proofs.Writing.{Appends-nothing}

@@ -1,5 +1,5 @@
 use Rattle.std.proofs.Common.{◌≤◌}
-use Rattle.moo_batch.specs.Left.{feed_left}
+use Rattle.moo_text.specs.Left.{feed_left}
 use Rattle.moo_store.proofs.Items.{KnownGoing}
 use Rattle.moo_store.proofs.apply.apply_text.Given as goal
 

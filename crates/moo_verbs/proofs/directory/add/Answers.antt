@@ -6,7 +6,7 @@ use Rattle.moo_rows.specs.declared.row.VerbId.{VerbId}
 use Rattle.moo_rows.specs.declared.row.VerbRow.{VerbRow}
 use Rattle.moo_rows.specs.Maps.{Held, wrote}
 use Rattle.moo_world.specs.Rows.{world_of}
-use Rattle.moo_verbs.specs.Keeps.{Keeps}
+use Rattle.moo_world.specs.Keeps.{Keeps}
 use Rattle.moo_verbs.proofs.Changes.{added_world, added_good}
 use Rattle.moo_verbs.proofs.directory.add.Goals as goal
 

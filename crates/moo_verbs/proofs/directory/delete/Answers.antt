@@ -1,7 +1,7 @@
 use Rattle.std.proofs.Common.{refl, sym, ap, ◌∙◌, subst}
 use Rattle.moo_rows.specs.Maps.{Held}
 use Rattle.moo_world.specs.Rows.{world_of}
-use Rattle.moo_verbs.specs.Keeps.{Keeps}
+use Rattle.moo_world.specs.Keeps.{Keeps}
 use Rattle.moo_verbs.proofs.Changes.{removed_world, removed_good}
 use Rattle.moo_verbs.proofs.directory.delete.Goals as goal
 

@@ -2,7 +2,7 @@ use Rattle.std.proofs.Common.{refl, sym, ap, ◌∙◌, subst}
 use Rattle.moo_rows.specs.declared.row.VerbRow.{VerbRow}
 use Rattle.moo_rows.specs.Maps.{Held}
 use Rattle.moo_world.specs.Rows.{world_of}
-use Rattle.moo_verbs.specs.Keeps.{Keeps}
+use Rattle.moo_world.specs.Keeps.{Keeps}
 use Rattle.moo_verbs.proofs.Changes.{changed_world, changed_good}
 use Rattle.moo_verbs.proofs.directory.set_info.Goals as goal
 

@@ -5,9 +5,9 @@ use Rattle.std.specs.List.{position, position_or_len}
 use Rattle.moo_rows.specs.declared.row.VerbRow.{VerbRow}
 use Rattle.moo_world.specs.Rows.{world_of}
 use Rattle.moo_world.specs.World.{verbs_of}
-use Rattle.moo_verbs.specs.Descriptors.{place_within}
-use Rattle.moo_verbs.specs.Matching.{one_matches}
-use Rattle.moo_verbs.specs.Places.{has_verb, verb_place, described}
+use Rattle.moo_world.specs.Descriptors.{place_within, described}
+use Rattle.moo_world.specs.Matching.{one_matches}
+use Rattle.moo_verbs.specs.Places.{has_verb, verb_place}
 use Rattle.moo_verbs.proofs.Found.{id_of, found_place, found_held, found_word}
 use Rattle.moo_verbs.proofs.find.find_verb.Goals as goal
 

@@ -3,7 +3,7 @@ use Rattle.std.specs.Option.{option_map}
 use Rattle.std.proofs.lemmas.Iterator.Consumers.{YieldsList-from_first}
 use Rattle.std.proofs.lemmas.Iterator.Search.{find_from_yields_List}
 use Rattle.moo_rows.specs.Walk.{verbs_of_left}
-use Rattle.moo_verbs.specs.Matching.{one_matches}
+use Rattle.moo_world.specs.Matching.{one_matches}
 use Rattle.moo_verbs.proofs.Entries.{Entry}
 use Rattle.moo_verbs.proofs.Found.{walk, id_of}
 use Rattle.moo_verbs.proofs.find.verb_named.Goals as goal

@@ -2,7 +2,7 @@ use Rattle.std.proofs.Common.{rules, not}
 use Rattle.std.proofs.lemmas.Iterator.Search.{any_from_yields_List}
 use Rattle.std.proofs.lemmas.Iterator.Splits.{YieldsList-from_slice_split}
 use Rattle.std.proofs.lemmas.Iterator.Consumers.{YieldsList-from_filter, YieldsList-at}
-use Rattle.moo_verbs.specs.Matching.{is_space, is_empty, matches}
+use Rattle.moo_world.specs.Matching.{is_space, is_empty, matches}
 use Rattle.moo_verbs.proofs.matching.one_matches.Goals as goal
 use borrow.Author.Tests.{tests}
 

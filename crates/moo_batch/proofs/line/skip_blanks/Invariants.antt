@@ -1,6 +1,0 @@
-use Rattle.std.proofs.Common.{◌≡◌, drop}
-use Rattle.moo_value.specs.Reading.{after_blanks}
-use Rattle.moo_batch.proofs.line.skip_blanks.Given as goal
-
-abbrev pub invariant-loop-i : goal.invariant-loop-i
-invariant-loop-i l = after_blanks (drop l.i l.bytes) ≡ after_blanks l.bytes

@@ -1,9 +1,0 @@
-use Rattle.moo_batch.specs.Left.{lines_left}
-use Rattle.moo_batch.proofs.Kept.{LineSoFar}
-use Rattle.moo_batch.proofs.lines.LineReader.next_line.Given as goal
-
-abbrev pub invariant-loop-at : goal.invariant-loop-at
-invariant-loop-at g l = LineSoFar (lines_left g.R.Read.remaining l.fn.self) l.line.items (lines_left g.R.Read.remaining l.self)
-
-abbrev pub decreases-loop-at : goal.decreases-loop-at
-decreases-loop-at g l = l.self.room

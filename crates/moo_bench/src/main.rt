@@ -1,0 +1,51 @@
+//! How long calls take, and a change of parent over many descendants, on rows in memory.
+//!
+//! The words of the command line are `moves` and `calls`, each with sizes behind it, as `moves 2000 calls 1000 10000`; where
+//! there are none, both are measured at a small size. What was done goes to standard output, and the times to standard
+//! error.
+#![tactic(auto)]
+
+mod batches;
+mod calls;
+mod moves;
+
+use anyhow::{Context, Result, bail};
+use std::env;
+
+/// What is measured.
+#[derive(Clone, Copy)]
+enum Subject {
+    Moves,
+    Calls,
+}
+
+impl Subject {
+    fn measure(self, rt: &HostRuntime, size: u32) -> Result<()> {
+        match self {
+            Subject::Moves => moves::measure(rt, size),
+            Subject::Calls => calls::measure(rt, size),
+        }
+    }
+}
+
+fn main(rt: HostRuntime) -> Result<()> {
+    let mut subject = None;
+    for word in env::args(&rt)?.skip(1) {
+        match word.as_str() {
+            "moves" => subject = Some(Subject::Moves),
+            "calls" => subject = Some(Subject::Calls),
+            size => {
+                let size = size.parse::<u32>().context("a size is a number")?;
+                let Some(subject) = subject else {
+                    bail!("what has the size {size}?");
+                };
+                subject.measure(&rt, size)?;
+            }
+        }
+    }
+    if subject.is_none() {
+        Subject::Moves.measure(&rt, 20)?;
+        Subject::Calls.measure(&rt, 10)?;
+    }
+    Ok(())
+}

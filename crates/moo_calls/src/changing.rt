@@ -1,0 +1,83 @@
+//! The calls that change one field of an object, whoever may set it.
+
+ghost use Rattle.std.specs.Prelude.{◌≡◌, OnOk, [], length, nat_le, unwrap_or};
+ghost use Rattle.moo_world.specs.Calls.{set_accept, set_player_flag};
+ghost use Rattle.moo_world.specs.Keeps.{Keeps};
+ghost use Rattle.moo_world.specs.Rows.{IsGood};
+ghost use Rattle.moo_rights.specs.Outcomes.{world_in, ComesTo};
+
+use moo_rights::answers::ZERO;
+use moo_rights::changing::change_row;
+use moo_rights::fault::Fault;
+use moo_rights::rights;
+use moo_rows::row::ObjList;
+use moo_rows::rows::Rows;
+use moo_tree::valid;
+use moo_value::code::Code;
+use moo_value::value::{ObjNo, Value};
+use moo_world::change::Change;
+use std::alloc::Global;
+
+/// `set_player_flag(object, value)`: makes a player of an object, or no player, by the truth of the value, and answers 0.
+/// E_INVARG where there is no such object; E_PERM where the programmer is no wizard.
+///
+/// LambdaMOO Programmer's Manual, 'Operations on Player Objects'.
+pub fn set_player_flag<R: Rows>(
+    rows: &mut R,
+    alloc: Global,
+    programmer: ObjNo,
+    x: ObjNo,
+    value: &Value,
+) -> Result<Value, Fault>
+    requires { IsGood (R.held rows.old).maps }
+    ensures comes { ComesTo (set_player_flag (world_in (R.held rows.old)) programmer x value.now) (R.held rows.old) (R.held rows.new) result }
+    ensures kept { OnOk result (Keeps (R.held rows.old) (R.held rows.new)) }
+{
+    if !valid(rows, x) {
+        return Err(Fault::Moo(Code::InvalidArgument));
+    }
+    if !rights::is_wizard(rows, programmer) {
+        return Err(Fault::Moo(Code::Permission));
+    }
+    change_row(rows, alloc, x, Change::Player(value.is_true()))?;
+    Ok(ZERO)
+}
+
+/// Whether an accept list has 1,000 entries at most.
+fn is_short(list: &Option<ObjList>) -> bool
+    ensures { result ≡ nat_le (length (unwrap_or list.now [])) 1000 }
+{
+    match list {
+        Some(list) => list.items().len() <= 1000,
+        None => true,
+    }
+}
+
+/// `set_accept(object, list)`: sets the list of what the object takes in, or takes the list away where there is none, and
+/// answers 0. E_INVARG where there is no such object; E_PERM where the programmer neither owns it nor is a wizard; E_INVARG
+/// where the list has more than 1,000 entries.
+///
+/// The list stands for the verb `accept` of the LambdaMOO Programmer's Manual, 'Object Movement'.
+pub fn set_accept<R: Rows>(
+    rows: &mut R,
+    alloc: Global,
+    programmer: ObjNo,
+    x: ObjNo,
+    list: Option<ObjList>,
+) -> Result<Value, Fault>
+    requires { IsGood (R.held rows.old).maps }
+    ensures comes { ComesTo (set_accept (world_in (R.held rows.old)) programmer x list) (R.held rows.old) (R.held rows.new) result }
+    ensures kept { OnOk result (Keeps (R.held rows.old) (R.held rows.new)) }
+{
+    if !valid(rows, x) {
+        return Err(Fault::Moo(Code::InvalidArgument));
+    }
+    if !rights::controls(rows, programmer, x) {
+        return Err(Fault::Moo(Code::Permission));
+    }
+    if !is_short(&list) {
+        return Err(Fault::Moo(Code::InvalidArgument));
+    }
+    change_row(rows, alloc, x, Change::Accept(list))?;
+    Ok(ZERO)
+}

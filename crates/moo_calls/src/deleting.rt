@@ -1,0 +1,47 @@
+//! The end of a property.
+
+ghost use Rattle.std.specs.Prelude.{◌≡◌, OnOk};
+ghost use Rattle.moo_world.specs.Keeps.{Keeps};
+ghost use Rattle.moo_world.specs.PropertyCalls.{delete_property};
+ghost use Rattle.moo_world.specs.Rows.{IsGood};
+ghost use Rattle.moo_rights.specs.Outcomes.{world_in, ComesTo};
+
+use crate::definitions::own_property;
+use moo_props::undefining::undefine;
+use moo_rights::answers::ZERO;
+use moo_rights::fault::Fault;
+use moo_rights::rights;
+use moo_rows::rows::Rows;
+use moo_tree::valid;
+use moo_value::code::Code;
+use moo_value::text::MooStr;
+use moo_value::value::{ObjNo, Value};
+use std::alloc::Global;
+
+/// `delete_property(object, name)`: takes a property that the object itself defines from it and from all its descendants.
+/// The answer is 0. E_INVARG where the object is none; E_PERM where the programmer may not write the object; E_PROPNF where
+/// the object defines no property of the name.
+/// LambdaMOO Programmer's Manual, 'Operations on Properties'.
+pub fn delete_property<R: Rows>(
+    rows: &mut R,
+    alloc: Global,
+    programmer: ObjNo,
+    x: ObjNo,
+    name: &MooStr,
+) -> Result<Value, Fault>
+    requires { IsGood (R.held rows.old).maps }
+    ensures comes { ComesTo (delete_property (world_in (R.held rows.old)) programmer x name.now) (R.held rows.old) (R.held rows.new) result }
+    ensures kept { OnOk result (Keeps (R.held rows.old) (R.held rows.new)) }
+{
+    if !valid(rows, x) {
+        return Err(Fault::Moo(Code::InvalidArgument));
+    }
+    if !rights::may_write_object(rows, programmer, x) {
+        return Err(Fault::Moo(Code::Permission));
+    }
+    let Some(id) = own_property(rows, x, name) else {
+        return Err(Fault::Moo(Code::PropertyNotFound));
+    };
+    undefine(alloc, rows, x, id)?;
+    Ok(ZERO)
+}

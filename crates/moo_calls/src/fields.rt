@@ -1,0 +1,43 @@
+//! What the built-in properties read as.
+
+ghost use Rattle.std.specs.Prelude.{◌≡◌, true};
+ghost use Rattle.moo_world.specs.BuiltIns.{field_of};
+ghost use Rattle.moo_world.specs.Outcomes.{Done};
+ghost use Rattle.moo_world.specs.Rows.{IsGood};
+ghost use Rattle.moo_world.specs.World.{is_object};
+ghost use Rattle.moo_rights.specs.Outcomes.{world_in, Answers};
+
+use moo_rights::answers::{flag, object_list};
+use moo_rights::fault::Fault;
+use moo_rows::rows::Rows;
+use moo_value::value::{ObjNo, Value};
+use moo_world::built_in::BuiltIn;
+use std::alloc::Global;
+
+/// What a built-in property of an object reads as: the text, the object or the list of objects, and 1 or 0 for a bit.
+/// The only error is want of memory.
+/// LambdaMOO Programmer's Manual, 'Built-in Properties' in the chapter on the database.
+pub fn field_of<R: Rows>(rows: &R, alloc: Global, x: ObjNo, field: BuiltIn) -> Result<Value, Fault>
+    requires good { IsGood (R.held rows.now).maps }
+    requires there { is_object (world_in (R.held rows.now)) x ≡ true }
+    ensures { Answers (Done (field_of (world_in (R.held rows.now)) x field) (world_in (R.held rows.now))) (R.held rows.now) result }
+{
+    let row = match rows.object(x) {
+        None => unreachable!(),
+        Some(row) => row,
+    };
+    match field {
+        BuiltIn::Name => Ok(Value::Str(row.name.copy(alloc)?)),
+        BuiltIn::Owner => Ok(Value::Obj(row.owner)),
+        BuiltIn::Location => Ok(Value::Obj(row.location)),
+        BuiltIn::Contents => {
+            let found = moo_tree::contents(alloc, rows, x)?;
+            Ok(object_list(alloc, found.as_slice())?)
+        }
+        BuiltIn::Programmer => Ok(flag(row.programmer)),
+        BuiltIn::Wizard => Ok(flag(row.wizard)),
+        BuiltIn::R => Ok(flag(row.r)),
+        BuiltIn::W => Ok(flag(row.w)),
+        BuiltIn::F => Ok(flag(row.f)),
+    }
+}

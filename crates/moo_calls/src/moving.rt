@@ -1,0 +1,55 @@
+//! Moving objects from place to place.
+
+ghost use Rattle.std.specs.Prelude.{◌≡◌, OnOk};
+ghost use Rattle.moo_world.specs.Calls.{move};
+ghost use Rattle.moo_world.specs.Keeps.{Keeps};
+ghost use Rattle.moo_world.specs.Rows.{IsGood};
+ghost use Rattle.moo_rights.specs.Outcomes.{world_in, ComesTo};
+
+use moo_rights::accepting::accepts;
+use moo_rights::answers::ZERO;
+use moo_rights::changing::change_row;
+use moo_rights::fault::Fault;
+use moo_rights::rights;
+use moo_rows::rows::Rows;
+use moo_tree::{inside, valid};
+use moo_value::code::Code;
+use moo_value::value::{ObjNo, Value};
+use moo_world::change::Change;
+use std::alloc::Global;
+
+/// `move(object, destination)`: puts an object into another one, or nowhere where the destination is `#-1`, and answers 0.
+/// E_INVARG where there is no such object, and then where the destination is neither an object nor `#-1`; E_PERM where the
+/// programmer neither owns the object nor is a wizard; E_NACC where the destination doesn't accept it and the programmer is
+/// no wizard; E_RECMOVE where the destination is the object itself or lies in it, at any depth.
+///
+/// LambdaMOO Programmer's Manual, 'Object Movement'.
+pub fn move_into<R: Rows>(
+    rows: &mut R,
+    alloc: Global,
+    programmer: ObjNo,
+    x: ObjNo,
+    destination: ObjNo,
+) -> Result<Value, Fault>
+    requires { IsGood (R.held rows.old).maps }
+    ensures comes { ComesTo (move (world_in (R.held rows.old)) programmer x destination) (R.held rows.old) (R.held rows.new) result }
+    ensures kept { OnOk result (Keeps (R.held rows.old) (R.held rows.new)) }
+{
+    if !valid(rows, x) {
+        return Err(Fault::Moo(Code::InvalidArgument));
+    }
+    if !rights::valid_or_nothing(rows, destination) {
+        return Err(Fault::Moo(Code::InvalidArgument));
+    }
+    if !rights::controls(rows, programmer, x) {
+        return Err(Fault::Moo(Code::Permission));
+    }
+    if !rights::is_wizard(rows, programmer) && !accepts(rows, destination, x) {
+        return Err(Fault::Moo(Code::NotAccepted));
+    }
+    if inside(rows, destination, x) {
+        return Err(Fault::Moo(Code::RecursiveMove));
+    }
+    change_row(rows, alloc, x, Change::Location(destination))?;
+    Ok(ZERO)
+}

@@ -1,0 +1,57 @@
+//! Changes of parent.
+
+ghost use Rattle.std.specs.Prelude.{OnOk};
+ghost use Rattle.moo_world.specs.Calls.{chparent};
+ghost use Rattle.moo_world.specs.Keeps.{Keeps};
+ghost use Rattle.moo_world.specs.Rows.{IsGood};
+ghost use Rattle.moo_rights.specs.Outcomes.{world_in, ComesTo};
+
+use moo_props::clashing::meets;
+use moo_props::reparent::reparent;
+use moo_rights::answers::ZERO;
+use moo_rights::fault::Fault;
+use moo_rights::rights;
+use moo_rows::rows::Rows;
+use moo_tree::{is_under, valid};
+use moo_value::code::Code;
+use moo_value::value::{ObjNo, Value};
+use std::alloc::Global;
+
+/// `chparent(object, new-parent)`: puts an object under another parent, `#-1` for none, and answers 0. The object and its
+/// descendants lose the properties of ancestors that they have no more, and get those of the ancestors that are new. E_INVARG
+/// where the object is none, and where the new parent is neither an object nor `#-1`; E_PERM where the programmer neither owns
+/// the object nor is a wizard, and then where it may not use the parent; E_RECMOVE where the parent is the object or a
+/// descendant of it; E_INVARG where the object or a descendant defines a property of a name that the parent has.
+/// LambdaMOO Programmer's Manual, 'Fundamental Operations on Objects'.
+pub fn chparent<R: Rows>(
+    rows: &mut R,
+    alloc: Global,
+    programmer: ObjNo,
+    x: ObjNo,
+    new: ObjNo,
+) -> Result<Value, Fault>
+    requires { IsGood (R.held rows.old).maps }
+    ensures comes { ComesTo (chparent (world_in (R.held rows.old)) programmer x new) (R.held rows.old) (R.held rows.new) result }
+    ensures kept { OnOk result (Keeps (R.held rows.old) (R.held rows.new)) }
+{
+    if !valid(rows, x) {
+        return Err(Fault::Moo(Code::InvalidArgument));
+    }
+    if !rights::valid_or_nothing(rows, new) {
+        return Err(Fault::Moo(Code::InvalidArgument));
+    }
+    if !rights::controls(rows, programmer, x) {
+        return Err(Fault::Moo(Code::Permission));
+    }
+    if !rights::may_be_parent(rows, programmer, new) {
+        return Err(Fault::Moo(Code::Permission));
+    }
+    if is_under(rows, new, x) {
+        return Err(Fault::Moo(Code::RecursiveMove));
+    }
+    if meets(rows, x, new) {
+        return Err(Fault::Moo(Code::InvalidArgument));
+    }
+    reparent(alloc, rows, x, new)?;
+    Ok(ZERO)
+}

@@ -1,0 +1,131 @@
+//! Reading properties.
+
+ghost use Rattle.std.specs.Prelude.{◌≡◌, [], ◌∷◌, IfOk};
+ghost use Rattle.moo_value.specs.declared.value.Value.TheVariants.{Obj, Str};
+ghost use Rattle.moo_rows.specs.Bits.{letters_of};
+ghost use Rattle.moo_world.specs.Answers.{list_of};
+ghost use Rattle.moo_world.specs.PropertyCalls.{get_property, properties, property_info};
+ghost use Rattle.moo_world.specs.Rows.{IsGood};
+ghost use Rattle.moo_world.specs.World.{names_of};
+ghost use Rattle.moo_rights.specs.Outcomes.{world_in, Answers};
+
+use crate::slots::may_read;
+use moo_props::finding::slot_of;
+use moo_props::value::value_of;
+use moo_rights::answers::{list_of, text_list};
+use moo_rights::fault::Fault;
+use moo_rights::rights;
+use moo_rows::row::{Bits, SlotRow};
+use moo_rows::rows::Rows;
+use moo_rows::walk::each_prop;
+use moo_tree::valid;
+use moo_value::code::Code;
+use moo_value::fault::LiteralFault;
+use moo_value::text::MooStr;
+use moo_value::value::{ObjNo, Value};
+use std::alloc::{AllocError, Global};
+
+/// `get(object, name)` of a name that isn't built in: the value that the object reads for its property. E_PROPNF where it
+/// has no property of the name; E_PERM where the programmer may not read the object's own slot of it.
+/// LambdaMOO Programmer's Manual, 'Operations on Properties'.
+pub fn get_property<R: Rows>(
+    rows: &R,
+    alloc: Global,
+    programmer: ObjNo,
+    x: ObjNo,
+    name: &MooStr,
+) -> Result<Value, Fault>
+    requires { IsGood (R.held rows.now).maps }
+    ensures { Answers (get_property (world_in (R.held rows.now)) programmer x name.now) (R.held rows.now) result }
+{
+    let Some(found) = slot_of(rows, x, name) else {
+        return Err(Fault::Moo(Code::PropertyNotFound));
+    };
+    if !may_read(rows, programmer, found) {
+        return Err(Fault::Moo(Code::Permission));
+    }
+    Ok(value_of(rows, x, found.id).copy(alloc)?)
+}
+
+/// The names of the properties that x defines, in the order of their definition. The only error is want of memory.
+fn names_of<R: Rows>(rows: &R, alloc: Global, x: ObjNo) -> Result<Vec<MooStr>, AllocError>
+    requires { IsGood (R.held rows.now).maps }
+    ensures { IfOk result (λ names. names.items ≡ names_of (world_in (R.held rows.now)) x) }
+{
+    let mut names = Vec::new(alloc);
+    for (_id, row) in each_prop(rows) {
+        if row.definer == x {
+            names.push(row.name.copy(alloc)?)?;
+        }
+    }
+    Ok(names)
+}
+
+/// `properties(object)`: the names of the properties that the object itself defines, in the order of their definition.
+/// E_INVARG where the object is none; E_PERM where the programmer may not read it.
+/// LambdaMOO Programmer's Manual, 'Operations on Properties'.
+pub fn properties<R: Rows>(
+    rows: &R,
+    alloc: Global,
+    programmer: ObjNo,
+    x: ObjNo,
+) -> Result<Value, Fault>
+    requires { IsGood (R.held rows.now).maps }
+    ensures { Answers (properties (world_in (R.held rows.now)) programmer x) (R.held rows.now) result }
+{
+    if !valid(rows, x) {
+        return Err(Fault::Moo(Code::InvalidArgument));
+    }
+    if !rights::may_read_object(rows, programmer, x) {
+        return Err(Fault::Moo(Code::Permission));
+    }
+    Ok(text_list(alloc, names_of(rows, alloc, x)?)?)
+}
+
+/// The letters of rights as a string. The only error is want of memory.
+fn letters(alloc: Global, bits: Bits) -> Result<MooStr, AllocError>
+    ensures { IfOk result (λ text. text ≡ letters_of bits) }
+{
+    match MooStr::from_bytes(alloc, bits.letters().as_bytes()) {
+        Ok(text) => Ok(text),
+        Err(fault) => match fault {
+            LiteralFault::OutOfMemory => Err(AllocError),
+            _ => unreachable!(),
+        },
+    }
+}
+
+/// The owner and the rights of a slot. The only error is want of memory.
+fn info_list(alloc: Global, slot: &SlotRow) -> Result<Value, AllocError>
+    ensures { IfOk result (λ info. info ≡ list_of (Obj slot.now.owner ∷ Str (letters_of slot.now.bits) ∷ [])) }
+{
+    let perms = letters(alloc, slot.bits)?;
+    let info = vec![in alloc; Value::Obj(slot.owner), Value::Str(perms)]?;
+    Ok(list_of(info))
+}
+
+/// `property_info(object, name)`: the owner and the rights of the property on the object, `{owner, perms}`. E_INVARG where
+/// the object is none; E_PROPNF where it has no property of the name, which a built-in name is none of; E_PERM where the
+/// programmer may not read the object's own slot of it.
+/// LambdaMOO Programmer's Manual, 'Operations on Properties'.
+pub fn property_info<R: Rows>(
+    rows: &R,
+    alloc: Global,
+    programmer: ObjNo,
+    x: ObjNo,
+    name: &MooStr,
+) -> Result<Value, Fault>
+    requires { IsGood (R.held rows.now).maps }
+    ensures { Answers (property_info (world_in (R.held rows.now)) programmer x name.now) (R.held rows.now) result }
+{
+    if !valid(rows, x) {
+        return Err(Fault::Moo(Code::InvalidArgument));
+    }
+    let Some(found) = slot_of(rows, x, name) else {
+        return Err(Fault::Moo(Code::PropertyNotFound));
+    };
+    if !may_read(rows, programmer, found) {
+        return Err(Fault::Moo(Code::Permission));
+    }
+    Ok(info_list(alloc, found.slot)?)
+}

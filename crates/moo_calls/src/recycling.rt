@@ -1,0 +1,44 @@
+//! The end of an object.
+
+ghost use Rattle.std.specs.Prelude.{OnOk};
+ghost use Rattle.moo_world.specs.Calls.{recycle};
+ghost use Rattle.moo_world.specs.Keeps.{Keeps};
+ghost use Rattle.moo_world.specs.Rows.{IsGood};
+ghost use Rattle.moo_rights.specs.Outcomes.{world_in, ComesTo};
+
+use moo_props::dropping::drop_object;
+use moo_props::quota::return_quota;
+use moo_rights::answers::ZERO;
+use moo_rights::fault::Fault;
+use moo_rights::rights;
+use moo_rows::rows::Rows;
+use moo_value::code::Code;
+use moo_value::value::{ObjNo, Value};
+use std::alloc::Global;
+
+/// `recycle(object)`: removes an object with its properties and verbs, gives one back to the quota of its former owner, and
+/// answers 0. Its children go to its parent, and what lies in it to `#-1`. The quota is read when the object is gone, and one
+/// at the greatest integer stays. E_INVARG where there is no such object, and then E_PERM where the programmer neither owns it
+/// nor is a wizard.
+/// LambdaMOO Programmer's Manual, 'Fundamental Operations on Objects'.
+pub fn recycle<R: Rows>(
+    rows: &mut R,
+    alloc: Global,
+    programmer: ObjNo,
+    x: ObjNo,
+) -> Result<Value, Fault>
+    requires { IsGood (R.held rows.old).maps }
+    ensures comes { ComesTo (recycle (world_in (R.held rows.old)) programmer x) (R.held rows.old) (R.held rows.new) result }
+    ensures kept { OnOk result (Keeps (R.held rows.old) (R.held rows.new)) }
+{
+    let owner = match rows.object(x) {
+        None => return Err(Fault::Moo(Code::InvalidArgument)),
+        Some(row) => row.owner,
+    };
+    if !rights::controls(rows, programmer, x) {
+        return Err(Fault::Moo(Code::Permission));
+    }
+    let _dropped = drop_object(alloc, rows, x)?;
+    return_quota(rows, owner)?;
+    Ok(ZERO)
+}

@@ -1,0 +1,68 @@
+//! Reading and setting properties, built-in ones and others.
+
+ghost use Rattle.std.specs.Prelude.{◌≡◌, true, OnOk};
+ghost use Rattle.moo_rights.specs.Outcomes.{world_in, Answers, ComesTo};
+ghost use Rattle.moo_world.specs.Arguments.{fits};
+ghost use Rattle.moo_world.specs.Keeps.{Keeps};
+ghost use Rattle.moo_world.specs.PropertyCalls.{get, set};
+ghost use Rattle.moo_world.specs.Rows.{IsGood};
+
+use crate::fields::field_of;
+use crate::property_reading::get_property;
+use crate::property_setting::set_property;
+use crate::setting::set_built_in;
+use moo_rights::fault::Fault;
+use moo_rows::rows::Rows;
+use moo_tree::valid;
+use moo_value::code::Code;
+use moo_value::text::MooStr;
+use moo_value::value::{ObjNo, Value};
+use moo_world::built_in::BuiltIn;
+use std::alloc::Global;
+
+/// `get(object, name)`: the value of a property, a built-in one or another. E_INVIND where the object is none; E_PROPNF where
+/// it has no property of the name; E_PERM where the programmer may not read it, which everybody may of a built-in one.
+/// LambdaMOO Programmer's Manual, 'Getting and Setting the Values of Properties'.
+pub fn get<R: Rows>(
+    rows: &R,
+    alloc: Global,
+    programmer: ObjNo,
+    x: ObjNo,
+    name: &MooStr,
+) -> Result<Value, Fault>
+    requires { IsGood (R.held rows.now).maps }
+    ensures { Answers (get (world_in (R.held rows.now)) programmer x name.now) (R.held rows.now) result }
+{
+    if !valid(rows, x) {
+        return Err(Fault::Moo(Code::InvalidIndirection));
+    }
+    match BuiltIn::of_name(name) {
+        Some(field) => field_of(rows, alloc, x, field),
+        None => get_property(rows, alloc, programmer, x, name),
+    }
+}
+
+/// `set(object, name, value)`: gives a property a value, a built-in one or another, and answers 0. E_INVIND where the object is
+/// none, and then the errors of `set_built_in`, or of `set_property` where the name isn't built in.
+/// LambdaMOO Programmer's Manual, 'Getting and Setting the Values of Properties'.
+pub fn set<R: Rows>(
+    rows: &mut R,
+    alloc: Global,
+    programmer: ObjNo,
+    x: ObjNo,
+    name: &MooStr,
+    value: &Value,
+) -> Result<Value, Fault>
+    requires good { IsGood (R.held rows.old).maps }
+    requires fit { fits value.now ≡ true }
+    ensures comes { ComesTo (set (world_in (R.held rows.old)) programmer x name.now value.now) (R.held rows.old) (R.held rows.new) result }
+    ensures kept { OnOk result (Keeps (R.held rows.old) (R.held rows.new)) }
+{
+    if !valid(rows, x) {
+        return Err(Fault::Moo(Code::InvalidIndirection));
+    }
+    match BuiltIn::of_name(name) {
+        Some(field) => set_built_in(rows, alloc, programmer, x, field, value),
+        None => set_property(rows, alloc, programmer, x, name, value),
+    }
+}

@@ -1,0 +1,146 @@
+-- The names that an object defines are those of the properties' entries that have it as definer.
+use Rattle.std.proofs.Common.{◌≡◌, ◌≢◌, ℕ, zero, suc, ◌≤◌, Bool, true, false, cond, T, Option, None, Some, List, [], ◌∷◌, ◌++◌, map, Less, refl, sym, ap, ◌∙◌, subst, inl, inr, arith, append-nil}
+use Rattle.std.specs.Prelude.{is_some, unwrap_or, nat_lt, if◌then◌else◌}
+use Rattle.std.specs.Option.{option_map, option_and_then}
+use Rattle.std.specs.Cmp.{nat_cmp_is}
+use Rattle.std.specs.List.{filter, filter_map, cons_option, AllByRecursion}
+use Rattle.std.specs.Ordering.{eq_by_cmp}
+use Rattle.std.specs.FinMap.{get, get-entries, find, is_sorted, entries, entries_sorted}
+use Rattle.std.specs.FinMap.Entries.{same_entries, find-append}
+use Rattle.std.proofs.lemmas.Bool.{cases_eq, cases_lt, false≢true, lt-ltb, le-ltb}
+use Rattle.std.proofs.lemmas.List.Elements.{filter_map-append}
+use Rattle.moo_value.specs.declared.value.ObjNo.{ObjNo}
+use Rattle.moo_rows.specs.declared.row.ObjRow.{ObjRow}
+use Rattle.moo_rows.specs.declared.row.PropId.{PropId}
+use Rattle.moo_rows.specs.declared.row.PropRow.{PropRow}
+use Rattle.moo_rows.specs.Maps.{Maps, prop_cmp}
+use Rattle.moo_rows.specs.Exact.{prop_exact}
+use Rattle.moo_rows.proofs.Orders.{prop_total}
+use Rattle.moo_world.specs.Objects.{Name, same_object, same_object-Decides}
+use Rattle.moo_world.specs.World.{Record, names_of}
+use Rattle.moo_world.specs.Rows.{IsSound, look_ups, world_of, world_shown, record_of, numbers_below, name_on, prop_id}
+use Rattle.moo_world.proofs.EntriesInOrder.{all_then, sorted_then, past_each}
+use Rattle.moo_world.proofs.MapLaws.{key-Decides}
+
+-- the names of those of these entries that x defines
+abbrev pub names_among : ObjNo → List (PropId × PropRow) → List Name
+names_among x es = map (λ e. e.1.name) (filter (λ e. same_object e.1.definer x) es)
+
+module _ (t : Maps) where
+  abbrev row_at : ℕ → Option PropRow
+  row_at j = get t.props (prop_id j)
+
+  abbrev entry_at : ℕ → Option (PropId × PropRow)
+  entry_at j = option_map (λ p. (prop_id j, p)) (row_at j)
+
+  -- the entries whose numbers lie below a bound, by number
+  abbrev by_number : ℕ → List (PropId × PropRow)
+  by_number n = filter_map entry_at (numbers_below n)
+
+  next : (n : ℕ) → by_number (suc n) ≡ by_number n ++ cons_option (entry_at n) []
+  next n = filter_map-append entry_at (numbers_below n) (n ∷ [])
+
+  all_lower : (n k : ℕ) → n ≤ k → AllByRecursion (λ e. prop_cmp e.0 (prop_id k) ≡ Less) (by_number n)
+  all_lower zero k l = tt
+  all_lower (suc n) k l = subst (AllByRecursion (λ e. prop_cmp e.0 (prop_id k) ≡ Less)) (sym (next n)) (by (row_at n) (all_lower n k (omega arith)))
+    where
+      by : (o : Option PropRow) → AllByRecursion (λ e. prop_cmp e.0 (prop_id k) ≡ Less) (by_number n) → AllByRecursion (λ e. prop_cmp e.0 (prop_id k) ≡ Less) (by_number n ++ cons_option (option_map (λ p. (prop_id n, p)) o) [])
+      by None a = subst (AllByRecursion (λ e. prop_cmp e.0 (prop_id k) ≡ Less)) (sym (append-nil (by_number n))) a
+      by (Some p) a = all_then (λ e. prop_cmp e.0 (prop_id k) ≡ Less) (by_number n) (prop_id n, p) a (sym (nat_cmp_is n k Less (omega arith)))
+
+  sorted : (n : ℕ) → T (is_sorted prop_cmp (by_number n))
+  sorted zero = tt
+  sorted (suc n) = subst (λ es. T (is_sorted prop_cmp es)) (sym (next n)) (by (row_at n) (sorted n))
+    where
+      by : (o : Option PropRow) → T (is_sorted prop_cmp (by_number n)) → T (is_sorted prop_cmp (by_number n ++ cons_option (option_map (λ p. (prop_id n, p)) o) []))
+      by None s = subst (λ es. T (is_sorted prop_cmp es)) (sym (append-nil (by_number n))) s
+      by (Some p) s = sorted_then prop_cmp (by_number n) (prop_id n) p s (all_lower n n (omega arith))
+
+  ties : (j k : ℕ) → (eq_by_cmp prop_cmp (prop_id j) (prop_id k) ≡ true → j ≡ k) × (j ≡ k → eq_by_cmp prop_cmp (prop_id j) (prop_id k) ≡ true)
+  ties j k =
+      let d = key-Decides prop_cmp prop_total prop_exact (prop_id j) (prop_id k) in
+      (λ e. ap (λ (id : PropId). id.0) (d.0 e), λ e. d.1 (ap prop_id e))
+
+  -- what a number has is found among them where it is below
+  found : (j n : ℕ) → find prop_cmp (prop_id j) (by_number n) ≡ cond (nat_lt j n) (row_at j) None
+  found j zero = sym (ap (λ b. cond b (row_at j) None) (le-ltb j zero (omega arith)))
+  found j (suc n) = ap (find prop_cmp (prop_id j)) (next n) ∙ by (row_at n) refl (found j n)
+    where
+      higher : j ≢ n → cond (nat_lt j n) (row_at j) None ≡ cond (nat_lt j (suc n)) (row_at j) None
+      higher ne = elim (cases_lt j n) [
+        | inl l ↦ ap (λ b. cond b (row_at j) None) (lt-ltb j n l ∙ sym (lt-ltb j (suc n) (omega arith)))
+        | inr l ↦ ap (λ b. cond b (row_at j) None) (le-ltb j n l ∙ sym (le-ltb j (suc n) (omega arith)))
+      ]
+
+      here : j ≡ n → cond (nat_lt j (suc n)) (row_at j) None ≡ row_at n
+      here e = ap (λ b. cond b (row_at j) None) (lt-ltb j (suc n) (omega arith)) ∙ ap row_at e
+
+      apart : j ≢ n → (b : Bool) → eq_by_cmp prop_cmp (prop_id j) (prop_id n) ≡ b → b ≡ false
+      apart ne true e = absurd (ne ((ties j n).0 e))
+      apart ne false e = refl
+
+      by : (o : Option PropRow) → row_at n ≡ o → find prop_cmp (prop_id j) (by_number n) ≡ cond (nat_lt j n) (row_at j) None
+          → find prop_cmp (prop_id j) (by_number n ++ cons_option (option_map (λ p. (prop_id n, p)) o) []) ≡ cond (nat_lt j (suc n)) (row_at j) None
+      by None g f =
+          ap (find prop_cmp (prop_id j)) (append-nil (by_number n)) ∙ f
+          ∙ elim (cases_eq j n) [
+            | inl e ↦ ap (λ b. cond b (row_at j) None) (le-ltb j n (omega arith)) ∙ sym (here e ∙ g)
+            | inr ne ↦ higher ne
+          ]
+      by (Some p) g f =
+          find-append prop_cmp prop_total (by_number n) (prop_id n) p (prop_id j) (past_each prop_cmp prop_total (by_number n) (prop_id n) (all_lower n n (omega arith)))
+          ∙ elim (cases_eq j n) [
+            | inl e ↦ ap (λ b. cond b (Some p) (find prop_cmp (prop_id j) (by_number n))) ((ties j n).1 e) ∙ sym (here e ∙ g)
+            | inr ne ↦ ap (λ b. cond b (Some p) (find prop_cmp (prop_id j) (by_number n))) (apart ne (eq_by_cmp prop_cmp (prop_id j) (prop_id n)) refl) ∙ f ∙ higher ne
+          ]
+
+  named : (x : ObjNo) (l : List ℕ) → names_among x (filter_map entry_at l) ≡ filter_map (name_on (look_ups t) x) l
+  named x [] = refl
+  named x (n ∷ l) = by (row_at n) (named x l)
+    where
+      by : (o : Option PropRow) → names_among x (filter_map entry_at l) ≡ filter_map (name_on (look_ups t) x) l
+          → names_among x (cons_option (option_map (λ p. (prop_id n, p)) o) (filter_map entry_at l)) ≡ cons_option (option_and_then (λ (p : PropRow). if same_object p.definer x then Some p.name else None) o) (filter_map (name_on (look_ups t) x) l)
+      by None r = r
+      by (Some p) r = pick (same_object p.definer x) r
+        where
+          pick : (b : Bool) → names_among x (filter_map entry_at l) ≡ filter_map (name_on (look_ups t) x) l
+              → map (λ e. e.1.name) (cond b ((prop_id n, p) ∷ filter (λ e. same_object e.1.definer x) (filter_map entry_at l)) (filter (λ e. same_object e.1.definer x) (filter_map entry_at l))) ≡ cons_option (if b then Some p.name else None) (filter_map (name_on (look_ups t) x) l)
+          pick true r = ap (λ m. p.name ∷ m) r
+          pick false r = r
+
+  module _ (sound : IsSound t) where
+    all_entries : by_number t.head.next_prop ≡ entries t.props
+    all_entries = same_entries prop_cmp prop_total prop_exact (by_number t.head.next_prop) (entries t.props) (sorted t.head.next_prop) (entries_sorted t.props) (λ q. found q.0 t.head.next_prop ∙ held q ∙ get-entries t.props q)
+      where
+        held : (q : PropId) → cond (nat_lt q.0 t.head.next_prop) (get t.props q) None ≡ get t.props q
+        held q = by (get t.props q) refl
+          where
+            none : (b : Bool) → ◌≡◌ {A = Option PropRow} (cond b None None) None
+            none true = refl
+            none false = refl
+
+            by : (o : Option PropRow) → get t.props q ≡ o → cond (nat_lt q.0 t.head.next_prop) o None ≡ o
+            by None e = none (nat_lt q.0 t.head.next_prop)
+            by (Some p) e = ap (λ b. cond b (Some p) None) (lt-ltb q.0 t.head.next_prop (sound.props_below q.0 (ap is_some e)).1)
+
+    -- what is no object defines nothing
+    nobody : (x : ObjNo) → get t.objects x ≡ None → (l : List ℕ) → filter_map (name_on (look_ups t) x) l ≡ []
+    nobody x none [] = refl
+    nobody x none (n ∷ l) = by (row_at n) refl (nobody x none l)
+      where
+        strange : (p : PropRow) → row_at n ≡ Some p → (b : Bool) → same_object p.definer x ≡ b → cons_option (if b then Some p.name else None) [] ≡ []
+        strange p e false g = refl
+        strange p e true g = absurd (false≢true (ap is_some (sym none) ∙ ap (λ y. is_some (get t.objects y)) (sym ((same_object-Decides p.definer x).0 g)) ∙ sound.definers n p e))
+
+        by : (o : Option PropRow) → row_at n ≡ o → filter_map (name_on (look_ups t) x) l ≡ [] → cons_option (option_and_then (λ (p : PropRow). if same_object p.definer x then Some p.name else None) o) (filter_map (name_on (look_ups t) x) l) ≡ []
+        by None e r = r
+        by (Some p) e r = ap (cons_option (if same_object p.definer x then Some p.name else None)) r ∙ strange p e (same_object p.definer x) refl
+
+    -- the names in the order of definition are those of the entries in the order of their numbers
+    pub names_listed : (x : ObjNo) → names_among x (entries t.props) ≡ names_of (world_of t) x
+    unfolding world_shown
+    names_listed x = ap (names_among x) (sym all_entries) ∙ named x (numbers_below t.head.next_prop) ∙ by (get t.objects x) refl
+      where
+        by : (o : Option ObjRow) → get t.objects x ≡ o → filter_map (name_on (look_ups t) x) (numbers_below t.head.next_prop) ≡ unwrap_or (option_map (λ (r : Record). r.defines) (option_map (record_of (look_ups t) x) o)) []
+        by None e = nobody x e (numbers_below t.head.next_prop)
+        by (Some row) e = refl

@@ -1,0 +1,291 @@
+-- The slots that are removed with an object are those that go with it.
+use Rattle.std.proofs.Common.{◌≡◌, Bool, true, false, cond, ◌||◌, Option, None, Some, List, [], ◌∷◌, ◌++◌, map, Ordering, Less, refl, sym, ap, ◌∙◌, subst, ◌⊎◌, inl, inr}
+use Rattle.std.specs.Prelude.{◌&&◌, is_some, unwrap_or, if◌then◌else◌}
+use Rattle.std.specs.Option.{option_map}
+use Rattle.std.specs.Bool.{Decides}
+use Rattle.std.specs.Cmp.{IsTotalOrder, tied_itself}
+use Rattle.std.specs.Ordering.{eq_by_cmp, is_lt, int_eq, ordering_reverse, ordering_then}
+use Rattle.std.specs.List.{filter, list_any, AllByRecursion}
+use Rattle.std.specs.FinMap.{get, entries, find, get-entries, entries_sorted}
+use Rattle.std.proofs.lemmas.Bool.{false≢true, or_cases, or_right}
+use Rattle.std.proofs.lemmas.Bool.Decides.{Decides-int_eq}
+use Rattle.std.proofs.lemmas.Map.Lookups.{CmpEqualImpliesEq}
+use Rattle.moo_value.specs.declared.value.ObjNo.{ObjNo}
+use Rattle.moo_rows.specs.declared.row.ObjRow.{ObjRow}
+use Rattle.moo_rows.specs.declared.row.PropId.{PropId}
+use Rattle.moo_rows.specs.declared.row.PropRow.{PropRow}
+use Rattle.moo_rows.specs.declared.row.SlotRow.{SlotRow}
+use Rattle.moo_rows.specs.Exact.{slot_exact}
+use Rattle.moo_rows.specs.Maps.{Maps, object_cmp, prop_cmp, slot_cmp}
+use Rattle.moo_rows.proofs.Orders.{object_total, slot_total}
+use Rattle.moo_world.specs.Objects.{same_object, is_among, same_object-Decides}
+use Rattle.moo_world.specs.World.{chain, is_object}
+use Rattle.moo_world.specs.Rows.{IsGood, LookUps, look_ups, world_of}
+use Rattle.moo_world.proofs.MapLaws.{key-Decides, decided_alike}
+use Rattle.moo_world.proofs.Owed.{any-append}
+use Rattle.moo_world.proofs.Seen.{chain_of_row}
+use Rattle.moo_world.proofs.Trees.{chain_of_none}
+use Rattle.moo_props.specs.Dropped.{goes_with, dropped_keys}
+use Rattle.moo_props.specs.Dropping.{ids_for, ids_among, dropped_over}
+use Rattle.moo_props.specs.Names.{defines}
+use Rattle.moo_props.specs.Present.{ArePresent, AreAscending}
+use Rattle.moo_props.specs.Reparent.{owners_under, keys_on}
+use Rattle.moo_props.specs.Touched.{props_of}
+use Rattle.moo_props.proofs.Ascending.{Rises, rises_made, keys_by, keys_rise, props_rise, under_rise, ascend}
+use Rattle.moo_props.proofs.Folding.{has_id, is_id, key_parts, is_id-Decides}
+use Rattle.moo_world.proofs.PairLists.{some_of}
+use Rattle.moo_props.proofs.Gains.{slot_on_heir}
+use Rattle.moo_props.proofs.LessRows.{is_own_id}
+use Rattle.moo_world.proofs.Listed.{listed, own_entries, all_made}
+use Rattle.moo_props.proofs.Moved.{under_is}
+use Rattle.moo_props.proofs.NewSlots.{has_all}
+use Rattle.moo_props.proofs.Walked.{Entry, walk, walk_held}
+
+-- ---- ascending lists of the same keys are the same
+
+module _ {K : Type 0} (cmp : K → K → Ordering) (total : IsTotalOrder cmp) (exact : CmpEqualImpliesEq cmp) where
+  abbrev pub holds : List K → K → Bool
+  holds l k = list_any (eq_by_cmp cmp k) l
+
+  same_key : (a b : K) → Decides (eq_by_cmp cmp a b) (a ≡ b)
+  same_key a b = key-Decides cmp total exact a b
+
+  of_all : (P : K → Type 0) (l : List K) → AllByRecursion P l → (k : K) → holds l k ≡ true → P k
+  of_all P [] a k h = absurd (false≢true h)
+  of_all P (x ∷ l) a k h = by (or_cases _ _ h) (of_all P l a.1 k)
+    where
+      by : (eq_by_cmp cmp k x ≡ true) ⊎ (holds l k ≡ true) → (holds l k ≡ true → P k) → P k
+      by (inl e) r = subst P (sym ((same_key k x).0 e)) a.0
+      by (inr e) r = r e
+
+  not_less : (a : K) → cmp a a ≡ Less → ⊥
+  not_less a e = false≢true (ap is_lt (sym (tied_itself total a)) ∙ ap is_lt e)
+
+  not_both : (a b : K) → cmp a b ≡ Less → cmp b a ≡ Less → ⊥
+  not_both a b e f = false≢true (ap is_lt (sym (total.antisymm b a ∙ ap ordering_reverse e)) ∙ ap is_lt f)
+
+  -- of two ascending lists whose keys are those of the other the first keys are the same
+  same_first : (x y : K) (a b : List K) → AreAscending cmp (x ∷ a) → AreAscending cmp (y ∷ b) → holds (y ∷ b) x ≡ true → holds (x ∷ a) y ≡ true → x ≡ y
+  same_first x y a b u v h k = by (or_cases _ _ h) (or_cases _ _ k)
+    where
+      by : (eq_by_cmp cmp x y ≡ true) ⊎ (holds b x ≡ true) → (eq_by_cmp cmp y x ≡ true) ⊎ (holds a y ≡ true) → x ≡ y
+      by (inl e) k = (same_key x y).0 e
+      by (inr e) (inl f) = sym ((same_key y x).0 f)
+      by (inr e) (inr f) = absurd (not_both x y (of_all (λ z. cmp x z ≡ Less) a u.0 y f) (of_all (λ z. cmp y z ≡ Less) b v.0 x e))
+
+  later : (x y : K) (a b : List K) → x ≡ y → AreAscending cmp (x ∷ a) → (k : K) → holds a k ≡ true → holds (y ∷ b) k ≡ true → holds b k ≡ true
+  later x y a b e u k h g = by (or_cases _ _ g)
+    where
+      by : (eq_by_cmp cmp k y ≡ true) ⊎ (holds b k ≡ true) → holds b k ≡ true
+      by (inl f) = absurd (not_less x (ap (cmp x) (e ∙ sym ((same_key k y).0 f)) ∙ of_all (λ z. cmp x z ≡ Less) a u.0 k h))
+      by (inr f) = f
+
+  also : (x k : K) (a : List K) → holds a k ≡ true → holds (x ∷ a) k ≡ true
+  also x k a h = or_right (eq_by_cmp cmp k x) (holds a k) h
+
+  first : (x : K) (a : List K) → holds (x ∷ a) x ≡ true
+  first x a = ap (λ b. b || holds a x) ((same_key x x).1 refl)
+
+  pub unique : (a b : List K) → AreAscending cmp a → AreAscending cmp b → ((k : K) → holds a k ≡ true → holds b k ≡ true) → ((k : K) → holds b k ≡ true → holds a k ≡ true) → a ≡ b
+  unique [] [] u v to from = refl
+  unique [] (y ∷ b) u v to from = absurd (false≢true (from y (first y b)))
+  unique (x ∷ a) [] u v to from = absurd (false≢true (to x (first x a)))
+  unique (x ∷ a) (y ∷ b) u v to from =
+      let same = same_first x y a b u v (to x (first x a)) (from y (first y b)) in
+      let rest = unique a b u.1 v.1
+      (λ k h. later x y a b same u k h (to k (also x k a h)))
+      (λ k h. later y x b a (sym same) v k h (from k (also y k b h))) in
+      λ i. same i ∷ rest i
+
+-- ---- what the code lists
+
+over_is : (x : ObjNo) (all own : List PropId) (es : List (ObjNo × ObjNo)) → dropped_over x all own es ≡ keys_by (ids_for x all own) es
+over_is x all own [] = refl
+over_is x all own (e ∷ es) = ap (λ l. keys_on e.0 (ids_for x all own e.0) ++ l) (over_is x all own es)
+
+held_on : (y z : ObjNo) (j : PropId) (ids : List PropId) → holds slot_cmp slot_total slot_exact (keys_on y ids) (z, j) ≡ (same_object y z && has_id j ids)
+held_on y z j [] = none (same_object y z)
+  where
+    none : (b : Bool) → false ≡ (b && false)
+    none true = refl
+    none false = refl
+held_on y z j (id ∷ ids) = (λ i. key_parts y z id j i || held_on y z j ids i) ∙ by (same_object y z)
+  where
+    by : (b : Bool) → ((b && is_id j id) || (b && has_id j ids)) ≡ (b && (is_id j id || has_id j ids))
+    by true = refl
+    by false = refl
+
+held_by : (ids : ObjNo → List PropId) (z : ObjNo) (j : PropId) (es : List (ObjNo × ObjNo)) → holds slot_cmp slot_total slot_exact (keys_by ids es) (z, j) ≡ (list_any (λ e. same_object e.0 z) es && has_id j (ids z))
+held_by ids z j [] = refl
+held_by ids z j (e ∷ es) =
+    any-append (eq_by_cmp slot_cmp (z, j)) (keys_on e.0 (ids e.0)) (keys_by ids es)
+    ∙ (λ i. held_on e.0 z j (ids e.0) i || held_by ids z j es i)
+    ∙ by (same_object e.0 z) refl (list_any (λ e. same_object e.0 z) es)
+  where
+    twice : (b c d : Bool) → b ≡ c → (b || (d && c)) ≡ c
+    twice true true d h = refl
+    twice false false true h = refl
+    twice false false false h = refl
+    twice true false d h = absurd (false≢true (sym h))
+    twice false true d h = absurd (false≢true h)
+
+    by : (a : Bool) → same_object e.0 z ≡ a → (d : Bool) → ((a && has_id j (ids e.0)) || (d && has_id j (ids z))) ≡ ((a || d) && has_id j (ids z))
+    by true g d = twice (has_id j (ids e.0)) (has_id j (ids z)) d (ap (λ y. has_id j (ids y)) ((same_object-Decides e.0 z).0 g))
+    by false g d = refl
+
+-- ---- order
+
+rises_fewer : {K A : Type 0} (cmp : K → K → Ordering) (key : A → K) (test : A → Bool) (l : List A) → Rises cmp key l → Rises cmp key (filter test l)
+rises_fewer cmp key test [] r = tt
+rises_fewer {A = A} cmp key test (a ∷ l) r = by (test a) (rises_fewer cmp key test l r.1)
+  where
+    fewer : (m : List A) → AllByRecursion (λ b. cmp (key a) (key b) ≡ Less) m → AllByRecursion (λ b. cmp (key a) (key b) ≡ Less) (filter test m)
+    fewer [] h = tt
+    fewer (b ∷ m) h = one (test b) (fewer m h.1)
+      where
+        one : (c : Bool) → AllByRecursion (λ b. cmp (key a) (key b) ≡ Less) (filter test m) → AllByRecursion (λ b. cmp (key a) (key b) ≡ Less) (cond c (b ∷ filter test m) (filter test m))
+        one true k = (h.0, k)
+        one false k = k
+
+    by : (b : Bool) → Rises cmp key (filter test l) → Rises cmp key (cond b (a ∷ filter test l) (filter test l))
+    by true k = (fewer l r.0, k)
+    by false k = k
+
+-- the properties of one object's slots
+ids_rise : (x : ObjNo) (es : List Entry) → AllByRecursion (λ e. e.0.0 ≡ x) es → Rises slot_cmp (λ e. e.0) es → Rises prop_cmp (λ j. j) (ids_among es)
+ids_rise x [] a r = tt
+ids_rise x (e ∷ es) a r = (each es a.1 r.0, ids_rise x es a.1 r.1)
+  where
+    each : (l : List Entry) → AllByRecursion (λ e. e.0.0 ≡ x) l → AllByRecursion (λ b. slot_cmp e.0 b.0 ≡ Less) l → AllByRecursion (λ j. prop_cmp e.0.1 j ≡ Less) (ids_among l)
+    each [] a h = tt
+    each (b ∷ l) c h =
+        (sym (ap (λ o. ordering_then o (prop_cmp e.0.1 b.0.1)) (tied_itself object_total x)) ∙ sym (λ i. ordering_then (object_cmp (a.0 i) (c.0 i)) (prop_cmp e.0.1 b.0.1)) ∙ h.0, each l c.1 h.1)
+
+module _ (t : Maps) (good : IsGood t) (x : ObjNo) (row : ObjRow) (here : get t.objects x ≡ Some row) where
+  abbrev m : LookUps
+  m = look_ups t
+
+  abbrev all : List PropId
+  all = ids_among (walk t x)
+
+  abbrev own : List PropId
+  own = props_of (x ∷ []) t.props
+
+  own_entry : AllByRecursion (λ (e : Entry). e.0.0 ≡ x) (walk t x)
+  own_entry = each (walk t x) (walk_held t x)
+    where
+      each : (l : List Entry) → AllByRecursion (λ (e : Entry). (get t.slots e.0 ≡ Some e.1) × (int_eq e.0.0.0 x.0 ≡ true)) l → AllByRecursion (λ (e : Entry). e.0.0 ≡ x) l
+      each [] h = tt
+      each (e ∷ l) h = (let k = (Decides-int_eq e.0.0.0 x.0).0 h.0.1 in λ i. record { 0 = k i }, each l h.1)
+
+  all_rise : Rises prop_cmp (λ j. j) all
+  all_rise = ids_rise x (walk t x) own_entry
+      (rises_fewer slot_cmp (λ (e : Entry). e.0) _ _ (rises_fewer slot_cmp (λ (e : Entry). e.0) _ (entries t.slots) (entries_rise)))
+    where
+      kept : (l : List Entry) → map (λ (e : Entry). e) (filter (λ e. true) l) ≡ l
+      kept [] = refl
+      kept (e ∷ l) = ap (λ k. e ∷ k) (kept l)
+
+      entries_rise : Rises slot_cmp (λ (e : Entry). e.0) (entries t.slots)
+      entries_rise = subst (Rises slot_cmp (λ (e : Entry). e.0)) (kept (entries t.slots)) (rises_made slot_cmp (λ (e : Entry). e.0) (λ e. true) (λ e. e) (λ e. refl) (entries t.slots) (entries_sorted t.slots))
+
+  listed_ascend : AreAscending slot_cmp (dropped_over x all own (owners_under t x))
+  listed_ascend = subst (AreAscending slot_cmp) (sym (over_is x all own (owners_under t x))) (keys_rise (ids_for x all own) (λ y. each (same_object x y)) (owners_under t x) (under_rise t x))
+    where
+      each : (b : Bool) → Rises prop_cmp (λ j. j) (if b then all else own)
+      each true = all_rise
+      each false = props_rise t (x ∷ [])
+
+  pub dropped_ascend : AreAscending slot_cmp (dropped_keys t x)
+  dropped_ascend = ascend slot_cmp (dropped_keys t x) (rises_made slot_cmp (λ k. k) (λ e. goes_with t x e.0) (λ e. e.0) (λ e. refl) (entries t.slots) (entries_sorted t.slots))
+
+  -- ---- which keys
+
+  own_chain : is_among x (chain (world_of t) x) ≡ true
+  own_chain = ap (is_among x) (chain_of_row m good.formed.tree x row (sym here)) ∙ ap (λ b. b || is_among x (chain (world_of t) row.parent)) ((same_object-Decides x x).1 refl)
+
+  there : (z : ObjNo) → is_among x (chain (world_of t) z) ≡ true → is_object (world_of t) z ≡ true
+  there z u = by (is_object (world_of t) z) refl
+    where
+      by : (b : Bool) → is_object (world_of t) z ≡ b → b ≡ true
+      by true e = refl
+      by false e = absurd (false≢true (sym (ap (is_among x) (chain_of_none (world_of t) z e)) ∙ u))
+
+  -- a property that x defines has a slot on each object under x
+  own_slot : (z : ObjNo) (j : PropId) → is_among x (chain (world_of t) z) ≡ true → defines t x j ≡ true → is_some (get t.slots (z, j)) ≡ true
+  own_slot z j u d = by (get t.props j) refl d
+    where
+      by : (o : Option PropRow) → get t.props j ≡ o → unwrap_or (option_map (λ p. same_object p.definer x) o) false ≡ true → is_some (get t.slots (z, j)) ≡ true
+      by None e h = absurd (false≢true h)
+      by (Some p) e h = slot_on_heir t good.sound good.formed z (there z u) j.0 p e (ap (λ k. is_among k (chain (world_of t) z)) ((same_object-Decides p.definer x).0 h) ∙ u)
+
+  listed_has : (z : ObjNo) (j : PropId) → holds slot_cmp slot_total slot_exact (dropped_over x all own (owners_under t x)) (z, j) ≡ (is_among x (chain (world_of t) z) && has_id j (ids_for x all own z))
+  listed_has z j =
+      ap (λ l. holds slot_cmp slot_total slot_exact l (z, j)) (over_is x all own (owners_under t x))
+      ∙ held_by (ids_for x all own) z j (owners_under t x)
+      ∙ ap (λ b. b && has_id j (ids_for x all own z)) (under_is t x z)
+
+  keys_have : (z : ObjNo) (j : PropId) → holds slot_cmp slot_total slot_exact (dropped_keys t x) (z, j) ≡ (is_some (get t.slots (z, j)) && goes_with t x (z, j))
+  keys_have z j =
+      listed slot_cmp slot_total slot_exact (z, j) (λ e. goes_with t x e.0) (λ e. e.0) (eq_by_cmp slot_cmp (z, j)) (λ e. refl) (entries t.slots) (entries_sorted t.slots)
+      ∙ ap (λ o. unwrap_or (option_map (λ v. goes_with t x (z, j)) o) false) (sym (get-entries t.slots (z, j)))
+      ∙ by (get t.slots (z, j))
+    where
+      by : (o : Option SlotRow) → unwrap_or (option_map (λ v. goes_with t x (z, j)) o) false ≡ (is_some o && goes_with t x (z, j))
+      by None = refl
+      by (Some k) = refl
+
+  -- a property is of the walk just where x has a slot of it
+  walked : (j : PropId) → has_id j all ≡ is_some (get t.slots (x, j))
+  walked j = decided_alike _ _ (is_some (get t.slots (x, j)) ≡ true) (from, to) (λ e. e, λ e. e)
+    where
+      to : is_some (get t.slots (x, j)) ≡ true → has_id j all ≡ true
+      to e = let k = some_of (get t.slots (x, j)) e in has_all t x good.sound j k.0 k.1
+
+      each : (l : List Entry) → AllByRecursion (λ (e : Entry). (get t.slots e.0 ≡ Some e.1) × (int_eq e.0.0.0 x.0 ≡ true)) l → AllByRecursion (λ (e : Entry). e.0.0 ≡ x) l → has_id j (ids_among l) ≡ true → is_some (get t.slots (x, j)) ≡ true
+      each [] h a e = absurd (false≢true e)
+      each (k ∷ l) h a e = elim (or_cases (is_id j k.0.1) (has_id j (ids_among l)) e) [
+        | inl f ↦ (λ i. is_some (get t.slots (sym a.0 i, (is_id-Decides j k.0.1).0 f i))) ∙ ap is_some h.0.0
+        | inr f ↦ each l h.1 a.1 f
+      ]
+
+      from : has_id j all ≡ true → is_some (get t.slots (x, j)) ≡ true
+      from e = each (walk t x) (walk_held t x) own_entry e
+
+  same_keys : (z : ObjNo) (j : PropId) → (is_among x (chain (world_of t) z) && has_id j (ids_for x all own z)) ≡ (is_some (get t.slots (z, j)) && goes_with t x (z, j))
+  same_keys z j = by (same_object x z) refl
+    where
+      with_true : (b : Bool) → b ≡ (b && true)
+      with_true true = refl
+      with_true false = refl
+
+      beside : (u d : Bool) → is_among x (chain (world_of t) z) ≡ u → defines t x j ≡ d → (u && d) ≡ (is_some (get t.slots (z, j)) && (u && d))
+      beside true true e f = sym (ap (λ b. b && true) (own_slot z j e f))
+      beside true false e f = none (is_some (get t.slots (z, j)))
+        where
+          none : (b : Bool) → false ≡ (b && false)
+          none true = refl
+          none false = refl
+      beside false d e f = none (is_some (get t.slots (z, j)))
+        where
+          none : (b : Bool) → false ≡ (b && false)
+          none true = refl
+          none false = refl
+
+      by : (b : Bool) → same_object x z ≡ b → (is_among x (chain (world_of t) z) && has_id j (if b then all else own)) ≡ (is_some (get t.slots (z, j)) && (b || (is_among x (chain (world_of t) z) && defines t x j)))
+      by true e =
+          let same = (same_object-Decides x z).0 e in
+          (λ i. (ap (λ k. is_among x (chain (world_of t) k)) (sym same) ∙ own_chain) i && (walked j ∙ ap (λ k. is_some (get t.slots (k, j))) same) i) ∙ with_true (is_some (get t.slots (z, j)))
+      by false e = ap (λ b. is_among x (chain (world_of t) z) && b) (is_own_id t good x row here (record { maps = t; writes = 0; base = t }) refl j) ∙ beside (is_among x (chain (world_of t) z)) (defines t x j) refl refl
+
+  pub dropped_list : dropped_over x all own (owners_under t x) ≡ dropped_keys t x
+  dropped_list = unique slot_cmp slot_total slot_exact (dropped_over x all own (owners_under t x)) (dropped_keys t x) listed_ascend dropped_ascend
+      (λ k h. sym (alike k) ∙ h)
+      (λ k h. alike k ∙ h)
+    where
+      alike : (k : ObjNo × PropId) → holds slot_cmp slot_total slot_exact (dropped_over x all own (owners_under t x)) k ≡ holds slot_cmp slot_total slot_exact (dropped_keys t x) k
+      alike k = listed_has k.0 k.1 ∙ same_keys k.0 k.1 ∙ sym (keys_have k.0 k.1)
+
+  pub dropped_had : ArePresent t.slots (dropped_keys t x)
+  dropped_had = all_made (λ e. find slot_cmp e.0 (entries t.slots) ≡ Some e.1) (λ key. is_some (get t.slots key) ≡ true) (λ e. goes_with t x e.0) (λ e. e.0)
+      (λ e h k. ap is_some (get-entries t.slots e.0 ∙ h)) (entries t.slots) (own_entries slot_cmp slot_total slot_exact (entries t.slots) (entries_sorted t.slots))

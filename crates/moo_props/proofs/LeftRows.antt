@@ -1,0 +1,160 @@
+-- The rows once an object is dropped, key by key, and how many were written.
+use Rattle.std.proofs.Common.{◌≡◌, ◌≤◌, ◌+◌, Bool, true, false, Option, None, Some, List, [], ◌∷◌, length, refl, sym, ap, ◌∙◌, arith, length-append}
+use Rattle.std.specs.Prelude.{◌&&◌, ◌||◌, is_some, unwrap_or, if◌then◌else◌}
+use Rattle.std.specs.Option.{option_map}
+use Rattle.std.specs.FinMap.{get, remove, entries, find, get-entries, entries_sorted}
+use Rattle.std.proofs.lemmas.Bool.{false≢true, both_ways}
+use Rattle.std.proofs.lemmas.Option.{same_Some}
+use Rattle.moo_value.specs.declared.value.ObjNo.{ObjNo}
+use Rattle.moo_rows.specs.declared.row.ObjRow.{ObjRow}
+use Rattle.moo_rows.specs.declared.row.PropId.{PropId}
+use Rattle.moo_rows.specs.declared.row.SlotRow.{SlotRow}
+use Rattle.moo_rows.specs.declared.row.VerbId.{VerbId}
+use Rattle.moo_rows.specs.Exact.{object_exact, slot_exact}
+use Rattle.moo_rows.specs.Maps.{Maps, Held, wrote, object_cmp, slot_cmp}
+use Rattle.moo_rows.proofs.Orders.{object_total, slot_total}
+use Rattle.moo_world.specs.Objects.{nothing, same_object, is_among, same_object-Decides}
+use Rattle.moo_world.specs.World.{Record, Climbs, chain, is_object, parent_of, location_of}
+use Rattle.moo_world.specs.Rows.{IsGood, look_ups, world_of, record_of}
+use Rattle.moo_world.proofs.Chains.{Climbs-unique}
+use Rattle.moo_world.proofs.Seen.{object_seen}
+use Rattle.moo_world.proofs.Trees.{no_parent, nothing_is_no_object}
+use Rattle.moo_props.specs.Dropped.{goes_with, dropped_keys, slot_left, prop_left, verb_left, heir, row_left}
+use Rattle.moo_props.specs.Dropping.{is_linked, released_row, ids_for, ids_among, verbs_among, linked_among, dropped_over, slots_dropped, props_removed, verbs_removed, with_released, row_released, rows_released}
+use Rattle.moo_props.specs.Names.{defines}
+use Rattle.moo_props.specs.Present.{ArePresent, AreAbsent}
+use Rattle.moo_props.specs.Reparent.{owners_under, keys_on, without_on}
+use Rattle.moo_props.specs.Touched.{props_of}
+use Rattle.moo_props.proofs.LessRows.{held1, held2, held3, held5, only5, slots5, props5, verbs5, objects5, own_under}
+use Rattle.moo_world.proofs.Listed.{own_entries, all_made}
+use Rattle.moo_props.proofs.Moved.{writes-without, length-made}
+use Rattle.moo_props.proofs.Walked.{walk}
+
+-- ---- counts
+
+writes-dropped : (x : ObjNo) (all own : List PropId) (es : List (ObjNo × ObjNo)) (held : Held) → (slots_dropped x all own es held).writes ≡ held.writes + length (dropped_over x all own es)
+writes-dropped x all own [] held = omega arith
+writes-dropped x all own (e ∷ es) held =
+    omega (
+      arith,
+      writes-dropped x all own es (without_on e.0 (ids_for x all own e.0) held),
+      writes-without e.0 (ids_for x all own e.0) held,
+      length-append (keys_on e.0 (ids_for x all own e.0)) (dropped_over x all own es),
+      length-made {B = ObjNo × PropId} (λ (id : PropId). (e.0, id)) (ids_for x all own e.0),
+    )
+
+writes-props : (ids : List PropId) (held : Held) → (props_removed ids held).writes ≡ held.writes + length ids
+writes-props [] held = omega arith
+writes-props (id ∷ ids) held = omega (arith, writes-props ids (wrote held (record (held.maps) { props = remove held.maps.props id })))
+
+writes-verbs : (keys : List (ObjNo × VerbId)) (held : Held) → (verbs_removed keys held).writes ≡ held.writes + length keys
+writes-verbs [] held = omega arith
+writes-verbs (key ∷ keys) held = omega (arith, writes-verbs keys (wrote held (record (held.maps) { verbs = remove held.maps.verbs key })))
+
+writes-one : (x q y : ObjNo) (held : Held) → (row_released x q y held).writes ≤ held.writes + 1
+writes-one x q y held = by (get held.maps.objects y)
+  where
+    by : (o : Option ObjRow) → (with_released x q y held o).writes ≤ held.writes + 1
+    by None = omega arith
+    by (Some r) = omega arith
+
+writes-released : (x q : ObjNo) (ys : List ObjNo) (held : Held) → (rows_released x q ys held).writes ≤ held.writes + length ys
+writes-released x q [] held = omega arith
+writes-released x q (y ∷ ys) held = omega (arith, writes-released x q ys (row_released x q y held), writes-one x q y held)
+
+module _ (t : Maps) (good : IsGood t) (x : ObjNo) (row : ObjRow) (here : get t.objects x ≡ Some row) (held : Held) (same : held.maps ≡ t) where
+  abbrev after : Held
+  after = held5 t good x row here held same
+
+  pub writes5 : after.writes ≤ held.writes + (length (dropped_over x (ids_among (walk t x)) (props_of (x ∷ []) t.props) (owners_under t x)) + length (props_of (x ∷ []) t.props) + length (verbs_among x (entries t.verbs)) + length (linked_among x (entries t.objects)) + 1)
+  writes5 =
+      omega (
+        arith,
+        writes-dropped x (ids_among (walk t x)) (props_of (x ∷ []) t.props) (owners_under t x) held,
+        writes-props (props_of (x ∷ []) t.props) (held1 t good x row here held same),
+        writes-verbs (verbs_among x (entries t.verbs)) (held2 t good x row here held same),
+        writes-released x row.parent (linked_among x (entries t.objects)) (held3 t good x row here held same),
+      )
+
+  -- ---- key by key
+
+  heir_is : heir t x ≡ row.parent
+  heir_is = ap (λ o. unwrap_or (option_map (λ (r : ObjRow). r.parent) o) nothing) here
+
+  pub slots_left : (key : ObjNo × PropId) → get after.maps.slots key ≡ slot_left t x key
+  slots_left key =
+      ap (λ (k : Maps). get k.slots key) (only5 t good x row here held same)
+      ∙ slots5 t good x row here held same key.0 key.1
+      ∙ by (same_object x key.0) (is_among x (chain (world_of t) key.0)) refl (defines t x key.1) refl (get t.slots key) refl
+    where
+      by : (a u : Bool) → is_among x (chain (world_of t) key.0) ≡ u → (d : Bool) → defines t x key.1 ≡ d → (o : Option SlotRow) → get t.slots key ≡ o → (if a then None else (if d then None else o)) ≡ (if a || (u && d) then None else o)
+      by true u e d f o g = refl
+      by false true e d f o g = refl
+      by false false e false f o g = refl
+      by false false e true f None g = refl
+      by false false e true f (Some k) g = absurd (both_ways (is_among x (chain (world_of t) key.0)) e (own_under t good x row here held same key.0 key.1 k g f))
+
+  pub props_left : (id : PropId) → get after.maps.props id ≡ prop_left t x id
+  props_left id = ap (λ (k : Maps). get k.props id) (only5 t good x row here held same) ∙ props5 t good x row here held same id.0
+
+  pub verbs_left : (key : ObjNo × VerbId) → get after.maps.verbs key ≡ verb_left t x key
+  verbs_left key = ap (λ (k : Maps). get k.verbs key) (only5 t good x row here held same) ∙ verbs5 t good x row here held same key.0 key.1.0
+
+  pub objects_left : (y : ObjNo) → get after.maps.objects y ≡ row_left t x y
+  objects_left y =
+      ap (λ (k : Maps). get k.objects y) (only5 t good x row here held same)
+      ∙ objects5 t good x row here held same y
+      ∙ ap (λ q. if same_object x y then None else option_map (released_row x q) (get t.objects y)) (sym heir_is)
+
+  pub head5 : after.maps.head ≡ t.head
+  head5 = ap (λ (k : Maps). k.head) (only5 t good x row here held same)
+
+  -- ---- what is listed
+
+  pub dropped_gone : AreAbsent after.maps.slots (dropped_keys t x)
+  dropped_gone = all_made (λ e. find slot_cmp e.0 (entries t.slots) ≡ Some e.1) (λ key. get after.maps.slots key ≡ None) (λ e. goes_with t x e.0) (λ e. e.0)
+      (λ e h k. slots_left e.0 ∙ ap (λ b. if b then None else get t.slots e.0) k) (entries t.slots) (own_entries slot_cmp slot_total slot_exact (entries t.slots) (entries_sorted t.slots))
+
+  -- no object is its own parent, nor lies in itself
+  abbrev record_x : Record
+  record_x = record_of (look_ups t) x row
+
+  seen : (world_of t).object x ≡ Some record_x
+  seen = object_seen (look_ups t) x row here
+
+  xo : is_object (world_of t) x ≡ true
+  xo = ap is_some seen
+
+  apart : (link : ObjNo → Option ObjNo) → link nothing ≡ None → (l : List ObjNo) → Climbs link x l → (y : ObjNo) → link x ≡ Some y → (b : Bool) → same_object x y ≡ b → b ≡ false
+  apart link none l c y e false f = refl
+  apart link none l c y e true f =
+      let itself : link x ≡ Some x = e ∙ ap Some (sym ((same_object-Decides x y).0 f)) in
+      let longer : l ≡ x ∷ l = Climbs-unique link none l (x ∷ l) x c (refl, x, itself, c) in
+      let more : length l ≡ length (x ∷ l) = ap length longer in
+      absurd (omega (arith, more))
+
+  no_place : location_of (world_of t) nothing ≡ None
+  no_place = by ((world_of t).object nothing) (nothing_is_no_object (world_of t) good.formed.tree)
+    where
+      by : (o : Option Record) → is_some o ≡ false → option_map (λ r. r.row.location) o ≡ None
+      by None e = refl
+      by (Some r) e = absurd (false≢true (sym e))
+
+  unlinked : is_linked x row ≡ false
+  unlinked =
+      let c = good.formed.tree.chains x xo in
+      let p = good.formed.tree.places x xo in
+      λ i.
+      apart (parent_of (world_of t)) (no_parent (world_of t) good.formed.tree) c.0 c.1 row.parent (ap (option_map (λ (r : Record). r.row.parent)) seen) (same_object x row.parent) refl i
+      || apart (location_of (world_of t)) no_place p.0 p.1 row.location (ap (option_map (λ (r : Record). r.row.location)) seen) (same_object x row.location) refl i
+
+  pub relinked_there : ArePresent after.maps.objects (linked_among x (entries t.objects))
+  relinked_there = all_made (λ e. find object_cmp e.0 (entries t.objects) ≡ Some e.1) (λ y. is_some (get after.maps.objects y) ≡ true) (λ e. is_linked x e.1) (λ e. e.0)
+      (λ e h k. ap is_some (objects_left e.0) ∙ other e.0 e.1 (get-entries t.objects e.0 ∙ h) k (same_object x e.0) refl)
+      (entries t.objects) (own_entries object_cmp object_total object_exact (entries t.objects) (entries_sorted t.objects))
+    where
+      other : (y : ObjNo) (r : ObjRow) → get t.objects y ≡ Some r → is_linked x r ≡ true → (b : Bool) → same_object x y ≡ b → is_some (if b then None else option_map (released_row x (heir t x)) (get t.objects y)) ≡ true
+      other y r e l false f = ap (λ o. is_some (option_map (released_row x (heir t x)) o)) e
+      other y r e l true f =
+          let is = same_Some row r (sym here ∙ ap (get t.objects) ((same_object-Decides x y).0 f) ∙ e) in
+          absurd (both_ways (is_linked x row) unlinked (ap (is_linked x) is ∙ l))

@@ -1,0 +1,35 @@
+use Rattle.std.proofs.Common.{◌≡◌, Some, sym, ap, ◌∙◌, subst}
+use Rattle.std.specs.FinMap.{get}
+use Rattle.moo_rows.specs.declared.row.PropRow.{PropRow}
+use Rattle.moo_rows.specs.Maps.{Maps, Held}
+use Rattle.moo_world.specs.Changes.{renamed}
+use Rattle.moo_world.specs.Rows.{AreSound, look_ups, world_of, world_shown}
+use Rattle.moo_world.specs.World.{IsWellFormed}
+use Rattle.moo_props.proofs.RenamedRows.{with_new_name, look_ups-renamed, world_renamed, sound_renamed, formed_renamed}
+use Rattle.moo_props.proofs.ShorterRows.{own_row, spelled}
+use Rattle.moo_props.proofs.renaming.rename.Goals as goal
+
+abbrev t : (g : _) → goal.In_ok-put_prop g → Maps
+t g c = (g.R.Rows.held c.args.rows.now).maps
+
+prop : (g : _) (c : goal.In_ok-put_prop g) → (p : PropRow) × (get (t g c).props c.args.id ≡ Some p) × (p.definer ≡ c.args.x)
+prop g c = own_row (t g c) c.args.x c.args.id c.requires.own
+
+shown : (g : _) (c : goal.In_ok-put_prop g) → look_ups (g.R.Rows.held c.put_prop.new.self).maps ≡ with_new_name (look_ups (t g c)) c.args.x c.args.id.0 c.args.name
+shown g c = ap (λ (h : Held). look_ups h.maps) c.in_ok-put_prop.ensures.ok ∙ look_ups-renamed (t g c) c.args.x c.args.id.0 c.args.name
+
+world : (g : _) (c : goal.In_ok-put_prop g) → world_of (g.R.Rows.held c.put_prop.new.self).maps ≡ renamed (world_of (t g c)) c.args.x (prop g c).0.name c.args.name
+world g c = ap world_shown (shown g c) ∙ world_renamed (t g c) c.requires.good c.args.x c.args.id.0 (prop g c).0 (prop g c).1 (prop g c).2 c.args.name c.requires.free
+
+pub returns-clause-world : goal.returns-clause-world
+returns-clause-world g c = world g c ∙ ap (λ n. renamed (world_of (t g c)) c.args.x n c.args.name) (sym (spelled (t g c) c.args.id (prop g c).0 (prop g c).1))
+
+pub returns-clause-kept : goal.returns-clause-kept
+returns-clause-kept g c = record {
+  good = record {
+    sound = subst AreSound (sym (shown g c)) (sound_renamed (t g c) c.requires.good c.args.x c.args.id.0 (prop g c).0 (prop g c).1 (prop g c).2 c.args.name c.requires.free);
+    formed = subst IsWellFormed (sym (world g c)) (formed_renamed (t g c) c.requires.good c.args.x c.args.id.0 (prop g c).0 (prop g c).1 (prop g c).2 c.args.name c.requires.free c.requires.name);
+  };
+  seq = ap (λ (h : Held). h.maps.head.seq) c.in_ok-put_prop.ensures.ok;
+  base = ap (λ (h : Held). h.base) c.in_ok-put_prop.ensures.ok;
+}

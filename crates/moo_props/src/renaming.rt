@@ -1,0 +1,36 @@
+//! Another name for a property.
+
+ghost use Rattle.std.specs.Prelude.{◌≡◌, true, false, OnOk, OnErr};
+ghost use Rattle.moo_world.specs.Changes.{clashes, renamed};
+ghost use Rattle.moo_world.specs.Rows.{world_of, IsGood};
+ghost use Rattle.moo_world.specs.World.{is_property_name};
+ghost use Rattle.moo_world.specs.Keeps.{Keeps};
+ghost use Rattle.moo_props.specs.Names.{defines, spelling_of};
+ghost use Rattle.moo_props.specs.Renaming.{with_name};
+
+use moo_rows::row::{PropId, PropRow};
+use moo_rows::rows::Rows;
+use moo_value::text::MooStr;
+use moo_value::value::ObjNo;
+use std::alloc::AllocError;
+
+/// Gives a property that x defines another name, which no property that x, an ancestor or a descendant defines may have
+/// (so none that differs from the old one in case alone). The name takes the old one's place among those that x defines,
+/// and x and its descendants have the property under it. All else stays.
+///
+/// The only error is want of memory, after which the rows are as they were.
+///
+/// LambdaMOO Programmer's Manual, 'Built-in Functions', `set_property_info`.
+pub fn rename<R: Rows>(rows: &mut R, x: ObjNo, id: PropId, name: MooStr) -> Result<(), AllocError>
+    requires good { IsGood (R.held rows.old).maps }
+    requires own { defines (R.held rows.old).maps x id ≡ true }
+    requires name { is_property_name name ≡ true }
+    requires free { clashes (world_of (R.held rows.old).maps) x name ≡ false }
+    ensures rows { OnOk result (R.held rows.new ≡ with_name x id name (R.held rows.old)) }
+    ensures world { OnOk result (world_of (R.held rows.new).maps ≡ renamed (world_of (R.held rows.old).maps) x (spelling_of (R.held rows.old).maps id) name) }
+    ensures kept { OnOk result (Keeps (R.held rows.old) (R.held rows.new)) }
+    ensures err { OnErr result (R.held rows.new ≡ R.held rows.old) }
+{
+    rows.put_prop(id, PropRow { definer: x, name })?;
+    Ok(())
+}

@@ -1,0 +1,6 @@
+mod Shapes
+mod RowForm
+mod Redirected
+mod FieldForm
+mod Changed
+mod AcceptLaws

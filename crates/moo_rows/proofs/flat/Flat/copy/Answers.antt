@@ -1,0 +1,24 @@
+use Rattle.std.proofs.Common.{rules, ap, ◌∙◌}
+use Rattle.std.proofs.lemmas.Map.Entries.{entries_from_clone}
+use Rattle.std.specs.FinMap as map
+use Rattle.moo_value.specs.declared.value.ObjNo.{ObjNo}
+use Rattle.moo_rows.specs.declared.row.PropId.{PropId}
+use Rattle.moo_rows.specs.declared.row.VerbId.{VerbId}
+use Rattle.moo_rows.specs.Maps.{Held}
+use Rattle.moo_rows.proofs.Clones.{object_clone, prop_clone, slot_clone, verb_clone}
+use Rattle.moo_rows.proofs.flat.Flat.copy.Goals as goal
+
+-- clones of equal keys and rows leave equal maps
+pub returns : goal.returns
+returns c =
+    let objects = entries_from_clone _ _ (λ (x y : ObjNo) h. search rules) object_clone c.self.inside.objects.entries c.in_ok-clone.field-0.entries c.in_ok-clone.ensures.cases in
+    let props = entries_from_clone _ _ (λ (x y : PropId) h. search rules) prop_clone c.self.inside.props.entries c.in_ok-clone-2.field-0.entries c.in_ok-clone-2.ensures.cases in
+    let slots = entries_from_clone _ _ (λ (x y : ObjNo × PropId) h. search rules) slot_clone c.self.inside.slots.entries c.in_ok-clone-3.field-0.entries c.in_ok-clone-3.ensures.cases in
+    let verbs = entries_from_clone _ _ (λ (x y : ObjNo × VerbId) h. search rules) verb_clone c.self.inside.verbs.entries c.in_ok-clone-4.field-0.entries c.in_ok-clone-4.ensures.cases in
+    (λ i. record {
+      head = c.self.inside.head;
+      objects = map.from_entries (objects i);
+      props = map.from_entries (props i);
+      slots = map.from_entries (slots i);
+      verbs = map.from_entries (verbs i);
+    }) ∙ ap (λ (held : Held). held.maps) c.self.view_is

@@ -1,0 +1,200 @@
+-- A header is read as it is spelled.
+use Rattle.std.proofs.Common.{◌≡◌, ℕ, ◌≤◌, Bool, true, false, cond, inl, inr, List, [], ◌∷◌, ◌++◌, length, Option, Some, None, refl, sym, ap, subst, ◌∙◌, arith}
+use Rattle.std.specs.Prelude.{◌==◌, ◌&&◌, nat_le, codes}
+use Rattle.std.specs.List.{list_all}
+use Rattle.std.specs.Option.{option_map, option_and_then}
+use Rattle.std.proofs.lemmas.Bool.{eqb-true}
+use Rattle.std.proofs.lemmas.List.{append-nil}
+use Rattle.moo_value.specs.declared.value.ObjNo.{ObjNo}
+use Rattle.moo_value.specs.declared.value.Value.{Value}
+use Rattle.moo_value.specs.declared.value.Value.TheVariants.{Int, Obj, Str, Error, List as a_list}
+use Rattle.moo_value.specs.Literal.{is_blank, is_digit, AreDigits, value_after, SpellsObject, Spells, InRange}
+use Rattle.moo_value.proofs.Results.{chosen}
+use Rattle.moo_world.specs.Objects.{same_text, same_text-Decides}
+use Rattle.moo_text.specs.Line.{is_short, words}
+use Rattle.moo_text.specs.Grammar.{SpellsPlace, SpellsAt, SpellsHeader}
+use Rattle.moo_text.specs.LineReading.{front_of, behind_word, object_value, begins_with, object_of, is_place, place_of, last_place, at_of, header_behind, header_of}
+use Rattle.moo_text.specs.declared.header.Header.{Header}
+use Rattle.moo_text.proofs.Reading.{front_read, front_again_of}
+
+pub then_some : {A B : Type 0} (f : A → Option B) (o : Option A) (y : B) → option_and_then f o ≡ Some y → (x : A) × (o ≡ Some x) × (f x ≡ Some y)
+then_some f None y e = absurd cc
+then_some f (Some x) y e = (x, refl, e)
+
+pub map_some : {A B : Type 0} (f : A → B) (o : Option A) (y : B) → option_map f o ≡ Some y → (x : A) × (o ≡ Some x) × (f x ≡ y)
+map_some f None y e = absurd cc
+map_some f (Some x) y e = (x, refl, let h : f x ≡ y = cc in h)
+
+-- ---- words
+
+word_taken : (w : List ℕ) (ws more : List (List ℕ)) → behind_word w ws ≡ Some more → ws ≡ w ∷ more
+word_taken w [] more e = absurd cc
+word_taken w (x ∷ xs) more e = elim (chosen (same_text x w) (Some xs) None (Some more) e) [
+  | inl here ↦ let rest : xs ≡ more = (let h : Some xs ≡ Some more = here.1 in cc) in let first : x ≡ w = (same_text-Decides x w).0 here.0 in ap (λ (t : List ℕ). t ∷ xs) first ∙ ap (λ (t : List (List ℕ)). w ∷ t) rest
+  | inr other ↦ absurd (let h : None ≡ Some more = other.1 in cc)
+]
+
+word_again : (w : List ℕ) (more : List (List ℕ)) → behind_word w (w ∷ more) ≡ Some more
+word_again w more = let same : same_text w w ≡ true = (same_text-Decides w w).1 refl in rw same refl
+
+-- ---- the programmer
+
+begun : (b : List ℕ) → begins_with 35 b ≡ true → (cs : List ℕ) × (b ≡ 35 ∷ cs)
+begun [] e = absurd cc
+begun (c ∷ cs) e = (cs, ap (λ (d : ℕ). d ∷ cs) (eqb-true c 35 e))
+
+unspaced : (o : ObjNo) (cs text : List ℕ) → text ≡ 35 ∷ cs → Spells (Obj o) text → SpellsObject o.0 text
+unspaced o cs text begins ([], token, blank, s, whole) = subst (SpellsObject o.0) (sym whole) s
+unspaced o cs text begins (c ∷ blanks, token, blank, s, whole) =
+    let same : c ≡ 35 = (let h : 35 ∷ cs ≡ c ∷ (blanks ++ token) = sym begins ∙ whole in cc) in
+    absurd (let h : is_blank 35 ≡ true = subst (λ (d : ℕ). is_blank d ≡ true) same blank.0 in cc)
+
+value_object : (v : Value) (o : ObjNo) → object_value v ≡ Some o → v ≡ Obj o
+value_object (Int n) o e = absurd cc
+value_object (Obj p) o e = let h : p ≡ o = cc in ap (λ (q : ObjNo). Obj q) h
+value_object (Str s) o e = absurd cc
+value_object (Error c) o e = absurd cc
+value_object (a_list vs) o e = absurd cc
+
+pub nothing_left : (t : List ℕ) → (length t == 0) ≡ true → t ≡ []
+nothing_left [] e = refl
+nothing_left (c ∷ cs) e = absurd (grind (arith, e))
+
+object_whole : Value × List ℕ → Option ObjNo
+object_whole x = cond (length x.1 == 0) (object_value x.0) None
+
+object_taken : (w : List ℕ) (o : ObjNo) → object_of w ≡ Some o → SpellsObject o.0 w × InRange o.0
+object_taken w o e = elim (chosen (begins_with 35 w) (option_and_then (λ x. cond (length x.1 == 0) (object_value x.0) None) (front_of w)) None (Some o) e) [
+  | inl here ↦
+      let hash = begun w here.0 in
+      let t = then_some (λ x. cond (length x.1 == 0) (object_value x.0) None) (front_of w) o here.1 in
+      elim (chosen (length t.0.1 == 0) (object_value t.0.0) None (Some o) t.2) [
+        | inl done ↦
+            let v : t.0.0 ≡ Obj o = value_object t.0.0 o done.1 in
+            let rest : t.0.1 ≡ [] = nothing_left t.0.1 done.0 in
+            let front : front_of w ≡ Some (Obj o, []) = t.1 ∙ ap (λ (u : Value). Some (u, t.0.1)) v ∙ ap (λ (u : List ℕ). Some (Obj o, u)) rest in
+            let r = front_read w (Obj o) [] front in
+            let same : r.text ≡ w = sym (append-nil r.text) ∙ sym r.whole in
+            (subst (SpellsObject o.0) same (unspaced o hash.0 r.text (same ∙ hash.1) r.spelled), r.fits.0)
+        | inr more ↦ absurd (let h : None ≡ Some o = more.1 in cc)
+      ]
+  | inr other ↦ absurd (let h : None ≡ Some o = other.1 in cc)
+]
+
+object_again : (w : List ℕ) (o : ObjNo) → SpellsObject o.0 w → InRange o.0 → object_of w ≡ Some o
+object_again w o s range =
+    let front : front_of w ≡ Some (Obj o, []) = ap front_of (sym (append-nil w)) ∙ front_again_of (Obj o) w [] ([], w, tt, s, refl) (range, omega arith) tt in
+    let hash : begins_with 35 w ≡ true = ap (begins_with 35) s.1 in
+    rw (hash, front) refl
+
+-- ---- the number
+
+both : (a b : Bool) → (a && b) ≡ true → (a ≡ true) × (b ≡ true)
+both true b e = (refl, e)
+both false b e = absurd cc
+
+joined : {a b : Bool} → a ≡ true → b ≡ true → (a && b) ≡ true
+joined h k = rw (h, k) refl
+
+digits_taken : (b : List ℕ) → list_all is_digit b ≡ true → AreDigits b
+digits_taken [] e = tt
+digits_taken (c ∷ cs) e = let p = both (is_digit c) (list_all is_digit cs) e in (p.0, digits_taken cs p.1)
+
+digits_again : (b : List ℕ) → AreDigits b → list_all is_digit b ≡ true
+digits_again [] all = refl
+digits_again (c ∷ cs) all = joined all.0 (digits_again cs all.1)
+
+pub le_taken : (a b : ℕ) → nat_le a b ≡ true → a ≤ b
+le_taken a b e = grind (arith, e)
+
+pub le_again : (a b : ℕ) → a ≤ b → nat_le a b ≡ true
+le_again a b h = grind (arith, h)
+
+place_taken : (w : List ℕ) (n : ℕ) → place_of w ≡ Some n → SpellsPlace n w
+place_taken w n e = elim (chosen (is_place w) (Some (value_after 0 w)) None (Some n) e) [
+  | inl here ↦
+      let small = nat_le (value_after 0 w) 9223372036854775807 in
+      let few = nat_le (length w) 19 in
+      let some = nat_le 1 (length w) in
+      let a = both (list_all is_digit w && some && few) small here.0 in
+      let b = both (list_all is_digit w && some) few a.0 in
+      let c = both (list_all is_digit w) some b.0 in
+      let value : value_after 0 w ≡ n = (let h : Some (value_after 0 w) ≡ Some n = here.1 in cc) in
+      record { each = digits_taken w c.0; some = omega (arith, le_taken 1 (length w) c.1); few = le_taken (length w) 19 b.1; value = sym value; in_range = subst (λ (m : ℕ). m ≤ 9223372036854775807) value (le_taken (value_after 0 w) 9223372036854775807 a.1) }
+  | inr other ↦ absurd (let h : None ≡ Some n = other.1 in cc)
+]
+
+place_again : (w : List ℕ) (n : ℕ) → SpellsPlace n w → place_of w ≡ Some n
+place_again w n s =
+    let digits = digits_again w s.each in
+    let some = le_again 1 (length w) (omega (arith, s.some)) in
+    let few = le_again (length w) 19 s.few in
+    let small = le_again (value_after 0 w) 9223372036854775807 (subst (λ (m : ℕ). m ≤ 9223372036854775807) s.value s.in_range) in
+    let is : is_place w ≡ true = joined (joined (joined digits some) few) small in
+    let here : place_of w ≡ Some (value_after 0 w) = rw is refl in
+    here ∙ ap (λ (m : ℕ). Some m) (sym s.value)
+
+last_taken : (ws : List (List ℕ)) (n : ℕ) → last_place ws ≡ Some n → (w : List ℕ) × (ws ≡ w ∷ []) × SpellsPlace n w
+last_taken [] n e = absurd cc
+last_taken (w ∷ []) n e = (w, refl, place_taken w n e)
+last_taken (w ∷ x ∷ more) n e = absurd (let h : (length (x ∷ more) == 0) ≡ false = grind arith in let k : last_place (w ∷ x ∷ more) ≡ None = rw h refl in let z : None ≡ Some n = sym k ∙ e in cc)
+
+at_taken : (more : List (List ℕ)) (at : Option ℕ) → at_of more ≡ Some at → SpellsAt at more
+at_taken [] None e = refl
+at_taken [] (Some n) e = absurd cc
+at_taken (w ∷ ws) at e =
+    let m = map_some (λ n. Some n) (option_and_then last_place (behind_word (codes "at") (w ∷ ws))) at e in
+    let t = then_some last_place (behind_word (codes "at") (w ∷ ws)) m.0 m.1 in
+    let l = last_taken t.0 m.0 t.2 in
+    subst (λ (o : Option ℕ). SpellsAt o (w ∷ ws)) m.2 (l.0, word_taken (codes "at") (w ∷ ws) t.0 t.1 ∙ ap (λ (t : List (List ℕ)). codes "at" ∷ t) l.1, l.2)
+
+at_again : (more : List (List ℕ)) (at : Option ℕ) → SpellsAt at more → at_of more ≡ Some at
+at_again more None s = ap at_of s
+at_again more (Some n) s =
+    let last : last_place (s.0 ∷ []) ≡ Some n = place_again s.0 n s.2 in
+    let here : at_of (codes "at" ∷ s.0 ∷ []) ≡ Some (Some n) = ap (λ (o : Option (List (List ℕ))). option_map (λ m. Some m) (option_and_then last_place o)) (word_again (codes "at") (s.0 ∷ [])) ∙ ap (option_map (λ m. Some m)) last in
+    ap at_of s.1 ∙ here
+
+-- ---- the header
+
+behind_taken : (ws : List (List ℕ)) (h : Header) → header_behind ws ≡ Some h → (object : List ℕ) × (more : List (List ℕ)) × (ws ≡ object ∷ more) × (object_of object ≡ Some h.programmer) × (at_of more ≡ Some h.at)
+behind_taken [] h e = absurd cc
+behind_taken (o ∷ more) h e =
+    let t = then_some (λ p. option_map (λ at. record { programmer = p; at = at }) (at_of more)) (object_of o) h e in
+    let m = map_some (λ at. record { programmer = t.0; at = at }) (at_of more) h t.2 in
+    (o, more, refl, t.1 ∙ ap (λ (x : Header). Some x.programmer) m.2, m.1 ∙ ap (λ (x : Header). Some x.at) m.2)
+
+short_taken : (line : List ℕ) → is_short line ≡ true → length line ≤ 262144
+short_taken line e = le_taken (length line) 262144 e
+
+pub header_taken : (line : List ℕ) (h : Header) → header_of line ≡ Some h → SpellsHeader h line
+header_taken line h e = elim (chosen (is_short line) (option_and_then header_behind (option_and_then (behind_word (codes "as")) (behind_word (codes "batch") (words line)))) None (Some h) e) [
+  | inl here ↦
+      let a = then_some header_behind (option_and_then (behind_word (codes "as")) (behind_word (codes "batch") (words line))) h here.1 in
+      let b = then_some (behind_word (codes "as")) (behind_word (codes "batch") (words line)) a.0 a.1 in
+      let t = behind_taken a.0 h a.2 in
+      let o = object_taken t.0 h.programmer t.3 in
+      record {
+        short = short_taken line here.0;
+        object = t.0;
+        more = t.1;
+        words_are = word_taken (codes "batch") (words line) b.0 b.1 ∙ ap (λ (ws : List (List ℕ)). codes "batch" ∷ ws) (word_taken (codes "as") b.0 a.0 b.2 ∙ ap (λ (ws : List (List ℕ)). codes "as" ∷ ws) t.2);
+        programmer = o.0;
+        in_range = o.1;
+        place = at_taken t.1 h.at t.4;
+      }
+  | inr other ↦ absurd (let k : None ≡ Some h = other.1 in cc)
+]
+
+pub header_again : (line : List ℕ) (h : Header) → SpellsHeader h line → header_of line ≡ Some h
+header_again line h s =
+    let short : is_short line ≡ true = le_again (length line) 262144 s.short in
+    let object = object_again s.object h.programmer s.programmer s.in_range in
+    let place = at_again s.more h.at s.place in
+    let behind : header_behind (s.object ∷ s.more) ≡ Some h = rw (object, place) refl in
+    let first : behind_word (codes "batch") (words line) ≡ Some (codes "as" ∷ s.object ∷ s.more) = ap (behind_word (codes "batch")) s.words_are ∙ word_again (codes "batch") (codes "as" ∷ s.object ∷ s.more) in
+    let second = word_again (codes "as") (s.object ∷ s.more) in
+    let whole : option_and_then header_behind (option_and_then (behind_word (codes "as")) (behind_word (codes "batch") (words line))) ≡ Some h =
+    ap (λ (o : Option (List (List ℕ))). option_and_then header_behind (option_and_then (behind_word (codes "as")) o)) first ∙ ap (option_and_then header_behind) second ∙ behind in
+    let here : header_of line ≡ option_and_then header_behind (option_and_then (behind_word (codes "as")) (behind_word (codes "batch") (words line))) = rw short refl in
+    here ∙ whole

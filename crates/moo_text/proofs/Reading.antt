@@ -1,0 +1,156 @@
+-- Reading a header and a call from left to right.
+use Rattle.std.proofs.Common.{◌≡◌, ℕ, zero, suc, ◌-◌, ◌<◌, ◌≤◌, true, false, inl, inr, List, [], ◌∷◌, ◌++◌, length, drop, Option, Some, None, Ok, Err, refl, sym, ap, ◌∙◌, append_assoc, arith, ◌↔◌}
+use Rattle.std.specs.Option.{option_map, option_and_then}
+use Rattle.std.specs.Prelude.{◌==◌, ◌&&◌}
+use Rattle.std.specs.List.{list_all}
+use Rattle.std.proofs.lemmas.List.Folds.{list_all-append}
+use Rattle.std.proofs.lemmas.Bool.{eqb-true}
+use Rattle.std.proofs.lemmas.List.{length-append}
+use Rattle.moo_value.specs.declared.value.Value.{Value}
+use Rattle.moo_value.specs.Literal.{Spells, Fits, Ends, Front}
+use Rattle.moo_value.specs.Reading.{literal_at, value_at, after_blanks, Read}
+use Rattle.moo_value.proofs.Literals.{front_taken, front_again, literal_again, value_taken, takes, blanks_taken}
+use Rattle.moo_value.proofs.Results.{chosen}
+use Rattle.moo_world.specs.Arguments.{fits}
+use Rattle.moo_world.specs.Objects.{folded}
+use Rattle.moo_world.specs.Names.{spelling}
+use Rattle.moo_world.specs.declared.name.CallName.{CallName}
+use Rattle.moo_world.proofs.Naming.{spelled_is}
+use Rattle.moo_text.specs.Line.{is_all_blank}
+use Rattle.moo_text.specs.LineReading.{found, front_of, behind_value, values_at, behind_mark, after_mark, call_name}
+
+-- ---- the literal in front
+
+pub front_found : (b : List ℕ) (v : Value) (n : ℕ) → Front b v n → front_of b ≡ Some (v, drop n b)
+unfolding front_of
+front_found b v n f = ap found (front_again b v n f)
+
+pub front_again_of : (v : Value) (t rest : List ℕ) → Spells v t → Fits v → Ends v rest → front_of (t ++ rest) ≡ Some (v, rest)
+unfolding front_of
+front_again_of v t rest s fits ends = ap found (literal_again v t rest s fits ends)
+
+found_none : (r : Read Value) → ((v : Value) (rest : List ℕ) → r ≡ Ok (v, rest) → ⊥) → found r ≡ None
+found_none (Ok x) never = absurd (never x.0 x.1 refl)
+found_none (Err f) never = refl
+
+pub no_front : (b : List ℕ) → ((v : Value) (n : ℕ) → Front b v n → ⊥) → front_of b ≡ None
+unfolding front_of
+no_front b none = found_none (literal_at b) (λ v rest e. none v (length b - length rest) (front_taken b v rest e))
+
+found_ok : (r : Read Value) (v : Value) (rest : List ℕ) → found r ≡ Some (v, rest) → r ≡ Ok (v, rest)
+found_ok (Ok x) v rest e = let h : x ≡ (v, rest) = cc in ap (λ y. Ok y) h
+found_ok (Err f) v rest e = absurd cc
+
+-- a literal that was read, and what follows it
+pub record FrontRead (b : List ℕ) (v : Value) (rest : List ℕ) : Type 0 where
+  pub text : List ℕ
+  pub whole : b ≡ text ++ rest
+  pub some : 0 < length text
+  pub fits : Fits v
+  pub spelled : Spells v text
+  pub ends : Ends v rest
+
+pub front_read : (b : List ℕ) (v : Value) (rest : List ℕ) → front_of b ≡ Some (v, rest) → FrontRead b v rest
+unfolding front_of literal_at
+front_read b v rest e =
+    let r : value_at 32 b ≡ Ok (v, rest) = found_ok (value_at 32 b) v rest e in
+    let t = value_taken 32 b (v, rest) r in
+    let s = takes 32 b v rest r in
+    let size : length s.0 ≡ length t.text = omega (arith, ap length s.1 ∙ length-append s.0 rest, ap length t.whole ∙ length-append t.text rest) in
+    record { text = t.text; whole = t.whole; some = omega (arith, s.2); fits = (t.fits, t.shallow); spelled = t.spelled; ends = t.ends }
+
+pub front_shorter : (b : List ℕ) (v : Value) (rest : List ℕ) → front_of b ≡ Some (v, rest) → length rest < length b
+front_shorter b v rest e = let f = front_read b v rest e in omega (arith, f.some, ap length f.whole ∙ length-append f.text rest)
+
+-- ---- the arguments of a call
+
+-- the arguments are those that are read, and then those that are read of the rest
+abbrev pub GoesOn : List ℕ → List Value → List ℕ → Type 0
+GoesOn bytes values rest = (most : ℕ) × (length rest ≤ most) × (values_at (length bytes) bytes ≡ option_map (λ vs. values ++ vs) (values_at most rest))
+
+map_none : (o : Option (List Value)) → option_map (λ vs. [] ++ vs) o ≡ o
+map_none None = refl
+map_none (Some vs) = refl
+
+pub at_start : (bytes : List ℕ) (none : List Value) → none ≡ [] → GoesOn bytes none bytes
+at_start bytes none e = (length bytes, omega arith, sym (ap (λ (us : List Value). option_map (λ vs. us ++ vs) (values_at (length bytes) bytes)) e ∙ map_none (values_at (length bytes) bytes)))
+
+pub no_literal : (bytes : List ℕ) (values : List Value) (rest : List ℕ) → GoesOn bytes values rest → front_of rest ≡ None → values_at (length bytes) bytes ≡ None
+no_literal bytes values rest (zero, enough, e) none = e
+no_literal bytes values rest (suc most, enough, e) none = e ∙ rw none refl
+
+map_push : (values : List Value) (v : Value) (o : Option (List Value)) → option_map (λ vs. values ++ vs) (option_map (λ vs. v ∷ vs) o) ≡ option_map (λ vs. (values ++ v ∷ []) ++ vs) o
+map_push values v None = refl
+map_push values v (Some vs) = ap (λ (t : List Value). Some t) (sym (append_assoc values (v ∷ []) vs))
+
+-- a value is read
+pub record ValueRead (bytes : List ℕ) (values : List Value) (v : Value) (after : List ℕ) : Type 0 where
+  pub most : ℕ
+  pub enough : length after ≤ most
+  pub goes_on : values_at (length bytes) bytes ≡ option_map (λ vs. values ++ vs) (behind_value v (values_at most) after)
+
+pub one_read : (bytes : List ℕ) (values : List Value) (rest : List ℕ) (v : Value) (after : List ℕ) → GoesOn bytes values rest → front_of rest ≡ Some (v, after) → ValueRead bytes values v after
+one_read bytes values rest v after (zero, enough, e) is = absurd (omega (arith, front_shorter rest v after is))
+one_read bytes values rest v after (suc most, enough, e) is = record {
+  most = most;
+  enough = omega (arith, front_shorter rest v after is);
+  goes_on = e ∙ ap (λ (o : Option (Value × List ℕ)). option_map (λ vs. values ++ vs) (option_and_then (λ x. behind_value x.0 (values_at most) x.1) o)) is;
+}
+
+pub comma_read : (bytes : List ℕ) (values pushed : List Value) (v : Value) (after others : List ℕ) → ValueRead bytes values v after → after_mark 41 after ≡ None → after_mark 44 after ≡ Some others
+    → length others ≤ length after → pushed ≡ values ++ v ∷ [] → GoesOn bytes pushed others
+comma_read bytes values pushed v after others r unclosed comma shorter is =
+    let step : behind_value v (values_at r.most) after ≡ option_map (λ vs. v ∷ vs) (values_at r.most others) = rw (unclosed, comma) refl in (
+      r.most,
+      omega (arith, r.enough),
+      r.goes_on ∙ ap (λ (o : Option (List Value)). option_map (λ vs. values ++ vs) o) step ∙ map_push values v (values_at r.most others)
+          ∙ ap (λ (us : List Value). option_map (λ vs. us ++ vs) (values_at r.most others)) (sym is),
+    )
+
+pub closed_read : (bytes : List ℕ) (values : List Value) (v : Value) (after end : List ℕ) → ValueRead bytes values v after → after_mark 41 after ≡ Some end → is_all_blank end ≡ true → values_at (length bytes) bytes ≡ Some (values ++ v ∷ [])
+closed_read bytes values v after end r close blank =
+    let step : behind_value v (values_at r.most) after ≡ Some (v ∷ []) = rw (close, blank) refl in
+    r.goes_on ∙ ap (λ (o : Option (List Value)). option_map (λ vs. values ++ vs) o) step
+
+pub broken_read : (bytes : List ℕ) (values : List Value) (v : Value) (after end : List ℕ) → ValueRead bytes values v after → after_mark 41 after ≡ Some end → is_all_blank end ≡ false → values_at (length bytes) bytes ≡ None
+broken_read bytes values v after end r close more =
+    let step : behind_value v (values_at r.most) after ≡ None = rw (close, more) refl in
+    r.goes_on ∙ ap (λ (o : Option (List Value)). option_map (λ vs. values ++ vs) o) step
+
+pub unmarked_read : (bytes : List ℕ) (values : List Value) (v : Value) (after : List ℕ) → ValueRead bytes values v after → after_mark 41 after ≡ None → after_mark 44 after ≡ None → values_at (length bytes) bytes ≡ None
+unmarked_read bytes values v after r unclosed alone =
+    let step : behind_value v (values_at r.most) after ≡ None = rw (unclosed, alone) refl in
+    r.goes_on ∙ ap (λ (o : Option (List Value)). option_map (λ vs. values ++ vs) o) step
+
+-- what stands behind blanks is no longer
+pub mark_taken : (mark : ℕ) (b rest : List ℕ) → after_mark mark b ≡ Some rest → after_blanks b ≡ mark ∷ rest
+mark_taken mark b rest e = by_front (after_blanks b) e
+  where
+    by_front : (t : List ℕ) → behind_mark mark t ≡ Some rest → t ≡ mark ∷ rest
+    by_front [] h = absurd cc
+    by_front (c ∷ cs) h = elim (chosen (c == mark) (Some cs) None (Some rest) h) [
+      | inl here ↦ let same : cs ≡ rest = (let k : Some cs ≡ Some rest = here.1 in cc) in ap (λ (d : ℕ). d ∷ cs) (eqb-true c mark here.0) ∙ ap (λ (t : List ℕ). mark ∷ t) same
+      | inr other ↦ absurd (let k : None ≡ Some rest = other.1 in cc)
+    ]
+
+pub mark_shorter : (mark : ℕ) (b rest : List ℕ) → after_mark mark b ≡ Some rest → length rest < length b
+mark_shorter mark b rest e = let w = blanks_taken b in omega (arith, ap length w.2 ∙ length-append w.0 (after_blanks b), ap length (mark_taken mark b rest e))
+
+pub name_found : (w : List ℕ) (name : CallName) → folded w ≡ spelling name → call_name w ≡ Some name
+name_found w name e = (spelled_is (folded w) name).1 e
+
+pub name_none : (w : List ℕ) → ((name : CallName) → folded w ≡ spelling name → ⊥) → call_name w ≡ None
+name_none w never = by_found (call_name w) refl
+  where
+    by_found : (o : Option CallName) → call_name w ≡ o → call_name w ≡ None
+    by_found None e = e
+    by_found (Some name) e = absurd (never name ((spelled_is (folded w) name).0 e))
+
+pub name_is : (w : List ℕ) (read : Option CallName) → ((name : CallName) → (read ≡ Some name) ↔ (folded w ≡ spelling name)) → read ≡ call_name w
+name_is w None reads = sym (name_none w (λ name e. let h : None ≡ Some name = (reads name).1 e in cc))
+name_is w (Some name) reads = sym (name_found w name ((reads name).0 refl))
+
+pub fits_push : (vs : List Value) (v : Value) (pushed : List Value) → list_all fits vs ≡ true → fits v ≡ true → pushed ≡ vs ++ v ∷ [] → list_all fits pushed ≡ true
+fits_push vs v pushed all here is =
+    let parts : list_all fits (vs ++ v ∷ []) ≡ (list_all fits vs && (fits v && true)) = list_all-append fits vs (v ∷ []) in
+    ap (list_all fits) is ∙ parts ∙ rw (all, here) refl

@@ -1,0 +1,14 @@
+use Rattle.std.proofs.Common.{◌≡◌, length, true}
+use Rattle.std.specs.List.{list_all}
+use Rattle.moo_world.specs.Arguments.{fits}
+use Rattle.moo_text.proofs.Reading.{GoesOn}
+use Rattle.moo_text.proofs.call_text.values_of.Given as goal
+
+abbrev pub invariant-loop-values : goal.invariant-loop-values
+invariant-loop-values l = record {
+  fit : list_all fits l.values.items ≡ true;
+  goes_on : GoesOn l.bytes l.values.items l.rest;
+}
+
+abbrev pub decreases-loop-values : goal.decreases-loop-values
+decreases-loop-values l = length l.rest

@@ -1,0 +1,106 @@
+-- Reading the header of a batch and a call from left to right.
+use Rattle.std.specs.Prelude.{ℕ, zero, suc, ◌==◌, ◌&&◌, Bool, false, nat_le, List, [], ◌∷◌, length, Option, Some, None, Ok, Err, codes, if◌then◌else◌}
+use Rattle.std.specs.Option.{option_map, option_map_or, option_and_then}
+use Rattle.std.specs.List.{list_all, find}
+use Rattle.moo_value.specs.declared.value.ObjNo.{ObjNo}
+use Rattle.moo_value.specs.declared.value.Value.{Value}
+use Rattle.moo_value.specs.declared.value.Value.TheVariants.{Obj}
+use Rattle.moo_value.specs.Literal.{is_digit, value_after}
+use Rattle.moo_value.specs.Reading.{after_blanks, word, after_word, literal_at, Read}
+use Rattle.moo_world.specs.Objects.{folded, same_text}
+use Rattle.moo_world.specs.Names.{spelling, all_names}
+use Rattle.moo_world.specs.declared.name.CallName.{CallName}
+use Rattle.moo_world.specs.declared.call.Call.{Call}
+use Rattle.moo_text.specs.Line.{is_short, is_all_blank, words}
+use Rattle.moo_text.specs.declared.header.Header.{Header}
+
+abbrev pub found : Read Value → Option (Value × List ℕ)
+found (Ok x) = Some x
+found (Err f) = None
+
+-- the literal that stands in front, and what follows it
+unfoldable pub front_of : List ℕ → Option (Value × List ℕ)
+front_of b = found (literal_at b)
+
+-- ---- headers
+
+-- the words behind this first one
+abbrev pub behind_word : List ℕ → List (List ℕ) → Option (List (List ℕ))
+behind_word w [] = None
+behind_word w (x ∷ xs) = if same_text x w then Some xs else None
+
+-- the object that a value is
+abbrev pub object_value : Value → Option ObjNo
+object_value (Obj o) = Some o
+object_value v = None
+
+abbrev pub begins_with : ℕ → List ℕ → Bool
+begins_with c [] = false
+begins_with c (d ∷ ds) = d == c
+
+-- the object whose literal a word is, from its `#` on
+abbrev pub object_of : List ℕ → Option ObjNo
+object_of w = if begins_with 35 w then option_and_then (λ x. if length x.1 == 0 then object_value x.0 else None) (front_of w) else None
+
+abbrev pub is_place : List ℕ → Bool
+is_place digits = list_all is_digit digits && nat_le 1 (length digits) && nat_le (length digits) 19 && nat_le (value_after 0 digits) 9223372036854775807
+
+abbrev pub place_of : List ℕ → Option ℕ
+place_of digits = if is_place digits then Some (value_after 0 digits) else None
+
+-- the number that is the last word
+abbrev pub last_place : List (List ℕ) → Option ℕ
+last_place [] = None
+last_place (n ∷ more) = if length more == 0 then place_of n else None
+
+-- the number that `at` gives, where it stands
+abbrev pub at_of : List (List ℕ) → Option (Option ℕ)
+at_of [] = Some None
+at_of (w ∷ ws) = option_map (λ m. Some m) (option_and_then last_place (behind_word (codes "at") (w ∷ ws)))
+
+abbrev pub header_behind : List (List ℕ) → Option Header
+header_behind [] = None
+header_behind (o ∷ more) = option_and_then (λ p. option_map (λ at. record { programmer = p; at = at }) (at_of more)) (object_of o)
+
+abbrev pub header_of : List ℕ → Option Header
+header_of line = if is_short line then option_and_then header_behind (option_and_then (behind_word (codes "as")) (behind_word (codes "batch") (words line))) else None
+
+-- ---- calls
+
+-- what follows the mark, where it stands in front
+abbrev pub behind_mark : ℕ → List ℕ → Option (List ℕ)
+behind_mark mark [] = None
+behind_mark mark (c ∷ cs) = if c == mark then Some cs else None
+
+-- what follows the mark, where it stands in front behind blanks
+abbrev pub after_mark : ℕ → List ℕ → Option (List ℕ)
+after_mark mark b = behind_mark mark (after_blanks b)
+
+-- nothing more than a closing bracket gives these arguments
+abbrev pub closed : List Value → List ℕ → Option (List Value)
+closed args end = if is_all_blank end then Some args else None
+
+-- the arguments that end with v, or those that `more` gives behind v and a comma
+abbrev pub behind_value : Value → (List ℕ → Option (List Value)) → List ℕ → Option (List Value)
+behind_value v more rest =
+    option_map_or (closed (v ∷ [])) (after_mark 41 rest) (option_and_then (λ others. option_map (λ vs. v ∷ vs) (more others)) (after_mark 44 rest))
+
+-- so many arguments at most, one at least, to the end of the line
+abbrev pub values_at : ℕ → List ℕ → Option (List Value)
+values_at zero b = None
+values_at (suc most) b = option_and_then (λ x. behind_value x.0 (values_at most) x.1) (front_of b)
+
+-- the arguments behind the bracket
+abbrev pub arguments_of : List ℕ → Option (List Value)
+arguments_of b = option_map_or (closed []) (after_mark 41 b) (values_at (length b) b)
+
+abbrev pub call_name : List ℕ → Option CallName
+call_name b = find (λ name. same_text (folded b) (spelling name)) all_names
+
+abbrev pub call_behind : List ℕ → Option Call
+call_behind b =
+    option_and_then (λ name. option_and_then (λ rest. option_map (λ args. record { name = name; args = args }) (arguments_of rest)) (after_mark 40 (after_word b)))
+    (call_name (word b))
+
+abbrev pub call_of : List ℕ → Option Call
+call_of line = if is_short line then call_behind (after_blanks line) else None

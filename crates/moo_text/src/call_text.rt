@@ -1,0 +1,105 @@
+//! Reading a call.
+
+ghost use Rattle.std.specs.Prelude.{◌≡◌, length, IfOk, IfErr};
+ghost use Rattle.std.specs.Option.{option_map};
+ghost use Rattle.moo_world.specs.declared.call.Call.{Call as ACall};
+ghost use Rattle.moo_text.specs.Grammar.{SpellsCall};
+ghost use Rattle.moo_text.specs.LineReading.{after_mark as behind_mark, arguments_of as arguments_in, values_at, call_name, call_of};
+ghost use Rattle.moo_text.specs.declared.fault.CallFault.TheVariants.{Malformed};
+
+use crate::fault::CallFault;
+use crate::line::{is_all_blank, is_short, skip_blanks, split_word};
+use crate::literal::read_front;
+use moo_world::call::{Args, Call};
+use moo_world::name::CallName;
+use std::alloc::{AllocError, Global};
+
+/// What follows the mark, where the bytes begin with it behind blanks.
+fn after_mark(mark: u8, bytes: &[u8]) -> Option<&[u8]>
+    ensures { option_map (λ rest. rest.now) result ≡ behind_mark mark bytes.now }
+{
+    match skip_blanks(bytes).split_first() {
+        Some((first, rest)) if *first == mark => Some(rest),
+        _ => None,
+    }
+}
+
+/// One argument at least, to the end of the line.
+fn values_of(alloc: Global, bytes: &[u8]) -> Result<Option<Args>, AllocError>
+    ensures { IfOk result (λ args. args ≡ values_at (length bytes.now) bytes.now) }
+{
+    let mut values = Vec::new(alloc);
+    let mut rest = bytes;
+    loop {
+        let Some((value, after)) = read_front(alloc, rest)? else {
+            return Ok(None);
+        };
+        values.push(value)?;
+        if let Some(end) = after_mark(b')', after) {
+            if is_all_blank(end) {
+                return Ok(Some(Args::from_vec(values)));
+            }
+            return Ok(None);
+        }
+        match after_mark(b',', after) {
+            Some(others) => rest = others,
+            None => return Ok(None),
+        }
+    }
+}
+
+/// The arguments behind the bracket, to the end of the line.
+fn arguments_of(alloc: Global, bytes: &[u8]) -> Result<Option<Args>, AllocError>
+    ensures { IfOk result (λ args. args ≡ arguments_in bytes.now) }
+{
+    match after_mark(b')', bytes) {
+        Some(end) => Ok(if is_all_blank(end) {
+            Some(Args::from_vec(Vec::new(alloc)))
+        } else {
+            None
+        }),
+        None => values_of(alloc, bytes),
+    }
+}
+
+/// The call that a word names.
+fn call_named(word: &[u8]) -> Option<CallName>
+    ensures { result ≡ call_name word.now }
+{
+    CallName::read(word)
+}
+
+/// The call that a line is; none where it is no call.
+pub(crate) fn call_in(alloc: Global, line: &[u8]) -> Result<Option<Call>, AllocError>
+    ensures { IfOk result (λ call. call ≡ call_of line.now) }
+{
+    if !is_short(line) {
+        return Ok(None);
+    }
+    let (word, rest) = split_word(skip_blanks(line));
+    let Some(name) = call_named(word) else {
+        return Ok(None);
+    };
+    let Some(rest) = after_mark(b'(', rest) else {
+        return Ok(None);
+    };
+    match arguments_of(alloc, rest)? {
+        Some(args) => Ok(Some(Call { name, args })),
+        None => Ok(None),
+    }
+}
+
+/// The call that a line of at most 262,144 bytes spells, `name(value, ...)`: the name in any case, spaces and tabs between the tokens.
+/// Malformed for any other line; OutOfMemory where memory runs out.
+pub fn read_call(alloc: Global, line: &[u8]) -> Result<Call, CallFault>
+    // What is read is spelled so.
+    ensures ok { IfOk result (λ call. SpellsCall call line.now) }
+    // Malformed is the line that spells no call.
+    ensures err { IfErr result (λ fault. fault ≡ Malformed → (call : ACall) → ¬ (SpellsCall call line.now)) }
+{
+    match call_in(alloc, line) {
+        Ok(Some(call)) => Ok(call),
+        Ok(None) => Err(CallFault::Malformed),
+        Err(_) => Err(CallFault::OutOfMemory),
+    }
+}

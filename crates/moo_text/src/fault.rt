@@ -1,0 +1,41 @@
+//! Why a line or a text could not be read.
+
+ghost use Rattle.std.specs.Prelude.{◌≡◌};
+ghost use Rattle.moo_text.specs.declared.fault.TextFault.TheVariants.{OutOfMemory};
+
+use std::alloc::{AllocError, AllocFailed};
+
+/// Why a line is read as no call.
+#[derive(Clone, Copy, Debug, PartialEq, Eq)]
+pub enum CallFault {
+    Malformed,
+    OutOfMemory,
+}
+
+/// Why a run over a text stopped.
+#[derive(Clone, Copy, Debug, PartialEq, Eq)]
+pub enum TextFault {
+    /// The reader failed.
+    Read,
+    /// The writer failed, or took no bytes.
+    Write,
+    OutOfMemory,
+    /// The text is longer than 1,073,741,824 bytes.
+    Long,
+}
+
+impl From<AllocError> for TextFault {
+    ghost from_gives = { λ _ e. e ≡ OutOfMemory };
+
+    fn from(_e: AllocError) -> TextFault {
+        TextFault::OutOfMemory
+    }
+}
+
+impl<T: Drop> From<AllocFailed<T>> for TextFault {
+    ghost from_gives = { λ _ e. e ≡ OutOfMemory };
+
+    fn from(_e: AllocFailed<T>) -> TextFault {
+        TextFault::OutOfMemory
+    }
+}

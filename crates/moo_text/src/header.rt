@@ -1,0 +1,149 @@
+//! The header of a batch.
+
+ghost use Rattle.std.specs.Prelude.{◌≡◌, ◌≤◌, ◌-◌, true, false, IfOk, MatchOption};
+ghost use Rattle.moo_value.specs.Literal.{is_digit};
+ghost use Rattle.std.specs.Option.{option_map};
+ghost use Rattle.moo_text.specs.Line.{words};
+ghost use Rattle.moo_text.specs.LineReading.{behind_word, begins_with as front_is, object_value as object_in, object_of as object_spelled, place_of as place_in, last_place as last_place_in, at_of as at_in, header_of};
+
+use crate::line::{is_short, next_word};
+use crate::literal::read_front;
+use moo_value::value::{ObjNo, Value};
+use std::alloc::{AllocError, Global};
+
+/// Who runs a batch, and after how many accepted batches, where it says so.
+#[derive(Clone, Copy, Debug)]
+pub struct Header {
+    pub programmer: ObjNo,
+    pub at: Option<u64>,
+}
+
+/// What follows the word, where the bytes begin with it.
+#[tactic(auto, unfolding(moo_world::specs::Objects::same_text))]
+fn after_the_word<'a>(word: &[u8], bytes: &'a [u8]) -> Option<&'a [u8]>
+    ensures { option_map (λ rest. words rest.now) result ≡ behind_word word.now (words bytes.now) }
+{
+    match next_word(bytes) {
+        Some((first, rest)) => { if first == word { Some(rest) } else { None } }
+        None => None,
+    }
+}
+
+fn begins_with(first: u8, bytes: &[u8]) -> bool
+    ensures { result ≡ front_is first bytes.now }
+{
+    match bytes.split_first() {
+        Some((byte, _)) => *byte == first,
+        None => false,
+    }
+}
+
+fn object_value(value: &Value) -> Option<ObjNo>
+    ensures { result ≡ object_in value.now }
+{
+    match value {
+        Value::Obj(object) => Some(*object),
+        _ => None,
+    }
+}
+
+/// The object that a word spells.
+fn object_of(alloc: Global, word: &[u8]) -> Result<Option<ObjNo>, AllocError>
+    ensures { IfOk result (λ object. object ≡ object_spelled word.now) }
+{
+    if !begins_with(b'#', word) {
+        return Ok(None);
+    }
+    match read_front(alloc, word)? {
+        Some((value, rest)) => Ok(if rest.is_empty() {
+            object_value(&value)
+        } else {
+            None
+        }),
+        None => Ok(None),
+    }
+}
+
+fn digit_value(byte: u8) -> Option<u64>
+    ensures { MatchOption result (is_digit byte ≡ false) (λ value. (is_digit byte ≡ true) × (value ≡ byte - 48) × (value ≤ 9)) }
+{
+    match byte {
+        b'0'..=b'9' => Some(u64::from(byte - b'0')),
+        _ => None,
+    }
+}
+
+/// The number of 1 to 19 digits, at most 9223372036854775807.
+fn place_of(digits: &[u8]) -> Option<u64>
+    ensures { result ≡ place_in digits.now }
+{
+    if digits.is_empty() || 19 < digits.len() {
+        return None;
+    }
+    let mut place: u64 = 0;
+    for digit in digits {
+        match digit_value(*digit) {
+            Some(value) => place = 10 * place + value,
+            None => return None,
+        }
+    }
+    if place <= 9223372036854775807 {
+        Some(place)
+    } else {
+        None
+    }
+}
+
+/// The number that is the last word.
+fn last_place(bytes: &[u8]) -> Option<u64>
+    ensures { result ≡ last_place_in (words bytes.now) }
+{
+    match next_word(bytes) {
+        Some((digits, rest)) => match next_word(rest) {
+            Some(_) => None,
+            None => place_of(digits),
+        },
+        None => None,
+    }
+}
+
+/// What stands behind the programmer: nothing, or `at` and a number.
+fn at_of(bytes: &[u8]) -> Option<Option<u64>>
+    ensures { result ≡ at_in (words bytes.now) }
+{
+    if next_word(bytes).is_none() {
+        return Some(None);
+    }
+    match after_the_word(b"at", bytes) {
+        Some(rest) => match last_place(rest) {
+            Some(place) => Some(Some(place)),
+            None => None,
+        },
+        None => None,
+    }
+}
+
+/// The header that a line is; none where it is no header.
+pub fn read_header(alloc: Global, line: &[u8]) -> Result<Option<Header>, AllocError>
+    ensures { IfOk result (λ header. header ≡ header_of line.now) }
+{
+    if !is_short(line) {
+        return Ok(None);
+    }
+    let Some(rest) = after_the_word(b"batch", line) else {
+        return Ok(None);
+    };
+    let Some(rest) = after_the_word(b"as", rest) else {
+        return Ok(None);
+    };
+    let Some((word, rest)) = next_word(rest) else {
+        return Ok(None);
+    };
+    let Some(programmer) = object_of(alloc, word)? else {
+        return Ok(None);
+    };
+    match at_of(rest) {
+        Some(at) => Ok(Some(Header { programmer, at })),
+        None => Ok(None),
+    }
+}

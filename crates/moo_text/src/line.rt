@@ -1,0 +1,105 @@
+//! What one line of a batch text is.
+
+ghost use Rattle.std.specs.Prelude.{◌≡◌, ◌∷◌, [], MatchOption};
+ghost use Rattle.moo_value.specs.Literal.{is_blank as blank_byte, is_word as word_byte};
+ghost use Rattle.moo_value.specs.Reading.{after_blanks, word, after_word};
+ghost use Rattle.moo_text.specs.Line.{is_short as short_line, is_all_blank as all_blank, is_blank_line as blank_line, is_end_line as end_line, words, until_blank, from_blank};
+
+/// The most bytes of a line, its end left away.
+pub const LONGEST_LINE: usize = 262144;
+
+fn is_blank(byte: u8) -> bool
+    ensures { result ≡ blank_byte byte }
+{
+    byte == b' ' || byte == b'\t'
+}
+
+fn is_word(byte: u8) -> bool
+    ensures { result ≡ word_byte byte }
+{
+    matches!(byte, b'0'..=b'9' | b'A'..=b'Z' | b'a'..=b'z' | b'_')
+}
+
+/// Whether a line is within the limit.
+pub fn is_short(line: &[u8]) -> bool
+    ensures { result ≡ short_line line.now }
+{
+    line.len() <= LONGEST_LINE
+}
+
+/// The bytes behind the spaces and tabs in front.
+pub fn skip_blanks(bytes: &[u8]) -> &[u8]
+    ensures { result.now ≡ after_blanks bytes.now }
+{
+    for (i, byte) in bytes.iter().enumerate() {
+        if !is_blank(*byte) {
+            return &bytes[i..];
+        }
+    }
+    &[]
+}
+
+/// Whether there are spaces and tabs alone.
+pub fn is_all_blank(bytes: &[u8]) -> bool
+    ensures { result ≡ all_blank bytes.now }
+{
+    skip_blanks(bytes).is_empty()
+}
+
+/// Whether a line is blank: within the limit, and spaces and tabs alone.
+pub fn is_blank_line(line: &[u8]) -> bool
+    ensures { result ≡ blank_line line.now }
+{
+    is_short(line) && is_all_blank(line)
+}
+
+/// Whether a line is `end`, with spaces and tabs before and behind.
+pub fn is_end_line(line: &[u8]) -> bool
+    ensures { result ≡ end_line line.now }
+{
+    if !is_short(line) {
+        return false;
+    }
+    match skip_blanks(line) {
+        [b'e', b'n', b'd', rest @ ..] => is_all_blank(rest),
+        _ => false,
+    }
+}
+
+/// The letters, digits and low lines in front, and what follows.
+pub fn split_word(bytes: &[u8]) -> (&[u8], &[u8])
+    ensures front { result.0.now ≡ word bytes.now }
+    ensures back { result.1.now ≡ after_word bytes.now }
+{
+    for (i, byte) in bytes.iter().enumerate() {
+        if !is_word(*byte) {
+            return bytes.split_at(i);
+        }
+    }
+    (bytes, &[])
+}
+
+/// What stands in front of the first space or tab, and what follows.
+fn split_at_blank(bytes: &[u8]) -> (&[u8], &[u8])
+    ensures front { result.0.now ≡ until_blank bytes.now }
+    ensures back { result.1.now ≡ from_blank bytes.now }
+{
+    for (i, byte) in bytes.iter().enumerate() {
+        if is_blank(*byte) {
+            return bytes.split_at(i);
+        }
+    }
+    (bytes, &[])
+}
+
+/// The first of the words that stand between blanks, and what follows.
+pub fn next_word(bytes: &[u8]) -> Option<(&[u8], &[u8])>
+    ensures { MatchOption result (words bytes.now ≡ []) (λ x. words bytes.now ≡ x.0.now ∷ words x.1.now) }
+{
+    let start = skip_blanks(bytes);
+    if start.is_empty() {
+        None
+    } else {
+        Some(split_at_blank(start))
+    }
+}

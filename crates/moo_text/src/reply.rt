@@ -1,0 +1,143 @@
+//! Replies, and the lines that answer the batches of a text.
+
+ghost use Rattle.std.specs.Prelude.{◌≡◌, ◌++◌, [], ◌∷◌, OnOk, OnErr};
+ghost use Rattle.std.specs.Fmt.{decimal};
+ghost use Rattle.std.specs.List.{flat_map};
+ghost use Rattle.std.specs.Io.{StartsWith};
+ghost use Rattle.moo_text.specs.Replies.{answer_line, accepted_text, refused_text, reply_text, answer_text};
+
+use moo_value::code::Code;
+use moo_value::value::Value;
+use moo_value::writing::print_literal;
+use moo_world::answers::Answers;
+use std::alloc::{AllocError, Global};
+
+/// What a batch is answered.
+#[derive(Drop)]
+pub enum Reply {
+    /// All its calls were done; `seq` is the number after the batch.
+    Accepted { seq: u64, answers: Answers },
+    /// Its call number `call`, from 1 on, failed with `code`, and nothing changed.
+    Refused { call: u32, code: Code },
+    /// Its call number `call` found no number left, and nothing changed.
+    Full { call: u32 },
+    /// It named another number than `seq`, the present one.
+    Stale { seq: u64 },
+    /// Memory ran out, and nothing changed.
+    NoMemory,
+}
+
+/// What is written for one batch of a text.
+#[derive(Drop)]
+pub enum Answer {
+    Replied(Reply),
+    /// The number of the batch's first bad line.
+    Malformed(u32),
+    Truncated,
+    /// The store failed.
+    Fault,
+    /// The store failed before.
+    Closed,
+}
+
+fn put_line(alloc: Global, word: &[u8], number: u64, out: &mut Vec<u8>) -> Result<(), AllocError>
+    ensures ok { OnOk result (out.new.items ≡ out.old.items ++ (word.now ++ (decimal number ++ 10 ∷ []))) }
+    ensures kept { StartsWith out.new.items out.old.items }
+{
+    let digits = number.to_string(alloc)?;
+    out.extend_from_slice(word)?;
+    out.extend_from_slice(digits.as_bytes())?;
+    out.push(b'\n')?;
+    Ok(())
+}
+
+fn put_refused(alloc: Global, call: u32, code: Code, out: &mut Vec<u8>) -> Result<(), AllocError>
+    ensures ok { OnOk result (out.new.items ≡ out.old.items ++ refused_text call code) }
+    ensures kept { StartsWith out.new.items out.old.items }
+{
+    let digits = call.to_string(alloc)?;
+    out.extend_from_slice(b"refused ")?;
+    out.extend_from_slice(digits.as_bytes())?;
+    out.push(b' ')?;
+    out.extend_from_slice(code.name().as_bytes())?;
+    out.push(b'\n')?;
+    Ok(())
+}
+
+fn put_answers(alloc: Global, values: &[Value], out: &mut Vec<u8>) -> Result<(), AllocError>
+    ensures ok { OnOk result (out.new.items ≡ out.old.items ++ flat_map answer_line values.now) }
+    ensures kept { StartsWith out.new.items out.old.items }
+{
+    for value in values {
+        print_literal(alloc, value, out)?;
+        out.push(b'\n')?;
+    }
+    Ok(())
+}
+
+fn put_accepted(
+    alloc: Global,
+    seq: u64,
+    answers: &Answers,
+    out: &mut Vec<u8>,
+) -> Result<(), AllocError>
+    ensures ok { OnOk result (out.new.items ≡ out.old.items ++ accepted_text seq answers.now) }
+    ensures kept { StartsWith out.new.items out.old.items }
+{
+    put_line(alloc, b"accepted ", seq, out)?;
+    put_answers(alloc, answers.items(), out)?;
+    out.extend_from_slice(b"end\n")?;
+    Ok(())
+}
+
+fn put_reply(alloc: Global, reply: &Reply, out: &mut Vec<u8>) -> Result<(), AllocError>
+    ensures ok { OnOk result (out.new.items ≡ out.old.items ++ reply_text reply.now) }
+    ensures kept { StartsWith out.new.items out.old.items }
+{
+    match reply {
+        Reply::Accepted { seq, answers } => put_accepted(alloc, *seq, answers, out),
+        Reply::Refused { call, code } => put_refused(alloc, *call, *code, out),
+        Reply::Full { call } => put_line(alloc, b"full ", u64::from(*call), out),
+        Reply::Stale { seq } => put_line(alloc, b"stale ", *seq, out),
+        Reply::NoMemory => out.extend_from_slice(b"nomemory\n"),
+    }
+}
+
+fn put_answer(alloc: Global, answer: &Answer, out: &mut Vec<u8>) -> Result<(), AllocError>
+    ensures ok { OnOk result (out.new.items ≡ out.old.items ++ answer_text answer.now) }
+    ensures kept { StartsWith out.new.items out.old.items }
+{
+    match answer {
+        Answer::Replied(reply) => put_reply(alloc, reply, out),
+        Answer::Malformed(number) => put_line(alloc, b"malformed ", u64::from(*number), out),
+        Answer::Truncated => out.extend_from_slice(b"truncated\n"),
+        Answer::Fault => out.extend_from_slice(b"fault\n"),
+        Answer::Closed => out.extend_from_slice(b"closed\n"),
+    }
+}
+
+/// Appends the lines of a reply. An `Err` changes nothing.
+pub fn print_reply(alloc: Global, reply: &Reply, out: &mut Vec<u8>) -> Result<(), AllocError>
+    ensures ok { OnOk result (out.new.items ≡ out.old.items ++ reply_text reply.now) }
+    ensures err { OnErr result (out.new.items ≡ out.old.items) }
+{
+    let start = out.len();
+    let result = put_reply(alloc, reply, out);
+    if result.is_err() {
+        out.truncate(start);
+    }
+    result
+}
+
+/// Appends the lines that answer a batch of a text. An `Err` changes nothing.
+pub fn print_answer(alloc: Global, answer: &Answer, out: &mut Vec<u8>) -> Result<(), AllocError>
+    ensures ok { OnOk result (out.new.items ≡ out.old.items ++ answer_text answer.now) }
+    ensures err { OnErr result (out.new.items ≡ out.old.items) }
+{
+    let start = out.len();
+    let result = put_answer(alloc, answer, out);
+    if result.is_err() {
+        out.truncate(start);
+    }
+    result
+}

@@ -1,0 +1,4 @@
+pub mod Climbing
+pub mod Noting
+pub mod Sharing
+pub mod Listing

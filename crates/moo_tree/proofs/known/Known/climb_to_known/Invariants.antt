@@ -1,0 +1,14 @@
+use Rattle.std.proofs.Common.{◌≡◌, length}
+use Rattle.moo_world.specs.Objects.{is_among}
+use Rattle.moo_world.specs.Rows.{world_of}
+use Rattle.moo_world.specs.World.{chain}
+use Rattle.moo_tree.proofs.known.Known.climb_to_known.Given as goal
+
+-- the object above stands in the chain from here just where it stands in that of y
+abbrev pub invariant-loop-row : goal.invariant-loop-row
+invariant-loop-row g l =
+    let w = world_of (g.R.Rows.held l.self-inside.rows.now).maps in
+    is_among l.self-inside.above (chain w l.at) ≡ is_among l.self-inside.above (chain w l.fn.y)
+
+abbrev pub decreases-loop-row : goal.decreases-loop-row
+decreases-loop-row g l = length (chain (world_of (g.R.Rows.held l.self-inside.rows.now).maps) l.at)

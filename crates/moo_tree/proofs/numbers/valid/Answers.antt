@@ -1,0 +1,13 @@
+use Rattle.std.proofs.Common.{◌≡◌, Option, Some, None, refl, sym, ap, ◌∙◌}
+use Rattle.std.specs.Prelude.{is_some}
+use Rattle.std.specs.Option.{option_map}
+use Rattle.moo_world.specs.Rows.{look_ups}
+use Rattle.moo_world.proofs.Seen.{is_object_seen}
+use Rattle.moo_tree.proofs.numbers.valid.Goals as goal
+
+is_some_map : {A B : Type 0} (f : A → B) (o : Option A) → is_some o ≡ is_some (option_map f o)
+is_some_map f None = refl
+is_some_map f (Some a) = refl
+
+pub returns : goal.returns
+returns g c = c.is_some.ensures ∙ is_some_map (λ row. row.now) c.object.result ∙ ap is_some c.object.ensures ∙ sym (is_object_seen (look_ups (g.R.Rows.held c.args.rows.now).maps) c.args.x)

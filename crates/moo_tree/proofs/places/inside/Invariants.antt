@@ -1,0 +1,12 @@
+use Rattle.std.proofs.Common.{◌≡◌, length}
+use Rattle.moo_world.specs.Objects.{is_among}
+use Rattle.moo_world.specs.Rows.{world_of}
+use Rattle.moo_world.specs.World.{places}
+use Rattle.moo_tree.proofs.places.inside.Given as goal
+
+-- y stands among the places from here just where it stands among those of x
+abbrev pub invariant-loop-row : goal.invariant-loop-row
+invariant-loop-row g l = let w = world_of (g.R.Rows.held l.rows).maps in is_among l.y (places w l.at) ≡ is_among l.y (places w l.fn.x)
+
+abbrev pub decreases-loop-row : goal.decreases-loop-row
+decreases-loop-row g l = length (places (world_of (g.R.Rows.held l.rows).maps) l.at)

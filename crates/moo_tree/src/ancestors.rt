@@ -1,0 +1,96 @@
+//! Chains of parents.
+
+ghost use Rattle.std.specs.Prelude.{◌≡◌, ◌-◌, IfOk, drop, length};
+ghost use Rattle.moo_world.specs.Manual.{common};
+ghost use Rattle.moo_world.specs.Objects.{is_among};
+ghost use Rattle.moo_world.specs.Rows.{world_of};
+ghost use Rattle.moo_world.specs.World.{IsTree, chain};
+
+use crate::numbers::nothing;
+use moo_rows::rows::Rows;
+use moo_value::value::ObjNo;
+use std::alloc::{AllocError, Global};
+
+/// The object and its ancestors, the root last; nothing where it is no object. An `Err` is want of memory.
+pub fn chain<R: Rows>(alloc: Global, rows: &R, x: ObjNo) -> Result<Vec<ObjNo>, AllocError>
+    requires { IsTree (world_of (R.held rows.now).maps) }
+    ensures { IfOk result (λ v. v.items ≡ chain (world_of (R.held rows.now).maps) x) }
+{
+    let mut found = Vec::new(alloc);
+    let mut at = x;
+    while let Some(row) = rows.object(at) {
+        found.push(at)?;
+        at = row.parent;
+    }
+    Ok(found)
+}
+
+/// Whether x is an object that is the other one or has it as an ancestor. It climbs from x to the root at most: where many
+/// are asked for, use `Known`.
+pub fn is_under<R: Rows>(rows: &R, x: ObjNo, ancestor: ObjNo) -> bool
+    requires { IsTree (world_of (R.held rows.now).maps) }
+    ensures { result ≡ is_among ancestor (chain (world_of (R.held rows.now).maps) x) }
+{
+    let mut at = x;
+    while let Some(row) = rows.object(at) {
+        if at == ancestor {
+            return true;
+        }
+        at = row.parent;
+    }
+    false
+}
+
+/// What stands as many steps above x as there are objects in the chain of other, or the end where the chain of x is shorter.
+fn up_along<R: Rows>(rows: &R, x: ObjNo, other: ObjNo) -> ObjNo
+    requires { IsTree (world_of (R.held rows.now).maps) }
+    ensures { chain (world_of (R.held rows.now).maps) result
+        ≡ drop (length (chain (world_of (R.held rows.now).maps) other)) (chain (world_of (R.held rows.now).maps) x) }
+{
+    let mut at = x;
+    let mut left = other;
+    while let Some(step) = rows.object(left) {
+        at = match rows.object(at) {
+            None => return at,
+            Some(row) => row.parent,
+        };
+        left = step.parent;
+    }
+    at
+}
+
+/// x, or where its chain is longer than that of other the ancestor of x whose chain is as long as that.
+fn no_deeper<R: Rows>(rows: &R, x: ObjNo, other: ObjNo) -> ObjNo
+    requires { IsTree (world_of (R.held rows.now).maps) }
+    ensures { chain (world_of (R.held rows.now).maps) result
+        ≡ drop (length (chain (world_of (R.held rows.now).maps) x) - length (chain (world_of (R.held rows.now).maps) other))
+        (chain (world_of (R.held rows.now).maps) x) }
+{
+    let beyond = up_along(rows, x, other);
+    up_along(rows, x, beyond)
+}
+
+/// The first of new and its ancestors that is a proper ancestor of x, or `#-1` where there is none. No more steps are taken
+/// than a few times as many as the two stand deep. See `chparent()` in the LambdaMOO Programmer's Manual.
+pub fn common<R: Rows>(rows: &R, x: ObjNo, new: ObjNo) -> ObjNo
+    requires { IsTree (world_of (R.held rows.now).maps) }
+    ensures { result ≡ common (world_of (R.held rows.now).maps) x new }
+{
+    let parent = match rows.object(x) {
+        None => return nothing(),
+        Some(row) => row.parent,
+    };
+    let mut one = no_deeper(rows, parent, new);
+    let mut other = no_deeper(rows, new, parent);
+    while let Some(row) = rows.object(other) {
+        if other == one {
+            return other;
+        }
+        one = match rows.object(one) {
+            None => unreachable!(),
+            Some(above) => above.parent,
+        };
+        other = row.parent;
+    }
+    nothing()
+}

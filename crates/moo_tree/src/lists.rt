@@ -1,0 +1,66 @@
+//! Lists of objects, ascending.
+
+ghost use Rattle.std.specs.Prelude.{◌≡◌, IfOk};
+ghost use Rattle.moo_world.specs.ObjectLists.{children_of, contents_of, players_of, subtree_of};
+ghost use Rattle.moo_world.specs.Rows.{world_of};
+ghost use Rattle.moo_world.specs.World.{IsTree};
+
+use crate::known::Known;
+use moo_rows::rows::Rows;
+use moo_rows::walk::each_object;
+use moo_value::value::ObjNo;
+use std::alloc::{AllocError, Global};
+
+/// x and its descendants, ascending; nothing where x is no object. An `Err` is want of memory.
+///
+/// One pass over the n objects, which looks each up a few times and notes whether it is under x: n log n steps and a note
+/// for each object, however deep the tree is.
+pub fn subtree<R: Rows>(alloc: Global, rows: &R, x: ObjNo) -> Result<Vec<ObjNo>, AllocError>
+    requires { IsTree (world_of (R.held rows.now).maps) }
+    ensures { IfOk result (λ v. v.items ≡ subtree_of (world_of (R.held rows.now).maps) x) }
+{
+    let mut known = Known::new(alloc, rows, x);
+    let mut found = Vec::new(alloc);
+    for (y, _) in each_object(rows) {
+        if known.is_under(y)? {
+            found.push(y)?;
+        }
+    }
+    Ok(found)
+}
+
+/// The objects whose parent is x, ascending; the roots for `#-1`. An `Err` is want of memory.
+/// See `children()` in the LambdaMOO Programmer's Manual.
+pub fn children<R: Rows>(alloc: Global, rows: &R, x: ObjNo) -> Result<Vec<ObjNo>, AllocError>
+    requires { IsTree (world_of (R.held rows.now).maps) }
+    ensures { IfOk result (λ v. v.items ≡ children_of (world_of (R.held rows.now).maps) x) }
+{
+    each_object(rows)
+        .filter(move |e| e.1.parent == x)
+        .map(|e| e.0)
+        .collect(alloc)
+}
+
+/// The objects that lie in x itself, ascending; those that lie nowhere for `#-1`. An `Err` is want of memory.
+/// See "Fundamental Object Attributes" in the LambdaMOO Programmer's Manual.
+pub fn contents<R: Rows>(alloc: Global, rows: &R, x: ObjNo) -> Result<Vec<ObjNo>, AllocError>
+    requires { IsTree (world_of (R.held rows.now).maps) }
+    ensures { IfOk result (λ v. v.items ≡ contents_of (world_of (R.held rows.now).maps) x) }
+{
+    each_object(rows)
+        .filter(move |e| e.1.location == x)
+        .map(|e| e.0)
+        .collect(alloc)
+}
+
+/// The objects with the player flag, ascending. An `Err` is want of memory.
+/// See `players()` in the LambdaMOO Programmer's Manual.
+pub fn players<R: Rows>(alloc: Global, rows: &R) -> Result<Vec<ObjNo>, AllocError>
+    requires { IsTree (world_of (R.held rows.now).maps) }
+    ensures { IfOk result (λ v. v.items ≡ players_of (world_of (R.held rows.now).maps)) }
+{
+    each_object(rows)
+        .filter(|e| e.1.player)
+        .map(|e| e.0)
+        .collect(alloc)
+}

@@ -1,0 +1,30 @@
+//! Object numbers.
+
+ghost use Rattle.std.specs.Prelude.{◌≡◌};
+ghost use Rattle.moo_world.specs.Objects.{nothing, same_object};
+ghost use Rattle.moo_world.specs.Rows.{world_of};
+ghost use Rattle.moo_world.specs.World.{is_object};
+
+use moo_rows::rows::Rows;
+use moo_value::value::ObjNo;
+
+/// The number that stands for no object.
+pub fn nothing() -> ObjNo
+    ensures { result ≡ nothing }
+{
+    ObjNo(-1)
+}
+
+/// Whether the number is `#-1`.
+pub fn is_nothing(x: ObjNo) -> bool
+    ensures { result ≡ same_object nothing x }
+{
+    x == nothing()
+}
+
+/// Whether the number is that of an object. See `valid()` in the LambdaMOO Programmer's Manual.
+pub fn valid<R: Rows>(rows: &R, x: ObjNo) -> bool
+    ensures { result ≡ is_object (world_of (R.held rows.now).maps) x }
+{
+    rows.object(x).is_some()
+}

@@ -1,0 +1,24 @@
+//! What lies in what.
+
+ghost use Rattle.std.specs.Prelude.{◌≡◌};
+ghost use Rattle.moo_world.specs.Rights.{is_within};
+ghost use Rattle.moo_world.specs.Rows.{world_of};
+ghost use Rattle.moo_world.specs.World.{IsTree};
+
+use moo_rows::rows::Rows;
+use moo_value::value::ObjNo;
+
+/// Whether x is an object that is y or lies in y, at any depth. See `move()` in the LambdaMOO Programmer's Manual.
+pub fn inside<R: Rows>(rows: &R, x: ObjNo, y: ObjNo) -> bool
+    requires { IsTree (world_of (R.held rows.now).maps) }
+    ensures { result ≡ is_within (world_of (R.held rows.now).maps) x y }
+{
+    let mut at = x;
+    while let Some(row) = rows.object(at) {
+        if at == y {
+            return true;
+        }
+        at = row.location;
+    }
+    false
+}

@@ -1,0 +1,33 @@
+-- Lists of properties, and of other things.
+use Rattle.std.proofs.Common.{◌≡◌, Bool, true, false, ◌||◌, Option, None, Some, List, [], ◌∷◌, ◌++◌, map, refl, ap}
+use Rattle.std.specs.Prelude.{is_some}
+use Rattle.std.specs.List.{list_any, IsDistinct, AllByRecursion}
+use Rattle.std.proofs.lemmas.Bool.{false≢true}
+use Rattle.moo_world.specs.Objects.{Pair, same_text, folded}
+use Rattle.moo_world.specs.World.{NamesDiffer}
+
+pub some_of : {A : Type 0} (o : Option A) → is_some o ≡ true → (a : A) × (o ≡ Some a)
+some_of None e = absurd (false≢true e)
+some_of (Some a) e = (a, refl)
+
+pub any_map : {A B : Type 0} (test : B → Bool) (f : A → B) (l : List A) → list_any test (map f l) ≡ list_any (λ a. test (f a)) l
+any_map test f [] = refl
+any_map test f (a ∷ l) = ap (λ b. test (f a) || b) (any_map test f l)
+
+pub distinct_map : {A B : Type 0} (differ : B → B → Bool) (f : A → B) (l : List A) → IsDistinct differ (map f l) → IsDistinct (λ a b. differ (f a) (f b)) l
+unfolding IsDistinct
+distinct_map differ f [] d = tt
+distinct_map differ f (a ∷ l) d = (all l d.0, distinct_map differ f l d.1)
+  where
+    all : (l : List _) → AllByRecursion (λ y. differ (f a) y ≡ false) (map f l) → AllByRecursion (λ b. differ (f a) (f b) ≡ false) l
+    all [] h = tt
+    all (b ∷ l) h = (h.0, all l h.1)
+
+pub pairs_left : (l m : List Pair) → NamesDiffer (l ++ m) → NamesDiffer l
+unfolding IsDistinct
+pairs_left [] m d = tt
+pairs_left (p ∷ l) m d = (first l d.0, pairs_left l m d.1)
+  where
+    first : (l : List Pair) → AllByRecursion (λ y. same_text (folded p.1) (folded y.1) ≡ false) (l ++ m) → AllByRecursion (λ y. same_text (folded p.1) (folded y.1) ≡ false) l
+    first [] a = tt
+    first (y ∷ l) a = (a.0, first l a.1)

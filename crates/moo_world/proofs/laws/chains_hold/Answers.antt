@@ -1,0 +1,25 @@
+use Rattle.std.proofs.Common.{[], ◌∷◌, subst}
+use Rattle.moo_world.specs.World.{Chain, parent_of}
+use Rattle.moo_world.specs.TreeLaws.{OneChain, NoneTwice, ChainSplits}
+use Rattle.moo_world.proofs.Chains.{Climbs-once}
+use Rattle.moo_world.proofs.Trees.{Chain-unique, no_parent}
+use Rattle.moo_world.proofs.laws.chains_hold.Goals as goal
+
+splits : ChainSplits
+splits w x y [] behind t p = subst (λ z. Chain w z (y ∷ behind)) p.0 p
+splits w x y (z ∷ front) behind t p = splits w p.1 y front behind t p.3
+
+twice : NoneTwice
+twice w x y front behind t p = Climbs-once (parent_of w) (no_parent w t) behind y y (splits w x y front behind t p)
+
+one : OneChain
+one w x l m t p q = Chain-unique w t x l m p q
+
+pub returns-clause-one : goal.returns-clause-one
+returns-clause-one c = one
+
+pub returns-clause-once : goal.returns-clause-once
+returns-clause-once c = twice
+
+pub returns-clause-splits : goal.returns-clause-splits
+returns-clause-splits c = splits

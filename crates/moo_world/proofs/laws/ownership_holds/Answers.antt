@@ -1,0 +1,5 @@
+use Rattle.moo_world.proofs.OwnershipCalls.{no_wizard_keeps_ownership}
+use Rattle.moo_world.proofs.laws.ownership_holds.Goals as goal
+
+pub returns : goal.returns
+returns c = no_wizard_keeps_ownership

@@ -1,0 +1,15 @@
+use Rattle.moo_world.specs.TreeLaws.{RebuiltExists, RebuiltIsOne}
+use Rattle.moo_world.proofs.Rebuilding.{SameButSlots-rebuilt, Rebuilt-rebuilt, Rebuilt-unique}
+use Rattle.moo_world.proofs.laws.rebuilding_holds.Goals as goal
+
+exists : RebuiltExists
+exists w s q tw ts = (SameButSlots-rebuilt w s q, Rebuilt-rebuilt w s q tw ts)
+
+one : RebuiltIsOne
+one w a b q tw ta same ra rb = Rebuilt-unique w a b q tw ta same ra rb
+
+pub returns-clause-exists : goal.returns-clause-exists
+returns-clause-exists c = exists
+
+pub returns-clause-one : goal.returns-clause-one
+returns-clause-one c = one

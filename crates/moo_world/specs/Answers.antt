@@ -1,0 +1,24 @@
+-- What calls answer, as values.
+use Rattle.std.specs.Prelude.{pos, Bool, List, map, if◌then◌else◌}
+use Rattle.moo_value.specs.declared.value.ObjNo.{ObjNo}
+use Rattle.moo_value.specs.declared.value.Value.{Value}
+use Rattle.moo_value.specs.declared.value.Value.TheVariants.{Int, Obj, Str, List as a_list}
+use Rattle.moo_value.specs.Value.{gather}
+use Rattle.moo_world.specs.Objects.{Name}
+
+-- what a changing call other than create answers
+abbrev pub zero : Value
+zero = Int (pos 0)
+
+-- 1 for yes, 0 for no
+abbrev pub flag : Bool → Value
+flag b = Int (pos (if b then 1 else 0))
+
+abbrev pub list_of : List Value → Value
+list_of values = a_list (gather values)
+
+abbrev pub object_list : List ObjNo → Value
+object_list objects = list_of (map Obj objects)
+
+abbrev pub text_list : List Name → Value
+text_list texts = list_of (map Str texts)

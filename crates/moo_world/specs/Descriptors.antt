@@ -1,0 +1,40 @@
+-- How a verb is named: by a number from 1 on, or by a word that one of its names matches. Both give its place in the
+-- directory of the object, counted from 0.
+-- LambdaMOO Programmer's Manual, 'Operations on Verbs'. That a word means the first such verb of the object itself is this
+-- server's own.
+use Rattle.std.specs.Prelude.{ℕ, zero, suc, ℤ, pos, negsuc, nat_lt, length, Option, None, Some, if◌then◌else◌}
+use Rattle.std.specs.Option.{option_map, option_and_then}
+use Rattle.std.specs.List.{position}
+use Rattle.moo_value.specs.declared.value.ObjNo.{ObjNo}
+use Rattle.moo_rows.specs.declared.row.VerbRow.{VerbRow}
+use Rattle.moo_world.specs.declared.descriptor.Desc.{Desc}
+use Rattle.moo_world.specs.declared.descriptor.Desc.TheVariants.{Index, Name as a_word}
+use Rattle.moo_world.specs.Objects.{Name}
+use Rattle.moo_world.specs.World.{World, verbs_of}
+use Rattle.moo_world.specs.Directories.{verb_at}
+use Rattle.moo_world.specs.Matching.{one_matches}
+
+-- the place that a number from 1 on stands for
+abbrev pub place_numbered : ℤ → Option ℕ
+place_numbered (pos (suc place)) = Some place
+place_numbered (pos zero) = None
+place_numbered (negsuc n) = None
+
+-- a place within the directory
+abbrev pub place_within : World → ObjNo → ℕ → Option ℕ
+place_within w x place = if nat_lt place (length (verbs_of w x)) then Some place else None
+
+abbrev pub verb_by_number : World → ObjNo → ℤ → Option ℕ
+verb_by_number w x number = option_and_then (place_within w x) (place_numbered number)
+
+abbrev pub verb_by_word : World → ObjNo → Name → Option ℕ
+verb_by_word w x word = position (λ v. one_matches v.names word) (verbs_of w x)
+
+-- the place of the verb that a descriptor names
+abbrev pub described : World → ObjNo → Desc → Option ℕ
+described w x (Index number) = verb_by_number w x number
+described w x (a_word word) = verb_by_word w x word
+
+-- the verb, with its place
+abbrev pub found_verb : World → ObjNo → Desc → Option (ℕ × VerbRow)
+found_verb w x desc = option_and_then (λ place. option_map (λ v. (place, v)) (verb_at w x place)) (described w x desc)

@@ -1,0 +1,42 @@
+-- What verbs are told about themselves: names, places and prepositions, as they are read.
+-- LambdaMOO Programmer's Manual, `add_verb()` and `set_verb_args()`. That a preposition ends at its first slash is this
+-- server's own.
+use Rattle.std.specs.Prelude.{ℕ, ◌==◌, Bool, List, [], ◌∷◌, Option, Some, codes, if◌then◌else◌}
+use Rattle.std.specs.Option.{option_map, option_and_then}
+use Rattle.std.specs.List.{find, list_any, before_first, slice_split}
+use Rattle.moo_rows.specs.declared.row.ArgSpec.{ArgSpec}
+use Rattle.moo_rows.specs.declared.row.Place.{Place}
+use Rattle.moo_rows.specs.declared.row.Place.TheVariants.{This, Any as any_object, None as no_object}
+use Rattle.moo_rows.specs.declared.row.Preposition.{Preposition}
+use Rattle.moo_rows.specs.declared.row.Preposition.TheVariants.{None as no_preposition, Any as any_preposition, Set}
+use Rattle.moo_rows.specs.declared.row.PrepositionSet.{PrepositionSet}
+use Rattle.moo_world.specs.Objects.{Name}
+use Rattle.moo_world.specs.Prepositions.{set_text, all_sets, place_text}
+use Rattle.moo_world.specs.Matching.{same_name}
+
+abbrev pub is_slash : ℕ → Bool
+is_slash byte = byte == 47
+
+abbrev pub phrases : PrepositionSet → List Name
+phrases set = slice_split is_slash (set_text set)
+
+abbrev pub has_phrase : PrepositionSet → Name → Bool
+has_phrase set phrase = list_any (λ p. same_name p phrase) (phrases set)
+
+-- the first of these sets that has the phrase
+abbrev pub first_with : List PrepositionSet → Name → Option PrepositionSet
+first_with sets phrase = find (λ set. has_phrase set phrase) sets
+
+-- `none` and `any` alone, or the set of the phrase before the first slash
+abbrev pub prep_of : Name → Option Preposition
+prep_of text =
+    if same_name text (codes "none") then Some no_preposition
+    else (if same_name text (codes "any") then Some any_preposition
+    else option_map Set (first_with all_sets (before_first is_slash text)))
+
+abbrev pub place_of : Name → Option Place
+place_of text = find (λ place. same_name text (place_text place)) (This ∷ any_object ∷ no_object ∷ [])
+
+abbrev pub args_of : Name → Name → Name → Option ArgSpec
+args_of dobj prep iobj =
+    option_and_then (λ d. option_and_then (λ p. option_map (λ i. record { dobj = d; prep = p; iobj = i }) (place_of iobj)) (prep_of prep)) (place_of dobj)
