@@ -4,11 +4,7 @@
 mod failure;
 mod run;
 #[cfg(test)]
-mod table_tests;
-#[cfg(test)]
 mod tests;
-#[cfg(test)]
-mod worked_rows;
 #[cfg(test)]
 mod worked_tests;
 

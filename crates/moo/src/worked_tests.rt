@@ -1,69 +1,65 @@
-//! The worked batches on new worlds.
+//! The worked batches as texts that the program runs.
 
-use crate::run::run_words;
-use crate::worked_rows::{OBJECTS, PROPERTIES, VERBS, Worked};
+use crate::tests::answers;
+use moo_worked::{OBJECTS, PROPERTIES, TREE, VERBS};
+use std::alloc::Global;
 use std::process::Abort;
 use std::test::Fail;
 
-fn put_line(text: &mut Vec<u8>, line: &str) -> Result<(), Fail> {
-    text.extend_from_slice(line.as_bytes())?;
-    text.push(b'\n')?;
+/// Puts each of the pieces that `; ` parts on a line of its own.
+fn put_lines(text: &mut String, pieces: &str) -> Result<(), Fail> {
+    for piece in pieces.split("; ") {
+        text.push_str(piece)?;
+        text.push_str("\n")?;
+    }
     Ok(())
 }
 
-fn put_batch(text: &mut Vec<u8>, batch: &Worked) -> Result<(), Fail> {
-    text.extend_from_slice(b"batch as ")?;
-    put_line(text, batch.0)?;
-    for call in batch.1 {
-        put_line(text, call)?;
-    }
-    put_line(text, "end")
-}
-
-fn put_reply(text: &mut Vec<u8>, batch: &Worked) -> Result<(), Fail> {
-    let Some((accepted, answers)) = batch.2.split_once(": ") else {
-        return put_line(text, batch.2);
+/// Puts the text of a batch, and its reply, behind those of the batches before it.
+fn put_batch(
+    rt: &impl Abort,
+    text: &mut String,
+    replies: &mut String,
+    line: &str,
+) -> Result<(), Fail> {
+    let (batch, reply) = line.split_once(" => ").expect(rt, "a reply");
+    let (who, calls) = batch.split_once(": ").expect(rt, "a programmer");
+    text.push_str("batch as ")?;
+    put_lines(text, who)?;
+    put_lines(text, calls)?;
+    put_lines(text, "end")?;
+    let Some((accepted, answers)) = reply.split_once(": ") else {
+        return put_lines(replies, reply);
     };
-    put_line(text, accepted)?;
-    for answer in answers.split("; ") {
-        put_line(text, answer)?;
-    }
-    put_line(text, "end")
+    put_lines(replies, accepted)?;
+    put_lines(replies, answers)?;
+    put_lines(replies, "end")
 }
 
-/// Whether a new world answers these batches so, one after another.
-fn work(rt: &HostRuntime, batches: &[Worked]) -> Result<bool, Fail> {
-    let mut text = Vec::new(rt.alloc());
-    let mut expected = Vec::new(rt.alloc());
-    for batch in batches {
-        put_batch(&mut text, batch)?;
-        put_reply(&mut expected, batch)?;
+/// The text of a scene's batches, and that of its replies.
+fn texts(rt: &impl Abort, alloc: Global, scene: &str) -> Result<(String, String), Fail> {
+    let mut text = String::new(alloc);
+    let mut replies = String::new(alloc);
+    for line in scene.lines() {
+        if line.is_empty() || line.starts_with("- ") {
+            continue;
+        }
+        let line = if line == "tree" { TREE } else { line };
+        put_batch(rt, &mut text, &mut replies, line)?;
     }
-    let mut output = Vec::new(rt.alloc());
-    let status = run_words(rt, &["moo"], text.as_slice(), &mut output);
-    Ok(status == 0 && output.as_slice() == expected.as_slice())
-}
-
-#[test]
-fn objects_as_worked(rt: HostRuntime) -> Result<(), Fail> {
-    for row in OBJECTS {
-        assert!(rt; work(&rt, row.batches)?, "{}", row.shows);
-    }
-    Ok(())
+    Ok((text, replies))
 }
 
 #[test]
-fn properties_as_worked(rt: HostRuntime) -> Result<(), Fail> {
-    for row in PROPERTIES {
-        assert!(rt; work(&rt, row.batches)?, "{}", row.shows);
-    }
-    Ok(())
-}
-
-#[test]
-fn verbs_as_worked(rt: HostRuntime) -> Result<(), Fail> {
-    for row in VERBS {
-        assert!(rt; work(&rt, row.batches)?, "{}", row.shows);
+fn the_worked_batches_are_answered_as_they_should_be(rt: HostRuntime) -> Result<(), Fail> {
+    for scenes in [OBJECTS, PROPERTIES, VERBS] {
+        for scene in scenes.split("\n\n") {
+            let (text, replies) = texts(&rt, rt.alloc(), scene)?;
+            assert!(rt;
+                answers(&rt, &["moo"], text.as_bytes(), replies.as_str()),
+                "{scene}"
+            );
+        }
     }
     Ok(())
 }

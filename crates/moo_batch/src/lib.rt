@@ -3,6 +3,8 @@
 
 pub mod changes;
 pub mod draft;
+#[cfg(test)]
+mod draft_tests;
 pub mod judge;
 pub mod laws;
 mod overlay;

@@ -4,13 +4,10 @@ ghost use Rattle.moo_world.specs.Arguments.{fits};
 ghost use Rattle.moo_world.specs.Rows.{IsGood};
 
 use crate::changes::{Changes, apply_changes};
-use crate::draft::Draft;
 use crate::judge::{Verdict, judge};
 use moo_rows::flat::Flat;
-use moo_rows::opening::opening_world;
-use moo_rows::row::{Bits, PropId, SlotRow, SlotState};
+use moo_rows::row::{Bits, Head, PropId, SlotRow, SlotState};
 use moo_rows::rows::Rows;
-use moo_rows::walk::{children, each_slot, each_slot_of};
 use moo_value::code::Code;
 use moo_value::reading::read_literal;
 use moo_value::value::{ObjNo, Value, fits};
@@ -21,104 +18,6 @@ use moo_world::opening::good_opening;
 use std::alloc::{AllocError, Global};
 use std::process::Abort;
 use std::test::Fail;
-
-fn slot(object: ObjNo, value: i32) -> SlotRow {
-    SlotRow {
-        owner: object,
-        bits: Bits {
-            r: true,
-            w: false,
-            c: false,
-        },
-        state: SlotState::Set(Value::Int(value)),
-    }
-}
-
-fn some_slots(alloc: Global) -> Result<Flat, AllocError> {
-    let mut flat = opening_world(alloc)?;
-    for i in 0..100u32 {
-        let object = ObjNo((i % 23) as i32);
-        flat.put_slot((object, PropId(i * 7 % 17 + 1)), slot(object, 0))?;
-    }
-    Ok(flat)
-}
-
-/// 1,000 fixed puts, removals and steps, and then the keys of all slots and of some.
-fn keys_met<R: Rows>(
-    alloc: Global,
-    rows: &mut R,
-) -> Result<Vec<Option<(ObjNo, PropId)>>, AllocError> {
-    let mut met = Vec::new(alloc);
-    for i in 0..1000u32 {
-        let object = ObjNo((i * 37 % 23) as i32);
-        let key = (object, PropId(i * 11 % 17 + 1));
-        match i % 4 {
-            0 => rows.put_slot(key, slot(object, i as i32))?,
-            1 => rows.put_slot((object, PropId(3)), slot(object, 0))?,
-            2 => rows.remove_slot(key)?,
-            _ => met.push(rows.next_slot(Some(key)))?,
-        }
-    }
-    for (key, _) in each_slot(rows) {
-        met.push(Some(key))?;
-    }
-    for (key, _) in each_slot_of(rows, ObjNo(5), PropId(3)) {
-        met.push(Some(key))?;
-    }
-    Ok(met)
-}
-
-#[test]
-fn a_draft_steps_as_rows_do(rt: HostRuntime) -> Result<(), Fail> {
-    let base = some_slots(rt.alloc())?;
-    let mut flat = base.copy(rt.alloc())?;
-    let mut draft = Draft::new(rt.alloc(), &base);
-    let met = keys_met(rt.alloc(), &mut draft)?;
-    let wanted = keys_met(rt.alloc(), &mut flat)?;
-    assert!(rt; wanted.len() > 300);
-    assert!(rt; met.as_slice() == wanted.as_slice());
-    let changes = draft.into_changes()?;
-    let mut applied = base.copy(rt.alloc())?;
-    apply_changes(&mut applied, changes)?;
-    let met = keys_met(rt.alloc(), &mut applied)?;
-    let wanted = keys_met(rt.alloc(), &mut flat)?;
-    assert!(rt; met.as_slice() == wanted.as_slice());
-    Ok(())
-}
-
-#[test]
-fn a_row_put_back_is_no_change(rt: HostRuntime) -> Result<(), Fail> {
-    let base = some_slots(rt.alloc())?;
-    let key = (ObjNo(5), PropId(2));
-    assert!(rt; base.slot(key).is_some());
-    let mut draft = Draft::new(rt.alloc(), &base);
-    draft.remove_slot(key)?;
-    draft.put_slot(key, slot(ObjNo(5), 0))?;
-    draft.remove_slot((ObjNo(50), PropId(1)))?;
-    draft.put_slot((ObjNo(1), PropId(20)), slot(ObjNo(1), 7))?;
-    draft.remove_object(ObjNo(2))?;
-    let changes = draft.into_changes()?;
-    assert_eq!(rt; changes.slots.items().len(), 1);
-    assert!(rt; changes.slots.items()[0].0 == (ObjNo(1), PropId(20)));
-    assert!(rt; changes.slots.items()[0].1.is_some());
-    assert_eq!(rt; changes.objects.items().len(), 1);
-    assert!(rt; changes.objects.items()[0].1.is_none());
-    assert!(rt; changes.props.items().is_empty());
-    Ok(())
-}
-
-#[test]
-fn a_removed_object_is_not_next(rt: HostRuntime) -> Result<(), Fail> {
-    let flat = opening_world(rt.alloc())?;
-    let mut draft = Draft::new(rt.alloc(), &flat);
-    draft.remove_object(ObjNo(1))?;
-    draft.remove_object(ObjNo(2))?;
-    assert!(rt; draft.next_object(Some(ObjNo(0))) == Some(ObjNo(3)));
-    assert!(rt; flat.next_object(Some(ObjNo(0))) == Some(ObjNo(1)));
-    let left = children(&draft, rt.alloc(), ObjNo(1))?;
-    assert_eq!(rt; left.items().len(), 2);
-    Ok(())
-}
 
 /// A call that is given objects.
 fn call(alloc: Global, name: CallName, object: Option<i32>) -> Result<Call, AllocError> {
@@ -198,6 +97,41 @@ fn a_batch_for_another_number_is_stale(rt: HostRuntime) -> Result<(), Fail> {
     assert!(rt; matches!(judge(rt.alloc(), &rows, &first), Verdict::Stale { seq: 1 }));
     assert!(rt; taken(rt.alloc(), &mut rows, &second)?.is_some());
     assert_eq!(rt; rows.head().seq, 2);
+    Ok(())
+}
+
+/// Says that so many batches were accepted before.
+fn set_seq(rows: &mut Flat, seq: u64)
+    requires { IsGood rows.old.maps }
+    ensures { IsGood rows.new.maps }
+{
+    let mut head = rows.head();
+    head.seq = seq;
+    rows.set_head(head);
+}
+
+#[test]
+fn no_batch_is_accepted_after_the_last_number(rt: HostRuntime) -> Result<(), Fail> {
+    const LAST: u64 = 9223372036854775807;
+    let alloc = rt.alloc();
+    let mut rows = good_opening(alloc)?;
+    let open = batch(alloc, 3, None, &[])?;
+    let last = batch(alloc, 3, Some(LAST), &[])?;
+    let first = batch(alloc, 3, Some(0), &[])?;
+    set_seq(&mut rows, LAST - 1);
+    assert!(rt;
+        matches!(
+            judge(alloc, &rows, &last),
+            Verdict::Stale {
+                seq: 9223372036854775806
+            }
+        )
+    );
+    assert!(rt; taken(alloc, &mut rows, &open)?.is_some());
+    assert_eq!(rt; rows.head().seq, LAST);
+    assert!(rt; matches!(judge(alloc, &rows, &open), Verdict::Full { call: 0 }));
+    assert!(rt; matches!(judge(alloc, &rows, &last), Verdict::Full { call: 0 }));
+    assert!(rt; matches!(judge(alloc, &rows, &first), Verdict::Stale { seq: LAST }));
     Ok(())
 }
 
@@ -316,16 +250,43 @@ fn by_the_wizard(
     })
 }
 
-/// #4 under #1 defines a, #5 under #4 defines b, #6 is under #5, and #7 under #1 defines c.
-const SMALL_TREE: [(&str, &str); 7] = [
+/// #4 under #1 defines a, #5 under #4 defines b, which #6 under #5 has a value of its own for, and #7 under #1 defines c.
+const SMALL_TREE: [(&str, &str); 8] = [
     ("create", "{#1}"),
     ("add_property", "{#4, \"a\", 10, {#3, \"r\"}}"),
     ("create", "{#4}"),
     ("add_property", "{#5, \"b\", 20, {#3, \"r\"}}"),
     ("create", "{#5}"),
+    ("set", "{#6, \"b\", 21}"),
     ("create", "{#1}"),
     ("add_property", "{#7, \"c\", 30, {#3, \"r\"}}"),
 ];
+
+/// The head of the small tree, which is the second batch's.
+const NEXT_HEAD: Head = Head {
+    top: 7,
+    next_prop: 4,
+    next_verb: 1,
+    seq: 2,
+};
+
+/// A slot that is clear, and as the wizard's property with the letter r has it.
+fn is_fresh(row: &Option<SlotRow>) -> bool {
+    match row {
+        Some(
+            SlotRow {
+                owner: ObjNo(3),
+                bits: Bits {
+                    r: true,
+                    w: false,
+                    c: false,
+                },
+                state: SlotState::Clear,
+            },
+        ) => true,
+        _ => false,
+    }
+}
 
 #[test]
 fn the_changes_of_a_move_are_its_slots_and_one_link(rt: HostRuntime) -> Result<(), Fail> {
@@ -336,15 +297,20 @@ fn the_changes_of_a_move_are_its_slots_and_one_link(rt: HostRuntime) -> Result<(
     let moved = by_the_wizard(&rt, alloc, &[("chparent", "{#5, #7}")])?;
     match judge(alloc, &rows, &moved) {
         Verdict::Accepted { changes, .. } => {
-            assert_eq!(rt; changes.head.seq, 2);
+            assert!(rt; changes.head == NEXT_HEAD);
             assert_eq!(rt; changes.objects.items().len(), 1);
-            assert!(rt; changes.objects.items()[0].0 == ObjNo(5));
+            let (object, row) = &changes.objects.items()[0];
+            assert!(rt; *object == ObjNo(5));
+            assert!(rt;
+                row.as_ref()
+                    .is_some_and(|row| row.parent == ObjNo(7) && row.owner == ObjNo(3))
+            );
             let slots = changes.slots.items();
             assert_eq!(rt; slots.len(), 4);
             assert!(rt; slots[0].0 == (ObjNo(5), PropId(1)) && slots[0].1.is_none());
-            assert!(rt; slots[1].0 == (ObjNo(5), PropId(3)) && slots[1].1.is_some());
+            assert!(rt; slots[1].0 == (ObjNo(5), PropId(3)) && is_fresh(&slots[1].1));
             assert!(rt; slots[2].0 == (ObjNo(6), PropId(1)) && slots[2].1.is_none());
-            assert!(rt; slots[3].0 == (ObjNo(6), PropId(3)) && slots[3].1.is_some());
+            assert!(rt; slots[3].0 == (ObjNo(6), PropId(3)) && is_fresh(&slots[3].1));
             assert!(rt; changes.props.items().is_empty() && changes.verbs.items().is_empty());
         }
         _ => assert!(rt; false),
@@ -365,7 +331,7 @@ fn a_move_away_and_back_changes_the_head_alone(rt: HostRuntime) -> Result<(), Fa
     )?;
     match judge(alloc, &rows, &moved) {
         Verdict::Accepted { changes, .. } => {
-            assert_eq!(rt; changes.head.seq, 2);
+            assert!(rt; changes.head == NEXT_HEAD);
             assert!(rt; has_only_its_head(&changes));
         }
         _ => assert!(rt; false),

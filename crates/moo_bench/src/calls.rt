@@ -17,11 +17,11 @@ use std::time::Instant;
 const CALLS: usize = 1000;
 
 /// From the object of one call to that of the next, so that the calls go to objects far from each other.
-const STRIDE: usize = 7919;
+pub const STRIDE: usize = 7919;
 
 /// The name of a call that is measured.
 #[derive(Clone, Copy)]
-enum Measured {
+pub enum Measured {
     Get,
     Set,
     Create,
@@ -37,7 +37,7 @@ impl Measured {
     }
 
     /// A call by the name, on the object where it takes one.
-    fn line(self, alloc: Global, object: ObjNo) -> Result<String> {
+    pub fn line(self, alloc: Global, object: ObjNo) -> Result<String> {
         let ObjNo(number) = object;
         let line = match self {
             Measured::Get => format!(in alloc; "get(#{number}, \"name\")")?,

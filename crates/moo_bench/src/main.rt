@@ -1,13 +1,14 @@
-//! How long calls take, and a change of parent over many descendants, on rows in memory.
+//! How long calls take, alone and in texts, and a change of parent over many descendants, on rows in memory.
 //!
-//! The words of the command line are `moves` and `calls`, each with sizes behind it, as `moves 2000 calls 1000 10000`; where
-//! there are none, both are measured at a small size. What was done goes to standard output, and the times to standard
+//! The words of the command line are `moves`, `calls` and `texts`, each with sizes behind it, as `moves 2000 calls 1000 10000`;
+//! where there are none, each is measured at a small size. What was done goes to standard output, and the times to standard
 //! error.
 #![tactic(auto)]
 
 mod batches;
 mod calls;
 mod moves;
+mod texts;
 
 use anyhow::{Context, Result, bail};
 use std::env;
@@ -17,6 +18,7 @@ use std::env;
 enum Subject {
     Moves,
     Calls,
+    Texts,
 }
 
 impl Subject {
@@ -24,6 +26,7 @@ impl Subject {
         match self {
             Subject::Moves => moves::measure(rt, size),
             Subject::Calls => calls::measure(rt, size),
+            Subject::Texts => texts::measure(rt, size),
         }
     }
 }
@@ -34,6 +37,7 @@ fn main(rt: HostRuntime) -> Result<()> {
         match word.as_str() {
             "moves" => subject = Some(Subject::Moves),
             "calls" => subject = Some(Subject::Calls),
+            "texts" => subject = Some(Subject::Texts),
             size => {
                 let size = size.parse::<u32>().context("a size is a number")?;
                 let Some(subject) = subject else {
@@ -46,6 +50,7 @@ fn main(rt: HostRuntime) -> Result<()> {
     if subject.is_none() {
         Subject::Moves.measure(&rt, 20)?;
         Subject::Calls.measure(&rt, 10)?;
+        Subject::Texts.measure(&rt, 10)?;
     }
     Ok(())
 }

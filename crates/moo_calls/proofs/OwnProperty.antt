@@ -1,18 +1,15 @@
 -- The properties that an object itself defines, by its slots, and names that clash.
-use Rattle.std.proofs.Common.{◌≡◌, Bool, true, false, cond, ◌||◌, Option, None, Some, List, [], ◌∷◌, map, refl, sym, ap, ◌∙◌, subst}
+use Rattle.std.proofs.Common.{◌≡◌, Bool, true, false, cond, ◌||◌, Option, None, Some, List, [], ◌∷◌, refl, sym, ap, ◌∙◌, subst}
 use Rattle.std.specs.Prelude.{is_some, unwrap_or}
 use Rattle.std.specs.Option.{option_map, option_or, option_and_then}
-use Rattle.std.specs.List.{find, filter, flat_map, list_any}
+use Rattle.std.specs.List.{find, list_any}
 use Rattle.std.proofs.lemmas.Bool.{both_ways}
 use Rattle.moo_value.specs.declared.value.ObjNo.{ObjNo}
-use Rattle.moo_world.specs.Objects.{Name, Pair, object_at, same_object, same_text, same_pair, folded, is_among, same_object-Decides, same_pair-self}
-use Rattle.moo_world.specs.World.{World, Record, Slot, SameButSlots, IsWellFormed, Chain, chain, climb, numbers_to, parent_of, names_of, defined_by, owed_by, pair_named, slot_of}
-use Rattle.moo_world.specs.Rows.{numbers_below}
-use Rattle.moo_world.specs.Changes.{clashes}
+use Rattle.moo_world.specs.Objects.{Name, Pair, same_object, same_text, same_pair, folded, is_among, same_object-Decides, same_pair-self}
+use Rattle.moo_world.specs.World.{World, Record, Slot, IsWellFormed, Chain, chain, parent_of, names_of, defined_by, owed_by, pair_named, slot_of}
 use Rattle.moo_world.specs.PropertyCalls.{defines}
 use Rattle.moo_world.proofs.Chains.{Climbs-once}
 use Rattle.moo_world.proofs.Owed.{find-append, found_among, own_pair, definer_among, named_owed}
-use Rattle.moo_world.proofs.Rebuilding.{parents_same, names_same, objects_same}
 use Rattle.moo_world.proofs.Trees.{Chain-chain, chain-step, no_parent}
 use Rattle.moo_world.proofs.PairLists.{any_map}
 
@@ -80,14 +77,3 @@ module _ (w : World) (wf : IsWellFormed w) (x : ObjNo) (n : Name) where
       by : (o : Option Record) → w.object x ≡ o → owns_slot x (slot_of w x (folded n)) ≡ defines w x n
       by None e = ap (λ o. owns_slot x (option_and_then (λ r. r.slot (folded n)) o)) e ∙ sym (ap (λ o. list_any (λ m. same_text (folded m) (folded n)) (unwrap_or (option_map (λ (r : Record). r.defines) o) [])) e)
       by (Some r) e = owned r e
-
--- worlds that differ in slots alone have names clash alike
-module _ (v w : World) (same : SameButSlots v w) where
-  chains_same : (y : ObjNo) → chain v y ≡ chain w y
-  unfolding chain
-  chains_same y = λ i. climb (numbers_to (ap (λ (u : World). u.top) same i)) (parents_same v w same i) y
-
-  pub clashes_same : (x : ObjNo) (n : Name) → clashes v x n ≡ clashes w x n
-  clashes_same x n = λ i.
-      is_some (pair_named (flat_map (λ d. map (λ m. (d, m)) (names_same v w same i d)) (chains_same x i)) (folded n))
-      || is_some (pair_named (flat_map (λ d. map (λ m. (d, m)) (names_same v w same i d)) (filter (λ y. is_among x (chains_same y i)) (filter (λ y. objects_same v w same y i) (map object_at (numbers_below (numbers_to (ap (λ (u : World). u.top) same i))))))) (folded n))

@@ -12,10 +12,11 @@ use Rattle.moo_world.specs.PropertyCalls.{defines, may_rename}
 use Rattle.moo_world.specs.Rows.{IsGood, world_of}
 use Rattle.moo_world.specs.World.{World, Slot, slot_of, is_property_name}
 use Rattle.moo_props.specs.Names.{spelling_of, defines as defines_property}
+use Rattle.moo_world.proofs.FormChanged.{clashes_same}
 use Rattle.moo_world.proofs.Formed.{same_links}
 use Rattle.moo_props.proofs.Found.{definer_found}
 use Rattle.moo_props.proofs.Quotas.{folded_spelling}
-use Rattle.moo_calls.proofs.OwnProperty.{owns_slot, owns_by_slot, clashes_same}
+use Rattle.moo_calls.proofs.OwnProperty.{owns_slot, owns_by_slot}
 
 -- what is asked of a new name
 pub may_parts : (w : World) (x : ObjNo) (n new : Name) (given : Option Name) → given ≡ Some new → may_rename w x n given ≡ true → (defines w x n ≡ true) × (is_property_name new ≡ true) × (clashes w x new ≡ false)

@@ -16,7 +16,7 @@ use std::alloc::Global;
 
 /// What a built-in property of an object reads as: the text, the object or the list of objects, and 1 or 0 for a bit.
 /// The only error is want of memory.
-/// LambdaMOO Programmer's Manual, 'Built-in Properties' in the chapter on the database.
+/// LambdaMOO Programmer's Manual, 'Properties on Objects' in the chapter on the database.
 pub fn field_of<R: Rows>(rows: &R, alloc: Global, x: ObjNo, field: BuiltIn) -> Result<Value, Fault>
     requires good { IsGood (R.held rows.now).maps }
     requires there { is_object (world_in (R.held rows.now)) x ≡ true }

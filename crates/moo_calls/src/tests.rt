@@ -12,6 +12,7 @@ mod property_definitions;
 mod quotas;
 mod verb_changes;
 mod verbs;
+mod worked;
 
 use crate::step::step;
 use moo_rights::fault::Fault;

@@ -31,7 +31,7 @@ fn clashes_with<R: Rows>(rows: &R, x: ObjNo, name: &MooStr, row: &PropRow) -> bo
 
 /// Whether x, an ancestor or a descendant of x defines a property of a name. Names compare without ASCII case.
 ///
-/// LambdaMOO Programmer's Manual, 'Built-in Functions', `add_property`.
+/// LambdaMOO Programmer's Manual, 'Operations on Properties': `add_property`.
 pub fn clashes<R: Rows>(rows: &R, x: ObjNo, name: &MooStr) -> bool
     requires { IsGood (R.held rows.now).maps }
     ensures { result ≡ clashes (world_of (R.held rows.now).maps) x name.now }
@@ -57,7 +57,7 @@ fn meets_with<R: Rows>(rows: &R, x: ObjNo, new: ObjNo, row: &PropRow) -> bool
 
 /// Whether x or a descendant of x defines a property of a name that new or an ancestor of new defines.
 ///
-/// LambdaMOO Programmer's Manual, 'Built-in Functions', `chparent`.
+/// LambdaMOO Programmer's Manual, 'Fundamental Operations on Objects': `chparent`.
 pub fn meets<R: Rows>(rows: &R, x: ObjNo, new: ObjNo) -> bool
     requires { IsGood (R.held rows.now).maps }
     ensures { result ≡ meets (world_of (R.held rows.now).maps) x new }

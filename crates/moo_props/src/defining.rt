@@ -54,7 +54,7 @@ fn put_definition<R: Rows>(rows: &mut R, x: ObjNo, name: MooStr) -> Result<PropI
 ///
 /// The only error is want of memory, after which the rows may be half changed.
 ///
-/// LambdaMOO Programmer's Manual, 'Built-in Functions', `add_property`.
+/// LambdaMOO Programmer's Manual, 'Operations on Properties': `add_property`.
 pub fn define<R: Rows>(
     alloc: Global,
     rows: &mut R,

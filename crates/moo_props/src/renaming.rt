@@ -20,7 +20,7 @@ use std::alloc::AllocError;
 ///
 /// The only error is want of memory, after which the rows are as they were.
 ///
-/// LambdaMOO Programmer's Manual, 'Built-in Functions', `set_property_info`.
+/// LambdaMOO Programmer's Manual, 'Operations on Properties': `set_property_info`.
 pub fn rename<R: Rows>(rows: &mut R, x: ObjNo, id: PropId, name: MooStr) -> Result<(), AllocError>
     requires good { IsGood (R.held rows.old).maps }
     requires own { defines (R.held rows.old).maps x id ≡ true }

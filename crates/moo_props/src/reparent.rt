@@ -221,7 +221,7 @@ fn relink<R: Rows>(
 ///
 /// The only error is want of memory, after which the rows may be half changed.
 ///
-/// LambdaMOO Programmer's Manual, 'Built-in Functions', `chparent`.
+/// LambdaMOO Programmer's Manual, 'Fundamental Operations on Objects': `chparent`.
 pub fn reparent<R: Rows>(
     alloc: Global,
     rows: &mut R,

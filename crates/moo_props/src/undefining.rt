@@ -31,7 +31,7 @@ fn remove_over<R: Rows>(
 ///
 /// The only error is want of memory, after which the rows may be half changed.
 ///
-/// LambdaMOO Programmer's Manual, 'Built-in Functions', `delete_property`.
+/// LambdaMOO Programmer's Manual, 'Operations on Properties': `delete_property`.
 pub fn undefine<R: Rows>(
     alloc: Global,
     rows: &mut R,

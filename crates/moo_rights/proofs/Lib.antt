@@ -1,6 +1,2 @@
-mod Shapes
-mod RowForm
-mod Redirected
-mod FieldForm
 mod Changed
 mod AcceptLaws

@@ -32,7 +32,7 @@ impl Bits {
     /// The rights that a text of the letters `r`, `w` and `c` gives, and `None` where another byte stands in it.
     /// The letters may stand in any order and case, and more than once; the empty text gives no right.
     ///
-    /// See "Properties on Objects" in the chapter on the database of the LambdaMOO Programmer's Manual.
+    /// LambdaMOO Programmer's Manual, 'Properties on Objects' in the chapter on the database.
     pub fn read(text: &MooStr) -> Option<Bits>
         ensures { result ≡ bits_of text.now }
     {
@@ -57,7 +57,7 @@ impl VerbBits {
     /// The rights that a text of the letters `r`, `w`, `x` and `d` gives, and `None` where another byte stands in it.
     /// The letters may stand in any order and case, and more than once; the empty text gives no right.
     ///
-    /// See "Verbs on Objects" in the chapter on the database of the LambdaMOO Programmer's Manual.
+    /// LambdaMOO Programmer's Manual, 'Verbs on Objects' in the chapter on the database.
     pub fn read(text: &MooStr) -> Option<VerbBits>
         ensures { result ≡ verb_bits_of text.now }
     {

@@ -5,8 +5,7 @@ ghost use Rattle.moo_rows.specs.Maps.{no_maps, without_object, without_prop, wit
 ghost use Rattle.moo_rows.specs.Exact.{object_exact, prop_exact, slot_exact, verb_exact};
 ghost use Rattle.moo_rows.specs.SameRows.{object_row-exact, prop_row-exact, slot_row-exact, verb_row-exact};
 
-use crate::ordered;
-use crate::ordered::{Key, Row};
+use crate::ordered::{self, Key, Row};
 use crate::row::{Head, ObjRow, PropId, PropRow, SlotRow, VerbId, VerbRow};
 use crate::rows::Rows;
 use crate::writes::Writes;

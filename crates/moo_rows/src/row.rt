@@ -1,6 +1,7 @@
 //! The rows of the four maps.
 
-ghost use Rattle.std.specs.Prelude.{◌≡◌, IfOk};
+ghost use Rattle.std.specs.Prelude.{◌≡◌, List, IfOk};
+ghost use Rattle.moo_value.specs.declared.value.ObjNo.{ObjNo};
 ghost use Rattle.moo_rows.specs.Equal.{list_eq, list_laws};
 
 use moo_value::text::MooStr;
@@ -23,9 +24,6 @@ pub struct ObjList {
 }
 
 impl Model for ObjList {
-    ghost use Rattle.std.specs.Prelude.{List};
-    ghost use Rattle.moo_value.specs.declared.value.ObjNo.{ObjNo};
-
     ghost Value = { List ObjNo };
 
     ghost view = { λ a. a.items.items };
@@ -59,7 +57,7 @@ impl ObjList {
 
 /// An object. Its children and contents are those objects whose rows name it as parent and location.
 ///
-/// See "Fundamental Object Attributes" in the chapter on the database of the LambdaMOO Programmer's Manual.
+/// LambdaMOO Programmer's Manual, 'Fundamental Object Attributes' and 'Properties on Objects' in the chapter on the database.
 #[derive(Clone, PartialEq, Drop)]
 pub struct ObjRow {
     pub name: MooStr,
@@ -108,7 +106,7 @@ impl PropRow {
 
 /// The rights on a property.
 ///
-/// See "Properties on Objects" in the chapter on the database of the LambdaMOO Programmer's Manual.
+/// LambdaMOO Programmer's Manual, 'Properties on Objects' in the chapter on the database.
 #[derive(Clone, Copy, Debug, PartialEq, Eq)]
 pub struct Bits {
     /// Whether everybody may read it.
@@ -155,7 +153,7 @@ impl SlotRow {
 
 /// The rights on a verb.
 ///
-/// See "Verbs on Objects" in the chapter on the database of the LambdaMOO Programmer's Manual.
+/// LambdaMOO Programmer's Manual, 'Verbs on Objects' in the chapter on the database.
 #[derive(Clone, Copy, Debug, PartialEq, Eq)]
 pub struct VerbBits {
     /// Whether everybody may read it.

@@ -42,14 +42,13 @@ fn gives<K: PartialEq + Drop, V: Drop, I: Iterator<Item = (K, V)> + Drop>(
     requires can { I.can_next walk }
     requires ends { IsFinite (I.remaining walk) }
 {
-    let mut rest = want;
+    let mut rest = want.iter();
     for (key, _) in walk {
-        match rest {
-            [first, after @ ..] if *first == key => rest = after,
-            _ => return false,
+        if rest.next() != Some(&key) {
+            return false;
         }
     }
-    rest.is_empty()
+    rest.next().is_none()
 }
 
 /// Whether the rows are those of these objects, properties, slots and verbs.
@@ -65,27 +64,20 @@ fn walks_give(rows: &Flat, objects: &[ObjNo], props: &[PropId], parts: &[(ObjNo,
 #[test]
 fn the_opening_world_is_the_four_objects(rt: HostRuntime) -> Result<(), Fail> {
     let rows = opening_world(rt.alloc())?;
-    let head = Head {
-        top: 3,
-        next_prop: 1,
-        next_verb: 1,
-        seq: 0,
-    };
-    assert_eq!(rt; rows.head(), head);
+    let head = rows.head();
+    let counters = (head.next_prop, head.next_verb, head.seq);
+    assert_eq!(rt; (head.top, counters), (3, (1, 1, 0)));
     let objects = [ObjNo(0), ObjNo(1), ObjNo(2), ObjNo(3)];
     assert!(rt; walks_give(&rows, &objects, &[], &[]));
-    for (number, name, parent, location, is_wizard, is_fertile) in [
-        (0, "System Object", 1, -1, false, false),
-        (1, "Root Class", -1, -1, false, true),
-        (2, "The First Room", 1, -1, false, false),
-        (3, "Wizard", 1, 2, true, false),
+    for (number, name, places, is_wizard, is_fertile) in [
+        (0, "System Object", [3, 1, -1], false, false),
+        (1, "Root Class", [3, -1, -1], false, true),
+        (2, "The First Room", [3, 1, -1], false, false),
+        (3, "Wizard", [3, 1, 2], true, false),
     ] {
         let row = rows.object(ObjNo(number)).ok_or("no object")?;
         assert!(rt; row.name.bytes() == name.as_bytes(), "{name}");
-        assert_eq!(rt;
-            [row.owner.0, row.parent.0, row.location.0],
-            [3, parent, location]
-        );
+        assert_eq!(rt; [row.owner.0, row.parent.0, row.location.0], places);
         assert_eq!(rt; [row.player, row.programmer, row.wizard], [is_wizard; 3]);
         assert_eq!(rt; [row.r, row.w, row.f], [false, false, is_fertile]);
         assert_eq!(rt; row.accept.is_some(), number == 2);
@@ -117,41 +109,24 @@ fn letters_in_any_order_and_case_are_rights(rt: HostRuntime) -> Result<(), Fail>
         ("{r}", "-", "-"),
     ] {
         let letters = text(&rt, letters.as_bytes())?;
-        assert_eq!(rt;
-            Bits::read(&letters).map_or("-", |bits| bits.letters()),
-            property
-        );
-        assert_eq!(rt;
-            VerbBits::read(&letters).map_or("-", |bits| bits.letters()),
-            verb
-        );
+        let of_property = Bits::read(&letters).map_or("-", |bits| bits.letters());
+        let of_verb = VerbBits::read(&letters).map_or("-", |bits| bits.letters());
+        assert_eq!(rt; (of_property, of_verb), (property, verb));
     }
     Ok(())
 }
 
-fn slot_row(state: SlotState) -> SlotRow {
-    let bits = Bits {
-        r: true,
-        w: false,
-        c: true,
-    };
-    SlotRow {
-        owner: LEAST,
-        bits,
-        state,
-    }
+fn slot_row(rt: &HostRuntime, state: SlotState) -> Result<SlotRow, Fail> {
+    let bits = Bits::read(&text(rt, b"rc")?).ok_or("no rights")?;
+    let owner = LEAST;
+    Ok(SlotRow { owner, bits, state })
 }
 
 fn verb_row(rt: &HostRuntime) -> Result<VerbRow, Fail> {
     Ok(VerbRow {
         names: text(rt, b"get take")?,
         owner: ObjNo(3),
-        bits: VerbBits {
-            r: true,
-            w: false,
-            x: false,
-            d: true,
-        },
+        bits: VerbBits::read(&text(rt, b"rd")?).ok_or("no rights")?,
         args: ArgSpec {
             dobj: Place::This,
             prep: Preposition::Set(PrepositionSet::With),
@@ -160,13 +135,17 @@ fn verb_row(rt: &HostRuntime) -> Result<VerbRow, Fail> {
     })
 }
 
-fn put_ends(rt: &HostRuntime, rows: &mut Flat) -> Result<(), Fail> {
+fn room(rt: &HostRuntime) -> Result<ObjRow, Fail> {
     let opening = opening_world(rt.alloc())?;
     let room = opening.object(ObjNo(2)).ok_or("no room")?;
+    Ok(room.copy(rt.alloc())?)
+}
+
+fn put_ends(rt: &HostRuntime, rows: &mut Flat) -> Result<(), Fail> {
     for key in [GREATEST, ObjNo(0), LEAST] {
-        rows.put_object(key, room.copy(rt.alloc())?)?;
+        rows.put_object(key, room(rt)?)?;
         for id in [LAST, 1] {
-            rows.put_slot((key, PropId(id)), slot_row(SlotState::Clear))?;
+            rows.put_slot((key, PropId(id)), slot_row(rt, SlotState::Clear)?)?;
             rows.put_verb((key, VerbId(id)), verb_row(rt)?)?;
         }
     }
@@ -182,9 +161,7 @@ fn put_ends(rt: &HostRuntime, rows: &mut Flat) -> Result<(), Fail> {
 fn walks_go_from_end_to_end(rt: HostRuntime) -> Result<(), Fail> {
     let mut rows = Flat::new(rt.alloc());
     assert!(rt; walks_give(&rows, &[], &[], &[]));
-    let opening = opening_world(rt.alloc())?;
-    let room = opening.object(ObjNo(2)).ok_or("no room")?;
-    rows.put_object(GREATEST, room.copy(rt.alloc())?)?;
+    rows.put_object(GREATEST, room(&rt)?)?;
     assert!(rt; walks_give(&rows, &[GREATEST], &[], &[]));
     put_ends(&rt, &mut rows)?;
     assert!(rt; walks_give(&rows, &OBJECTS, &PROPS, &PARTS));
@@ -210,7 +187,7 @@ fn copies_keep_what_the_rows_lose(rt: HostRuntime) -> Result<(), Fail> {
     let mut rows = Flat::new(rt.alloc());
     put_ends(&rt, &mut rows)?;
     let (slot, verb) = ((LEAST, PropId(1)), (LEAST, VerbId(1)));
-    let seven = slot_row(SlotState::Set(Value::Int(7)));
+    let seven = slot_row(&rt, SlotState::Set(Value::Int(7)))?;
     rows.put_slot(slot, seven.copy(rt.alloc())?)?;
     let copy = rows.copy(rt.alloc())?;
     rows.remove_object(LEAST)?;
@@ -223,7 +200,7 @@ fn copies_keep_what_the_rows_lose(rt: HostRuntime) -> Result<(), Fail> {
     assert!(rt; rows.slot(slot).is_none() && rows.verb(verb).is_none());
     assert!(rt; walks_give(&copy, &OBJECTS, &PROPS, &PARTS));
     assert!(rt; copy.slot(slot) == Some(&seven));
-    assert!(rt; copy.slot((LEAST, PropId(LAST))) == Some(&slot_row(SlotState::Clear)));
+    assert!(rt; copy.slot((LEAST, PropId(LAST))) == Some(&slot_row(&rt, SlotState::Clear)?));
     assert!(rt; copy.verb(verb) == Some(&verb_row(&rt)?));
     Ok(())
 }

@@ -14,7 +14,8 @@ use Rattle.moo_batch.specs.Changes.{AreChanges}
 use Rattle.moo_store.specs.Shows.{ShowsRows}
 use Rattle.moo_store.specs.Printed.{Prints}
 use Rattle.moo_store.specs.States.{KeepsRows, LeavesRows}
-use Rattle.moo_store.proofs.Shown.{shows-written}
+use Rattle.moo_store.specs.Untouched.{KeepsCells}
+use Rattle.moo_store.proofs.Shown.{shows-written, keeps-written}
 
 module _ (cells : CellChanges) (changes : Changes) (base next : Maps) (printed : Prints cells changes) (exact : AreChanges base next changes) where
   pub shows_next : (t : Tables) → ShowsRows t base → ShowsRows (tables_with cells t) next
@@ -28,6 +29,12 @@ pub at_written : {E : Type 0} (old new : Database) (cells : CellChanges) (r : Re
     → OnOk r ((changes : Changes) (base next : Maps) → Prints cells changes → AreChanges base next changes → KeepsRows old base → KeepsRows new next)
 at_written old new cells (Ok x) f = λ changes base next printed exact it. keeps_next cells changes base next printed exact old new f it
 at_written old new cells (Err e) f = tt
+
+pub at_kept : {E : Type 0} (old new : Database) (cells : CellChanges) (r : Result (Unit {0}) E)
+    → OnOk r ((t : Tables) → Rests old t → Rests new (tables_with cells t))
+    → OnOk r ((changes : Changes) (base next : Maps) (t : Tables) → Prints cells changes → AreChanges base next changes → Rests old t → (after : Tables) × Rests new after × KeepsCells base next t after)
+at_kept old new cells (Ok x) f = λ changes base next t printed exact rests. (tables_with cells t, f t rests, keeps-written cells changes base next t printed exact)
+at_kept old new cells (Err e) f = tt
 
 pub at_undone : {E : Type 0} (old new : Database) (r : Result (Unit {0}) E) → OnErr r (IsTrue new.is_open → (t : Tables) → Rests old t → Rests new t)
     → OnErr r (IsTrue new.is_open → (rows : Maps) → KeepsRows old rows → KeepsRows new rows)

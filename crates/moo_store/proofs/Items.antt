@@ -98,8 +98,13 @@ answered_items-push s mid end [] (x ∷ xs) item a it one = absurd it
 answered_items-push s mid end (i ∷ is) [] item a it one = absurd it
 answered_items-push s mid end (i ∷ is) (x ∷ xs) item a it one = (it.0, it.1, answered_items-push it.0 mid end is xs item a it.2 one)
 
-count-push : (p : Answer → Bool) (answers : List Answer) (a : Answer) → count_by p (answers ++ a ∷ []) ≡ count_by p answers + cond (p a) 1 0
+pub count-push : (p : Answer → Bool) (answers : List Answer) (a : Answer) → count_by p (answers ++ a ∷ []) ≡ count_by p answers + cond (p a) 1 0
 count-push p answers a = sum_by-append (λ x. cond (p x) 1 0) answers (a ∷ []) ∙ ap (λ n. count_by p answers + n) (zero-add (cond (p a) 1 0))
+
+-- a count of answers stays within the count of turns
+pub one_more : (b : Bool) (n m k : ℕ) → n ≤ k → m ≡ n + cond b 1 0 → m ≤ k + 1
+one_more true n m k low is = omega (arith, low, is)
+one_more false n m k low is = omega (arith, low, is)
 
 -- these items are answered, and their answers are written
 pub record Going {S : Type 0} (g : Ghosts S) (old now : World S) (all left : List Next) (before written : Option (List ℕ)) (batches lost : ℕ) : Type 0 where
@@ -115,16 +120,16 @@ pub record Going {S : Type 0} (g : Ghosts S) (old now : World S) (all left : Lis
 abbrev pub AnswersEach : {S : Type 0} (g : Ghosts S) → World S → World S → Next → Answer → Type 0
 AnswersEach g now next item a = (s : State) (all before behind : List Next) → all ≡ before ++ item ∷ behind → IsAtOrFailed g now s all → Answers g next s item a all
 
-pub going_on : {S : Type 0} (g : Ghosts S) (old now next : World S) (all left more : List Next) (before written longer : Option (List ℕ)) (b l b2 l2 : ℕ) (item : Next) (a : Answer) (text : List ℕ)
-    → Going g old now all left before written b l → left ≡ item ∷ more → AnswersEach g now next item a → text ≡ answer_text a → Appends written longer text
+pub going_on : {S : Type 0} (g : Ghosts S) (old now next : World S) (all left more : List Next) (before written longer : Option (List ℕ)) (b l b2 l2 : ℕ) (item : Next) (a : Answer)
+    → Going g old now all left before written b l → left ≡ item ∷ more → AnswersEach g now next item a → Appends written longer (answer_text a)
     → b2 ≡ b + cond (is_batch a) 1 0 → l2 ≡ l + cond (is_lost a) 1 0 → Going g old next all more before longer b2 l2
-going_on g old now next all left more before written longer b l b2 l2 item a text p is_left each is_text wrote is_b is_l =
+going_on g old now next all left more before written longer b l b2 l2 item a p is_left each wrote is_b is_l =
     let place : all ≡ p.done ++ item ∷ more = p.whole ∙ ap (λ (t : List Next). p.done ++ t) is_left in
     record {
       done = p.done ++ item ∷ [];
       whole = place ∙ sym (append_assoc p.done (item ∷ []) more);
       answers = p.answers ++ a ∷ [];
-      wrote = subst (Appends before longer) (ap (λ (t : List ℕ). text_of p.answers ++ t) (is_text ∙ sym (append-nil (answer_text a))) ∙ sym (flat_map-append answer_text p.answers (a ∷ []))) (Appends-then before written longer (text_of p.answers) text p.wrote wrote);
+      wrote = subst (Appends before longer) (ap (λ (t : List ℕ). text_of p.answers ++ t) (sym (append-nil (answer_text a))) ∙ sym (flat_map-append answer_text p.answers (a ∷ []))) (Appends-then before written longer (text_of p.answers) (answer_text a) p.wrote wrote);
       batches_are = is_b ∙ ap (λ n. n + cond (is_batch a) 1 0) p.batches_are ∙ sym (count-push is_batch p.answers a);
       lost_are = is_l ∙ ap (λ n. n + cond (is_lost a) 1 0) p.lost_are ∙ sym (count-push is_lost p.answers a);
       answered = λ s it.
@@ -221,14 +226,14 @@ known_start g old (Some text) (Some left) before b l e is_b is_l = record {
   answered = λ s it. (s, refl, inl it);
 }
 
-pub known_on : {S : Type 0} (g : Ghosts S) (old now next : World S) (text left more before written longer : Option (List ℕ)) (b l b2 l2 : ℕ) (item : Next) (a : Answer) (bytes : List ℕ)
-    → KnownGoing g old now text left before written b l → TakesOne left more item → AnswersEach g now next item a → bytes ≡ answer_text a → Appends written longer bytes
+pub known_on : {S : Type 0} (g : Ghosts S) (old now next : World S) (text left more before written longer : Option (List ℕ)) (b l b2 l2 : ℕ) (item : Next) (a : Answer)
+    → KnownGoing g old now text left before written b l → TakesOne left more item → AnswersEach g now next item a → Appends written longer (answer_text a)
     → b2 ≡ b + cond (is_batch a) 1 0 → l2 ≡ l + cond (is_lost a) 1 0 → KnownGoing g old next text more before longer b2 l2
-known_on g old now next None left more before written longer b l b2 l2 item a bytes p t each r w is_b is_l = tt
-known_on g old now next (Some text) None more before written longer b l b2 l2 item a bytes p t each r w is_b is_l = absurd p
-known_on g old now next (Some text) (Some left) None before written longer b l b2 l2 item a bytes p t each r w is_b is_l = absurd t
-known_on g old now next (Some text) (Some left) (Some more) before written longer b l b2 l2 item a bytes p t each r w is_b is_l =
-    going_on g old now next (items text) (items left) (items more) before written longer b l b2 l2 item a bytes p t each r w is_b is_l
+known_on g old now next None left more before written longer b l b2 l2 item a p t each w is_b is_l = tt
+known_on g old now next (Some text) None more before written longer b l b2 l2 item a p t each w is_b is_l = absurd p
+known_on g old now next (Some text) (Some left) None before written longer b l b2 l2 item a p t each w is_b is_l = absurd t
+known_on g old now next (Some text) (Some left) (Some more) before written longer b l b2 l2 item a p t each w is_b is_l =
+    going_on g old now next (items text) (items left) (items more) before written longer b l b2 l2 item a p t each w is_b is_l
 
 pub known_before : {S : Type 0} (g : Ghosts S) (old now : World S) (text left before written : Option (List ℕ)) (b l : ℕ) (fault : TextFault) → KnownGoing g old now text left before written b l → IsSettled (store_of g now)
     → (s : State) → IsAt g old s → IfSome text (λ t. Stops g s (items t) before written now fault)

@@ -7,3 +7,5 @@ pub mod Items
 pub mod Writing
 pub mod WholeRuns
 pub mod Opened
+pub mod Untouched
+pub mod Asking

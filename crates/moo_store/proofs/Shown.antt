@@ -20,7 +20,8 @@ use Rattle.moo_batch.specs.declared.changes.Changes.{Changes}
 use Rattle.moo_batch.specs.Changes.{AreChanges}
 use Rattle.moo_store.specs.Shows.{ShowsObject, ShowsProp, ShowsSlot, ShowsVerb, ShowsMaps, ShowsRows}
 use Rattle.moo_store.specs.Printed.{Prints}
-use Rattle.moo_store.proofs.Written.{written, elsewhere}
+use Rattle.moo_store.specs.Untouched.{KeepsCells}
+use Rattle.moo_store.proofs.Written.{written, stays, elsewhere}
 
 -- a test of what doesn't hold is false
 decided_false : (b : Bool) (P : Type 0) → Decides b P → ¬ P → b ≡ false
@@ -97,4 +98,13 @@ shows-written cells changes base new t p c alone shows = record {
     verbs = written verb_cmp verb_exact same_pair (λ k. (k.0.0, pos k.1.0)) verb_alike verb_cells ShowsVerb cells.verbs.items changes.verbs (get base.verbs) (get new.verbs) t.verb p.verbs c.verbs shows.verbs;
     no_verb = λ x n. elsewhere verb_cmp verb_exact same_pair (λ k. (k.0.0, pos k.1.0)) verb_alike verb_cells ShowsVerb cells.verbs.items t.verb (x, negsuc n) (λ k. no_pair x n k.0.0 k.1.0) ∙ shows.no_verb x n;
   };
+}
+
+-- the rows that stay keep their cells
+pub keeps-written : (cells : CellChanges) (changes : Changes) (base new : Maps) (t : Tables) → Prints cells changes → AreChanges base new changes → KeepsCells base new t (tables_with cells t)
+keeps-written cells changes base new t p c = record {
+  objects = stays object_cmp object_exact same_number (λ n. n.0) number_alike object_cells ShowsObject cells.objects.items changes.objects (get base.objects) (get new.objects) t.object p.objects c.objects;
+  props = stays prop_cmp prop_exact same_number (λ id. pos id.0) id_alike prop_cells ShowsProp cells.props.items changes.props (get base.props) (get new.props) t.prop p.props c.props;
+  slots = stays slot_cmp slot_exact same_pair (λ k. (k.0.0, pos k.1.0)) slot_alike slot_cells ShowsSlot cells.slots.items changes.slots (get base.slots) (get new.slots) t.slot p.slots c.slots;
+  verbs = stays verb_cmp verb_exact same_pair (λ k. (k.0.0, pos k.1.0)) verb_alike verb_cells ShowsVerb cells.verbs.items changes.verbs (get base.verbs) (get new.verbs) t.verb p.verbs c.verbs;
 }

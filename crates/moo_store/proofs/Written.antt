@@ -93,6 +93,14 @@ module _ {K Z C X : Type 0} (cmp : K → K → Ordering) (exact : CmpEqualImplie
         | Some row ↦ λ h. subst (λ r. ShowsOrNone (Shows k) (after cells table (at k)) r) (exact_changes.listed k row h).0 (found k row cells changes table p exact_changes.ascending h)
       ] refl
 
+  -- a key with the same row in both keeps its cells
+  pub stays : (cells : List (K × Option C)) (changes : List (K × Option X)) (base new : K → Option X) (table : Z → Option Row) → PrintEach Prints cells changes → IsChanges cmp base new changes → (k : K) → base k ≡ new k → after cells table (at k) ≡ table (at k)
+  stays cells changes base new table p exact_changes k same =
+      elim (find cmp k changes) as (λ o. find cmp k changes ≡ o → after cells table (at k) ≡ table (at k)) [
+        | None ↦ λ h. missed k cells changes table p h
+        | Some row ↦ λ h. let it = exact_changes.listed k row h in absurd (it.1 (it.0 ∙ sym same))
+      ] refl
+
   -- a place that is no key's keeps its cells
   pub elsewhere : (cells : List (K × Option C)) (table : Z → Option Row) (z : Z) → ((k : K) → same z (at k) ≡ false) → after cells table z ≡ table z
   elsewhere [] table z h = refl

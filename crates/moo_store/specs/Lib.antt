@@ -5,3 +5,5 @@ pub mod Kept
 pub mod Answered
 pub mod World
 pub mod Text
+pub mod Untouched
+pub mod Asked

@@ -15,7 +15,7 @@ use Rattle.moo_text.specs.declared.reply.Answer.{Answer}
 use Rattle.moo_text.specs.declared.reply.Answer.TheVariants as answer
 use Rattle.moo_text.specs.declared.reply.Reply.TheVariants.{Accepted, Refused, Full, Stale, NoMemory}
 use Rattle.moo_world.specs.Judge.{State, judge, after}
-use Rattle.moo_store.specs.Answered.{reply_of, next_of}
+use Rattle.moo_store.specs.Answered.{reply_of, answer_of, next_of}
 use Rattle.moo_store.specs.States.{LeavesState}
 use Rattle.moo_store.specs.Answered.{AnsweredOne}
 use Rattle.moo_store.specs.World.{store_of, IsAt}
@@ -129,6 +129,14 @@ replies s (Whole batch ∷ items) = answer.Replied (reply_of (judge s batch)) �
 replies s (Malformed number ∷ items) = answer.Malformed number ∷ replies s items
 replies s (Truncated ∷ items) = answer.Truncated ∷ replies s items
 replies s (End ∷ items) = replies s items
+
+-- each batch of questions is judged on the one state, and changes nothing
+abbrev pub asked : State → List Next → List Answer
+asked s [] = []
+asked s (Whole batch ∷ items) = answer.Replied (answer_of s (judge s batch)) ∷ asked s items
+asked s (Malformed number ∷ items) = answer.Malformed number ∷ asked s items
+asked s (Truncated ∷ items) = answer.Truncated ∷ asked s items
+asked s (End ∷ items) = asked s items
 
 abbrev pub batches_of : List Next → List Batch
 batches_of [] = []

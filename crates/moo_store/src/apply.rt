@@ -3,17 +3,16 @@
 ghost use Rattle.std.specs.Prelude.{◌≡◌, ◌<◌, ◌+◌, ◌^◌, cond, ◌++◌, ◌∷◌, ℕ, take, IfOk, IfErr, IfSome, IfNone, IsSome, ◌≢◌, OnOk, OnErr};
 ghost use Rattle.std.specs.Io.KnownBytes.{Appends};
 ghost use Rattle.moo_text.specs.Items.{items};
-ghost use Rattle.moo_text.specs.Replies.{answer_text};
 ghost use Rattle.moo_store.specs.World.{IsAt};
 ghost use Rattle.moo_store.specs.Text.{IsAtOrFailed, Answers, Applies, Stops, is_batch, is_lost};
 
 use crate::fault::StoreFault;
-use crate::output::put_all;
+use crate::output::put_answer;
 use crate::world::World;
 use moo_text::fault::TextFault;
 use moo_text::feed::{Feed, LONGEST_TEXT};
 use moo_text::next::Next;
-use moo_text::reply::{Answer, print_answer};
+use moo_text::reply::Answer;
 use sqlite::Alter;
 use std::alloc::Global;
 use std::io::{Read, Write};
@@ -43,18 +42,8 @@ fn answer_item<S: Alter + Drop>(world: &mut World<S>, item: &Next) -> Option<Ans
     }
 }
 
-/// The lines of an answer.
-fn printed(alloc: Global, answer: &Answer) -> Result<Vec<u8>, TextFault>
-    ensures text { IfOk result (λ text. text.items ≡ answer_text answer.now) }
-    ensures fault { IfErr result (λ fault. fault ≡ TextFault.OutOfMemory) }
-{
-    let mut text = Vec::new(alloc);
-    print_answer(alloc, answer, &mut text)?;
-    Ok(text)
-}
-
 impl Tally {
-    fn new() -> Tally
+    pub(crate) fn new() -> Tally
         ensures { (result.batches ≡ 0) × (result.lost ≡ 0) }
     {
         Tally {
@@ -63,7 +52,7 @@ impl Tally {
         }
     }
 
-    fn count(&mut self, answer: &Answer)
+    pub(crate) fn count(&mut self, answer: &Answer)
         requires room { self.old.batches < 2 ^ 63 }
         requires room_lost { self.old.lost < 2 ^ 63 }
         ensures batches { self.new.batches ≡ self.old.batches + cond (is_batch answer.now) 1 0 }
@@ -110,11 +99,7 @@ pub fn apply_text<R: Read + Drop, W: Write, S: Alter + Drop>(
             None => return Ok(tally),
         };
         tally.count(&answer);
-        let text = match printed(alloc, &answer) {
-            Ok(text) => text,
-            Err(fault) => return Err(fault),
-        };
-        match put_all(writer, &text) {
+        match put_answer(alloc, writer, &answer) {
             Ok(()) => {}
             Err(fault) => return Err(fault),
         }

@@ -2,6 +2,7 @@
 #![tactic(auto)]
 
 mod apply;
+mod ask;
 mod committing;
 pub mod creating;
 pub mod fault;
@@ -11,3 +12,4 @@ mod printing;
 pub mod world;
 
 pub use apply::{Tally, apply_text};
+pub use ask::ask_text;

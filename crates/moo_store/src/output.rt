@@ -1,9 +1,12 @@
 //! Bytes, written whole.
 
-ghost use Rattle.std.specs.Prelude.{◌≡◌, ℕ, take, IfErr, OnOk, OnErr};
+ghost use Rattle.std.specs.Prelude.{◌≡◌, ◌≢◌, ℕ, take, IfErr, IfOk, OnOk, OnErr};
 ghost use Rattle.std.specs.Io.KnownBytes.{Appends};
+ghost use Rattle.moo_text.specs.Replies.{answer_text};
 
 use moo_text::fault::TextFault;
+use moo_text::reply::{Answer, print_answer};
+use std::alloc::Global;
 use std::io::Write;
 
 /// Writes all of the bytes. An error of the writer, or a count of 0, is a fault; a front of the bytes is written then.
@@ -20,4 +23,30 @@ pub fn put_all<W: Write>(writer: &mut W, bytes: &[u8]) -> Result<(), TextFault>
         }
     }
     Ok(())
+}
+
+/// The lines of an answer.
+fn printed(alloc: Global, answer: &Answer) -> Result<Vec<u8>, TextFault>
+    ensures text { IfOk result (λ text. text.items ≡ answer_text answer.now) }
+    ensures fault { IfErr result (λ fault. fault ≡ TextFault.OutOfMemory) }
+{
+    let mut text = Vec::new(alloc);
+    print_answer(alloc, answer, &mut text)?;
+    Ok(text)
+}
+
+/// Writes the lines of an answer whole. At a fault, which is Write or OutOfMemory, a front of them is written.
+pub(crate) fn put_answer<W: Write>(
+    alloc: Global,
+    writer: &mut W,
+    answer: &Answer,
+) -> Result<(), TextFault>
+    ensures ok { OnOk result (Appends (W.contents writer.old) (W.contents writer.new) (answer_text answer.now)) }
+    ensures err { OnErr result ((count : ℕ) × Appends (W.contents writer.old) (W.contents writer.new) (take count (answer_text answer.now))) }
+    ensures fault { IfErr result (λ fault. fault ≢ TextFault.Read) }
+{
+    match printed(alloc, answer) {
+        Ok(text) => put_all(writer, &text),
+        Err(fault) => Err(fault),
+    }
 }

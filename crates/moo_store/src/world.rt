@@ -55,6 +55,9 @@ impl<S: Alter + Drop> World<S> {
     ghost use Rattle.moo_store.specs.Printed.{Prints};
     ghost use Rattle.moo_store.specs.States.{KeepsRows, Keeps, LeavesState};
     ghost use Rattle.moo_store.specs.Answered.{answer_of, AnsweredOne, Answered, acknowledged, added};
+    ghost use Rattle.moo_tables.specs.Tables.{Tables};
+    ghost use Rattle.moo_tables.specs.Inside.{Rests};
+    ghost use Rattle.moo_store.specs.Untouched.{KeepsCells, WritesOne, HasWritten};
     ghost use Rattle.moo_store.specs.World.{store_of, IsAt, StandsFor, Left, LeftOrNext, RunsOne, MatchStore, FailsAtStore};
     ghost use Rattle.moo_store.specs.declared.fault.StoreFault.TheVariants.{Store, OutOfMemory, Closed};
 
@@ -87,6 +90,9 @@ impl<S: Alter + Drop> World<S> {
         requires changes { (next : Maps) × AreChanges self.old.rows.maps next changes × IsGood next }
         ensures reply { IfOk result (λ reply. reply ≡ Reply.Accepted changes.head.seq answers) }
         ensures is_at { OnOk result ((next : Maps) → AreChanges self.old.rows.maps next changes → IsGood next → IsAt S.Store self.new (state_of next)) }
+        ensures rows { OnOk result ((next : Maps) → AreChanges self.old.rows.maps next changes → self.new.failed ≡ false → self.new.rows.maps ≡ next) }
+        ensures cells { OnOk result ((next : Maps) (tables : Tables) → AreChanges self.old.rows.maps next changes → HasCleanDisk (store_of S.Store self.new) → Rests (store_of S.Store self.old) tables → (after : Tables) × Rests (store_of S.Store self.new) after × KeepsCells self.old.rows.maps next tables after) }
+        ensures clean { HasCleanDisk (store_of S.Store self.new) → HasCleanDisk (store_of S.Store self.old) }
         ensures fault { IfErr result (λ fault. (error : _) × (fault ≡ Store error)) }
         ensures failed { OnErr result (self.new.failed ≡ true) }
         ensures crash { OnErr result ((next : Maps) → AreChanges self.old.rows.maps next changes → IsGood next → HasCleanDisk (store_of S.Store self.new) → (trees : _) → (store_of S.Store self.new).may_leave trees → LeavesState trees (state_of self.old.rows.maps) ⊎ LeavesState trees (state_of next)) }
@@ -105,6 +111,7 @@ impl<S: Alter + Drop> World<S> {
     /// Runs one batch, and commits it where it is accepted.
     pub(crate) fn run_one(&mut self, batch: &Batch) -> Result<Reply, StoreFault>
         ensures runs { (s : _) → IsAt S.Store self.old s → RunsOne S.Store self.new s batch.now result }
+        ensures cells { WritesOne S.Store self.old self.new batch.now result }
         ensures fails { FailsAtStore S.Store self.old self.new result }
     {
         if self.failed {
@@ -146,6 +153,10 @@ impl<S: Alter + Drop> World<S> {
         ensures left { (s : _) → IsAt S.Store self.old s →
             let end = after s (acknowledged batches.now (added replies.old.items replies.new.items)) in
             MatchStore result (HasCleanDisk (store_of S.Store self.new) → Left (store_of S.Store self.new) end) ⊤ }
+
+        // In the tables, a row that none of these batches changes keeps its cells, byte for byte.
+        ensures cells { HasCleanDisk (store_of S.Store self.new) → (tables : Tables) → Rests (store_of S.Store self.old) tables →
+            MatchStore result (HasWritten S.Store self.old self.new tables (acknowledged batches.now (added replies.old.items replies.new.items))) ⊤ }
 
         // Where room for the replies is refused, nothing has changed. A failed World changes no more.
         ensures memory { IsErrOf result StoreFault.OutOfMemory → (self.new ≡ self.old) × (replies.new.items ≡ replies.old.items) }

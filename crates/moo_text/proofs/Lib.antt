@@ -1,6 +1,7 @@
 pub mod Words
 pub mod Places
 pub mod Kept
+pub mod Rooms
 pub mod Reading
 pub mod Carrying
 pub mod Headers

@@ -6,3 +6,4 @@ pub mod Cut
 pub mod Items
 pub mod Feed
 pub mod Left
+pub mod Room

@@ -1,9 +1,10 @@
 //! The batches of a text, read in pieces.
 
-ghost use Rattle.std.specs.Prelude.{[], IfOk};
+ghost use Rattle.std.specs.Prelude.{◌≤◌, ◌<◌, ◌≢◌, [], IfOk, IfErr, OnOk};
 ghost use Rattle.moo_text.specs.Feed.{TakesFirst, TakesNext};
 ghost use Rattle.moo_text.specs.Items.{within, skipping};
-ghost use Rattle.moo_text.specs.Left.{lines_left};
+ghost use Rattle.moo_text.specs.Left.{lines_left, lines_room};
+ghost use Rattle.moo_text.specs.Room.{TakesRoom, Explains, EndsAt};
 
 use crate::call_text::call_in;
 use crate::fault::TextFault;
@@ -18,9 +19,13 @@ use std::io::Read;
 
 /// Reads on behind the first bad line of a batch, to its end.
 fn skip_batch<R: Read>(number: u32, lines: &mut LineReader<R>) -> Result<Next, TextFault>
-    ensures { IfOk result (λ item. TakesFirst (skipping number) (lines_left R.remaining lines.old) (lines_left R.remaining lines.new) item) }
+    ensures item { IfOk result (λ item. TakesFirst (skipping number) (lines_left R.remaining lines.old) (lines_left R.remaining lines.new) item) }
+    ensures room { OnOk result (TakesRoom (lines_left R.remaining lines.old) (lines_room lines.old) (lines_left R.remaining lines.new) (lines_room lines.new)) }
+    ensures falls { OnOk result (lines_room lines.new ≤ lines_room lines.old) }
+    ensures ends { IfOk result (λ item. EndsAt item (lines_left R.remaining lines.new)) }
+    ensures cause { IfErr result (λ fault. Explains (lines_left R.remaining lines.old) (lines_room lines.old) fault) }
 {
-    for _ in 0..LONGEST_TEXT {
+    loop {
         match lines.next_line()? {
             Some(line) => {
                 if is_end_line(&line) {
@@ -30,7 +35,6 @@ fn skip_batch<R: Read>(number: u32, lines: &mut LineReader<R>) -> Result<Next, T
             None => return Ok(Next::Truncated),
         }
     }
-    Err(TextFault::Long)
 }
 
 /// Reads the calls of a batch, whose header is its first line.
@@ -39,13 +43,19 @@ fn rest_of_batch<R: Read>(
     header: Header,
     lines: &mut LineReader<R>,
 ) -> Result<Next, TextFault>
-    ensures { IfOk result (λ item. TakesFirst (within header [] 1) (lines_left R.remaining lines.old) (lines_left R.remaining lines.new) item) }
+    ensures item { IfOk result (λ item. TakesFirst (within header [] 1) (lines_left R.remaining lines.old) (lines_left R.remaining lines.new) item) }
+    ensures room { OnOk result (TakesRoom (lines_left R.remaining lines.old) (lines_room lines.old) (lines_left R.remaining lines.new) (lines_room lines.new)) }
+    ensures falls { OnOk result (lines_room lines.new ≤ lines_room lines.old) }
+    ensures ends { IfOk result (λ item. EndsAt item (lines_left R.remaining lines.new)) }
+    ensures cause { IfErr result (λ fault. Explains (lines_left R.remaining lines.old) (lines_room lines.old) fault) }
 {
     let mut calls = Vec::new(alloc);
-    for lines_before in 1..1073741826 {
+    let mut number = 1;
+    loop {
         let Some(line) = lines.next_line()? else {
             return Ok(Next::Truncated);
         };
+        number += 1;
         if is_blank_line(&line) {
             continue;
         }
@@ -59,21 +69,24 @@ fn rest_of_batch<R: Read>(
         match call_in(alloc, &line)? {
             Some(call) => {
                 if MOST_CALLS <= calls.len() {
-                    return skip_batch(lines_before + 1, lines);
+                    return skip_batch(number, lines);
                 }
                 calls.push(call)?;
             }
-            None => return skip_batch(lines_before + 1, lines),
+            None => return skip_batch(number, lines),
         }
     }
-    Err(TextFault::Long)
 }
 
 /// The next item of the text.
 fn next_item<R: Read>(alloc: Global, lines: &mut LineReader<R>) -> Result<Next, TextFault>
-    ensures { IfOk result (λ item. TakesNext (lines_left R.remaining lines.old) (lines_left R.remaining lines.new) item) }
+    ensures item { IfOk result (λ item. TakesNext (lines_left R.remaining lines.old) (lines_left R.remaining lines.new) item) }
+    ensures room { OnOk result (TakesRoom (lines_left R.remaining lines.old) (lines_room lines.old) (lines_left R.remaining lines.new) (lines_room lines.new)) }
+    ensures falls { IfOk result (λ item. item ≢ Next.End → lines_room lines.new < lines_room lines.old) }
+    ensures ends { IfOk result (λ item. EndsAt item (lines_left R.remaining lines.new)) }
+    ensures cause { IfErr result (λ fault. Explains (lines_left R.remaining lines.old) (lines_room lines.old) fault) }
 {
-    for _ in 0..LONGEST_TEXT + 1 {
+    loop {
         let Some(line) = lines.next_line()? else {
             return Ok(Next::End);
         };
@@ -88,7 +101,6 @@ fn next_item<R: Read>(alloc: Global, lines: &mut LineReader<R>) -> Result<Next, 
             None => return skip_batch(1, lines),
         }
     }
-    Err(TextFault::Long)
 }
 
 /// The batches of a text that a reader gives, read in pieces.
@@ -100,23 +112,26 @@ pub struct Feed<R> {
 }
 
 impl<R: Read> Feed<R> {
-    ghost use Rattle.std.specs.Prelude.{◌≡◌, Some, None, Err, IfOk, IfErr, IfSome};
+    ghost use Rattle.std.specs.Prelude.{◌≡◌, ◌≢◌, ◌<◌, min, Some, None, Err, IfOk, IfErr, IfSome, IfNone, OnOk};
     ghost use Rattle.moo_text.specs.Feed.{TakesNext};
-    ghost use Rattle.moo_text.specs.Left.{feed_left};
+    ghost use Rattle.moo_text.specs.Left.{feed_left, feed_room};
+    ghost use Rattle.moo_text.specs.Room.{TakesRoom, Explains, EndsAt};
 
     /// Reads nothing yet, and no more than 1,073,741,824 bytes later.
     pub fn new(alloc: Global, reader: R) -> Self
         ensures left { feed_left R.remaining result ≡ R.remaining reader }
         ensures limit { result.lines.room ≡ 1073741824 }
+        ensures room { feed_room result ≡ 1073741824 }
         ensures fresh { result.fault ≡ None }
     {
         Feed::with_room(alloc, reader, LONGEST_TEXT)
     }
 
-    /// Reads nothing yet, and no more than so many bytes later.
+    /// Reads nothing yet, and no more than so many bytes later, nor than [`LONGEST_TEXT`].
     pub(crate) fn with_room(alloc: Global, reader: R, room: usize) -> Self
         ensures left { feed_left R.remaining result ≡ R.remaining reader }
-        ensures limit { result.lines.room ≡ room }
+        ensures limit { result.lines.room ≡ min room 1073741824 }
+        ensures room { feed_room result ≡ min room 1073741824 }
         ensures fresh { result.fault ≡ None }
     {
         Feed {
@@ -133,6 +148,12 @@ impl<R: Read> Feed<R> {
         ensures next { IfOk result (TakesNext (feed_left R.remaining self.old) (feed_left R.remaining self.new)) }
         ensures fault { IfErr result (λ fault. self.new.fault ≡ Some fault) }
         ensures repeats { IfSome self.old.fault (λ fault. result ≡ Err fault) }
+        // As many bytes are taken of the room as of the text; each item but the end takes some, and behind the end none are left.
+        ensures room { OnOk result (TakesRoom (feed_left R.remaining self.old) (feed_room self.old) (feed_left R.remaining self.new) (feed_room self.new)) }
+        ensures falls { IfOk result (λ item. item ≢ Next.End → feed_room self.new < feed_room self.old) }
+        ensures ends { IfOk result (λ item. EndsAt item (feed_left R.remaining self.new)) }
+        // A first fault is Long only where the text goes on behind the room, and never Write.
+        ensures cause { IfNone self.old.fault (IfErr result (λ fault. Explains (feed_left R.remaining self.old) (feed_room self.old) fault)) }
     {
         if let Some(fault) = self.fault {
             return Err(fault);

@@ -1,12 +1,8 @@
 //! The lines of a text, read in pieces.
 
-ghost use Rattle.std.specs.Prelude.{◌≡◌, ◌==◌, ◌<◌, ◌≤◌, ◌++◌, length, take, IfSome, OnOk};
-ghost use Rattle.std.specs.Option.{option_map};
+ghost use Rattle.std.specs.Prelude.{◌≡◌, ◌==◌, ◌<◌, ◌≤◌, ◌+◌, ◌++◌, length, take, IfSome, OnOk};
 ghost use Rattle.std.specs.List.{position_from};
 ghost use Rattle.std.specs.Str.Lines.{strip_carriage_return};
-ghost use Rattle.std.specs.Io.KnownBytes.{Keeps, IsAtEnd};
-ghost use Rattle.moo_text.specs.Feed.{TakesLine};
-ghost use Rattle.moo_text.specs.Left.{lines_left};
 
 use crate::ahead::Ahead;
 use crate::fault::TextFault;
@@ -54,25 +50,28 @@ pub struct LineReader<R> {
     pub(crate) reader: R,
     pub(crate) ahead: Ahead,
     room: usize,
+    ghost limited: { length ahead + room ≤ 1073741824 },
 }
 
 impl<R: Read> LineReader<R> {
-    ghost use Rattle.std.specs.Prelude.{◌≡◌, ◌<◌, Ok, true, false, [], OnOk, IfOk};
+    ghost use Rattle.std.specs.Prelude.{◌≡◌, ◌<◌, Ok, true, false, ◌≤◌, [], min, MatchOption, OnOk, IfOk, IfErr, IfNone};
     ghost use Rattle.std.specs.Option.{option_map};
     ghost use Rattle.std.specs.Io.KnownBytes.{Keeps, IsAtEnd};
     ghost use Rattle.moo_text.specs.Feed.{TakesLine};
-    ghost use Rattle.moo_text.specs.Left.{lines_left};
+    ghost use Rattle.moo_text.specs.Left.{lines_left, lines_room};
+    ghost use Rattle.moo_text.specs.Room.{TakesRoom, Explains};
 
-    /// Reads nothing yet. Of the reader at most so many bytes are read.
+    /// Reads nothing yet. Of the reader at most so many bytes are read, and never more than [`LONGEST_TEXT`].
     pub fn new(alloc: Global, reader: R, room: usize) -> Self
         ensures left { lines_left R.remaining result ≡ R.remaining reader }
-        ensures room { result.room ≡ room }
+        ensures ahead { result.ahead ≡ [] }
+        ensures room { result.room ≡ min room 1073741824 }
     {
         LineReader {
             alloc,
             reader,
             ahead: Ahead::new(alloc),
-            room,
+            room: room.min(LONGEST_TEXT),
         }
     }
 
@@ -82,6 +81,8 @@ impl<R: Read> LineReader<R> {
         ensures kept { OnOk result (Keeps (lines_left R.remaining self.old) (lines_left R.remaining self.new)) }
         ensures falls { result ≡ Ok true → self.new.room < self.old.room }
         ensures end { result ≡ Ok false → IsAtEnd (R.remaining self.new.reader) × (self.new.ahead ≡ []) }
+        ensures room { OnOk result (lines_room self.new ≡ lines_room self.old) }
+        ensures cause { IfErr result (λ fault. Explains (lines_left R.remaining self.old) (lines_room self.old) fault) }
     {
         let mut piece = [0u8; 4096];
         if self.room == 0 {
@@ -105,7 +106,11 @@ impl<R: Read> LineReader<R> {
 
     /// The next line, and none at the end of the text. Of a line over the limit so much is given that it is seen to be over it.
     pub fn next_line(&mut self) -> Result<Option<Vec<u8>>, TextFault>
-        ensures { IfOk result (λ line. TakesLine (lines_left R.remaining self.old) (lines_left R.remaining self.new) (option_map (λ l. l.items) line)) }
+        ensures line { IfOk result (λ line. TakesLine (lines_left R.remaining self.old) (lines_left R.remaining self.new) (option_map (λ l. l.items) line)) }
+        ensures room { OnOk result (TakesRoom (lines_left R.remaining self.old) (lines_room self.old) (lines_left R.remaining self.new) (lines_room self.new)) }
+        ensures falls { IfOk result (λ line. MatchOption line (lines_room self.new ≤ lines_room self.old) (λ _. lines_room self.new < lines_room self.old)) }
+        ensures ends { IfOk result (λ line. IfNone line (IsAtEnd (lines_left R.remaining self.new))) }
+        ensures cause { IfErr result (λ fault. Explains (lines_left R.remaining self.old) (lines_room self.old) fault) }
     {
         let mut line = Vec::new(self.alloc);
         loop {

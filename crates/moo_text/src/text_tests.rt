@@ -36,7 +36,7 @@ fn items_of<R: Read + Drop>(rt: &HostRuntime, reader: R) -> Result<Vec<u8>, Fail
 
 #[test]
 fn texts_are_cut_into_batches(rt: HostRuntime) -> Result<(), Fail> {
-    let cases: [(&[u8], &[u8]); 24] = [
+    let cases: [(&[u8], &[u8]); 30] = [
         (b"", b""),
         (b" \t\n\n", b""),
         (b"batch as #3\nend\n", b"#3: 0\n"),
@@ -53,6 +53,20 @@ fn texts_are_cut_into_batches(rt: HostRuntime) -> Result<(), Fail> {
         ),
         // `end` in a header's place is a malformed batch by itself.
         (b" end \nbatch as #3\nend\n", b"malformed 1\n#3: 0\n"),
+        (b"end", b"malformed 1\n"),
+        // A carriage return is dropped where a line end follows it, and nowhere else.
+        (b"batch as #3\nend\r", b"truncated\n"),
+        (b"batch as #3\nend\r\r\n", b"truncated\n"),
+        // A batch sent twice, with a number and without.
+        (
+            b"batch as #3 at 0\ncreate(#1)\nend\nbatch as #3 at 0\ncreate(#1)\nend\n",
+            b"#3 at 0: 1\n#3 at 0: 1\n",
+        ),
+        (
+            b"batch as #3\ncreat(#1)\nend\nbatch as #3\nmax_object()\nend\n",
+            b"malformed 2\n#3: 1\n",
+        ),
+        (b"batch as #3\ncreate(#1)\n", b"truncated\n"),
         // The first bad line is told, blank lines counted, and the next batch goes on.
         (
             b"batch as #3\n\ncreat(#1)\nx\nend\nbatch as #3\nmax_object()\nend\n",
@@ -110,7 +124,7 @@ fn repeated(
 
 #[test]
 fn lines_and_calls_have_limits(rt: HostRuntime) -> Result<(), Fail> {
-    let cases: [(&[u8], &[u8], usize, &[u8], &[u8]); 8] = [
+    let cases: [(&[u8], &[u8], usize, &[u8], &[u8]); 9] = [
         // A call of 262,144 bytes, and of one more; a carriage return at its end is none of them.
         (
             b"batch as #3\nmax_object(",
@@ -136,6 +150,13 @@ fn lines_and_calls_have_limits(rt: HostRuntime) -> Result<(), Fail> {
         // A line over the limit is not blank, and not `end`.
         (b"batch as #3\n", b" ", 262144, b"\nend\n", b"#3: 0\n"),
         (b"batch as #3\n", b" ", 262145, b"\nend\n", b"malformed 2\n"),
+        (
+            b"batch as #3\nend",
+            b" ",
+            262141,
+            b"\nend\n",
+            b"#3: 0\nmalformed 1\n",
+        ),
         (
             b"batch as #3\nend",
             b" ",
@@ -195,11 +216,29 @@ fn a_text_is_read_in_whatever_pieces_it_comes(rt: HostRuntime) -> Result<(), Fai
     Ok(())
 }
 
+/// What a text has that is cut off behind so many bytes: its first batch ends with byte 15, its second with byte 53.
+fn told_of_front(count: usize) -> &'static [u8] {
+    match count {
+        0 => b"",
+        1..=14 => b"truncated\n",
+        15..=17 => b"#3: 0\n",
+        18..=52 => b"#3: 0\ntruncated\n",
+        _ => b"#3: 0\n#2 at 1: 1\n",
+    }
+}
+
 #[test]
 fn a_text_that_is_cut_off_is_truncated(rt: HostRuntime) -> Result<(), Fail> {
-    let text = b"batch as #3\nmax_object()\nend".as_slice();
-    for count in 1..text.len() {
-        assert!(rt; items_of(&rt, &text[..count])?.as_slice() == b"truncated\n".as_slice());
+    let text = b"batch as #3\nend\n\nbatch as #2 at 1\nget(#1, \"name\")\nend\n".as_slice();
+    assert_eq!(rt; text.len(), 54);
+    for count in 0..55 {
+        let told = told_of_front(count);
+        assert!(rt; items_of(&rt, &text[..count])?.as_slice() == told);
+        let bytes = ByteByByte {
+            bytes: &text[..count],
+            fails: false,
+        };
+        assert!(rt; items_of(&rt, bytes)?.as_slice() == told);
     }
     Ok(())
 }
@@ -220,25 +259,52 @@ fn a_feed_repeats_its_fault(rt: HostRuntime) -> Result<(), Fail> {
     Ok(())
 }
 
-/// A text of line ends without an end.
+/// A text of the same byte without an end.
 #[derive(Drop)]
-struct LineEnds;
+struct Endless {
+    byte: u8,
+}
 
-impl Read for LineEnds {
+impl Read for Endless {
     fn read(&mut self, buf: &mut [u8]) -> io::Result<usize> {
-        buf.fill(b'\n');
+        buf.fill(self.byte);
         Ok(buf.len())
     }
 }
 
 #[test]
-fn a_text_over_the_limit_is_long(rt: HostRuntime) -> Result<(), Fail> {
-    let mut feed = Feed::with_room(rt.alloc(), LineEnds, 10000);
-    assert!(rt; matches!(feed.next_batch(), Err(TextFault::Long)));
-    assert!(rt; matches!(feed.next_batch(), Err(TextFault::Long)));
-    let mut feed = Feed::with_room(rt.alloc(), b"end\n".as_slice(), 4);
-    assert!(rt; matches!(feed.next_batch(), Ok(Next::Malformed(1))));
-    assert!(rt; matches!(feed.next_batch(), Ok(Next::End)));
+fn a_text_without_an_end_is_long(rt: HostRuntime) -> Result<(), Fail> {
+    for byte in *b"\n x" {
+        for room in [0, 1, 4095, 4096, 4097, 10000] {
+            let mut feed = Feed::with_room(rt.alloc(), Endless { byte }, room);
+            assert!(rt; matches!(feed.next_batch(), Err(TextFault::Long)));
+            assert!(rt; matches!(feed.next_batch(), Err(TextFault::Long)));
+        }
+    }
+    Ok(())
+}
+
+#[test]
+fn a_text_over_the_limit_is_long_behind_it(rt: HostRuntime) -> Result<(), Fail> {
+    // A text, how many of its bytes may be read, and whether it is long behind its first item.
+    let cases: [(&[u8], usize, bool); 5] = [
+        (b"end\n", 4, false),
+        (b"end\n", 5, false),
+        (b"end\n\n", 4, true),
+        (b"end\nbatch as #3\n", 4, true),
+        (b"end\n \n", 6, false),
+    ];
+    for (text, room, is_long) in cases {
+        let mut feed = Feed::with_room(rt.alloc(), text, room);
+        assert!(rt; matches!(feed.next_batch(), Ok(Next::Malformed(1))));
+        for _ in 0..2 {
+            match feed.next_batch() {
+                Ok(Next::End) => assert!(rt; !is_long),
+                Err(TextFault::Long) => assert!(rt; is_long),
+                _ => assert!(rt; false),
+            }
+        }
+    }
     Ok(())
 }
 

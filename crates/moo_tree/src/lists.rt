@@ -30,7 +30,7 @@ pub fn subtree<R: Rows>(alloc: Global, rows: &R, x: ObjNo) -> Result<Vec<ObjNo>,
 }
 
 /// The objects whose parent is x, ascending; the roots for `#-1`. An `Err` is want of memory.
-/// See `children()` in the LambdaMOO Programmer's Manual.
+/// LambdaMOO Programmer's Manual, 'Fundamental Operations on Objects': `children`.
 pub fn children<R: Rows>(alloc: Global, rows: &R, x: ObjNo) -> Result<Vec<ObjNo>, AllocError>
     requires { IsTree (world_of (R.held rows.now).maps) }
     ensures { IfOk result (λ v. v.items ≡ children_of (world_of (R.held rows.now).maps) x) }
@@ -42,7 +42,7 @@ pub fn children<R: Rows>(alloc: Global, rows: &R, x: ObjNo) -> Result<Vec<ObjNo>
 }
 
 /// The objects that lie in x itself, ascending; those that lie nowhere for `#-1`. An `Err` is want of memory.
-/// See "Fundamental Object Attributes" in the LambdaMOO Programmer's Manual.
+/// LambdaMOO Programmer's Manual, 'Properties on Objects'.
 pub fn contents<R: Rows>(alloc: Global, rows: &R, x: ObjNo) -> Result<Vec<ObjNo>, AllocError>
     requires { IsTree (world_of (R.held rows.now).maps) }
     ensures { IfOk result (λ v. v.items ≡ contents_of (world_of (R.held rows.now).maps) x) }
@@ -54,7 +54,7 @@ pub fn contents<R: Rows>(alloc: Global, rows: &R, x: ObjNo) -> Result<Vec<ObjNo>
 }
 
 /// The objects with the player flag, ascending. An `Err` is want of memory.
-/// See `players()` in the LambdaMOO Programmer's Manual.
+/// LambdaMOO Programmer's Manual, 'Operations on Player Objects': `players`.
 pub fn players<R: Rows>(alloc: Global, rows: &R) -> Result<Vec<ObjNo>, AllocError>
     requires { IsTree (world_of (R.held rows.now).maps) }
     ensures { IfOk result (λ v. v.items ≡ players_of (world_of (R.held rows.now).maps)) }

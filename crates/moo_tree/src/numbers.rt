@@ -22,7 +22,7 @@ pub fn is_nothing(x: ObjNo) -> bool
     x == nothing()
 }
 
-/// Whether the number is that of an object. See `valid()` in the LambdaMOO Programmer's Manual.
+/// Whether the number is that of an object. LambdaMOO Programmer's Manual, 'Fundamental Operations on Objects': `valid`.
 pub fn valid<R: Rows>(rows: &R, x: ObjNo) -> bool
     ensures { result ≡ is_object (world_of (R.held rows.now).maps) x }
 {

@@ -14,7 +14,7 @@ use Rattle.moo_world.proofs.Seen.{is_object_seen}
 use Rattle.moo_world.specs.Directories.{verb_added, verb_removed, verb_changed, changed_at}
 use Rattle.moo_verbs.specs.Places.{has_verb, verb_place}
 use Rattle.moo_verbs.proofs.Directories.{put_last, put_changed, removed}
-use Rattle.moo_verbs.proofs.Forms.{stays_formed, added_named, removed_named, changed_named}
+use Rattle.moo_world.proofs.DirectoryForm.{stays_formed, added_named, removed_named, changed_named}
 use Rattle.moo_verbs.proofs.Soundness.{put_sound, rest_sound}
 
 some_of : {A : Type 0} (o : Option A) → is_some o ≡ true → (v : A) × (o ≡ Some v)

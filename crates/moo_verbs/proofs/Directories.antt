@@ -16,15 +16,12 @@ use Rattle.moo_rows.proofs.Orders.{verb_total}
 use Rattle.moo_world.specs.Objects.{same_object, same_object-Decides}
 use Rattle.moo_world.specs.World.{World, Record}
 use Rattle.moo_world.specs.Rows.{LookUps, IsSound, look_ups, world_of, world_shown, record_of, verb_id}
+use Rattle.moo_world.proofs.DirectoryForm.{with_directory}
 use Rattle.moo_world.proofs.MapLaws.{decided_alike, key-Decides}
-use Rattle.moo_world.specs.Directories.{with_verbs, verb_added, verb_removed, verb_changed, verb_at, changed_at}
+use Rattle.moo_world.specs.Directories.{verb_added, verb_removed, verb_changed, verb_at, changed_at}
 use Rattle.moo_verbs.specs.Places.{verb_place}
 use Rattle.moo_verbs.proofs.Numbering.{below, one_more, none_more, get_at, removed_at, changed_below}
 use Rattle.moo_verbs.proofs.Entries.{row_at, verbs_shown, past}
-
--- the world with the directory of x changed, and that number for the next verb
-abbrev pub with_directory : World → ObjNo → (List VerbRow → List VerbRow) → ℕ → World
-with_directory w x change next = record (with_verbs w x change) { next_verb = next }
 
 -- rows that differ in verbs of x alone, and in the number for the next verb
 module _ (m : LookUps) (x : ObjNo) (verb : ObjNo → ℕ → Option VerbRow) (next : ℕ) (change : List VerbRow → List VerbRow) where

@@ -2,7 +2,6 @@ pub mod TableLaw
 pub mod Numbering
 pub mod Entries
 pub mod Directories
-pub mod Forms
 pub mod Soundness
 pub mod Changes
 pub mod Found

@@ -16,7 +16,7 @@ use std::alloc::{AllocError, Global};
 
 /// The names strings of the verbs of x, whole as given, in the order of the directory. The only error is want of memory.
 ///
-/// See `verbs()` in the LambdaMOO Programmer's Manual.
+/// LambdaMOO Programmer's Manual, 'Operations on Verbs': `verbs`.
 pub fn list<R: Rows>(alloc: Global, rows: &R, x: ObjNo) -> Result<Vec<MooStr>, AllocError>
     requires { IsSound (R.held rows.now).maps }
     ensures { IfOk result (λ names. names.items ≡ map (λ v. v.names) (verbs_of (world_of (R.held rows.now).maps) x)) }
@@ -31,7 +31,7 @@ pub fn list<R: Rows>(alloc: Global, rows: &R, x: ObjNo) -> Result<Vec<MooStr>, A
 /// Adds a verb to x, the last of its directory, and answers its number. The only error is want of memory, after which the
 /// rows may be half changed.
 ///
-/// See `add_verb()` in the LambdaMOO Programmer's Manual.
+/// LambdaMOO Programmer's Manual, 'Operations on Verbs': `add_verb`.
 pub fn add<R: Rows>(rows: &mut R, x: ObjNo, verb: VerbRow) -> Result<VerbId, AllocError>
     requires good { IsGood (R.held rows.old).maps }
     requires object { is_object (world_of (R.held rows.old).maps) x ≡ true }
@@ -52,7 +52,7 @@ pub fn add<R: Rows>(rows: &mut R, x: ObjNo, verb: VerbRow) -> Result<VerbId, All
 
 /// Removes a verb of x. The only error is want of memory.
 ///
-/// See `delete_verb()` in the LambdaMOO Programmer's Manual.
+/// LambdaMOO Programmer's Manual, 'Operations on Verbs': `delete_verb`.
 pub fn delete<R: Rows>(rows: &mut R, x: ObjNo, id: VerbId) -> Result<(), AllocError>
     requires good { IsGood (R.held rows.old).maps }
     requires held { has_verb (R.held rows.old).maps x id ≡ true }
@@ -67,7 +67,7 @@ pub fn delete<R: Rows>(rows: &mut R, x: ObjNo, id: VerbId) -> Result<(), AllocEr
 
 /// Changes the owner, the rights and the names of a verb of x. The only error is want of memory.
 ///
-/// See `set_verb_info()` in the LambdaMOO Programmer's Manual.
+/// LambdaMOO Programmer's Manual, 'Operations on Verbs': `set_verb_info`.
 pub fn set_info<R: Rows>(
     rows: &mut R,
     x: ObjNo,
@@ -100,7 +100,7 @@ pub fn set_info<R: Rows>(
 
 /// Changes the arguments of a verb of x. The only error is want of memory.
 ///
-/// See `set_verb_args()` in the LambdaMOO Programmer's Manual.
+/// LambdaMOO Programmer's Manual, 'Operations on Verbs': `set_verb_args`.
 pub fn set_args<R: Rows>(
     alloc: Global,
     rows: &mut R,

@@ -61,7 +61,7 @@ fn verb_named<R: Rows>(rows: &R, x: ObjNo, word: &[u8]) -> Option<VerbId>
 /// The verb of x that a descriptor names: at a number from 1 on in the directory, or the first verb of x itself one of whose
 /// names matches a word. `None` for a number outside the directory and a word that no verb matches.
 ///
-/// See "Operations on Verbs" in the LambdaMOO Programmer's Manual.
+/// LambdaMOO Programmer's Manual, 'Operations on Verbs'.
 pub fn find_verb<R: Rows>(rows: &R, x: ObjNo, desc: &Desc) -> Option<VerbId>
     requires { IsSound (R.held rows.now).maps }
     ensures place { option_map (verb_place (R.held rows.now).maps x) result
@@ -99,7 +99,7 @@ pub struct Found<'a> {
 
 /// The verb of x that a descriptor names, as `find_verb` finds it, with its row.
 ///
-/// See "Operations on Verbs" in the LambdaMOO Programmer's Manual.
+/// LambdaMOO Programmer's Manual, 'Operations on Verbs'.
 pub fn found_verb<'a, R: Rows>(rows: &'a R, x: ObjNo, desc: &Desc) -> Option<Found<'a>>
     requires { IsSound (R.held rows.now).maps }
     ensures verb { option_map (λ f. (verb_place (R.held rows.now).maps x f.id, f.row.now)) result

@@ -63,7 +63,7 @@ fn matches_around(front: &[u8], behind: &[u8], word: &[u8]) -> bool
 /// text before the first star must stand, and the rest of the word begins the text behind that star, or is anything where
 /// that text is empty. So `foo*bar` matches `foo`, `foob`, `fooba` and `foobar`.
 ///
-/// See "Verbs on Objects" in the chapter on the database of the LambdaMOO Programmer's Manual.
+/// LambdaMOO Programmer's Manual, 'Verbs on Objects' in the chapter on the database.
 pub fn matches(name: &[u8], word: &[u8]) -> bool
     ensures { result ≡ matches name.now word.now }
 {

@@ -32,7 +32,7 @@ pub(crate) fn set_text(set: PrepositionSet) -> &'static str
 
 /// The text of a preposition: `none`, `any`, or all phrases of its set with slashes between them.
 ///
-/// See `verb_args()` in the LambdaMOO Programmer's Manual.
+/// LambdaMOO Programmer's Manual, 'Operations on Verbs': `verb_args`.
 pub fn print_prep(prep: Preposition) -> &'static str
     ensures value { result.now ≡ prep_text prep }
     ensures text { IsText result.now }
@@ -47,7 +47,7 @@ pub fn print_prep(prep: Preposition) -> &'static str
 
 /// The text of a direct or an indirect object: `this`, `any` or `none`.
 ///
-/// See `verb_args()` in the LambdaMOO Programmer's Manual.
+/// LambdaMOO Programmer's Manual, 'Operations on Verbs': `verb_args`.
 #[tactic(auto, unfolding(moo_world::specs::Objects::same_text, moo_world::specs::Objects::folded))]
 pub fn print_place(place: Place) -> &'static str
     ensures value { result.now ≡ place_text place }

@@ -22,7 +22,7 @@ fn has_word(names: &[u8]) -> bool
 
 /// Refuses the names of a verb that are empty or all spaces. Any other text is taken; a tab is no space.
 ///
-/// See `add_verb()` in the LambdaMOO Programmer's Manual.
+/// LambdaMOO Programmer's Manual, 'Operations on Verbs': `add_verb`.
 pub fn check_names(names: &MooStr) -> Result<(), VerbFault>
     ensures { result ≡ (if has_word names.now then Ok tt else Err VerbFault.BadNames) }
 {
@@ -36,7 +36,7 @@ pub fn check_names(names: &MooStr) -> Result<(), VerbFault>
 /// The rights that a text of the letters `r`, `w`, `x` and `d` gives, in any order and case, with repeats.
 /// Another byte in it is BadBits.
 ///
-/// See "Verbs on Objects" in the chapter on the database of the LambdaMOO Programmer's Manual.
+/// LambdaMOO Programmer's Manual, 'Verbs on Objects' in the chapter on the database.
 pub fn read_bits(text: &MooStr) -> Result<VerbBits, VerbFault>
     ensures { result ≡ ok_or (verb_bits_of text.now) VerbFault.BadBits }
 {
@@ -45,7 +45,7 @@ pub fn read_bits(text: &MooStr) -> Result<VerbBits, VerbFault>
 
 /// The letters of the rights, in the order `rwxd`.
 ///
-/// See `verb_info()` in the LambdaMOO Programmer's Manual.
+/// LambdaMOO Programmer's Manual, 'Operations on Verbs': `verb_info`.
 pub fn bits_letters(bits: VerbBits) -> &'static str
     ensures letters { result.now ≡ verb_letters_of bits }
     ensures text { IsText result.now }
@@ -136,7 +136,7 @@ fn args_named(dobj: &[u8], prep: &[u8], iobj: &[u8]) -> Option<ArgSpec>
 /// words. A slash and all behind it are dropped from a phrase, so that `in/inside/into` names the set of `in`; `none` and
 /// `any` stand alone. Anything else is BadArgs.
 ///
-/// See `set_verb_args()` in the LambdaMOO Programmer's Manual.
+/// LambdaMOO Programmer's Manual, 'Operations on Verbs': `set_verb_args`.
 pub fn read_prep(text: &MooStr) -> Result<Preposition, VerbFault>
     ensures { result ≡ ok_or (prep_of text.now) VerbFault.BadArgs }
 {
@@ -146,7 +146,7 @@ pub fn read_prep(text: &MooStr) -> Result<Preposition, VerbFault>
 /// The arguments that three texts name, in any case: `this`, `any` or `none` for the direct and the indirect object, and
 /// between them a preposition as `read_prep` takes it. Anything else is BadArgs.
 ///
-/// See `set_verb_args()` in the LambdaMOO Programmer's Manual.
+/// LambdaMOO Programmer's Manual, 'Operations on Verbs': `set_verb_args`.
 pub fn read_args(dobj: &MooStr, prep: &MooStr, iobj: &MooStr) -> Result<ArgSpec, VerbFault>
     ensures { result ≡ ok_or (args_of dobj.now prep.now iobj.now) VerbFault.BadArgs }
 {

@@ -11,6 +11,7 @@ pub mod RowLaws
 pub mod Seen
 pub mod Judging
 pub mod TreeT
+pub mod OneByOneT
 pub mod WorkedCalls
 pub mod Reading
 pub mod Subtrees
@@ -28,6 +29,8 @@ pub mod Listed
 pub mod Numbered
 pub mod Shown
 pub mod Recycling
+pub mod Upward
+pub mod OneByOne
 pub mod Creating
 pub mod MapLaws
 pub mod Naming
@@ -40,3 +43,14 @@ pub mod OwnershipKept
 pub mod OwnershipRebuilt
 pub mod OwnershipChanged
 pub mod OwnershipCalls
+pub mod Shapes
+pub mod RowForm
+pub mod Redirected
+pub mod FieldForm
+pub mod DirectoryForm
+pub mod FormArguments
+pub mod FormChanged
+pub mod FormCalls
+pub mod FormRuns
+pub mod Ranges
+pub mod FormQuota

@@ -30,7 +30,7 @@ no n = record { 0 = pos n }
 abbrev pub row : ObjNo → ObjRow
 row parent = record { name = []; owner = no 3; parent = parent; location = nothing; player = false; programmer = false; wizard = false; r = false; w = false; f = false; accept = None }
 
-abbrev reading : Bits
+abbrev pub reading : Bits
 reading = record { r = true; w = false; c = false }
 
 abbrev set_to : ℕ → SlotRow

@@ -9,7 +9,7 @@ use Rattle.moo_rows.specs.declared.row.Preposition.TheVariants.{Set as of_set}
 use Rattle.moo_rows.specs.declared.row.PrepositionSet.TheVariants.{OutOf, In}
 use Rattle.moo_world.specs.declared.call.Call.{Call}
 use Rattle.moo_world.specs.declared.name.CallName.{CallName}
-use Rattle.moo_world.specs.declared.name.CallName.TheVariants.{MaxObject, Get, Properties, VerbInfo, VerbArgs, Create, Chparent, Recycle, Move, Set, AddProperty, DeleteProperty, SetPropertyInfo, ClearProperty, AddVerb, DeleteVerb, SetVerbArgs, SetAccept}
+use Rattle.moo_world.specs.declared.name.CallName.TheVariants.{MaxObject, Get, Properties, VerbInfo, VerbArgs, Create, Chparent, Recycle, Move, Set, AddProperty, DeleteProperty, SetPropertyInfo, ClearProperty, AddVerb, DeleteVerb, SetVerbArgs, SetAccept, SetVerbInfo, Verbs}
 use Rattle.moo_world.specs.Objects.{nothing, same_object, same_text, same_pair, folded}
 use Rattle.moo_world.specs.World.{World, chain, places, rebuilt}
 use Rattle.moo_world.specs.Rows.{LookUps, world_shown}
@@ -160,6 +160,39 @@ one_back : answers (then_as_4 (with_quota (call Set (o 4 ∷ text (codes "owners
 unfolding world_shown chain same_object same_text same_pair folded rebuilt step
 one_back = refl
 
+-- a quota at the greatest integer stays, and none is asked where the owner is the new object itself
+greatest_stays : answers (with_quota (
+    call Create (o 1 ∷ o 4 ∷ []) ∷ call Set (o 4 ∷ text (codes "ownership_quota") ∷ i 2147483647 ∷ []) ∷ call Recycle (o 5 ∷ []) ∷ call Get (o 4 ∷ text (codes "ownership_quota") ∷ []) ∷ call Create (o 1 ∷ Obj nothing ∷ []) ∷ call Get (o 4 ∷ text (codes "ownership_quota") ∷ []) ∷ []))
+    ≡ Some (zero ∷ o 4 ∷ o 5 ∷ zero ∷ zero ∷ i 2147483647 ∷ o 6 ∷ i 2147483647 ∷ [])
+unfolding world_shown chain places same_object same_text same_pair folded rebuilt step
+greatest_stays = refl
+
+-- the owner's quota is read when the object is gone: #5 was under it
+read_when_gone : answers (run_calls opening (no 3) (
+    call AddProperty (o 1 ∷ text (codes "ownership_quota") ∷ i 5 ∷ list_of (o 3 ∷ text [] ∷ []) ∷ []) ∷ call Create (o 1 ∷ Obj nothing ∷ []) ∷ call Set (o 4 ∷ text (codes "ownership_quota") ∷ i 9 ∷ []) ∷ call Create (o 4 ∷ Obj nothing ∷ [])
+    ∷ call Set (o 4 ∷ text (codes "owner") ∷ o 5 ∷ []) ∷ call Recycle (o 4 ∷ []) ∷ call Get (o 5 ∷ text (codes "ownership_quota") ∷ []) ∷ []))
+    ≡ Some (zero ∷ o 4 ∷ zero ∷ o 5 ∷ zero ∷ zero ∷ i 6 ∷ [])
+unfolding world_shown chain places same_object same_text same_pair folded rebuilt step
+read_when_gone = refl
+
+-- ---- built-in properties
+
+bits_take_the_truth : answers (run_calls opening (no 3) (call Set (o 1 ∷ text (codes "f") ∷ text [] ∷ []) ∷ call Get (o 1 ∷ text (codes "F") ∷ []) ∷ [])) ≡ Some (zero ∷ zero ∷ [])
+unfolding world_shown chain places same_object same_text same_pair folded rebuilt step
+bits_take_the_truth = refl
+
+no_such_owner : run_calls opening (no 3) (call Set (o 1 ∷ text (codes "owner") ∷ o 9 ∷ []) ∷ []) ≡ FailedAt 1 InvalidArgument
+unfolding world_shown chain places same_object same_text same_pair folded rebuilt step
+no_such_owner = refl
+
+no_name : run_calls opening (no 3) (call Set (o 1 ∷ text (codes "name") ∷ i 5 ∷ []) ∷ []) ≡ FailedAt 1 WrongType
+unfolding world_shown chain places same_object same_text same_pair folded rebuilt step
+no_name = refl
+
+contents_by_nobody : run_calls opening (no 3) (call Set (o 1 ∷ text (codes "contents") ∷ list_of [] ∷ []) ∷ []) ≡ FailedAt 1 Permission
+unfolding world_shown chain places same_object same_text same_pair folded rebuilt step
+contents_by_nobody = refl
+
 -- ---- verbs
 
 star_front : matches (codes "foo*bar") (codes "foo") ≡ true
@@ -210,3 +243,10 @@ args_by_word = refl
 no_such_verb : with_verb (call DeleteVerb (o 4 ∷ i 1 ∷ []) ∷ call VerbInfo (o 4 ∷ i 1 ∷ []) ∷ []) ≡ FailedAt 4 VerbNotFound
 unfolding world_shown chain same_object same_text same_pair folded rebuilt step
 no_such_verb = refl
+
+-- a verb found by a word gets other names, and is found by these
+named_anew : answers (with_verb (
+    call SetVerbInfo (o 4 ∷ text (codes "get") ∷ list_of (o 3 ∷ text (codes "r") ∷ text (codes "foo*bar drop") ∷ []) ∷ []) ∷ call Verbs (o 4 ∷ []) ∷ call VerbInfo (o 4 ∷ text (codes "foob") ∷ []) ∷ call DeleteVerb (o 4 ∷ i 1 ∷ []) ∷ call Verbs (o 4 ∷ []) ∷ []))
+    ≡ Some (o 4 ∷ zero ∷ zero ∷ list_of (text (codes "foo*bar drop") ∷ []) ∷ list_of (o 3 ∷ text (codes "r") ∷ text (codes "foo*bar drop") ∷ []) ∷ zero ∷ list_of [] ∷ [])
+unfolding world_shown chain places same_object same_text same_pair folded rebuilt step
+named_anew = refl

@@ -1,21 +1,43 @@
 -- What a call is given. A wrong number of arguments is E_ARGS, and a wrong type E_TYPE, which is also said of the length of a
 -- list of an owner and rights and of what stands in it.
-use Rattle.std.specs.Prelude.{ℕ, nat_le, pos, Bool, List, [], ◌∷◌, Option, Some, None, Result, Ok, Err, ok_or, if◌then◌else◌}
+use Rattle.std.specs.Prelude.{ℕ, nat_le, nat_lt, ℤ, pos, negsuc, Bool, true, ◌&&◌, List, [], ◌∷◌, Option, Some, None, Result, Ok, Err, ok_or, if◌then◌else◌}
 use Rattle.std.specs.Option.{option_map}
 use Rattle.std.specs.Ordering.{int_eq}
 use Rattle.moo_value.specs.declared.code.Code.{Code}
 use Rattle.moo_value.specs.declared.code.Code.TheVariants.{«Type» as wrong_type, Arguments}
 use Rattle.moo_value.specs.declared.value.ObjNo.{ObjNo}
 use Rattle.moo_value.specs.declared.value.Value.{Value}
-use Rattle.moo_value.specs.declared.value.Value.TheVariants.{Int, Obj, Str, List as a_list}
+use Rattle.moo_value.specs.declared.value.Value.TheVariants.{Int, Obj, Str, Error, List as a_list}
 use Rattle.moo_value.specs.Value.{nesting, spread}
+use Rattle.moo_value.specs.Values.{Values, no_values as none_left, int, object, string, error, list}
 use Rattle.moo_world.specs.declared.descriptor.Desc.{Desc}
 use Rattle.moo_world.specs.declared.descriptor.Desc.TheVariants.{Index, Name as a_word}
 use Rattle.moo_world.specs.Objects.{Name}
 
--- lists nest at most 32 deep in the value
+-- a number of 32 bits
+abbrev pub in_range : ℤ → Bool
+in_range (pos n) = nat_lt n 2147483648
+in_range (negsuc n) = nat_lt n 2147483648
+
+-- so are all integers and objects in the values of a list
+abbrev pub all_in_range : Values → Bool
+all_in_range none_left = true
+all_in_range (int n rest) = in_range n && all_in_range rest
+all_in_range (object n rest) = in_range n && all_in_range rest
+all_in_range (string s rest) = all_in_range rest
+all_in_range (error e rest) = all_in_range rest
+all_in_range (list values rest) = all_in_range values && all_in_range rest
+
+abbrev pub numbers_in_range : Value → Bool
+numbers_in_range (Int n) = in_range n
+numbers_in_range (Obj o) = in_range o.0
+numbers_in_range (Str s) = true
+numbers_in_range (Error e) = true
+numbers_in_range (a_list values) = all_in_range values
+
+-- lists nest at most 32 deep in the value, and its numbers have 32 bits
 abbrev pub fits : Value → Bool
-fits v = nat_le (nesting v) 32
+fits v = nat_le (nesting v) 32 && numbers_in_range v
 
 -- ---- objects, names and values
 

@@ -1,5 +1,5 @@
 -- The built-in properties by their names, and what they read as.
--- LambdaMOO Programmer's Manual, 'Built-in Properties' in the chapter on the database.
+-- LambdaMOO Programmer's Manual, 'Properties on Objects' in the chapter on the database.
 use Rattle.std.specs.Prelude.{pos, ℕ, codes, List, [], ◌∷◌, Option, unwrap_or}
 use Rattle.std.specs.Option.{option_map}
 use Rattle.std.specs.List.{find}

@@ -1,6 +1,6 @@
 -- Which words a verb's names match.
--- LambdaMOO Programmer's Manual, 'Verbs on Objects' in the chapter on the database. Names compare without case. That only
--- the first star of a name counts, and a later one stands for itself, is this server's own.
+-- LambdaMOO Programmer's Manual, 'Verbs on Objects' in the chapter on the database. That names
+-- compare without case, and that only the first star of a name counts and a later one stands for itself, are this server's own.
 use Rattle.std.specs.Prelude.{ℕ, ◌+◌, ◌==◌, ◌&&◌, ◌||◌, not, Bool, List, length, take, drop, Option, None, Some}
 use Rattle.std.specs.List.{filter, list_any, position, slice_split}
 use Rattle.moo_world.specs.Objects.{Name, same_text, folded}

@@ -1,6 +1,7 @@
 -- What each call on properties comes to.
--- LambdaMOO Programmer's Manual, 'Operations on Properties' in the part on built-in functions. That `get` and `set` read and write
--- `object.name`, and the order of the checks, are this server's own.
+-- LambdaMOO Programmer's Manual, 'Properties on Objects' in the chapter on the database, 'Getting and Setting the Values of
+-- Properties', and 'Operations on Properties' in the part on built-in functions. That `get` and `set` read and write `object.name`,
+-- that a bit takes the truth of any value, and the order of the checks, are this server's own.
 use Rattle.std.specs.Prelude.{Bool, true, false, not, ◌&&◌, ◌||◌, nat_lt, [], ◌∷◌, Option, Some, None, Result, Ok, Err, unwrap_or}
 use Rattle.std.specs.List.{list_any}
 use Rattle.moo_value.specs.declared.value.ObjNo.{ObjNo}

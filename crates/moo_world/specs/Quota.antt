@@ -1,5 +1,6 @@
 -- The quota of an owner.
--- LambdaMOO Programmer's Manual, 'Fundamental Operations on Objects': `create` and `recycle`.
+-- LambdaMOO Programmer's Manual, 'Fundamental Operations on Objects': `create` and `recycle`. That none is consulted where #-1 was
+-- given as owner, and that one at the greatest integer stays, are this server's own.
 use Rattle.std.specs.Prelude.{ℤ, pos, negsuc, ◌+ℤ◌, int_lt, Bool, true, false, ◌||◌, codes, Option, Some, None, unwrap_or, if◌then◌else◌}
 use Rattle.std.specs.Option.{option_map}
 use Rattle.moo_value.specs.declared.value.ObjNo.{ObjNo}

@@ -1,5 +1,6 @@
 -- What verbs are told about themselves: names, places and prepositions, as they are read.
--- LambdaMOO Programmer's Manual, `add_verb()` and `set_verb_args()`. That a preposition ends at its first slash is this
+-- LambdaMOO Programmer's Manual, 'Verbs on Objects' in the chapter on the database, and 'Operations on Verbs': `add_verb` and
+-- `set_verb_args`. That words and phrases are read in any case, and that a preposition ends at its first slash, are this
 -- server's own.
 use Rattle.std.specs.Prelude.{ℕ, ◌==◌, Bool, List, [], ◌∷◌, Option, Some, codes, if◌then◌else◌}
 use Rattle.std.specs.Option.{option_map, option_and_then}

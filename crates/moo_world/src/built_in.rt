@@ -61,7 +61,7 @@ impl BuiltIn {
 
     /// The built-in property of a name, in any case; none where no property of that name is built in.
     ///
-    /// LambdaMOO Programmer's Manual, 'Built-in Properties'.
+    /// LambdaMOO Programmer's Manual, 'Properties on Objects' in the chapter on the database.
     pub fn of_name(name: &MooStr) -> Option<BuiltIn>
         ensures { result ≡ built_in name.now }
     {

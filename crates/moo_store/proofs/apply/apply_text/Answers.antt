@@ -1,23 +1,13 @@
-use Rattle.std.proofs.Common.{◌≡◌, ◌≤◌, ◌+◌, cond, ℕ, List, take, Bool, true, false, refl, arith, sym, subst, ◌∙◌}
+use Rattle.std.proofs.Common.{refl, arith, sym, subst}
 use Rattle.std.specs.Prelude.{IfSome}
-use Rattle.std.specs.Io.KnownBytes.{Appends}
 use Rattle.moo_text.specs.Items.{items}
 use Rattle.moo_text.specs.Feed.{TakesNext}
 use Rattle.moo_text.specs.Left.{feed_left}
 use Rattle.moo_text.specs.declared.next.Next.{Next}
-use Rattle.moo_text.specs.declared.fault.TextFault.{TextFault}
-use Rattle.moo_text.specs.declared.fault.TextFault.TheVariants.{Read, Write, OutOfMemory, Long}
+use Rattle.moo_text.specs.declared.fault.TextFault.TheVariants.{Long}
 use Rattle.moo_store.specs.Text.{Applies, is_batch, is_lost}
-use Rattle.moo_store.proofs.Items.{known_before, known_start, known_on, known_inside, known_through, takes_one}
-use Rattle.moo_store.proofs.Writing.{Appends-nothing}
+use Rattle.moo_store.proofs.Items.{known_before, known_start, known_on, known_inside, known_through, takes_one, one_more}
 use Rattle.moo_store.proofs.apply.apply_text.Goals as goal
-
-one_more : (b : Bool) (n m k : ℕ) → n ≤ k → m ≡ n + cond b 1 0 → m ≤ k + 1
-one_more true n m k low is = omega (arith, low, is)
-one_more false n m k low is = omega (arith, low, is)
-
-no_read : (f e : TextFault) → f ≡ e → (e ≡ Read → ⊥) → f ≡ Read → ⊥
-no_read f e is other read = other (sym is ∙ read)
 
 pub loop-init : goal.loop-init
 loop-init g c = record {
@@ -31,10 +21,9 @@ loop-preserved g c =
     let before = feed_left g.R.Read.remaining c.loop.feed in
     let behind = feed_left g.R.Read.remaining c.next_batch.new.self in
     record {
-      going = known_on g.S.Store c.args.world.now c.loop.world c.answer_item.new.world (g.R.Read.remaining c.args.reader) before behind (g.W.Write.contents c.args.writer.now) (g.W.Write.contents c.loop.writer) (g.W.Write.contents c.put_all.new.writer)
-          c.loop.tally.batches c.loop.tally.lost c.count.new.self.batches c.count.new.self.lost c.in-Ok.item c.in-Some.answer c.in-Ok-printed.text.items
-          c.loop.invariant.going (takes_one before behind c.in-Ok.item (c.in-Some.ensures.more refl) c.in-Ok.ensures.next) c.in-Some.ensures.some c.in-Ok-printed.ensures.text
-          (subst (Appends (g.W.Write.contents c.loop.writer) (g.W.Write.contents c.put_all.new.writer)) c.deref.ensures.value c.in-Ok-put_all.ensures.ok) c.count.ensures.batches c.count.ensures.lost;
+      going = known_on g.S.Store c.args.world.now c.loop.world c.answer_item.new.world (g.R.Read.remaining c.args.reader) before behind (g.W.Write.contents c.args.writer.now) (g.W.Write.contents c.loop.writer) (g.W.Write.contents c.put_answer.new.writer)
+          c.loop.tally.batches c.loop.tally.lost c.count.new.self.batches c.count.new.self.lost c.in-Ok.item c.in-Some.answer
+          c.loop.invariant.going (takes_one before behind c.in-Ok.item (c.in-Some.ensures.more refl) c.in-Ok.ensures.next) c.in-Some.ensures.some c.in-Ok-put_answer.ensures.ok c.count.ensures.batches c.count.ensures.lost;
       batches = one_more (is_batch c.in-Some.answer) c.loop.tally.batches c.count.new.self.batches c.loop.counter c.loop.invariant.batches c.count.ensures.batches;
       lost = one_more (is_lost c.in-Some.answer) c.loop.tally.lost c.count.new.self.lost c.loop.counter c.loop.invariant.lost c.count.ensures.lost;
     }
@@ -53,24 +42,14 @@ returns-in-None-clause-applies g c s it =
     (known_through g.S.Store c.args.world.now c.loop.world (g.R.Read.remaining c.args.reader) before behind (g.W.Write.contents c.args.writer.now) (g.W.Write.contents c.loop.writer) c.loop.tally.batches c.loop.tally.lost
     c.loop.invariant.going (subst (λ (i : Next). TakesNext before behind i) none.0 c.in-Ok.ensures.next) s it)
 
-pub returns-in-Err-printed-clause-stops : goal.returns-in-Err-printed-clause-stops
-returns-in-Err-printed-clause-stops g c =
+pub returns-in-Err-put_answer-clause-stops : goal.returns-in-Err-put_answer-clause-stops
+returns-in-Err-put_answer-clause-stops g c =
     let before = feed_left g.R.Read.remaining c.loop.feed in
     let behind = feed_left g.R.Read.remaining c.next_batch.new.self in
-    known_inside g.S.Store c.args.world.now c.loop.world c.answer_item.new.world (g.R.Read.remaining c.args.reader) before behind (g.W.Write.contents c.args.writer.now) (g.W.Write.contents c.loop.writer) (g.W.Write.contents c.loop.writer)
-    c.loop.tally.batches c.loop.tally.lost c.in-Err-printed.fault c.in-Ok.item c.in-Some.answer 0
-    c.loop.invariant.going (takes_one before behind c.in-Ok.item (c.in-Some.ensures.more refl) c.in-Ok.ensures.next) c.in-Some.ensures.some (Appends-nothing (g.W.Write.contents c.loop.writer)) (no_read c.in-Err-printed.fault OutOfMemory c.in-Err-printed.ensures.fault (λ e. cc))
-
-pub returns-in-Err-put_all-clause-stops : goal.returns-in-Err-put_all-clause-stops
-returns-in-Err-put_all-clause-stops g c =
-    let before = feed_left g.R.Read.remaining c.loop.feed in
-    let behind = feed_left g.R.Read.remaining c.next_batch.new.self in
-    let wrote = c.in-Err-put_all.ensures.err in
-    known_inside g.S.Store c.args.world.now c.loop.world c.answer_item.new.world (g.R.Read.remaining c.args.reader) before behind (g.W.Write.contents c.args.writer.now) (g.W.Write.contents c.loop.writer) (g.W.Write.contents c.put_all.new.writer)
-    c.loop.tally.batches c.loop.tally.lost c.in-Err-put_all.fault c.in-Ok.item c.in-Some.answer wrote.0
-    c.loop.invariant.going (takes_one before behind c.in-Ok.item (c.in-Some.ensures.more refl) c.in-Ok.ensures.next) c.in-Some.ensures.some
-    (subst (λ (t : List ℕ). Appends (g.W.Write.contents c.loop.writer) (g.W.Write.contents c.put_all.new.writer) (take wrote.0 t)) (c.deref.ensures.value ∙ c.in-Ok-printed.ensures.text) wrote.1)
-    (no_read c.in-Err-put_all.fault Write c.in-Err-put_all.ensures.fault (λ e. cc))
+    let wrote = c.in-Err-put_answer.ensures.err in
+    known_inside g.S.Store c.args.world.now c.loop.world c.answer_item.new.world (g.R.Read.remaining c.args.reader) before behind (g.W.Write.contents c.args.writer.now) (g.W.Write.contents c.loop.writer) (g.W.Write.contents c.put_answer.new.writer)
+    c.loop.tally.batches c.loop.tally.lost c.in-Err-put_answer.fault c.in-Ok.item c.in-Some.answer wrote.0
+    c.loop.invariant.going (takes_one before behind c.in-Ok.item (c.in-Some.ensures.more refl) c.in-Ok.ensures.next) c.in-Some.ensures.some wrote.1 c.in-Err-put_answer.ensures.fault
 
 pub returns-clause-stops : goal.returns-clause-stops
 returns-clause-stops g c =

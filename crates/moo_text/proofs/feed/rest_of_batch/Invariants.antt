@@ -1,11 +1,18 @@
-use Rattle.std.proofs.Common.{[], ◌≤◌, length}
+use Rattle.std.proofs.Common.{[], ◌≤◌, ◌+◌, length}
 use Rattle.moo_text.specs.Items.{within}
 use Rattle.moo_text.specs.Feed.{Carries}
-use Rattle.moo_text.specs.Left.{lines_left}
+use Rattle.moo_text.specs.Left.{lines_left, lines_room}
+use Rattle.moo_text.specs.Room.{TakesRoom}
 use Rattle.moo_text.proofs.feed.rest_of_batch.Given as goal
 
-abbrev pub invariant-loop-lines_before : goal.invariant-loop-lines_before
-invariant-loop-lines_before g l = record {
+abbrev pub invariant-loop-calls : goal.invariant-loop-calls
+invariant-loop-calls g l = record {
   few : length l.calls.items ≤ 1000;
-  carries : Carries (within l.header [] 1) (within l.header l.calls.items l.lines_before) (lines_left g.R.Read.remaining l.fn.lines) (lines_left g.R.Read.remaining l.lines);
+  carries : Carries (within l.header [] 1) (within l.header l.calls.items l.number) (lines_left g.R.Read.remaining l.fn.lines) (lines_left g.R.Read.remaining l.lines);
+  room : TakesRoom (lines_left g.R.Read.remaining l.fn.lines) (lines_room l.fn.lines) (lines_left g.R.Read.remaining l.lines) (lines_room l.lines);
+  some : 1 ≤ l.number;
+  falls : l.number + lines_room l.lines ≤ 1 + lines_room l.fn.lines;
 }
+
+abbrev pub decreases-loop-calls : goal.decreases-loop-calls
+decreases-loop-calls g l = lines_room l.lines

@@ -1,7 +1,16 @@
+use Rattle.std.proofs.Common.{◌≤◌}
 use Rattle.moo_text.specs.Items.{skipping}
 use Rattle.moo_text.specs.Feed.{Carries}
-use Rattle.moo_text.specs.Left.{lines_left}
+use Rattle.moo_text.specs.Left.{lines_left, lines_room}
+use Rattle.moo_text.specs.Room.{TakesRoom}
 use Rattle.moo_text.proofs.feed.skip_batch.Given as goal
 
-abbrev pub invariant-loop : goal.invariant-loop
-invariant-loop g l = Carries (skipping l.number) (skipping l.number) (lines_left g.R.Read.remaining l.fn.lines) (lines_left g.R.Read.remaining l.lines)
+abbrev pub invariant-loop-line : goal.invariant-loop-line
+invariant-loop-line g l = record {
+  carries : Carries (skipping l.number) (skipping l.number) (lines_left g.R.Read.remaining l.fn.lines) (lines_left g.R.Read.remaining l.lines);
+  room : TakesRoom (lines_left g.R.Read.remaining l.fn.lines) (lines_room l.fn.lines) (lines_left g.R.Read.remaining l.lines) (lines_room l.lines);
+  falls : lines_room l.lines ≤ lines_room l.fn.lines;
+}
+
+abbrev pub decreases-loop-line : goal.decreases-loop-line
+decreases-loop-line g l = lines_room l.lines

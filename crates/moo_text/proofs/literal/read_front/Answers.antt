@@ -1,11 +1,15 @@
 use Rattle.std.proofs.Common.{ℕ, List, Some, sym, ap, ◌∙◌}
 use Rattle.std.proofs.lemmas.List.{take_rest}
+use Rattle.moo_world.proofs.Ranges.{fits_of}
 use Rattle.moo_text.proofs.Reading.{front_found, no_front}
 use Rattle.moo_text.proofs.literal.read_front.Goals as goal
 
 pub returns-in-Ok-clause-read : goal.returns-in-Ok-clause-read
 returns-in-Ok-clause-read c =
     ap (λ (t : List ℕ). Some (c.in-Ok.value, t)) (take_rest c.args.bytes.now c.in-Ok.count) ∙ sym (front_found c.args.bytes.now c.in-Ok.value c.in-Ok.count c.in-Ok.ensures.found)
+
+pub returns-in-Ok-clause-fits : goal.returns-in-Ok-clause-fits
+returns-in-Ok-clause-fits c = fits_of c.in-Ok.value c.in-Ok.ensures.found.fits
 
 pub returns-in_default : goal.returns-in_default
 returns-in_default c = record { read = sym (no_front c.args.bytes.now (c.in-Err.ensures.fault c.in_default.not-OutOfMemory).none); fits = tt }

@@ -6,9 +6,9 @@ use Rattle.moo_rows.specs.Maps.{Maps, Held}
 use Rattle.moo_world.specs.Objects.{nothing}
 use Rattle.moo_world.specs.Rows.{IsGood, IsSound, look_ups, verb_id, world_of, world_shown}
 use Rattle.moo_world.specs.World.{IsWellFormed}
-use Rattle.moo_verbs.proofs.Directories.{with_directory, directory_shown}
+use Rattle.moo_verbs.proofs.Directories.{directory_shown}
 use Rattle.moo_verbs.proofs.Entries.{row_at, past}
-use Rattle.moo_verbs.proofs.Forms.{stays_formed}
+use Rattle.moo_world.proofs.DirectoryForm.{with_directory, stays_formed}
 use Rattle.moo_verbs.proofs.Numbering.{below, none_more}
 use Rattle.moo_calls.proofs.tests.verb_changes.use_up_numbers.Goals as goal
 

@@ -5,8 +5,13 @@ use Rattle.moo_world.specs.Rows.{IsGood}
 use Rattle.moo_world.specs.Judge.{state_of}
 use Rattle.moo_batch.specs.Changes.{AreChanges}
 use Rattle.moo_store.specs.Kept.{World}
-use Rattle.moo_store.specs.World.{IsAt}
+use Rattle.moo_store.specs.World.{store_of, IsAt}
 use Rattle.moo_store.specs.States.{KeepsRows}
+use Rattle.moo_tables.specs.Tables.{Tables}
+use Rattle.moo_tables.specs.Inside.{Rests}
+use Rattle.moo_tables.proofs.InsideLemmas.{clean_before}
+use Rattle.moo_store.specs.States.{LeavesRows}
+use Rattle.moo_store.specs.Untouched.{KeepsCells}
 use Rattle.moo_store.proofs.Crashes.{left_by_write, keeps_state, rows_written}
 use Rattle.moo_store.proofs.Running.{when_ok}
 use Rattle.moo_store.proofs.world.World.commit.Goals as goal
@@ -50,3 +55,51 @@ invariant_of-self-else-is_err g c =
     (c.commit_cells.ensures.crash c.args.changes rows next c.requires.printed here (c.self.invariant.2 works))
     (λ clean. c.in_default.ensures.written clean c.args.changes rows next c.requires.printed here) in
     (c.commit_cells.ensures.outside, λ e. subst IsGood (sym applied) c.requires.changes.2, λ e clean. subst (KeepsRows new) (sym applied) (written clean))
+
+pub returns-in-Err-clause-clean : goal.returns-in-Err-clause-clean
+returns-in-Err-clause-clean g c clean =
+    let rows = c.self.inside.rows.maps in
+    let next = c.requires.changes.0 in
+    let works : c.self.inside.failed ≡ false = subst (λ (w : World _). w.failed ≡ false) (sym c.self.view_is) c.requires.works in
+    let here : AreChanges rows next c.args.changes = subst (λ (w : World _). AreChanges w.rows.maps next c.args.changes) (sym c.self.view_is) c.requires.changes.1 in
+    subst (λ w. HasCleanDisk (store_of g.S.Store w)) c.self.view_is
+    (clean_before (state g.S.Store c.self.inside.connection) (state g.S.Store c.commit_cells.new.conn) (λ x. LeavesRows x next)
+    (c.commit_cells.ensures.crash c.args.changes rows next c.requires.printed here (c.self.invariant.2 works)) clean)
+
+pub returns-clause-clean : goal.returns-clause-clean
+returns-clause-clean g c =
+    let rows = c.self.inside.rows.maps in
+    let next = c.requires.changes.0 in
+    let works : c.self.inside.failed ≡ false = subst (λ (w : World _). w.failed ≡ false) (sym c.self.view_is) c.requires.works in
+    let here : AreChanges rows next c.args.changes = subst (λ (w : World _). AreChanges w.rows.maps next c.args.changes) (sym c.self.view_is) c.requires.changes.1 in
+    let was : HasCleanDisk (state g.S.Store c.commit_cells.new.conn) → HasCleanDisk (store_of g.S.Store c.args.self.now) = λ clean.
+    subst (λ w. HasCleanDisk (store_of g.S.Store w)) c.self.view_is
+    (clean_before (state g.S.Store c.self.inside.connection) (state g.S.Store c.commit_cells.new.conn) (λ x. LeavesRows x next)
+    (c.commit_cells.ensures.crash c.args.changes rows next c.requires.printed here (c.self.invariant.2 works)) clean) in
+    elim c.if-is_err.branch [
+      | then-is_err w ↦ subst (λ v. HasCleanDisk (store_of g.S.Store v) → HasCleanDisk (store_of g.S.Store c.args.self.now)) (sym w.self-is) was
+      | else-is_err w ↦ subst (λ v. HasCleanDisk (store_of g.S.Store v) → HasCleanDisk (store_of g.S.Store c.args.self.now)) (sym w.self-is) was
+    ]
+
+pub returns-clause-rows : goal.returns-clause-rows
+returns-clause-rows g c next exact =
+    let here : AreChanges c.self.inside.rows.maps next c.args.changes = subst (λ (w : World _). AreChanges w.rows.maps next c.args.changes) (sym c.self.view_is) exact in
+    elim c.if-is_err.branch [
+      | then-is_err w ↦ subst (λ (v : World _). v.failed ≡ false → v.rows.maps ≡ next) (sym w.self-is) (λ e. cc)
+      | else-is_err w ↦ subst (λ (v : World _). v.failed ≡ false → v.rows.maps ≡ next) (sym w.self-is) (λ e. when_ok c.apply_changes.result w.if-is_err.ensures.value c.apply_changes.ensures next here)
+    ]
+
+pub returns-clause-cells : goal.returns-clause-cells
+returns-clause-cells g c next tables exact clean rests =
+    let rows = c.self.inside.rows.maps in
+    let here : AreChanges rows next c.args.changes = subst (λ (w : World _). AreChanges w.rows.maps next c.args.changes) (sym c.self.view_is) exact in
+    let rest : Rests (state g.S.Store c.self.inside.connection) tables = subst (λ w. Rests (store_of g.S.Store w) tables) (sym c.self.view_is) rests in
+    let new = state g.S.Store c.commit_cells.new.conn in
+    let old_rows = c.args.self.now.rows.maps in
+    let wrote : HasCleanDisk new → (after : Tables) × Rests new after × KeepsCells old_rows next tables after = λ clean.
+    let it = c.in_default.ensures.cells clean c.args.changes rows next tables c.requires.printed here rest in
+    (it.0, it.1, subst (λ (w : World _). KeepsCells w.rows.maps next tables it.0) c.self.view_is it.2) in
+    elim c.if-is_err.branch [
+      | then-is_err w ↦ subst (λ v. HasCleanDisk (store_of g.S.Store v) → (after : Tables) × Rests (store_of g.S.Store v) after × KeepsCells old_rows next tables after) (sym w.self-is) wrote clean
+      | else-is_err w ↦ subst (λ v. HasCleanDisk (store_of g.S.Store v) → (after : Tables) × Rests (store_of g.S.Store v) after × KeepsCells old_rows next tables after) (sym w.self-is) wrote clean
+    ]

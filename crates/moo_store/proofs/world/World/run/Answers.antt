@@ -1,7 +1,9 @@
 use Rattle.std.proofs.Common.{◌≡◌, ◌+◌, vec_len, refl, arith, Ok, Err}
 use Rattle.std.specs.Prelude.{⊤}
 use Rattle.moo_store.specs.declared.fault.StoreFault.TheVariants.{OutOfMemory, Closed}
-use Rattle.moo_store.proofs.Running.{starts, goes_on, answers, is_at_end, stops, left_at}
+use Rattle.moo_store.proofs.Running.{when_ok, starts, goes_on, answers, is_at_end, stops, left_at}
+use Rattle.moo_store.proofs.Untouched.{wrote_at_start, wrote_on, wrote_all, wrote_stopped}
+use Rattle.moo_store.specs.Answered.{added}
 use Rattle.moo_store.proofs.world.World.run.Goals as goal
 
 -- before the first batch
@@ -42,10 +44,19 @@ returns-then-is_err-clause-left g c s it =
 
 -- one batch after another
 
+pub loop-batch-init : goal.loop-batch-init
+loop-batch-init g c = record {
+  progress = starts g.S.Store c.args.self.now c.args.batches.now c.args.replies.now.items c.reserve.new.self.items c.reserve.ensures.items;
+  cells = wrote_at_start g.S.Store c.args.self.now c.args.batches.now c.args.replies.now.items c.reserve.new.self.items c.reserve.ensures.items;
+  room = let enough = when_ok c.reserve.result c.if-is_err.ensures.value c.reserve.ensures.ok in omega (arith, enough, c.reserve.ensures.len);
+}
+
 pub loop-batch-preserved : goal.loop-batch-preserved
 loop-batch-preserved g c = record {
   progress = goes_on g.S.Store c.args.self.now c.loop-batch.self c.run_one.new.self c.args.batches.now c.loop-batch.batch-index c.args.replies.now.items c.loop-batch.replies.items c.push.new.self.items c.batch-item.result c.in-Ok.reply
       c.loop-batch-test.true c.batch-item.is c.loop-batch.invariant.progress (rw c.unwrap.ensures at c.push.ensures.items) c.in-Ok.ensures.runs;
+  cells = wrote_on g.S.Store c.args.self.now c.loop-batch.self c.run_one.new.self c.args.batches.now c.loop-batch.batch-index c.args.replies.now.items c.loop-batch.replies.items c.push.new.self.items c.batch-item.result c.in-Ok.reply
+      c.loop-batch-test.true c.batch-item.is c.loop-batch.invariant.progress (rw c.unwrap.ensures at c.push.ensures.items) c.loop-batch.invariant.cells c.in-Ok.ensures.fails c.in-Ok.ensures.cells;
   room = let longer : vec_len c.push.new.self ≡ vec_len c.loop-batch.replies + 1 = rw c.unwrap.ensures at c.push.ensures.len in omega (arith, longer, c.loop-batch.invariant.room, c.push.ensures.capacity, c.loop-batch-test.true);
 }
 
@@ -73,3 +84,18 @@ pub returns-clause-left : goal.returns-clause-left
 returns-clause-left g c s it =
     left_at {T = Unit {0}} g.S.Store c.loop-batch.self _ (Ok tt) ⊤ (g.met.S.Store.settled c.loop-batch.self.connection.store)
     (is_at_end g.S.Store c.args.self.now c.loop-batch.self c.args.batches.now c.loop-batch.batch-index c.args.replies.now.items c.loop-batch.replies.items c.loop-batch.invariant.progress s it)
+
+-- what was written
+
+pub returns-then-self-clause-cells : goal.returns-then-self-clause-cells
+returns-then-self-clause-cells g c = (wrote_at_start g.S.Store c.args.self.now c.args.batches.now c.args.replies.now.items c.args.replies.now.items refl).written
+
+pub returns-then-is_err-clause-cells : goal.returns-then-is_err-clause-cells
+returns-then-is_err-clause-cells g c = (wrote_at_start g.S.Store c.args.self.now c.args.batches.now c.args.replies.now.items c.reserve.new.self.items c.reserve.ensures.items).written
+
+pub returns-in-Err-clause-cells : goal.returns-in-Err-clause-cells
+returns-in-Err-clause-cells g c =
+    wrote_stopped (Unit {0}) g.S.Store c.args.self.now c.loop-batch.self c.run_one.new.self c.args.batches.now (added c.args.replies.now.items c.loop-batch.replies.items) c.in-Err.fault c.loop-batch.invariant.cells c.in-Err.ensures.fails
+
+pub returns-clause-cells : goal.returns-clause-cells
+returns-clause-cells g c = wrote_all {T = Unit {0}} g.S.Store c.args.self.now c.loop-batch.self c.args.batches.now (added c.args.replies.now.items c.loop-batch.replies.items) (Ok tt) c.loop-batch.invariant.cells

@@ -1,9 +1,12 @@
 use Rattle.std.proofs.Common.{◌≤◌, ◌+◌, ◌-◌, length, vec_len, vec_capacity}
+use Rattle.moo_store.specs.Answered.{added}
 use Rattle.moo_store.proofs.Running.{Progress}
+use Rattle.moo_store.proofs.Untouched.{Wrote}
 use Rattle.moo_store.proofs.world.World.run.Given as goal
 
 abbrev pub invariant-loop-batch : goal.invariant-loop-batch
 invariant-loop-batch g l = record {
   progress : Progress g.S.Store l.fn.self l.self l.batches l.batch-index l.fn.replies.items l.replies.items;
+  cells : Wrote g.S.Store l.fn.self l.self l.batches (added l.fn.replies.items l.replies.items);
   room : vec_len l.replies + (length l.batches - l.batch-index) ≤ vec_capacity l.replies;
 }

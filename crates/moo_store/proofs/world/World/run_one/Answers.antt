@@ -7,6 +7,7 @@ use Rattle.moo_store.specs.Kept.{World}
 use Rattle.moo_store.specs.States.{LeavesState}
 use Rattle.moo_store.specs.World.{IsAt}
 use Rattle.moo_store.proofs.Running.{accepted_low, accepted_one, at_changed, at_error}
+use Rattle.moo_store.proofs.Untouched.{nothing_written, accepted_writes}
 use Rattle.moo_store.proofs.world.World.run_one.Goals as goal
 
 pub commit-requires-clause-limit : goal.commit-requires-clause-limit
@@ -33,3 +34,29 @@ returns-in-Ok-clause-runs g c s it =
     (subst (λ n. IfOk c.commit.result (λ r. r ≡ reply.Accepted n answers)) (ap (λ (h : Head). h.seq) found.1.head) c.commit.ensures.reply)
     (at_changed c.commit.result (λ at. at next exact found.2) c.commit.ensures.is_at) c.commit.ensures.fault
     (at_error c.commit.result (λ crash clean trees left. subst (λ t. LeavesState trees t ⊎ LeavesState trees (state_of next)) (it.rows works) (crash next exact found.2 clean trees left)) c.commit.ensures.crash)
+
+pub returns-in-Ok-clause-cells : goal.returns-in-Ok-clause-cells
+returns-in-Ok-clause-cells g c =
+    let found = c.in-Accepted.ensures in
+    let next = found.0 in
+    let answers = c.in-Accepted.answers in
+    let exact = subst (λ (w : World _). AreChanges w.rows.maps next c.in-Accepted.changes) c.self.view_is found.1 in
+    let judged = subst (λ (w : World _). judge (state_of w.rows.maps) c.args.batch.now ≡ Accepted answers (state_of next)) c.self.view_is found.3 in
+    accepted_writes g.S.Store c.args.self.now c.commit.new.self c.args.batch.now answers c.in-Accepted.changes.head.seq next c.commit.result judged c.commit.ensures.reply
+    (at_changed c.commit.result (λ rows. rows next exact) c.commit.ensures.rows)
+    (at_changed c.commit.result (λ cells tables clean rests. cells next tables exact clean rests) c.commit.ensures.cells) c.commit.ensures.clean
+
+pub returns-in-Err-clause-cells : goal.returns-in-Err-clause-cells
+returns-in-Err-clause-cells g c = nothing_written g.S.Store c.args.self.now
+
+pub returns-in-Refused-clause-cells : goal.returns-in-Refused-clause-cells
+returns-in-Refused-clause-cells g c = nothing_written g.S.Store c.args.self.now
+
+pub returns-in-Full-clause-cells : goal.returns-in-Full-clause-cells
+returns-in-Full-clause-cells g c = nothing_written g.S.Store c.args.self.now
+
+pub returns-in-Stale-clause-cells : goal.returns-in-Stale-clause-cells
+returns-in-Stale-clause-cells g c = nothing_written g.S.Store c.args.self.now
+
+pub returns-in-OutOfMemory-clause-cells : goal.returns-in-OutOfMemory-clause-cells
+returns-in-OutOfMemory-clause-cells g c = nothing_written g.S.Store c.args.self.now

@@ -1,0 +1,84 @@
+"""The rows that the batches of moo_store_bench write, written by the machine's own SQLite.
+
+    python3 sqlite_baseline.py COUNT FILE
+
+Each batch is one transaction that replaces the row of #4 and the row of the head. Journal, syncs, page size and checkpoints are
+those of the sqlite crate: a write-ahead log with one sync a commit, pages of 4,096 bytes, a checkpoint past 1,000 pages of log,
+and the file locked for one program.
+"""
+import sqlite3
+import sys
+import time
+
+PRAGMAS = [
+    "PRAGMA page_size = 4096",
+    "PRAGMA locking_mode = EXCLUSIVE",
+    "PRAGMA journal_mode = WAL",
+    "PRAGMA synchronous = FULL",
+    "PRAGMA wal_autocheckpoint = 1000",
+]
+
+TABLES = [
+    "CREATE TABLE head (id INTEGER NOT NULL PRIMARY KEY, version INTEGER NOT NULL, seq INTEGER NOT NULL, top INTEGER NOT NULL,"
+    " next_prop INTEGER NOT NULL, next_verb INTEGER NOT NULL) STRICT",
+    "CREATE TABLE object (n INTEGER NOT NULL PRIMARY KEY, name TEXT NOT NULL, owner INTEGER NOT NULL, parent INTEGER NOT NULL,"
+    " location INTEGER NOT NULL, player INTEGER NOT NULL, programmer INTEGER NOT NULL, wizard INTEGER NOT NULL,"
+    " r INTEGER NOT NULL, w INTEGER NOT NULL, f INTEGER NOT NULL, accept TEXT NOT NULL) STRICT",
+    "CREATE TABLE prop (id INTEGER NOT NULL PRIMARY KEY, definer INTEGER NOT NULL, name TEXT NOT NULL) STRICT",
+    "CREATE TABLE slot (object INTEGER NOT NULL, prop INTEGER NOT NULL, owner INTEGER NOT NULL, bits TEXT NOT NULL,"
+    " value TEXT NOT NULL, PRIMARY KEY (object, prop)) STRICT",
+    "CREATE TABLE verb (object INTEGER NOT NULL, id INTEGER NOT NULL, names TEXT NOT NULL, owner INTEGER NOT NULL,"
+    " bits TEXT NOT NULL, dobj TEXT NOT NULL, prep TEXT NOT NULL, iobj TEXT NOT NULL, PRIMARY KEY (object, id)) STRICT",
+]
+
+PUT_HEAD = "INSERT OR REPLACE INTO head VALUES (?1, ?2, ?3, ?4, ?5, ?6)"
+PUT_OBJECT = "INSERT OR REPLACE INTO object VALUES (?1, ?2, ?3, ?4, ?5, ?6, ?7, ?8, ?9, ?10, ?11, ?12)"
+
+OPENING_OBJECTS = [
+    (0, "System Object", 3, 1, -1, 0, 0, 0, 0, 0, 0, ""),
+    (1, "Root Class", 3, -1, -1, 0, 0, 0, 0, 0, 1, ""),
+    (2, "The First Room", 3, 1, -1, 0, 0, 0, 0, 0, 0, "{#1}"),
+    (3, "Wizard", 3, 1, 2, 1, 1, 1, 0, 0, 0, ""),
+]
+
+
+def head(seq, top):
+    return (1, 1, seq, top, 1, 1)
+
+
+def lantern(name):
+    return (4, name, 3, 1, -1, 0, 0, 0, 0, 0, 0, "")
+
+
+def put(connection, head_row, object_rows):
+    connection.execute("BEGIN")
+    connection.execute(PUT_HEAD, head_row)
+    connection.executemany(PUT_OBJECT, object_rows)
+    connection.execute("COMMIT")
+
+
+def make(connection):
+    for pragma in PRAGMAS:
+        connection.execute(pragma).fetchall()
+    connection.execute("BEGIN")
+    for table in TABLES:
+        connection.execute(table)
+    connection.execute("COMMIT")
+    put(connection, head(0, 3), OPENING_OBJECTS)
+    put(connection, head(1, 4), [lantern("")])
+
+
+def main():
+    count, path = int(sys.argv[1]), sys.argv[2]
+    connection = sqlite3.connect(path, isolation_level=None)
+    make(connection)
+    start = time.perf_counter()
+    for number in range(count):
+        put(connection, head(number + 2, 4), [lantern(f"Lantern {number}")])
+    taken = round((time.perf_counter() - start) * 1_000_000)
+    connection.close()
+    print(f"{count} batches in {taken} us, {count * 1_000_000 // max(taken, 1)} a second", file=sys.stderr)
+
+
+if __name__ == "__main__":
+    main()

@@ -1,0 +1,102 @@
+//! How many batches of one call a World runs in a second.
+//!
+//! The words of the command line are the number of batches and, for a world in a file, the path where the file is to be made;
+//! with no path the world is in memory, and with no words it runs a few batches. What was done goes to standard output, and the
+//! time to standard error.
+#![tactic(auto)]
+
+ghost use Rattle.std.specs.Prelude.{◌≡◌, false};
+
+use anyhow::{Context, Result, bail};
+use moo_store::apply_text;
+use moo_store::creating::create_in;
+use moo_store::world::World;
+use sqlite::{Alter, Connection};
+use std::alloc::Global;
+use std::env;
+use std::time::Instant;
+
+/// How many batches are run where no number is given.
+const FEW: u32 = 10;
+
+/// A text of so many batches, each of which gives `#4` another name.
+fn renamings(alloc: Global, count: u32) -> Result<String> {
+    let mut text = String::new(alloc);
+    for number in 0..count {
+        let batch = format!(in alloc;
+            "batch as #3\nset(#4, \"name\", \"Lantern {number}\")\nend\n"
+        )?;
+        text.push_str(&batch)?;
+    }
+    Ok(text)
+}
+
+/// Runs a text, and answers how many batches it had.
+fn run<S: Alter + Drop>(alloc: Global, world: &mut World<S>, text: &str) -> Result<u64> {
+    let mut replies = Vec::new(alloc);
+    match apply_text(alloc, text.as_bytes(), &mut replies, world) {
+        Ok(tally) if tally.lost == 0 => Ok(tally.batches),
+        _ => bail!("a batch met a fault"),
+    }
+}
+
+/// Runs so many batches on a new world, reports, and answers the connection.
+fn measure<S: Alter + Drop>(
+    rt: &HostRuntime,
+    conn: Connection<S>,
+    count: u32,
+) -> Result<Connection<S>>
+    requires { conn.in_transaction ≡ false }
+{
+    let alloc = rt.alloc();
+    let Ok(mut world) = create_in(alloc, conn) else {
+        bail!("no world was made");
+    };
+    let made = run(alloc, &mut world, "batch as #3\ncreate(#1)\nend\n")?;
+    let text = renamings(alloc, count)?;
+    let start = Instant::now(rt)?;
+    let batches = run(alloc, &mut world, &text)?;
+    let taken = start.elapsed(rt)?.as_micros();
+    let Ok(accepted) = world.seq() else {
+        bail!("the world has failed");
+    };
+    println!(rt; "{made} and {batches} batches, {accepted} accepted")?;
+    let a_second = (u128::from(batches) * 1_000_000)
+        .checked_div(taken)
+        .unwrap_or(0);
+    eprintln!(rt; "{batches} batches in {taken} us, {a_second} a second")?;
+    Ok(world.into_connection())
+}
+
+/// Runs so many batches on a world in memory.
+fn measure_memory(rt: &HostRuntime, count: u32) -> Result<()> {
+    let Ok(conn) = Connection::open_in_memory(rt.alloc()) else {
+        bail!("no memory");
+    };
+    measure(rt, conn, count)?;
+    Ok(())
+}
+
+/// Runs so many batches on a world in a new file, and closes the file.
+fn measure_file(rt: &HostRuntime, count: u32, path: &str) -> Result<()> {
+    let Ok(conn) = Connection::open(rt, path) else {
+        bail!("no file could be opened at {path}");
+    };
+    let conn = measure(rt, conn, count)?;
+    if conn.close().is_err() {
+        bail!("the file could not be closed");
+    }
+    Ok(())
+}
+
+fn main(rt: HostRuntime) -> Result<()> {
+    let mut words = env::args(&rt)?.skip(1);
+    let count = match words.next() {
+        Some(word) => word.parse::<u32>().context("how many batches?")?,
+        None => FEW,
+    };
+    match words.next() {
+        Some(path) => measure_file(&rt, count, path.as_str()),
+        None => measure_memory(&rt, count),
+    }
+}

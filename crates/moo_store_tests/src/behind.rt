@@ -1,0 +1,65 @@
+//! What is behind texts that a new world runs and is asked.
+
+use moo_store::creating::create_in;
+use moo_store::world::World;
+use moo_store::{apply_text, ask_text};
+use moo_tables::{CellLists, read_tables};
+use sqlite::{Alter, Connection};
+use std::alloc::Global;
+use std::test::Fail;
+
+/// What was written for some texts, and the cells of the tables behind them.
+#[derive(Drop)]
+pub(crate) struct Behind {
+    pub(crate) written: Vec<u8>,
+    pub(crate) tables: CellLists,
+}
+
+fn run<S: Alter + Drop>(
+    alloc: Global,
+    world: &mut World<S>,
+    text: &[u8],
+    written: &mut Vec<u8>,
+) -> Result<(), Fail> {
+    apply_text(alloc, text, written, world)?;
+    Ok(())
+}
+
+fn ask<S: Alter + Drop>(
+    alloc: Global,
+    world: &World<S>,
+    text: &[u8],
+    written: &mut Vec<u8>,
+) -> Result<(), Fail> {
+    ask_text(alloc, text, written, world)?;
+    Ok(())
+}
+
+/// Runs one text, asks another, runs a last one, and reads the tables.
+fn go_through<S: Alter + Drop>(
+    alloc: Global,
+    mut world: World<S>,
+    first: &[u8],
+    asked: &[u8],
+    last: &[u8],
+) -> Result<Behind, Fail> {
+    let mut written = Vec::new(alloc);
+    run(alloc, &mut world, first, &mut written)?;
+    ask(alloc, &world, asked, &mut written)?;
+    run(alloc, &mut world, last, &mut written)?;
+    let mut conn = world.into_connection();
+    let tables = read_tables(&mut conn)?;
+    Ok(Behind { written, tables })
+}
+
+/// What is behind a new world that runs one text, is asked another, and runs a last one.
+pub(crate) fn run_and_ask(
+    alloc: Global,
+    first: &[u8],
+    asked: &[u8],
+    last: &[u8],
+) -> Result<Behind, Fail> {
+    let conn = Connection::open_in_memory(alloc)?;
+    let world = create_in(alloc, conn).map_err(|(fault, _conn)| fault)?;
+    go_through(alloc, world, first, asked, last)
+}

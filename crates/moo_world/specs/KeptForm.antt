@@ -1,0 +1,24 @@
+-- That each call leaves a well formed world, and so does each run of batches.
+use Rattle.std.specs.Prelude.{◌≡◌, true, Bool, List}
+use Rattle.std.specs.List.{list_all}
+use Rattle.moo_value.specs.declared.value.ObjNo.{ObjNo}
+use Rattle.moo_value.specs.declared.value.Value.{Value}
+use Rattle.moo_world.specs.declared.call.Batch.{Batch}
+use Rattle.moo_world.specs.declared.call.Call.{Call}
+use Rattle.moo_world.specs.Arguments.{fits}
+use Rattle.moo_world.specs.Judge.{State, after}
+use Rattle.moo_world.specs.Outcomes.{Done}
+use Rattle.moo_world.specs.Step.{step}
+use Rattle.moo_world.specs.World.{World, IsWellFormed}
+
+-- in each value that the call is given lists nest at most 32 deep, and numbers have 32 bits
+abbrev pub arguments_fit : Call → Bool
+arguments_fit call = list_all fits call.args
+
+-- where a call is answered in a well formed world, the world that it leaves is well formed
+abbrev pub CallsKeepForm : Type 0
+CallsKeepForm = (w next : World) (p : ObjNo) (call : Call) (v : Value) → IsWellFormed w → arguments_fit call ≡ true → step w p call ≡ Done v next → IsWellFormed next
+
+-- after any batches, accepted or not, a world that was well formed is well formed
+abbrev pub RunsKeepForm : Type 0
+RunsKeepForm = (s : State) (batches : List Batch) → IsWellFormed s.world → list_all (λ batch. list_all arguments_fit batch.calls) batches ≡ true → IsWellFormed (after s batches).world
