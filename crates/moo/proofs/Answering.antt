@@ -9,7 +9,7 @@ use Rattle.moo_store.specs.Kept.{World}
 use Rattle.moo_store.specs.Text.{Applies}
 use Rattle.moo.specs.Run.{AnswersText}
 
-pub answers_text : {S : Type 0} (g : Ghosts S) (world : World S) (left old new : Option (List ℕ)) (batches lost : ℕ)
-    → IfSome left (λ text. Applies g (state_of opening_maps) (items text) old new world batches lost) → IfSome left (λ text. AnswersText text old new)
-answers_text g world None old new batches lost it = it
-answers_text g world (Some text) old new batches lost it = record { answers = it.answers; end = it.end; answered = it.answered; wrote = it.wrote }
+pub answers_text : {S : Type 0} (g : Ghosts S) (was world : World S) (left old new : Option (List ℕ)) (batches lost : ℕ)
+    → IfSome left (λ text. Applies g (state_of opening_maps) (items text) old new was world batches lost) → IfSome left (λ text. AnswersText text old new)
+answers_text g was world None old new batches lost it = it
+answers_text g was world (Some text) old new batches lost it = record { answers = it.answers; end = it.end; answered = it.answered; wrote = it.wrote }

@@ -3,10 +3,6 @@
 
 pub mod changes;
 pub mod draft;
-#[cfg(test)]
-mod draft_tests;
 pub mod judge;
 pub mod laws;
 mod overlay;
-#[cfg(test)]
-mod tests;

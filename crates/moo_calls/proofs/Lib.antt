@@ -1,4 +1,5 @@
 mod Created
 mod OwnProperty
+mod Passed
 mod PropertyNames
 mod Renamed

@@ -1,6 +1,8 @@
 //! The calls that change one field of an object, whoever may set it.
 
-ghost use Rattle.std.specs.Prelude.{◌≡◌, OnOk, [], length, nat_le, unwrap_or};
+ghost use Rattle.std.specs.Prelude.{◌≡◌, true, OnOk, [], length, nat_le, unwrap_or};
+ghost use Rattle.std.specs.List.{list_all};
+ghost use Rattle.moo_world.specs.Arguments.{is_number};
 ghost use Rattle.moo_world.specs.Calls.{set_accept, set_player_flag};
 ghost use Rattle.moo_world.specs.Keeps.{Keeps};
 ghost use Rattle.moo_world.specs.Rows.{IsGood};
@@ -65,7 +67,8 @@ pub fn set_accept<R: Rows>(
     x: ObjNo,
     list: Option<ObjList>,
 ) -> Result<Value, Fault>
-    requires { IsGood (R.held rows.old).maps }
+    requires good { IsGood (R.held rows.old).maps }
+    requires numbers { list_all is_number (unwrap_or list []) ≡ true }
     ensures comes { ComesTo (set_accept (world_in (R.held rows.old)) programmer x list) (R.held rows.old) (R.held rows.new) result }
     ensures kept { OnOk result (Keeps (R.held rows.old) (R.held rows.new)) }
 {

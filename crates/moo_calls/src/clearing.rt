@@ -6,7 +6,7 @@ ghost use Rattle.moo_world.specs.PropertyCalls.{clear_property, is_clear, is_cle
 ghost use Rattle.moo_world.specs.Rows.{IsGood};
 ghost use Rattle.moo_rights.specs.Outcomes.{world_in, Answers, ComesTo};
 
-use crate::slots::{may_read, may_write};
+use crate::slots::{may_write, readable_slot};
 use moo_props::finding::slot_of;
 use moo_props::state::clear;
 use moo_rights::answers::{ZERO, flag};
@@ -44,12 +44,7 @@ pub fn is_clear_property<R: Rows>(
     if !valid(rows, x) {
         return Err(Fault::Moo(Code::InvalidArgument));
     }
-    let Some(found) = slot_of(rows, x, name) else {
-        return Err(Fault::Moo(Code::PropertyNotFound));
-    };
-    if !may_read(rows, programmer, found) {
-        return Err(Fault::Moo(Code::Permission));
-    }
+    let found = readable_slot(rows, programmer, x, name)?;
     Ok(flag(is_clear(&found.slot.state)))
 }
 

@@ -9,8 +9,7 @@ ghost use Rattle.moo_world.specs.Rows.{IsGood};
 ghost use Rattle.moo_world.specs.World.{names_of};
 ghost use Rattle.moo_rights.specs.Outcomes.{world_in, Answers};
 
-use crate::slots::may_read;
-use moo_props::finding::slot_of;
+use crate::slots::readable_slot;
 use moo_props::value::value_of;
 use moo_rights::answers::{list_of, text_list};
 use moo_rights::fault::Fault;
@@ -38,12 +37,7 @@ pub fn get_property<R: Rows>(
     requires { IsGood (R.held rows.now).maps }
     ensures { Answers (get_property (world_in (R.held rows.now)) programmer x name.now) (R.held rows.now) result }
 {
-    let Some(found) = slot_of(rows, x, name) else {
-        return Err(Fault::Moo(Code::PropertyNotFound));
-    };
-    if !may_read(rows, programmer, found) {
-        return Err(Fault::Moo(Code::Permission));
-    }
+    let found = readable_slot(rows, programmer, x, name)?;
     Ok(value_of(rows, x, found.id).copy(alloc)?)
 }
 
@@ -121,11 +115,6 @@ pub fn property_info<R: Rows>(
     if !valid(rows, x) {
         return Err(Fault::Moo(Code::InvalidArgument));
     }
-    let Some(found) = slot_of(rows, x, name) else {
-        return Err(Fault::Moo(Code::PropertyNotFound));
-    };
-    if !may_read(rows, programmer, found) {
-        return Err(Fault::Moo(Code::Permission));
-    }
+    let found = readable_slot(rows, programmer, x, name)?;
     Ok(info_list(alloc, found.slot)?)
 }

@@ -1,6 +1,7 @@
 //! Setting built-in properties.
 
 ghost use Rattle.std.specs.Prelude.{◌≡◌, true, OnOk};
+ghost use Rattle.moo_world.specs.Arguments.{fits};
 ghost use Rattle.moo_world.specs.Keeps.{Keeps};
 ghost use Rattle.moo_world.specs.PropertyCalls.{change_of, may_set, names_object, set_built_in};
 ghost use Rattle.moo_world.specs.Rows.{IsGood};
@@ -75,6 +76,7 @@ pub fn set_built_in<R: Rows>(
 ) -> Result<Value, Fault>
     requires good { IsGood (R.held rows.old).maps }
     requires there { is_object (world_in (R.held rows.old)) x ≡ true }
+    requires fit { fits value.now ≡ true }
     ensures comes { ComesTo (set_built_in (world_in (R.held rows.old)) programmer x field value.now) (R.held rows.old) (R.held rows.new) result }
     ensures kept { OnOk result (Keeps (R.held rows.old) (R.held rows.new)) }
 {

@@ -1,12 +1,16 @@
 //! Adding verbs.
 
-ghost use Rattle.std.specs.Prelude.{◌≡◌, OnOk};
+ghost use Rattle.std.specs.Prelude.{◌≡◌, true, Some, OnOk, IfOk, IfErr};
+ghost use Rattle.moo_rows.specs.Bits.{verb_bits_of};
+ghost use Rattle.moo_rows.specs.declared.row.VerbBits.{VerbBits};
 ghost use Rattle.moo_world.specs.Rows.{IsGood};
-ghost use Rattle.moo_world.specs.World.{has_word};
+ghost use Rattle.moo_world.specs.World.{is_object, has_word};
+ghost use Rattle.moo_world.specs.Outcomes.{Outcome, Failed};
 ghost use Rattle.moo_world.specs.VerbReading.{args_of};
 ghost use Rattle.moo_world.specs.VerbCalls.{add_verb};
 ghost use Rattle.moo_world.specs.Keeps.{Keeps};
 ghost use Rattle.moo_rights.specs.Outcomes.{world_in, ComesTo};
+ghost use Rattle.moo_calls.specs.Checks.{taking_info};
 
 use moo_rights::answers::ZERO;
 use moo_rights::fault::Fault;
@@ -23,10 +27,30 @@ use moo_verbs::reading::{check_names, read_args};
 use std::alloc::Global;
 
 /// Whether the names have a word.
-pub(crate) fn has_word(names: &MooStr) -> bool
+fn has_word(names: &MooStr) -> bool
     ensures { result ≡ has_word names.now }
 {
     check_names(names).is_ok()
+}
+
+/// The rights that a verb takes with an owner and names, or E_INVARG: where the owner is no object, then where the rights have
+/// another letter than `r`, `w`, `x` and `d`, then where the names are empty or all spaces.
+pub(crate) fn bits_taken<R: Rows>(rows: &R, verb: VerbInfo<'_>) -> Result<VerbBits, Code>
+    ensures owner { OnOk result (is_object (world_in (R.held rows.now)) verb.entry.info.owner ≡ true) }
+    ensures bits { IfOk result (λ bits. verb_bits_of verb.entry.info.perms.now ≡ Some bits) }
+    ensures names { OnOk result (has_word verb.entry.names.now ≡ true) }
+    ensures err { IfErr result (λ code. (then : VerbBits → Outcome) → taking_info (world_in (R.held rows.now)) (verb.entry.info.owner, verb.entry.info.perms.now) verb.entry.names.now then ≡ Failed code) }
+{
+    if !valid(rows, verb.info.owner) {
+        return Err(Code::InvalidArgument);
+    }
+    let Some(bits) = VerbBits::read(verb.info.perms) else {
+        return Err(Code::InvalidArgument);
+    };
+    if !has_word(verb.names) {
+        return Err(Code::InvalidArgument);
+    }
+    Ok(bits)
 }
 
 /// The arguments that texts name, where they name some.
@@ -58,15 +82,7 @@ pub fn add_verb<R: Rows>(
     if !valid(rows, x) {
         return Err(Fault::Moo(Code::InvalidArgument));
     }
-    if !valid(rows, verb.info.owner) {
-        return Err(Fault::Moo(Code::InvalidArgument));
-    }
-    let Some(bits) = VerbBits::read(verb.info.perms) else {
-        return Err(Fault::Moo(Code::InvalidArgument));
-    };
-    if !has_word(verb.names) {
-        return Err(Fault::Moo(Code::InvalidArgument));
-    }
+    let bits = bits_taken(rows, verb)?;
     let Some(args) = args_of(args) else {
         return Err(Fault::Moo(Code::InvalidArgument));
     };

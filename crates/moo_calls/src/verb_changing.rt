@@ -6,12 +6,11 @@ ghost use Rattle.moo_world.specs.VerbCalls.{delete_verb, set_verb_info, set_verb
 ghost use Rattle.moo_world.specs.Keeps.{Keeps};
 ghost use Rattle.moo_rights.specs.Outcomes.{world_in, ComesTo};
 
-use crate::verb_adding::{args_of, has_word};
+use crate::verb_adding::{args_of, bits_taken};
 use moo_rights::answers::ZERO;
 use moo_rights::fault::Fault;
 use moo_rights::rights;
 use moo_rights::verb_args::{ArgTexts, VerbInfo};
-use moo_rows::row::VerbBits;
 use moo_rows::rows::Rows;
 use moo_tree::valid;
 use moo_value::code::Code;
@@ -73,15 +72,7 @@ pub fn set_verb_info<R: Rows>(
     let Some(found) = found_verb(rows, x, desc) else {
         return Err(Fault::Moo(Code::VerbNotFound));
     };
-    if !valid(rows, verb.info.owner) {
-        return Err(Fault::Moo(Code::InvalidArgument));
-    }
-    let Some(bits) = VerbBits::read(verb.info.perms) else {
-        return Err(Fault::Moo(Code::InvalidArgument));
-    };
-    if !has_word(verb.names) {
-        return Err(Fault::Moo(Code::InvalidArgument));
-    }
+    let bits = bits_taken(rows, verb)?;
     if !rights::may_write_verb(rows, programmer, found.row) {
         return Err(Fault::Moo(Code::Permission));
     }

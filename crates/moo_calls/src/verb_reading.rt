@@ -1,14 +1,17 @@
 //! Reading verbs.
 
-ghost use Rattle.std.specs.Prelude.{◌≡◌, [], ◌∷◌, IfOk};
+ghost use Rattle.std.specs.Prelude.{◌≡◌, [], ◌∷◌, IfOk, IfErr};
 ghost use Rattle.moo_value.specs.Text.{IsText};
 ghost use Rattle.moo_value.specs.declared.value.Value.TheVariants.{Obj, Str};
 ghost use Rattle.moo_rows.specs.Bits.{verb_letters_of};
+ghost use Rattle.moo_rows.specs.declared.row.VerbRow.{VerbRow};
 ghost use Rattle.moo_world.specs.Rows.{IsGood};
 ghost use Rattle.moo_world.specs.Answers.{list_of};
+ghost use Rattle.moo_world.specs.Outcomes.{Outcome, Failed};
 ghost use Rattle.moo_world.specs.Prepositions.{prep_text, place_text};
 ghost use Rattle.moo_world.specs.VerbCalls.{verbs, verb_info, verb_args};
 ghost use Rattle.moo_rights.specs.Outcomes.{world_in, Answers};
+ghost use Rattle.moo_calls.specs.Checks.{reading_verb};
 
 use moo_rights::answers::{list_of, text_list};
 use moo_rights::fault::Fault;
@@ -59,6 +62,30 @@ fn text(alloc: Global, text: &'static str) -> Result<Value, AllocError>
     }
 }
 
+/// The verb that a call on x reads, or the error: E_INVARG where x is no object, then E_VERBNF where no verb of x itself is
+/// meant, then E_PERM where the programmer may not read the verb.
+fn readable_verb<'a, R: Rows>(
+    rows: &'a R,
+    programmer: ObjNo,
+    x: ObjNo,
+    desc: &Desc,
+) -> Result<&'a VerbRow, Code>
+    requires { IsGood (R.held rows.now).maps }
+    ensures ok { IfOk result (λ verb. (then : VerbRow → Outcome) → reading_verb (world_in (R.held rows.now)) programmer x desc.now then ≡ then verb.now) }
+    ensures err { IfErr result (λ code. (then : VerbRow → Outcome) → reading_verb (world_in (R.held rows.now)) programmer x desc.now then ≡ Failed code) }
+{
+    if !valid(rows, x) {
+        return Err(Code::InvalidArgument);
+    }
+    let Some(found) = found_verb(rows, x, desc) else {
+        return Err(Code::VerbNotFound);
+    };
+    if !rights::may_read_verb(rows, programmer, found.row) {
+        return Err(Code::Permission);
+    }
+    Ok(found.row)
+}
+
 /// `{owner, perms, names}` of a verb. The only error is want of memory.
 fn info_of(alloc: Global, verb: &VerbRow) -> Result<Value, AllocError>
     ensures { IfOk result (λ value. value
@@ -83,16 +110,8 @@ pub fn verb_info<R: Rows>(
     requires { IsGood (R.held rows.now).maps }
     ensures { Answers (verb_info (world_in (R.held rows.now)) programmer x desc.now) (R.held rows.now) result }
 {
-    if !valid(rows, x) {
-        return Err(Fault::Moo(Code::InvalidArgument));
-    }
-    let Some(found) = found_verb(rows, x, desc) else {
-        return Err(Fault::Moo(Code::VerbNotFound));
-    };
-    if !rights::may_read_verb(rows, programmer, found.row) {
-        return Err(Fault::Moo(Code::Permission));
-    }
-    let answer = info_of(alloc, found.row)?;
+    let verb = readable_verb(rows, programmer, x, desc)?;
+    let answer = info_of(alloc, verb)?;
     Ok(answer)
 }
 
@@ -121,15 +140,7 @@ pub fn verb_args<R: Rows>(
     requires { IsGood (R.held rows.now).maps }
     ensures { Answers (verb_args (world_in (R.held rows.now)) programmer x desc.now) (R.held rows.now) result }
 {
-    if !valid(rows, x) {
-        return Err(Fault::Moo(Code::InvalidArgument));
-    }
-    let Some(verb) = found_verb(rows, x, desc) else {
-        return Err(Fault::Moo(Code::VerbNotFound));
-    };
-    if !rights::may_read_verb(rows, programmer, verb.row) {
-        return Err(Fault::Moo(Code::Permission));
-    }
-    let answer = args_of(alloc, verb.row.args)?;
+    let verb = readable_verb(rows, programmer, x, desc)?;
+    let answer = args_of(alloc, verb.args)?;
     Ok(answer)
 }

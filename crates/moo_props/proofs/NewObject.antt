@@ -12,6 +12,7 @@ use Rattle.moo_rows.specs.declared.row.PropRow.{PropRow}
 use Rattle.moo_rows.specs.declared.row.SlotRow.{SlotRow}
 use Rattle.moo_world.specs.Creation.{born, with_object, created, next_object}
 use Rattle.moo_world.specs.Objects.{Name, Pair, nothing, same_object, same_text, same_pair, folded, same_object-Decides}
+use Rattle.moo_world.specs.Arguments.{is_number}
 use Rattle.moo_world.specs.World.{World, Record, Slot, IsWellFormed, Chain, is_object, chain, owed_by, owner_of, owes, pair_named, slot_of, fresh, slot_for, with_slots, without_slots, SameButSlots, climb, numbers_to, read_in, read_along, read_of}
 use Rattle.moo_world.specs.Rows.{LookUps, AreSound, numbers_below, name_on, slot_on, slot_seen, record_of, world_shown}
 use Rattle.moo_world.proofs.Creating.{IsWellFormed-created, chain_x, chain_other, owed_still, owed_x}
@@ -215,8 +216,8 @@ module _ (m : LookUps) (sound : AreSound m) (wf : IsWellFormed (world_shown m)) 
   pub world_new : world_shown m2 ≡ created w x q owner
   world_new = same_world (world_shown m2) (created w x q owner) (links ∙ sym (SameButSlots-rebuilt w s q)) same_slots
 
-  pub formed_new : IsWellFormed (world_shown m2)
-  formed_new = subst IsWellFormed (sym world_new) (IsWellFormed-created w x q owner wf free next_is.1 next_is.0 parent_is)
+  pub formed_new : is_number owner ≡ true → IsWellFormed (world_shown m2)
+  formed_new numbered = subst IsWellFormed (sym world_new) (IsWellFormed-created w x q owner wf free next_is.1 next_is.0 parent_is numbered)
 
   -- ---- the rows are sound
 

@@ -15,7 +15,7 @@ use Rattle.moo_rows.specs.declared.row.SlotRow.{SlotRow}
 use Rattle.moo_rows.specs.declared.row.SlotState.TheVariants.{Set}
 use Rattle.moo_world.specs.Changes.{clashes, defined}
 use Rattle.moo_world.specs.Objects.{Name, nothing, same_object, same_text, folded, is_among, same_object-Decides, same_text-Decides}
-use Rattle.moo_world.specs.World.{World, Record, Slot, IsWellFormed, is_object, is_property_name, chain, owner_of, slot_of, names_of, fresh, state_fits}
+use Rattle.moo_world.specs.World.{World, Record, Slot, IsWellFormed, is_object, is_property_name, chain, owner_of, slot_of, names_of, fresh, slot_fits}
 use Rattle.moo_world.specs.Rows.{LookUps, AreSound, numbers_below, name_on, slot_on, slot_seen, record_of, world_shown}
 use Rattle.moo_world.proofs.RowLaws.{with_prop, names_shown, names_with_prop, other_names_with_prop, slot_shown}
 use Rattle.moo_world.proofs.Seen.{is_object_seen, object_seen}
@@ -181,7 +181,7 @@ module _ (m : LookUps) (sound : AreSound m) (wf : IsWellFormed (world_shown m)) 
       at y None e = refl
       at y (Some r) e = λ i. Some (record (record_of m2 y r) { defines = names y r e i; slot = λ n. slots y r e n i })
 
-  pub formed_with : is_property_name name ≡ true → next < 4294967295 → state_fits s.state ≡ true → IsWellFormed (defined w x name s)
+  pub formed_with : is_property_name name ≡ true → next < 4294967295 → slot_fits s ≡ true → IsWellFormed (defined w x name s)
   formed_with n l f = IsWellFormed-defined w wf x name s xo free refl (λ c. absurd (cc)) n (subst (λ k. k < 4294967295) (sym counter) l) f
 
   -- ---- the rows are sound

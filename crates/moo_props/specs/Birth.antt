@@ -1,12 +1,12 @@
 -- A new object, at the level of the rows.
-use Rattle.std.specs.Prelude.{List, [], map, false, None}
+use Rattle.std.specs.Prelude.{List, [], map}
 use Rattle.std.specs.FinMap.{insert}
 use Rattle.moo_value.specs.declared.value.ObjNo.{ObjNo}
 use Rattle.moo_rows.specs.declared.row.ObjRow.{ObjRow}
 use Rattle.moo_rows.specs.declared.row.PropId.{PropId}
 use Rattle.moo_rows.specs.declared.row.SlotRow.{SlotRow}
 use Rattle.moo_rows.specs.Maps.{Held, wrote}
-use Rattle.moo_world.specs.Objects.{nothing}
+use Rattle.moo_rows.specs.PlainRow.{plain_row}
 use Rattle.moo_props.specs.declared.reparent.Origin.{Origin}
 use Rattle.moo_props.specs.Reparent.{origin_of}
 
@@ -16,7 +16,7 @@ origins_among es = map (λ e. origin_of e.0.1 e.1) es
 
 -- the row of a new object under q
 abbrev pub new_row : ObjNo → ObjNo → ObjRow
-new_row q owner = record { name = []; owner = owner; parent = q; location = nothing; player = false; programmer = false; wizard = false; r = false; w = false; f = false; accept = None }
+new_row q owner = plain_row [] owner q
 
 -- what is held once its row is put
 abbrev pub objects_with : ObjNo → ObjNo → ObjNo → Held → Held

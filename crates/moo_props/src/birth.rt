@@ -7,15 +7,14 @@ ghost use Rattle.moo_world.specs.Objects.{Name, nothing, same_object};
 ghost use Rattle.moo_world.specs.Rows.{world_of, IsGood};
 ghost use Rattle.moo_world.specs.World.{is_object, read_of};
 ghost use Rattle.moo_rows.specs.Walk.{slots_of_left};
-ghost use Rattle.moo_props.specs.Birth.{new_row, objects_with, origins_among};
+ghost use Rattle.moo_props.specs.Birth.{objects_with, origins_among};
 ghost use Rattle.moo_world.specs.Keeps.{Keeps};
 ghost use Rattle.moo_props.specs.Reparent.{with_fresh};
 
 use crate::reparent::Origin;
-use moo_rows::row::{ObjRow, PropId, SlotRow, SlotState};
+use moo_rows::row::{ObjRow, PropId};
 use moo_rows::rows::Rows;
 use moo_rows::walk::each_slot_of;
-use moo_value::text::MooStr;
 use moo_value::value::ObjNo;
 use std::alloc::{AllocError, Global};
 
@@ -44,37 +43,9 @@ fn put_fresh<R: Rows>(
     ensures { OnOk result (R.held rows.new ≡ with_fresh x owner origins.now (R.held rows.old)) }
 {
     for origin in origins {
-        let fresh = SlotRow {
-            owner: if origin.bits.c { owner } else { origin.owner },
-            bits: origin.bits,
-            state: SlotState::Clear,
-        };
-        rows.put_slot((x, origin.id), fresh)?;
+        rows.put_slot((x, origin.id), origin.fresh(owner))?;
     }
     Ok(())
-}
-
-/// The row of a new object: no name, no place, all bits 0, no accept list.
-fn new_row(alloc: Global, parent: ObjNo, owner: ObjNo) -> Result<ObjRow, AllocError>
-    ensures { IfOk result (λ row. row ≡ new_row parent owner) }
-{
-    let name = match MooStr::from_bytes(alloc, b"") {
-        Ok(name) => name,
-        Err(_) => return Err(AllocError),
-    };
-    Ok(ObjRow {
-        name,
-        owner,
-        parent,
-        location: ObjNo(-1),
-        player: false,
-        programmer: false,
-        wizard: false,
-        r: false,
-        w: false,
-        f: false,
-        accept: None,
-    })
 }
 
 /// Puts the row of a new object, whose number is the greatest from now on.
@@ -87,7 +58,7 @@ fn put_new<R: Rows>(
 ) -> Result<(), AllocError>
     ensures { OnOk result (R.held rows.new ≡ objects_with x parent owner (R.held rows.old)) }
 {
-    let row = new_row(alloc, parent, owner)?;
+    let row = ObjRow::plain(alloc, b"", owner, parent)?;
     let mut head = rows.head();
     head.top = x.0;
     rows.set_head(head);

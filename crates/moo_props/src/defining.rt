@@ -24,12 +24,7 @@ fn put_on_all<R: Rows>(
     ensures { OnOk result (R.held rows.new ≡ fresh_over origin under.now (R.held rows.old)) }
 {
     for (y, owner) in under {
-        let fresh = SlotRow {
-            owner: if origin.bits.c { *owner } else { origin.owner },
-            bits: origin.bits,
-            state: SlotState::Clear,
-        };
-        rows.put_slot((*y, origin.id), fresh)?;
+        rows.put_slot((*y, origin.id), origin.fresh(*owner))?;
     }
     Ok(())
 }

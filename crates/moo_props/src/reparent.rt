@@ -8,10 +8,11 @@ ghost use Rattle.moo_world.specs.World.{IsTree, reparented};
 ghost use Rattle.moo_world.specs.Rows.{world_of, IsGood};
 ghost use Rattle.moo_world.specs.Laws.{MayReparent};
 ghost use Rattle.moo_world.specs.Keeps.{Keeps};
-ghost use Rattle.moo_props.specs.Reparent.{owners_under, props_only_of, origins, id_of, keys_on, keys_over, without_on, with_fresh, slots_moved, relinked, relinked_list};
+ghost use Rattle.moo_props.specs.Reparent.{owners_under, props_only_of, origins, id_of, keys_on, keys_over, without_on, fresh_row, with_fresh, slots_moved, relinked, relinked_list};
 ghost use Rattle.moo_props.specs.Present.{ArePresent, AreAbsent, AreAscending};
 ghost use Rattle.moo_props.specs.Touched.{removed_keys, added_keys, relinked_objects, slot_after, row_after, IsSameButSlotsAndObjects};
 
+use moo_rows::ordered::Row;
 use moo_rows::row::{Bits, ObjList, ObjRow, PropId, SlotRow, SlotState};
 use moo_rows::rows::Rows;
 use moo_rows::walk::{each_object, each_prop};
@@ -66,6 +67,19 @@ pub struct Origin {
     pub id: PropId,
     pub owner: ObjNo,
     pub bits: Bits,
+}
+
+impl Origin {
+    /// The slot that is made from it on an object of this owner.
+    pub(crate) fn fresh(&self, owner: ObjNo) -> SlotRow
+        ensures { result ≡ fresh_row owner self.now }
+    {
+        SlotRow {
+            owner: if self.bits.c { owner } else { self.owner },
+            bits: self.bits,
+            state: SlotState::Clear,
+        }
+    }
 }
 
 /// Whether an object stands in a list.
@@ -163,12 +177,7 @@ fn add_on<R: Rows>(
     ensures list { OnOk result (added.new.items ≡ added.old.items ++ keys_on y (map id_of origins.now)) }
 {
     for origin in origins {
-        let fresh = SlotRow {
-            owner: if origin.bits.c { owner } else { origin.owner },
-            bits: origin.bits,
-            state: SlotState::Clear,
-        };
-        rows.put_slot((y, origin.id), fresh)?;
+        rows.put_slot((y, origin.id), origin.fresh(owner))?;
         added.push((y, origin.id))?;
     }
     Ok(())

@@ -9,6 +9,7 @@ ghost use Rattle.moo_world.specs.World.{state_fits};
 ghost use Rattle.moo_world.specs.Keeps.{Keeps};
 ghost use Rattle.moo_props.specs.Names.{defines, spelling_of};
 
+use moo_rows::ordered::Row;
 use moo_rows::row::{Bits, PropId, SlotRow, SlotState};
 use moo_rows::rows::Rows;
 use moo_value::value::{ObjNo, Value};
@@ -78,11 +79,12 @@ pub fn set_info<R: Rows>(
     ensures kept { OnOk result (Keeps (R.held rows.old) (R.held rows.new)) }
     ensures props { OnOk result ((R.held rows.new).maps.props ≡ (R.held rows.old).maps.props) }
 {
-    let state = match rows.slot((x, id)) {
+    let mut row = match rows.slot((x, id)) {
         None => unreachable!(),
-        Some(slot) => slot.state.copy(alloc)?,
+        Some(row) => row.copy(alloc)?,
     };
-    let row = SlotRow { owner, bits, state };
+    row.owner = owner;
+    row.bits = bits;
     rows.put_slot((x, id), row)?;
     Ok(())
 }

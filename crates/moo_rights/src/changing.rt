@@ -7,6 +7,7 @@ ghost use Rattle.moo_world.specs.Rows.{IsGood};
 ghost use Rattle.moo_world.specs.World.{is_object};
 ghost use Rattle.moo_rights.specs.Outcomes.{world_in};
 
+use moo_rows::ordered::Row;
 use moo_rows::rows::Rows;
 use moo_value::value::ObjNo;
 use moo_world::change::Change;
@@ -14,7 +15,8 @@ use std::alloc::{AllocError, Global};
 
 /// Changes one field of an object, and nothing else. The only error is want of memory.
 ///
-/// A new location has to be `#-1`, or an object that isn't x and doesn't lie in it; an accept list has 1,000 entries at most.
+/// A new location has to be `#-1`, or an object that isn't x and doesn't lie in it; an accept list has 1,000 entries at most. Names,
+/// and the numbers of owners and of what a list names, keep the limits of their types.
 pub fn change_row<R: Rows>(
     rows: &mut R,
     alloc: Global,

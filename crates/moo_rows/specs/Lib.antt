@@ -3,6 +3,8 @@ pub mod Ordered
 pub mod Maps
 pub mod Exact
 pub mod Walk
+pub mod PlainRow
 pub mod Opening
 pub mod Bits
 pub mod SameRows
+pub mod SameClones

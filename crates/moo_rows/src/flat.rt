@@ -3,6 +3,7 @@
 ghost use Rattle.std.specs.Prelude.{◌≡◌, IfOk, IsOk};
 ghost use Rattle.moo_rows.specs.Maps.{no_maps, without_object, without_prop, without_slot, without_verb};
 ghost use Rattle.moo_rows.specs.Exact.{object_exact, prop_exact, slot_exact, verb_exact};
+ghost use Rattle.moo_rows.specs.SameClones.{object_clone, prop_clone, slot_clone, verb_clone};
 ghost use Rattle.moo_rows.specs.SameRows.{object_row-exact, prop_row-exact, slot_row-exact, verb_row-exact};
 
 use crate::ordered::{self, Key, Row};
@@ -32,18 +33,26 @@ impl Key for (ObjNo, VerbId) {
 
 impl Row for ObjRow {
     ghost exact = { object_row-exact };
+
+    ghost clones = { object_clone };
 }
 
 impl Row for PropRow {
     ghost exact = { prop_row-exact };
+
+    ghost clones = { prop_clone };
 }
 
 impl Row for SlotRow {
     ghost exact = { slot_row-exact };
+
+    ghost clones = { slot_clone };
 }
 
 impl Row for VerbRow {
     ghost exact = { verb_row-exact };
+
+    ghost clones = { verb_clone };
 }
 
 /// Rows in ordered maps. Its look-ups, next keys and removals take no memory, and its removals never fail.

@@ -1,8 +1,9 @@
 //! The rows of the four maps.
 
-ghost use Rattle.std.specs.Prelude.{◌≡◌, List, IfOk};
-ghost use Rattle.moo_value.specs.declared.value.ObjNo.{ObjNo};
+ghost use Rattle.std.specs.Prelude.{◌≡◌, IfOk};
+ghost use Rattle.moo_value.specs.Text.{IsText};
 ghost use Rattle.moo_rows.specs.Equal.{list_eq, list_laws};
+ghost use Rattle.moo_rows.specs.PlainRow.{plain_row};
 
 use moo_value::text::MooStr;
 use moo_value::value::{ObjNo, Value};
@@ -24,6 +25,9 @@ pub struct ObjList {
 }
 
 impl Model for ObjList {
+    ghost use Rattle.std.specs.Prelude.{List};
+    ghost use Rattle.moo_value.specs.declared.value.ObjNo.{ObjNo};
+
     ghost Value = { List ObjNo };
 
     ghost view = { λ a. a.items.items };
@@ -80,11 +84,29 @@ pub struct ObjRow {
 }
 
 impl ObjRow {
-    /// An equal row. An `Err` is want of memory.
-    pub fn copy(&self, _alloc: Global) -> Result<ObjRow, AllocError>
-        ensures { IfOk result (λ copy. copy ≡ self.now) }
+    /// An object with this name, owner and parent that has no rights, no place and no accept list. An `Err` is want of memory.
+    pub fn plain(
+        alloc: Global,
+        name: &[u8],
+        owner: ObjNo,
+        parent: ObjNo,
+    ) -> Result<ObjRow, AllocError>
+        requires { IsText name.now }
+        ensures { IfOk result (λ row. row ≡ plain_row name.now owner parent) }
     {
-        self.clone()
+        Ok(ObjRow {
+            name: MooStr::from_vec(name.to_vec(alloc)?),
+            owner,
+            parent,
+            location: ObjNo(-1),
+            player: false,
+            programmer: false,
+            wizard: false,
+            r: false,
+            w: false,
+            f: false,
+            accept: None,
+        })
     }
 }
 
@@ -93,15 +115,6 @@ impl ObjRow {
 pub struct PropRow {
     pub definer: ObjNo,
     pub name: MooStr,
-}
-
-impl PropRow {
-    /// An equal row. An `Err` is want of memory.
-    pub fn copy(&self, _alloc: Global) -> Result<PropRow, AllocError>
-        ensures { IfOk result (λ copy. copy ≡ self.now) }
-    {
-        self.clone()
-    }
 }
 
 /// The rights on a property.
@@ -125,30 +138,12 @@ pub enum SlotState {
     Set(Value),
 }
 
-impl SlotState {
-    /// An equal state. An `Err` is want of memory.
-    pub fn copy(&self, _alloc: Global) -> Result<SlotState, AllocError>
-        ensures { IfOk result (λ copy. copy ≡ self.now) }
-    {
-        self.clone()
-    }
-}
-
 /// A slot: what one property is on one object, the definer or a descendant of it.
 #[derive(Clone, PartialEq, Drop)]
 pub struct SlotRow {
     pub owner: ObjNo,
     pub bits: Bits,
     pub state: SlotState,
-}
-
-impl SlotRow {
-    /// An equal row. An `Err` is want of memory.
-    pub fn copy(&self, _alloc: Global) -> Result<SlotRow, AllocError>
-        ensures { IfOk result (λ copy. copy ≡ self.now) }
-    {
-        self.clone()
-    }
 }
 
 /// The rights on a verb.
@@ -218,15 +213,6 @@ pub struct VerbRow {
     pub owner: ObjNo,
     pub bits: VerbBits,
     pub args: ArgSpec,
-}
-
-impl VerbRow {
-    /// An equal row. An `Err` is want of memory.
-    pub fn copy(&self, _alloc: Global) -> Result<VerbRow, AllocError>
-        ensures { IfOk result (λ copy. copy ≡ self.now) }
-    {
-        self.clone()
-    }
 }
 
 /// The counters.

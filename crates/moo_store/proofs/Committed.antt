@@ -1,5 +1,5 @@
 -- Tables of some rows, changed, are those of the next ones.
-use Rattle.std.proofs.Common.{◌≡◌, ◌⊎◌, inl, inr, Bool, true, false, Result, Ok, Err, OnOk, OnErr, IsTrue, refl, arith}
+use Rattle.std.proofs.Common.{◌≡◌, ◌⊎◌, inl, inr, Bool, true, false, Result, Ok, Err, OnOk, refl, sym, subst, ◌∙◌, arith}
 use Rattle.sqlite.specs.State.{State as Database, HasCleanDisk, Survives}
 use Rattle.sqlite.specs.Tree.{Trees}
 use Rattle.sqlite_trees.specs.View.{doubt}
@@ -32,14 +32,13 @@ at_written old new cells (Err e) f = tt
 
 pub at_kept : {E : Type 0} (old new : Database) (cells : CellChanges) (r : Result (Unit {0}) E)
     → OnOk r ((t : Tables) → Rests old t → Rests new (tables_with cells t))
-    → OnOk r ((changes : Changes) (base next : Maps) (t : Tables) → Prints cells changes → AreChanges base next changes → Rests old t → (after : Tables) × Rests new after × KeepsCells base next t after)
-at_kept old new cells (Ok x) f = λ changes base next t printed exact rests. (tables_with cells t, f t rests, keeps-written cells changes base next t printed exact)
+    → OnOk r ((changes : Changes) (base next : Maps) (t : Tables) → Prints cells changes → AreChanges base next changes → Rests old t → ShowsRows t base → (after : Tables) × Rests new after × KeepsCells base next t after)
+at_kept old new cells (Ok x) f = λ changes base next t printed exact rests shown. (tables_with cells t, f t rests, keeps-written cells changes base next t printed exact shown)
 at_kept old new cells (Err e) f = tt
 
-pub at_undone : {E : Type 0} (old new : Database) (r : Result (Unit {0}) E) → OnErr r (IsTrue new.is_open → (t : Tables) → Rests old t → Rests new t)
-    → OnErr r (IsTrue new.is_open → (rows : Maps) → KeepsRows old rows → KeepsRows new rows)
-at_undone old new (Ok x) f = tt
-at_undone old new (Err e) f = λ opened rows it. record { tables = it.tables; rests = f opened it.tables it.rests; shows = it.shows }
+-- no two tables rest in one store, so that any that do show its rows
+pub shown_by : (store : Database) (rows : Maps) (t : Tables) → KeepsRows store rows → Rests store t → ShowsRows t rows
+shown_by store rows t it rests = subst (λ x. ShowsRows x rows) (sym it.rests.holds.rows ∙ rests.holds.rows) it.shows
 
 pub survives-map : (old new : Database) (P Q : Trees → Type 0) → Survives old new P → (HasCleanDisk old → (trees : Trees) → P trees → Q trees) → Survives old new Q
 survives-map old new P Q s f = record {

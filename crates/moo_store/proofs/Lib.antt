@@ -3,6 +3,7 @@ pub mod Shown
 pub mod Committed
 pub mod Crashes
 pub mod Running
+pub mod Going
 pub mod Items
 pub mod Writing
 pub mod WholeRuns

@@ -15,7 +15,7 @@ use Rattle.std.specs.Prelude.{nat_lt, if◌then◌else◌}
 use borrow.Author.Tests.{ltb-true}
 use Rattle.moo_world.specs.Judge.{State, Ran, Through, FailedAt, FullAt, Verdict, Accepted, Refused, NoRoom, Stale, is_due, last_seq, run_calls, verdict_of, judge, left_by, after}
 use Rattle.moo_store.specs.States.{LeavesState}
-use Rattle.moo_store.specs.Answered.{reply_of, next_of, AnsweredOne, Answered, acknowledged, added}
+use Rattle.moo_store.specs.Answered.{reply_of, next_of, IsRun, AnsweredOne, Answered, acknowledged, added}
 use Rattle.moo_store.specs.World.{store_of, IsAt, Left, LeftOrNext, RunsOne, MatchStore}
 use Rattle.moo_store.specs.Kept.{World}
 use Rattle.moo_store.specs.declared.fault.StoreFault.{StoreFault}
@@ -47,6 +47,16 @@ accepted_low s t batch answers e = by (is_due batch.at s.seq) (nat_lt s.seq last
     by true true low e = low_after s.seq (run_calls s.world batch.programmer batch.calls) answers t (ltb-true s.seq last_seq low) e
     by true false low e = absurd cc
     by false room low e = absurd cc
+
+-- the calls of an accepted batch are run
+pub accepted_is_run : (s t : State) (batch : Batch) (answers : List Value) → judge s batch ≡ Accepted answers t → IsRun s batch
+unfolding judge
+accepted_is_run s t batch answers e = by (is_due batch.at s.seq) (nat_lt s.seq last_seq) refl refl e
+  where
+    by : (due room : Bool) → is_due batch.at s.seq ≡ due → nat_lt s.seq last_seq ≡ room → (if due then (if room then verdict_of s.seq (run_calls s.world batch.programmer batch.calls) else NoRoom 0) else Stale s.seq) ≡ Accepted answers t → IsRun s batch
+    by true true due low e = (due, ltb-true s.seq last_seq low)
+    by true false due low e = absurd cc
+    by false room due low e = absurd cc
 
 -- an accepted batch is committed, or the store failed
 pub accepted_one : {S : Type 0} (g : Ghosts S) (new : World S) (s : State) (batch : Batch) (answers : List Value) (next : State) (r : Result Reply StoreFault)

@@ -101,8 +101,10 @@ shows-written cells changes base new t p c alone shows = record {
 }
 
 -- the rows that stay keep their cells
-pub keeps-written : (cells : CellChanges) (changes : Changes) (base new : Maps) (t : Tables) → Prints cells changes → AreChanges base new changes → KeepsCells base new t (tables_with cells t)
-keeps-written cells changes base new t p c = record {
+pub keeps-written : (cells : CellChanges) (changes : Changes) (base new : Maps) (t : Tables) → Prints cells changes → AreChanges base new changes → ShowsRows t base → KeepsCells base new t (tables_with cells t)
+keeps-written cells changes base new t p c shown = record {
+  shown = shown;
+  shows = shows-written cells changes base new t p c shown.no_head shown.maps;
   objects = stays object_cmp object_exact same_number (λ n. n.0) number_alike object_cells ShowsObject cells.objects.items changes.objects (get base.objects) (get new.objects) t.object p.objects c.objects;
   props = stays prop_cmp prop_exact same_number (λ id. pos id.0) id_alike prop_cells ShowsProp cells.props.items changes.props (get base.props) (get new.props) t.prop p.props c.props;
   slots = stays slot_cmp slot_exact same_pair (λ k. (k.0.0, pos k.1.0)) slot_alike slot_cells ShowsSlot cells.slots.items changes.slots (get base.slots) (get new.slots) t.slot p.slots c.slots;

@@ -1,8 +1,8 @@
 -- What the accepted batches of a run leave of the tables, one after another.
-use Rattle.std.proofs.Common.{◌≡◌, ℕ, ◌+◌, ◌<◌, List, [], ◌∷◌, ◌++◌, append_assoc, drop, length, get_or, Result, Ok, Err, OnOk, IfOk, false, refl, sym, ap, subst, ◌∙◌, arith}
-use Rattle.std.specs.Prelude.{⊤}
+use Rattle.std.proofs.Common.{◌≡◌, ◌⊎◌, inl, inr, ℕ, ◌<◌, List, [], ◌∷◌, ◌++◌, append_assoc, drop, length, get_or, Result, Ok, Err, OnOk, OnErr, IfOk, IfErr, IsTrue, true, false, refl, sym, ap, subst, ◌∙◌, arith}
 use Rattle.std.proofs.lemmas.List.{append-nil}
 use Rattle.std.proofs.Math.Seq.{drop-append_seam}
+use Rattle.std.specs.Prelude.{⊤}
 use Rattle.sqlite.specs.State.{HasCleanDisk}
 use Rattle.sqlite.specs.Store.{Ghosts}
 use Rattle.moo_rows.specs.Maps.{Maps}
@@ -12,11 +12,12 @@ use Rattle.moo_world.specs.declared.call.Batch.{Batch}
 use Rattle.moo_text.specs.declared.reply.Reply.{Reply}
 use Rattle.moo_text.specs.declared.reply.Reply.TheVariants as reply
 use Rattle.moo_value.specs.declared.value.Value.{Value}
+use Rattle.moo_world.specs.Rows.{IsGood}
 use Rattle.moo_world.specs.Judge.{Accepted, state_of, judge, left_by}
 use Rattle.moo_store.specs.Answered.{acknowledged, added}
 use Rattle.moo_store.specs.World.{store_of, MatchStore, FailsAtStore}
 use Rattle.moo_store.specs.Kept.{World}
-use Rattle.moo_store.specs.Untouched.{KeepsCells, Writes, HasWritten, WritesOne}
+use Rattle.moo_store.specs.Untouched.{KeepsCells, Writes, HasWritten, WritesOne, IsKnown, taken_of}
 use Rattle.moo_store.proofs.Running.{Progress}
 use Rattle.moo_store.specs.declared.fault.StoreFault.{StoreFault}
 use Rattle.moo_store.specs.declared.fault.StoreFault.TheVariants.{Store, OutOfMemory, Closed}
@@ -25,7 +26,7 @@ use Rattle.moo_store.specs.declared.fault.StoreFault.TheVariants.{Store, OutOfMe
 writes-append : (rows : Maps) (tables : Tables) (batches : List Batch) (mid : Maps) (between : Tables) (more : List Batch) (end : Maps) (after : Tables)
     → Writes rows tables batches mid between → Writes mid between more end after → Writes rows tables (batches ++ more) end after
 writes-append rows tables [] mid between more end after it on = subst (λ m. Writes m tables more end after) it.0 (subst (λ t. Writes mid t more end after) it.1 on)
-writes-append rows tables (b ∷ bs) mid between more end after it on = (it.0, it.1, it.2, it.3, writes-append it.0 it.1 bs mid between more end after it.4 on)
+writes-append rows tables (b ∷ bs) mid between more end after it on = (it.0, it.1, it.2, it.3, it.4, writes-append it.0 it.1 bs mid between more end after it.5 on)
 
 none_without_replies : (batches : List Batch) → acknowledged batches [] ≡ []
 none_without_replies [] = refl
@@ -49,83 +50,146 @@ acknowledged-push (b ∷ bs) (reply.Full k ∷ rs) batch r low is = acknowledged
 acknowledged-push (b ∷ bs) (reply.Stale seq ∷ rs) batch r low is = acknowledged-push bs rs batch r (omega (arith, low)) is
 acknowledged-push (b ∷ bs) (reply.NoMemory ∷ rs) batch r low is = acknowledged-push bs rs batch r (omega (arith, low)) is
 
--- a batch that isn't accepted writes nothing
-pub nothing_written : {S : Type 0} (g : Ghosts S) (old : World S) → HasCleanDisk (store_of g old) → HasCleanDisk (store_of g old) × ((tables : Tables) → Rests (store_of g old) tables → HasWritten g old old tables [])
-nothing_written g old clean = (clean, λ tables rests. record { end = old.rows.maps; after = tables; rests = rests; writes = (refl, refl); rows = λ works. refl })
+-- nothing is written for no batch
+pub none_written : {S : Type 0} (g : Ghosts S) (old : World S) (tables : Tables) → Rests (store_of g old) tables → HasWritten g old old tables []
+none_written g old tables rests = record { end = old.rows.maps; after = tables; rests = rests; writes = (refl, refl); rows = λ works. refl }
 
--- an accepted batch writes its changes, or the store failed
-pub accepted_writes : {S : Type 0} (g : Ghosts S) (old new : World S) (batch : Batch) (answers : List Value) (seq : ℕ) (next : Maps) (r : Result Reply StoreFault)
+-- what a World has written, and then, while it works, what it writes on
+pub written_then : {S : Type 0} (g : Ghosts S) (old mid new : World S) (tables : Tables) (first second : List Batch) → mid.failed ≡ false
+    → HasWritten g old mid tables first → ((between : Tables) → Rests (store_of g mid) between → HasWritten g mid new between second) → HasWritten g old new tables (first ++ second)
+written_then g old mid new tables first second works was on =
+    let here = on was.after was.rests in
+    record {
+      end = here.end;
+      after = here.after;
+      rests = here.rests;
+      writes = writes-append old.rows.maps tables first was.end was.after second here.end here.after was.writes (subst (λ m. Writes m was.after second here.end here.after) (was.rows works) here.writes);
+      rows = here.rows;
+    }
+
+-- a batch that isn't accepted writes nothing
+pub nothing_written : {S : Type 0} (g : Ghosts S) (old : World S) (batch : Batch) (r : Result Reply StoreFault) → taken_of batch r ≡ [] → WritesOne g old old batch r
+nothing_written g old batch r none = record {
+  clean = λ c. c;
+  written = λ c known tables rests. subst (HasWritten g old old tables) (sym none) (none_written g old tables rests);
+}
+
+-- an accepted batch writes its changes, or the store failed and nothing is written
+pub accepted_writes : {S : Type 0} (g : Ghosts S) (old new : World S) (batch : Batch) (answers : List Value) (seq : ℕ) (next : Maps) (r : Result Reply StoreFault) → IsGood next
     → judge (state_of old.rows.maps) batch ≡ Accepted answers (state_of next)
     → IfOk r (λ r. r ≡ reply.Accepted seq answers) → OnOk r (new.failed ≡ false → new.rows.maps ≡ next)
     → OnOk r ((tables : Tables) → HasCleanDisk (store_of g new) → Rests (store_of g old) tables → (after : Tables) × Rests (store_of g new) after × KeepsCells old.rows.maps next tables after)
-    → (HasCleanDisk (store_of g new) → HasCleanDisk (store_of g old)) → WritesOne g old new batch r
-accepted_writes g old new batch answers seq next (Ok reply) judged is rows cells clean = λ c. (
-  clean c,
-  λ tables rests.
+    → OnErr r (HasCleanDisk (store_of g new) → IsTrue (store_of g new).is_open → (tables : Tables) → Rests (store_of g old) tables → Rests (store_of g new) tables)
+    → (HasCleanDisk (store_of g new) → HasCleanDisk (store_of g old)) → IfErr r (λ fault. (error : _) × (fault ≡ Store error)) → OnErr r (new.failed ≡ true) → WritesOne g old new batch r
+accepted_writes g old new batch answers seq next (Ok reply) good judged is rows cells undone clean fault failed = record {
+  clean = clean;
+  written = λ c known tables rests.
       let it = cells tables c rests in
       record {
         end = next;
         after = it.0;
         rests = it.1;
-        writes = subst (λ x. Writes old.rows.maps tables (acknowledged (batch ∷ []) (x ∷ [])) next it.0) (sym is) (next, it.0, sym (ap (left_by (state_of old.rows.maps)) judged), it.2, (refl, refl));
+        writes = subst (λ x. Writes old.rows.maps tables (acknowledged (batch ∷ []) (x ∷ [])) next it.0) (sym is) (next, it.0, good, sym (ap (left_by (state_of old.rows.maps)) judged), it.2, (refl, refl));
         rows = rows;
-      },
-)
-accepted_writes g old new batch answers seq next (Err fault) judged is rows cells clean = tt
+      };
+}
+accepted_writes g old new batch answers seq next (Err (Store error)) good judged is rows cells undone clean fault failed = record {
+  clean = clean;
+  written = λ c opened tables rests. record {
+    end = old.rows.maps;
+    after = tables;
+    rests = undone c opened tables rests;
+    writes = (refl, refl);
+    rows = λ works. let no : true ≡ false = sym failed ∙ works in absurd cc;
+  };
+}
+accepted_writes g old new batch answers seq next (Err OutOfMemory) good judged is rows cells undone clean fault failed = let no : OutOfMemory ≡ Store fault.0 = fault.1 in absurd cc
+accepted_writes g old new batch answers seq next (Err Closed) good judged is rows cells undone clean fault failed = let no : Closed ≡ Store fault.0 = fault.1 in absurd cc
+
+-- an accepted batch is acknowledged, unless the store failed
+pub accepted_is_taken : {S : Type 0} (old new : World S) (batch : Batch) (answers : List Value) (seq : ℕ) (r : Result Reply StoreFault)
+    → IfOk r (λ r. r ≡ reply.Accepted seq answers) → IfErr r (λ fault. (error : _) × (fault ≡ Store error)) → taken_of batch r ≡ [] → MatchStore r (new ≡ old) ⊤
+accepted_is_taken old new batch answers seq (Ok reply) is fault none = let no : batch ∷ [] ≡ [] = subst (λ x. acknowledged (batch ∷ []) (x ∷ []) ≡ []) is none in absurd cc
+accepted_is_taken old new batch answers seq (Err (Store error)) is fault none = tt
+accepted_is_taken old new batch answers seq (Err OutOfMemory) is fault none = let no : OutOfMemory ≡ Store fault.0 = fault.1 in absurd cc
+accepted_is_taken old new batch answers seq (Err Closed) is fault none = let no : Closed ≡ Store fault.0 = fault.1 in absurd cc
+
+-- ---- what a World has written since an earlier moment, one batch after another
+
+-- these batches; where the World has failed, this is known while its connection is open
+pub record Written {S : Type 0} (g : Ghosts S) (old now : World S) (batches : List Batch) : Type 0 where
+  pub clean : HasCleanDisk (store_of g now) → HasCleanDisk (store_of g old)
+  pub written : HasCleanDisk (store_of g now) → (now.failed ≡ false) ⊎ IsTrue (store_of g now).is_open → (tables : Tables) → Rests (store_of g old) tables → HasWritten g old now tables batches
+
+pub written_none : {S : Type 0} (g : Ghosts S) (old : World S) → Written g old old []
+written_none g old = record { clean = λ c. c; written = λ c known. none_written g old }
+
+-- one more batch was run
+pub written_on : {S : Type 0} (g : Ghosts S) (old now next : World S) (batches : List Batch) (batch : Batch) (r : Result Reply StoreFault)
+    → Written g old now batches → FailsAtStore g now next r → WritesOne g now next batch r → Written g old next (batches ++ taken_of batch r)
+written_on g old now next batches batch (Ok reply) was works one = record {
+  clean = λ c. was.clean (one.clean c);
+  written = λ c known tables rests. written_then g old now next tables batches (taken_of batch (Ok reply)) works (was.written (one.clean c) (inl works) tables rests) (one.written c tt);
+}
+written_on g old now next batches batch (Err (Store error)) was fails one = record {
+  clean = λ c. was.clean (one.clean c);
+  written = λ c known tables rests. elim known [
+    | inl works ↦ (let no : true ≡ false = sym fails.1 ∙ works in absurd cc)
+    | inr opened ↦ written_then g old now next tables batches [] fails.0 (was.written (one.clean c) (inl fails.0) tables rests) (one.written c opened)
+  ];
+}
+written_on g old now next batches batch (Err OutOfMemory) was fails one = absurd fails
+written_on g old now next batches batch (Err Closed) was fails one = subst (λ w. Written g old w (batches ++ [])) (sym fails.1) (subst (Written g old now) (sym (append-nil batches)) was)
+
+-- ---- a list of batches
 
 -- these replies were given, and this was written
 pub record Wrote {S : Type 0} (g : Ghosts S) (old now : World S) (all : List Batch) (replies : List Reply) : Type 0 where
   pub clean : HasCleanDisk (store_of g now) → HasCleanDisk (store_of g old)
   pub written : HasCleanDisk (store_of g now) → (tables : Tables) → Rests (store_of g old) tables → HasWritten g old now tables (acknowledged all replies)
+  pub same : acknowledged all replies ≡ [] → now ≡ old
+
+none_in : (first second : List Batch) → first ++ second ≡ [] → (first ≡ []) × (second ≡ [])
+none_in [] second none = (refl, none)
+none_in (b ∷ bs) second none = let no : b ∷ (bs ++ second) ≡ [] = none in absurd cc
 
 -- nothing is written for no reply
 pub wrote_none : {S : Type 0} (g : Ghosts S) (old : World S) (all : List Batch) → Wrote g old old all []
 wrote_none g old all = record {
   clean = λ c. c;
-  written = λ c tables rests. record {
-    end = old.rows.maps;
-    after = tables;
-    rests = rests;
-    writes = subst (λ bs. Writes old.rows.maps tables bs old.rows.maps tables) (sym (none_without_replies all)) (refl, refl);
-    rows = λ works. refl;
-  };
+  written = λ c tables rests. subst (HasWritten g old old tables) (sym (none_without_replies all)) (none_written g old tables rests);
+  same = λ none. refl;
 }
 
 pub wrote_one : {S : Type 0} (g : Ghosts S) (old now next : World S) (all : List Batch) (replies : List Reply) (batch : Batch) (r : Reply)
-    → length replies < length all → batch ≡ get_or all (length replies) batch → Wrote g old now all replies → now.failed ≡ false → WritesOne g now next batch (Ok r) → Wrote g old next all (replies ++ r ∷ [])
-wrote_one g old now next all replies batch r low is was works one = record {
-  clean = λ c. was.clean (one c).0;
-  written = λ c tables rests.
-      let before = was.written (one c).0 tables rests in
-      let here = (one c).1 before.after before.rests in
-      let on : Writes before.end before.after (acknowledged (batch ∷ []) (r ∷ [])) here.end here.after = subst (λ m. Writes m before.after (acknowledged (batch ∷ []) (r ∷ [])) here.end here.after) (before.rows works) here.writes in
-      record {
-        end = here.end;
-        after = here.after;
-        rests = here.rests;
-        writes = subst (λ bs. Writes old.rows.maps tables bs here.end here.after) (sym (acknowledged-push all replies batch r low is))
-            (writes-append old.rows.maps tables (acknowledged all replies) before.end before.after (acknowledged (batch ∷ []) (r ∷ [])) here.end here.after before.writes on);
-        rows = here.rows;
-      };
+    → length replies < length all → batch ≡ get_or all (length replies) batch → Wrote g old now all replies → now.failed ≡ false → WritesOne g now next batch (Ok r)
+    → (acknowledged (batch ∷ []) (r ∷ []) ≡ [] → next ≡ now) → Wrote g old next all (replies ++ r ∷ [])
+wrote_one g old now next all replies batch r low is was works one stays = record {
+  clean = λ c. was.clean (one.clean c);
+  written = λ c tables rests. subst (HasWritten g old next tables) (sym (acknowledged-push all replies batch r low is))
+      (written_then g old now next tables (acknowledged all replies) (acknowledged (batch ∷ []) (r ∷ [])) works (was.written (one.clean c) tables rests) (one.written c tt));
+  same = λ none.
+      let nones = none_in (acknowledged all replies) (acknowledged (batch ∷ []) (r ∷ [])) (sym (acknowledged-push all replies batch r low is) ∙ none) in
+      stays nones.1 ∙ was.same nones.0;
 }
 
--- at the end of a run
-pub wrote_all : {S T : Type 0} (g : Ghosts S) (old now : World S) (all : List Batch) (replies : List Reply) (r : Result T StoreFault) → Wrote g old now all replies
-    → HasCleanDisk (store_of g now) → (tables : Tables) → Rests (store_of g old) tables → MatchStore r (HasWritten g old now tables (acknowledged all replies)) ⊤
-wrote_all g old now all replies (Ok x) it clean tables rests = it.written clean tables rests
-wrote_all g old now all replies (Err (Store error)) it clean tables rests = tt
-wrote_all g old now all replies (Err OutOfMemory) it clean tables rests = it.written clean tables rests
-wrote_all g old now all replies (Err Closed) it clean tables rests = it.written clean tables rests
-
--- the batch in hand met a fault: where it isn't the store's, nothing was written
-pub wrote_stopped : (T : Type 0) {S : Type 0} (g : Ghosts S) (old now new : World S) (all : List Batch) (replies : List Reply) (fault : StoreFault) → Wrote g old now all replies
-    → (let r : Result Reply StoreFault = Err fault in FailsAtStore g now new r) → HasCleanDisk (store_of g new) → (tables : Tables) → Rests (store_of g old) tables
-    → MatchStore (let r : Result T StoreFault = Err fault in r) (HasWritten g old new tables (acknowledged all replies)) ⊤
-wrote_stopped T g old now new all replies (Store error) it fails clean tables rests = tt
-wrote_stopped T g old now new all replies OutOfMemory it fails clean tables rests = absurd fails
-wrote_stopped T g old now new all replies Closed it fails clean tables rests =
+-- the batch in hand met a fault, and wrote nothing
+pub wrote_stopped : (T : Type 0) {S : Type 0} (g : Ghosts S) (old now new : World S) (all : List Batch) (replies : List Reply) (batch : Batch) (fault : StoreFault) → Wrote g old now all replies
+    → (let r : Result Reply StoreFault = Err fault in FailsAtStore g now new r) → WritesOne g now new batch (Err fault)
+    → HasCleanDisk (store_of g new) → (let r : Result T StoreFault = Err fault in IsKnown (store_of g new) r) → (tables : Tables) → Rests (store_of g old) tables → HasWritten g old new tables (acknowledged all replies)
+wrote_stopped T g old now new all replies batch (Store error) it fails one clean opened tables rests =
+    subst (HasWritten g old new tables) (append-nil (acknowledged all replies))
+    (written_then g old now new tables (acknowledged all replies) [] fails.0 (it.written (one.clean clean) tables rests) (one.written clean opened))
+wrote_stopped T g old now new all replies batch OutOfMemory it fails one clean known tables rests = absurd fails
+wrote_stopped T g old now new all replies batch Closed it fails one clean known tables rests =
     let same : now ≡ new = sym fails.1 in
     (subst (λ w. Wrote g old w all replies) same it).written clean tables rests
+
+pub same_stopped : (T : Type 0) {S : Type 0} (g : Ghosts S) (old now new : World S) (all : List Batch) (replies : List Reply) (fault : StoreFault) → Wrote g old now all replies
+    → (let r : Result Reply StoreFault = Err fault in FailsAtStore g now new r) → acknowledged all replies ≡ [] → MatchStore (let r : Result T StoreFault = Err fault in r) (new ≡ old) ⊤
+same_stopped T g old now new all replies (Store error) it fails none = tt
+same_stopped T g old now new all replies OutOfMemory it fails none = absurd fails
+same_stopped T g old now new all replies Closed it fails none = fails.1 ∙ it.same none
 
 -- ---- the replies that a run added
 
@@ -141,8 +205,8 @@ wrote_at_start g old all before replies same = subst (Wrote g old old all) (sym 
 
 pub wrote_on : {S : Type 0} (g : Ghosts S) (old now next : World S) (all : List Batch) (count : ℕ) (before replies longer : List Reply) (batch : Batch) (r : Reply)
     → count < length all → batch ≡ get_or all count batch → Progress g old now all count before replies → longer ≡ replies ++ r ∷ []
-    → Wrote g old now all (added before replies) → now.failed ≡ false → WritesOne g now next batch (Ok r) → Wrote g old next all (added before longer)
-wrote_on g old now next all count before replies longer batch r low is p pushed was works one =
+    → Wrote g old now all (added before replies) → now.failed ≡ false → WritesOne g now next batch (Ok r) → (acknowledged (batch ∷ []) (r ∷ []) ≡ [] → next ≡ now) → Wrote g old next all (added before longer)
+wrote_on g old now next all count before replies longer batch r low is p pushed was works one stays =
     let place : count ≡ length (added before replies) = sym p.each ∙ ap length (sym (added_is before p.new replies p.whole)) in
     subst (Wrote g old next all) (sym (added-push before p.new replies longer r p.whole pushed))
-    (wrote_one g old now next all (added before replies) batch r (subst (λ n. n < length all) place low) (subst (λ n. batch ≡ get_or all n batch) place is) was works one)
+    (wrote_one g old now next all (added before replies) batch r (subst (λ n. n < length all) place low) (subst (λ n. batch ≡ get_or all n batch) place is) was works one stays)

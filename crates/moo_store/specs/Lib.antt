@@ -5,5 +5,6 @@ pub mod Kept
 pub mod Answered
 pub mod World
 pub mod Text
+pub mod Turns
 pub mod Untouched
 pub mod Asked

@@ -1,5 +1,5 @@
 -- What is written for the items of a text, and what a crash leaves on the way.
-use Rattle.std.specs.Prelude.{◌≡◌, ◌⊎◌, ℕ, Bool, true, false, List, [], ◌∷◌, ◌++◌, take, Option, ⊤}
+use Rattle.std.specs.Prelude.{◌≡◌, ◌⊎◌, ℕ, Bool, true, false, List, [], ◌∷◌, ◌++◌, take, Option, IsTrue, ⊤, Result, Ok, Err}
 use Rattle.std.specs.List.{flat_map, count_by}
 use Rattle.std.specs.Io.KnownBytes.{Appends}
 use Rattle.sqlite.specs.State.{State as Database, HasCleanDisk}
@@ -13,12 +13,18 @@ use Rattle.moo_text.specs.declared.fault.TextFault.{TextFault}
 use Rattle.moo_text.specs.declared.fault.TextFault.TheVariants.{Read}
 use Rattle.moo_text.specs.declared.reply.Answer.{Answer}
 use Rattle.moo_text.specs.declared.reply.Answer.TheVariants as answer
+use Rattle.moo_text.specs.declared.reply.Reply.{Reply}
 use Rattle.moo_text.specs.declared.reply.Reply.TheVariants.{Accepted, Refused, Full, Stale, NoMemory}
 use Rattle.moo_world.specs.Judge.{State, judge, after}
-use Rattle.moo_store.specs.Answered.{reply_of, answer_of, next_of}
+use Rattle.moo_store.specs.Answered.{reply_of, answer_of, next_of, acknowledged}
+use Rattle.moo_tables.specs.Tables.{Tables}
+use Rattle.moo_tables.specs.Inside.{Rests}
 use Rattle.moo_store.specs.States.{LeavesState}
 use Rattle.moo_store.specs.Answered.{AnsweredOne}
-use Rattle.moo_store.specs.World.{store_of, IsAt}
+use Rattle.moo_store.specs.World.{store_of, IsAt, RunsOne, FailsAtStore}
+use Rattle.moo_store.specs.Untouched.{HasWritten, WritesOne}
+use Rattle.moo_store.specs.declared.fault.StoreFault.{StoreFault}
+use Rattle.moo_store.specs.declared.fault.StoreFault.TheVariants.{Store, OutOfMemory, Closed}
 use Rattle.moo_store.specs.Kept.{World}
 
 -- a batch is answered as it is judged, or isn't run; the other items answer for themselves
@@ -56,6 +62,21 @@ is_lost (answer.Replied reply) = false
 is_lost (answer.Malformed number) = false
 is_lost answer.Truncated = false
 
+-- the answer to a batch that a World ran or was asked
+abbrev pub answer_to : Result Reply StoreFault → Answer
+answer_to (Ok reply) = answer.Replied reply
+answer_to (Err (Store error)) = answer.Fault
+answer_to (Err OutOfMemory) = answer.Fault
+answer_to (Err Closed) = answer.Closed
+
+-- a World ran a batch, and gave this answer
+pub record RunsBatch {S : Type 0} (g : Ghosts S) (old new : World S) (batch : Batch) (a : Answer) : Type 0 where
+  pub result : Result Reply StoreFault
+  pub answer : a ≡ answer_to result
+  pub runs : (s : State) → IsAt g old s → RunsOne g new s batch result
+  pub cells : WritesOne g old new batch result
+  pub fails : FailsAtStore g old new result
+
 -- none of these batches, or one of the items
 abbrev pub IsAtMostOneOf : List Next → List Batch → Type 0
 IsAtMostOneOf items [] = ⊤
@@ -76,8 +97,24 @@ pub record Answers {S : Type 0} (g : Ghosts S) (new : World S) (s : State) (item
   pub is_at : IsAtOrFailed g new next items
   pub crash : HasCleanDisk (store_of g new) → LeftOrOneMore (store_of g new) s items
 
+-- the batch of an item, if it is acknowledged
+abbrev pub accepted_at : Next → Answer → List Batch
+accepted_at (Whole batch) (answer.Replied reply) = acknowledged (batch ∷ []) (reply ∷ [])
+accepted_at item a = []
+
+-- the acknowledged batches among these items
+abbrev pub accepted : List Next → List Answer → List Batch
+accepted (item ∷ items) (a ∷ answers) = accepted_at item a ++ accepted items answers
+accepted items answers = []
+
+-- Where the disk returns what was written, and the World works or its connection is open still: what these batches left of the
+-- tables that rested in its store.
+abbrev pub KeepsRest : {S : Type 0} (g : Ghosts S) → World S → World S → List Batch → Type 0
+KeepsRest g was world batches =
+    HasCleanDisk (store_of g world) → (world.failed ≡ false) ⊎ IsTrue (store_of g world).is_open → (tables : Tables) → Rests (store_of g was) tables → HasWritten g was world tables batches
+
 -- The text was run to its end: all its items are answered, and their answers are written.
-pub record Applies {S : Type 0} (g : Ghosts S) (s : State) (items : List Next) (old new : Option (List ℕ)) (world : World S) (batches lost : ℕ) : Type 0 where
+pub record Applies {S : Type 0} (g : Ghosts S) (s : State) (items : List Next) (old new : Option (List ℕ)) (was world : World S) (batches lost : ℕ) : Type 0 where
   pub answers : List Answer
   pub end : State
   pub answered : AnsweredItems s items answers end
@@ -85,14 +122,21 @@ pub record Applies {S : Type 0} (g : Ghosts S) (s : State) (items : List Next) (
   pub batches_are : batches ≡ count_by is_batch answers
   pub lost_are : lost ≡ count_by is_lost answers
   pub is_at : IsAtOrFailed g world end items
+  -- in the tables, each acknowledged batch keeps the cells of the rows that it leaves as they are
+  pub cells : KeepsRest g was world (accepted items answers)
 
 -- some bytes of the answer to the next item, which may leave this state
 abbrev pub Fronts : State → List Next → List ℕ → State → Type 0
 Fronts s items front next = ((front ≡ []) × (next ≡ s))
     ⊎ ((item : Next) × (behind : List Next) × (a : Answer) × (count : ℕ) × (items ≡ item ∷ behind) × AnsweredItem s item a next × (front ≡ take count (answer_text a)))
 
+-- none of these batches, or that of the first item
+abbrev pub IsNextOf : List Next → List Batch → Type 0
+IsNextOf items [] = ⊤
+IsNextOf items (batch ∷ more) = (behind : List Next) × (items ≡ Whole batch ∷ behind) × (more ≡ [])
+
 -- The run stopped: the items that are done are answered, and their answers are written whole, and a front of the next one.
-pub record Stops {S : Type 0} (g : Ghosts S) (s : State) (items : List Next) (old new : Option (List ℕ)) (world : World S) (fault : TextFault) : Type 0 where
+pub record Stops {S : Type 0} (g : Ghosts S) (s : State) (items : List Next) (old new : Option (List ℕ)) (was world : World S) (fault : TextFault) : Type 0 where
   pub done : List Next
   pub left : List Next
   pub whole : items ≡ done ++ left
@@ -108,6 +152,10 @@ pub record Stops {S : Type 0} (g : Ghosts S) (s : State) (items : List Next) (ol
   pub read : fault ≡ Read → (front ≡ []) × (next ≡ end)
   -- it has each batch whose reply is written whole, and at most one more
   pub crash : HasCleanDisk (store_of g world) → LeftOrOneMore (store_of g world) end items
+  -- the acknowledged batches among those that are done, and the next one if it was accepted, keep cells as at the end of a text
+  pub more : List Batch
+  pub one_more : IsNextOf left more
+  pub cells : KeepsRest g was world (accepted done answers ++ more)
 
 -- ---- where nothing is refused
 

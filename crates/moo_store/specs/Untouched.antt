@@ -1,7 +1,7 @@
 -- Rows that stay as they are keep their cells, byte for byte, whatever spelling of a value these hold.
-use Rattle.std.specs.Prelude.{◌≡◌, ◌⊎◌, false, pos, List, [], ◌∷◌, Result, Ok, Err, ⊤}
+use Rattle.std.specs.Prelude.{◌≡◌, false, pos, List, [], ◌∷◌, Result, Ok, Err, IsTrue, ⊤}
 use Rattle.std.specs.FinMap.{get}
-use Rattle.sqlite.specs.State.{HasCleanDisk}
+use Rattle.sqlite.specs.State.{State as Database, HasCleanDisk}
 use Rattle.sqlite.specs.Store.{Ghosts}
 use Rattle.moo_value.specs.declared.value.ObjNo.{ObjNo}
 use Rattle.moo_rows.specs.declared.row.PropId.{PropId}
@@ -10,25 +10,30 @@ use Rattle.moo_rows.specs.Maps.{Maps}
 use Rattle.moo_tables.specs.Tables.{Tables}
 use Rattle.moo_tables.specs.Inside.{Rests}
 use Rattle.moo_world.specs.declared.call.Batch.{Batch}
+use Rattle.moo_world.specs.Rows.{IsGood}
 use Rattle.moo_world.specs.Judge.{state_of}
 use Rattle.moo_text.specs.declared.reply.Reply.{Reply}
 use Rattle.moo_store.specs.Answered.{next_of, acknowledged}
-use Rattle.moo_store.specs.World.{store_of}
+use Rattle.moo_store.specs.Shows.{ShowsRows}
+use Rattle.moo_store.specs.World.{store_of, MatchStore}
 use Rattle.moo_store.specs.Kept.{World}
 use Rattle.moo_store.specs.declared.fault.StoreFault.{StoreFault}
 
--- from some rows to the next ones: where a row is the same in both, so are its cells
+-- From rows that the tables show to rows that the tables then show: where a row is the same in both, so are its cells.
 pub record KeepsCells (rows next : Maps) (old new : Tables) : Type 0 where
+  pub shown : ShowsRows old rows
+  pub shows : ShowsRows new next
   pub objects : (n : ObjNo) → get rows.objects n ≡ get next.objects n → new.object n.0 ≡ old.object n.0
   pub props : (id : PropId) → get rows.props id ≡ get next.props id → new.prop (pos id.0) ≡ old.prop (pos id.0)
   pub slots : (key : ObjNo × PropId) → get rows.slots key ≡ get next.slots key → new.slot (key.0.0, pos key.1.0) ≡ old.slot (key.0.0, pos key.1.0)
   pub verbs : (key : ObjNo × VerbId) → get rows.verbs key ≡ get next.verbs key → new.verb (key.0.0, pos key.1.0) ≡ old.verb (key.0.0, pos key.1.0)
 
--- accepted batches, one after another: each leads to the rows that it is judged to lead to, and keeps the cells of those that stay
+-- Accepted batches, one after another: each leads from good rows to good rows, as it is judged, and keeps the cells of every row
+-- that is the same in both.
 abbrev pub Writes : Maps → Tables → List Batch → Maps → Tables → Type 0
 Writes rows tables [] end after = (end ≡ rows) × (after ≡ tables)
 Writes rows tables (batch ∷ batches) end after =
-    (next : Maps) × (between : Tables) × (state_of next ≡ next_of (state_of rows) batch) × KeepsCells rows next tables between × Writes next between batches end after
+    (next : Maps) × (between : Tables) × IsGood next × (state_of next ≡ next_of (state_of rows) batch) × KeepsCells rows next tables between × Writes next between batches end after
 
 -- the tables of a World, after these batches were written
 pub record HasWritten {S : Type 0} (g : Ghosts S) (old new : World S) (tables : Tables) (batches : List Batch) : Type 0 where
@@ -38,7 +43,16 @@ pub record HasWritten {S : Type 0} (g : Ghosts S) (old new : World S) (tables : 
   pub writes : Writes old.rows.maps tables batches end after
   pub rows : new.failed ≡ false → new.rows.maps ≡ end
 
--- What an answered batch writes, where the disk returns what was written. It returned that before too.
-abbrev pub WritesOne : {S : Type 0} (g : Ghosts S) → World S → World S → Batch → Result Reply StoreFault → Type 0
-WritesOne g old new batch (Ok reply) = HasCleanDisk (store_of g new) → HasCleanDisk (store_of g old) × ((tables : Tables) → Rests (store_of g old) tables → HasWritten g old new tables (acknowledged (batch ∷ []) (reply ∷ [])))
-WritesOne g old new batch (Err fault) = ⊤
+-- the batch, if it is acknowledged
+abbrev pub taken_of : Batch → Result Reply StoreFault → List Batch
+taken_of batch (Ok reply) = acknowledged (batch ∷ []) (reply ∷ [])
+taken_of batch (Err fault) = []
+
+-- where the store failed, its connection is open still
+abbrev pub IsKnown : {T : Type 0} → Database → Result T StoreFault → Type 0
+IsKnown store r = MatchStore r ⊤ (IsTrue store.is_open)
+
+-- What one batch writes, where the disk returns what was written; it returned that before too. One that meets a fault writes nothing.
+pub record WritesOne {S : Type 0} (g : Ghosts S) (old new : World S) (batch : Batch) (r : Result Reply StoreFault) : Type 0 where
+  pub clean : HasCleanDisk (store_of g new) → HasCleanDisk (store_of g old)
+  pub written : HasCleanDisk (store_of g new) → IsKnown (store_of g new) r → (tables : Tables) → Rests (store_of g old) tables → HasWritten g old new tables (taken_of batch r)

@@ -1,34 +1,30 @@
 //! Asking a text of batches, which changes nothing.
 
-ghost use Rattle.std.specs.Prelude.{◌≡◌, ◌≢◌, IfOk, IfErr, IfSome, IfNone, IsSome};
+ghost use Rattle.std.specs.Prelude.{◌≡◌, ◌≤◌, ◌<◌, length, IfOk, IfErr, IfSome, IsErrOf, OnOk};
 ghost use Rattle.moo_text.specs.Items.{items};
-ghost use Rattle.moo_store.specs.Asked.{IsAtIfWorking, AskedItem, Asks, StopsAsking};
+ghost use Rattle.moo_store.specs.Asked.{IsAtIfWorking, AskedBatch, Asks, StopsAsking};
 
-use crate::apply::Tally;
-use crate::output::put_answer;
+use crate::answering::{Answering, answer_all, answered_by};
+use crate::tally::Tally;
 use crate::world::World;
 use moo_text::fault::TextFault;
-use moo_text::feed::{Feed, LONGEST_TEXT};
-use moo_text::next::Next;
 use moo_text::reply::Answer;
+use moo_world::call::Batch;
 use sqlite::Alter;
 use std::alloc::Global;
 use std::io::{Read, Write};
 
-/// Answers one item of a text of questions; its end has no answer.
-fn ask_item<S: Alter + Drop>(world: &World<S>, item: &Next) -> Option<Answer>
-    ensures some { IfSome result (λ answer. (s : _) → IsAtIfWorking S.Store world.now s → AskedItem world.now.failed s item.now answer) }
-    ensures more { IsSome result → item.now ≢ Next.End }
-    ensures none { IfNone result (item.now ≡ Next.End) }
-{
-    match item {
-        Next::Batch(batch) => match world.ask(batch) {
-            Ok(reply) => Some(Answer::Replied(reply)),
-            Err(_) => Some(Answer::Closed),
-        },
-        Next::Malformed(number) => Some(Answer::Malformed(*number)),
-        Next::Truncated => Some(Answer::Truncated),
-        Next::End => None,
+/// A World that is only asked.
+#[derive(Drop)]
+struct Questions<'a, S: Alter> {
+    world: &'a World<S>,
+}
+
+impl<'a, S: Alter + Drop> Answering for Questions<'a, S> {
+    ghost answered = { λ old new batch a. (new ≡ old) × ((s : _) → IsAtIfWorking S.Store old.world.now s → AskedBatch old.world.now.failed s batch a) };
+
+    fn answer(&mut self, batch: &Batch) -> Answer {
+        answered_by(self.world.ask(batch))
     }
 }
 
@@ -47,23 +43,10 @@ pub fn ask_text<R: Read + Drop, W: Write, S: Alter + Drop>(
     // At a fault those of the items that are done, and a front of the next one.
     ensures stops { IfErr result (λ fault. (s : _) → IsAtIfWorking S.Store world.now s → IfSome (R.remaining reader) (λ text.
         StopsAsking world.now.failed s (items text) (W.contents writer.old) (W.contents writer.new) fault)) }
+
+    // Long is a text of more than 1,073,741,824 bytes, and no other.
+    ensures short { OnOk result (IfSome (R.remaining reader) (λ text. length text ≤ 1073741824)) }
+    ensures long { IsErrOf result TextFault.Long → IfSome (R.remaining reader) (λ text. 1073741824 < length text) }
 {
-    let mut feed = Feed::new(alloc, reader);
-    let mut tally = Tally::new();
-    for _ in 0..LONGEST_TEXT + 1 {
-        let item = match feed.next_batch() {
-            Ok(item) => item,
-            Err(fault) => return Err(fault),
-        };
-        let answer = match ask_item(world, &item) {
-            Some(answer) => answer,
-            None => return Ok(tally),
-        };
-        tally.count(&answer);
-        match put_answer(alloc, writer, &answer) {
-            Ok(()) => {}
-            Err(fault) => return Err(fault),
-        }
-    }
-    Err(TextFault::Long)
+    answer_all(alloc, reader, writer, &mut Questions { world })
 }

@@ -1,6 +1,6 @@
 //! New worlds.
 
-ghost use Rattle.std.specs.Prelude.{◌≡◌, ◌⊎◌, ◌<◌, ◌^◌, IfOk, IfErr, IsTrue, ◌↔◌, false};
+ghost use Rattle.std.specs.Prelude.{◌≡◌, ◌≢◌, ◌⊎◌, ◌<◌, ◌^◌, IfOk, IfErr, IsErrAnd, IsTrue, ◌↔◌, false};
 ghost use Rattle.sqlite.specs.State.{HasCleanDisk, Survives};
 ghost use Rattle.sqlite.specs.Held.{state};
 ghost use Rattle.moo_rows.specs.Maps.{no_maps};
@@ -69,6 +69,9 @@ pub fn create_in<S: Alter + Drop>(
 ) -> Result<World<S>, (StoreFault, Connection<S>)>
     requires outside { (state S.Store conn).in_transaction ≡ false }
     ensures stands { IfOk result (λ world. StandsFor S.Store world (state_of opening_maps)) }
+    // A database that has tables is refused, and comes back as it is; so it does where memory is refused.
+    ensures refused { (state S.Store conn).now.schema ≢ no_schema → IsErrAnd result (λ e. (e.0 ≡ StoreFault.Store (Error.SqliteFailure ErrorCode.NameTaken)) × (e.1 ≡ conn)) }
+    ensures fault { IfErr result (λ e. ((e.0 ≡ StoreFault.OutOfMemory) × (e.1 ≡ conn)) ⊎ ((error : _) × (e.0 ≡ StoreFault.Store error))) }
     ensures crash { IfOk result (λ world. Survives (state S.Store conn) (store_of S.Store world) (λ trees. LeavesState trees (state_of opening_maps))) }
     ensures outside_refused { IfErr result (λ e. (state S.Store e.1).in_transaction ≡ false) }
     ensures undone { IfErr result (λ e. (e.1 ≡ conn) ⊎ (HasCleanDisk (state S.Store e.1) → IsTrue (state S.Store e.1).is_open → RestsAt (state S.Store e.1) (state S.Store conn).committed)) }

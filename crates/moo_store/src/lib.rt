@@ -1,6 +1,7 @@
 //! A world kept in the tables of a store.
 #![tactic(auto)]
 
+mod answering;
 mod apply;
 mod ask;
 mod committing;
@@ -9,7 +10,9 @@ pub mod fault;
 pub mod laws;
 pub mod output;
 mod printing;
+mod tally;
 pub mod world;
 
-pub use apply::{Tally, apply_text};
+pub use apply::apply_text;
 pub use ask::ask_text;
+pub use tally::Tally;

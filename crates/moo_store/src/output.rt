@@ -1,6 +1,6 @@
 //! Bytes, written whole.
 
-ghost use Rattle.std.specs.Prelude.{◌≡◌, ◌≢◌, ℕ, take, IfErr, IfOk, OnOk, OnErr};
+ghost use Rattle.std.specs.Prelude.{◌≡◌, ◌⊎◌, ℕ, take, IfErr, IfOk, OnOk, OnErr};
 ghost use Rattle.std.specs.Io.KnownBytes.{Appends};
 ghost use Rattle.moo_text.specs.Replies.{answer_text};
 
@@ -43,7 +43,7 @@ pub(crate) fn put_answer<W: Write>(
 ) -> Result<(), TextFault>
     ensures ok { OnOk result (Appends (W.contents writer.old) (W.contents writer.new) (answer_text answer.now)) }
     ensures err { OnErr result ((count : ℕ) × Appends (W.contents writer.old) (W.contents writer.new) (take count (answer_text answer.now))) }
-    ensures fault { IfErr result (λ fault. fault ≢ TextFault.Read) }
+    ensures fault { IfErr result (λ fault. (fault ≡ TextFault.Write) ⊎ (fault ≡ TextFault.OutOfMemory)) }
 {
     match printed(alloc, answer) {
         Ok(text) => put_all(writer, &text),

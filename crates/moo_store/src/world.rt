@@ -54,10 +54,10 @@ impl<S: Alter + Drop> World<S> {
     ghost use Rattle.moo_batch.specs.Changes.{AreChanges};
     ghost use Rattle.moo_store.specs.Printed.{Prints};
     ghost use Rattle.moo_store.specs.States.{KeepsRows, Keeps, LeavesState};
-    ghost use Rattle.moo_store.specs.Answered.{answer_of, AnsweredOne, Answered, acknowledged, added};
+    ghost use Rattle.moo_store.specs.Answered.{answer_of, IsRun, AnsweredOne, Answered, acknowledged, added};
     ghost use Rattle.moo_tables.specs.Tables.{Tables};
     ghost use Rattle.moo_tables.specs.Inside.{Rests};
-    ghost use Rattle.moo_store.specs.Untouched.{KeepsCells, WritesOne, HasWritten};
+    ghost use Rattle.moo_store.specs.Untouched.{KeepsCells, WritesOne, HasWritten, IsKnown, taken_of};
     ghost use Rattle.moo_store.specs.World.{store_of, IsAt, StandsFor, Left, LeftOrNext, RunsOne, MatchStore, FailsAtStore};
     ghost use Rattle.moo_store.specs.declared.fault.StoreFault.TheVariants.{Store, OutOfMemory, Closed};
 
@@ -92,6 +92,7 @@ impl<S: Alter + Drop> World<S> {
         ensures is_at { OnOk result ((next : Maps) → AreChanges self.old.rows.maps next changes → IsGood next → IsAt S.Store self.new (state_of next)) }
         ensures rows { OnOk result ((next : Maps) → AreChanges self.old.rows.maps next changes → self.new.failed ≡ false → self.new.rows.maps ≡ next) }
         ensures cells { OnOk result ((next : Maps) (tables : Tables) → AreChanges self.old.rows.maps next changes → HasCleanDisk (store_of S.Store self.new) → Rests (store_of S.Store self.old) tables → (after : Tables) × Rests (store_of S.Store self.new) after × KeepsCells self.old.rows.maps next tables after) }
+        ensures undone { OnErr result (HasCleanDisk (store_of S.Store self.new) → IsTrue (store_of S.Store self.new).is_open → (tables : Tables) → Rests (store_of S.Store self.old) tables → Rests (store_of S.Store self.new) tables) }
         ensures clean { HasCleanDisk (store_of S.Store self.new) → HasCleanDisk (store_of S.Store self.old) }
         ensures fault { IfErr result (λ fault. (error : _) × (fault ≡ Store error)) }
         ensures failed { OnErr result (self.new.failed ≡ true) }
@@ -112,6 +113,7 @@ impl<S: Alter + Drop> World<S> {
     pub(crate) fn run_one(&mut self, batch: &Batch) -> Result<Reply, StoreFault>
         ensures runs { (s : _) → IsAt S.Store self.old s → RunsOne S.Store self.new s batch.now result }
         ensures cells { WritesOne S.Store self.old self.new batch.now result }
+        ensures same { taken_of batch.now result ≡ [] → MatchStore result (self.new ≡ self.old) ⊤ }
         ensures fails { FailsAtStore S.Store self.old self.new result }
     {
         if self.failed {
@@ -139,7 +141,7 @@ impl<S: Alter + Drop> World<S> {
         ensures stood { take (length replies.old.items) replies.new.items ≡ replies.old.items }
         ensures each { OnOk result (length (added replies.old.items replies.new.items) ≡ length batches.now) }
 
-        // Each is judged after the accepted batches before it, or NoMemory, which changes nothing.
+        // Each is judged after the accepted batches before it; or, where its calls are run, NoMemory, which changes nothing.
         ensures replies { (s : _) → IsAt S.Store self.old s →
             let new = added replies.old.items replies.new.items in
             Answered s (take (length new) batches.now) new (after s (acknowledged batches.now new)) }
@@ -154,9 +156,13 @@ impl<S: Alter + Drop> World<S> {
             let end = after s (acknowledged batches.now (added replies.old.items replies.new.items)) in
             MatchStore result (HasCleanDisk (store_of S.Store self.new) → Left (store_of S.Store self.new) end) ⊤ }
 
-        // In the tables, a row that none of these batches changes keeps its cells, byte for byte.
-        ensures cells { HasCleanDisk (store_of S.Store self.new) → (tables : Tables) → Rests (store_of S.Store self.old) tables →
-            MatchStore result (HasWritten S.Store self.old self.new tables (acknowledged batches.now (added replies.old.items replies.new.items))) ⊤ }
+        // In the tables, each acknowledged batch leads from rows that they show to rows that they show, and a row that is the
+        // same in both keeps its cells, byte for byte. Where the store failed, the batch in hand wrote nothing.
+        ensures cells { HasCleanDisk (store_of S.Store self.new) → IsKnown (store_of S.Store self.new) result → (tables : Tables) → Rests (store_of S.Store self.old) tables →
+            HasWritten S.Store self.old self.new tables (acknowledged batches.now (added replies.old.items replies.new.items)) }
+
+        // Batches of which none is acknowledged change nothing.
+        ensures same { acknowledged batches.now (added replies.old.items replies.new.items) ≡ [] → MatchStore result (self.new ≡ self.old) ⊤ }
 
         // Where room for the replies is refused, nothing has changed. A failed World changes no more.
         ensures memory { IsErrOf result StoreFault.OutOfMemory → (self.new ≡ self.old) × (replies.new.items ≡ replies.old.items) }
@@ -181,6 +187,7 @@ impl<S: Alter + Drop> World<S> {
     /// What a batch would come to at present, with the present number. Nothing changes. The only fault is Closed.
     pub fn ask(&self, batch: &Batch) -> Result<Reply, StoreFault>
         ensures verdict { (s : _) → StandsFor S.Store self.now s → IsOkAnd result (λ reply. (reply ≡ Reply.NoMemory) ⊎ (reply ≡ answer_of s (verdict s batch.now))) }
+        ensures memory { (s : _) → StandsFor S.Store self.now s → IfOk result (λ reply. reply ≡ Reply.NoMemory → IsRun s batch.now) }
         ensures closed { IsTrue self.now.failed → IsErrOf result StoreFault.Closed }
     {
         if self.failed {

@@ -147,6 +147,7 @@ impl<R: Read> Feed<R> {
     pub fn next_batch(&mut self) -> Result<Next, TextFault>
         ensures next { IfOk result (TakesNext (feed_left R.remaining self.old) (feed_left R.remaining self.new)) }
         ensures fault { IfErr result (λ fault. self.new.fault ≡ Some fault) }
+        ensures works { OnOk result (self.new.fault ≡ None) }
         ensures repeats { IfSome self.old.fault (λ fault. result ≡ Err fault) }
         // As many bytes are taken of the room as of the text; each item but the end takes some, and behind the end none are left.
         ensures room { OnOk result (TakesRoom (feed_left R.remaining self.old) (feed_room self.old) (feed_left R.remaining self.new) (feed_room self.new)) }

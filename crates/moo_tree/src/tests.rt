@@ -7,7 +7,6 @@ use crate::*;
 use moo_rows::flat::Flat;
 use moo_rows::row::ObjRow;
 use moo_rows::rows::Rows;
-use moo_value::text::MooStr;
 use moo_value::value::ObjNo;
 use moo_world::opening::good_opening;
 use std::test::*;
@@ -18,26 +17,6 @@ const ROOT: ObjNo = ObjNo(1);
 
 /// A number that no object has.
 const FREE: ObjNo = ObjNo(99);
-
-/// A row of the wizard's with no name, no bit and no accept list.
-fn row(rt: &HostRuntime, parent: ObjNo, location: ObjNo) -> Result<ObjRow, Fail>
-    ensures parent { IfOk result (λ row. row.parent ≡ parent) }
-    ensures location { IfOk result (λ row. row.location ≡ location) }
-{
-    Ok(ObjRow {
-        name: MooStr::from_bytes(rt.alloc(), b"")?,
-        owner: ObjNo(3),
-        parent,
-        location,
-        player: false,
-        programmer: false,
-        wizard: false,
-        r: false,
-        w: false,
-        f: false,
-        accept: None,
-    })
-}
 
 /// Whether the number is that of an object or of nothing.
 fn is_link(rows: &Flat, q: ObjNo) -> bool
@@ -60,7 +39,8 @@ fn put(
     if x.0 < 0 || valid(rows, x) || !is_link(rows, parent) || !is_link(rows, location) {
         return Err(Fail::from("no place for it"));
     }
-    let row = row(rt, parent, location)?;
+    let mut row = ObjRow::plain(rt.alloc(), b"", ObjNo(3), parent)?;
+    row.location = location;
     let mut head = rows.head();
     head.top = head.top.max(x.0);
     rows.set_head(head);

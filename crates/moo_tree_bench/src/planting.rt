@@ -10,7 +10,6 @@ use moo_rows::flat::Flat;
 use moo_rows::row::ObjRow;
 use moo_rows::rows::Rows;
 use moo_tree::{is_nothing, nothing, valid};
-use moo_value::text::MooStr;
 use moo_value::value::ObjNo;
 use std::alloc::Global;
 
@@ -58,29 +57,6 @@ fn is_link(rows: &Flat, q: ObjNo) -> bool
     valid(rows, q) || is_nothing(q)
 }
 
-/// A row with no name and no right, that lies nowhere.
-fn row(alloc: Global, parent: ObjNo) -> Result<ObjRow>
-    ensures parent { IfOk result (λ row. row.parent ≡ parent) }
-    ensures location { IfOk result (λ row. row.location ≡ nothing) }
-{
-    let Ok(name) = MooStr::from_bytes(alloc, b"") else {
-        bail!("no memory");
-    };
-    Ok(ObjRow {
-        name,
-        owner: ObjNo(3),
-        parent,
-        location: nothing(),
-        player: false,
-        programmer: false,
-        wizard: false,
-        r: false,
-        w: false,
-        f: false,
-        accept: None,
-    })
-}
-
 /// Puts a new object under one that is there, or under nothing.
 fn put(alloc: Global, rows: &mut Flat, x: ObjNo, parent: ObjNo) -> Result<()>
     requires { IsTree (world_of rows.old.maps) }
@@ -89,7 +65,7 @@ fn put(alloc: Global, rows: &mut Flat, x: ObjNo, parent: ObjNo) -> Result<()>
     if x.0 < 0 || valid(rows, x) || !is_link(rows, parent) {
         bail!("no place for it");
     }
-    let row = row(alloc, parent)?;
+    let row = ObjRow::plain(alloc, b"", ObjNo(3), parent)?;
     let mut head = rows.head();
     head.top = head.top.max(x.0);
     rows.set_head(head);

@@ -9,12 +9,12 @@ use Rattle.moo_rows.specs.declared.row.VerbId.{VerbId}
 use Rattle.moo_rows.specs.declared.row.VerbRow.{VerbRow}
 use Rattle.moo_rows.specs.Maps.{Maps}
 use Rattle.moo_world.specs.Rows.{IsGood, look_ups, world_of, world_shown}
-use Rattle.moo_world.specs.World.{IsWellFormed, is_object, has_word}
+use Rattle.moo_world.specs.World.{IsWellFormed, is_object, verb_fits}
 use Rattle.moo_world.proofs.Seen.{is_object_seen}
 use Rattle.moo_world.specs.Directories.{verb_added, verb_removed, verb_changed, changed_at}
 use Rattle.moo_verbs.specs.Places.{has_verb, verb_place}
 use Rattle.moo_verbs.proofs.Directories.{put_last, put_changed, removed}
-use Rattle.moo_world.proofs.DirectoryForm.{stays_formed, added_named, removed_named, changed_named}
+use Rattle.moo_world.proofs.DirectoryForm.{stays_formed, added_fit, removed_fit, changed_fit}
 use Rattle.moo_verbs.proofs.Soundness.{put_sound, rest_sound}
 
 some_of : {A : Type 0} (o : Option A) → is_some o ≡ true → (v : A) × (o ≡ Some v)
@@ -34,13 +34,13 @@ module _ (m : Maps) (good : IsGood m) (x : ObjNo) where
     pub added_world : world_of added_maps ≡ verb_added (world_of m) x row
     added_world = put_last m x id row good.sound last
 
-    pub added_good : is_object (world_of m) x ≡ true → m.head.next_verb < 4294967295 → has_word row.names ≡ true → IsGood added_maps
+    pub added_good : is_object (world_of m) x ≡ true → m.head.next_verb < 4294967295 → verb_fits row ≡ true → IsGood added_maps
     unfolding world_shown
-    added_good there left named =
+    added_good there left fit =
         let room = verb_room m good in
         record {
           sound = put_sound m good.sound x id row (m.head.next_verb + 1) (sym (is_object_seen (look_ups m) x) ∙ there) (omega (arith, room.0)) (omega arith) (omega arith);
-          formed = subst IsWellFormed (sym added_world) (stays_formed (world_of m) x (λ verbs. verbs ++ row ∷ []) (m.head.next_verb + 1) good.formed (omega arith, omega arith) (added_named row named));
+          formed = subst IsWellFormed (sym added_world) (stays_formed (world_of m) x (λ verbs. verbs ++ row ∷ []) (m.head.next_verb + 1) good.formed (omega arith, omega arith) (added_fit row fit));
         }
 
   module _ (id : VerbId) (held : has_verb m x id ≡ true) where
@@ -55,7 +55,7 @@ module _ (m : Maps) (good : IsGood m) (x : ObjNo) where
     unfolding world_shown
     removed_good = record {
       sound = rest_sound m good.sound x id;
-      formed = subst IsWellFormed (sym removed_world) (stays_formed (world_of m) x (λ verbs. remove verbs (verb_place m x id)) m.head.next_verb good.formed (verb_room m good) (removed_named (verb_place m x id)));
+      formed = subst IsWellFormed (sym removed_world) (stays_formed (world_of m) x (λ verbs. remove verbs (verb_place m x id)) m.head.next_verb good.formed (verb_room m good) (removed_fit (verb_place m x id)));
     }
 
     -- a verb changed
@@ -63,11 +63,11 @@ module _ (m : Maps) (good : IsGood m) (x : ObjNo) where
       pub changed_world : world_of (record m { verbs = insert m.verbs (x, id) (change v) }) ≡ verb_changed (world_of m) x (verb_place m x id) change
       changed_world = put_changed m x id (change v) v change (good.sound.verbs x id.0 held).2 is refl
 
-      pub changed_good : ((u : VerbRow) → has_word u.names ≡ true → has_word (change u).names ≡ true) → IsGood (record m { verbs = insert m.verbs (x, id) (change v) })
+      pub changed_good : ((u : VerbRow) → verb_fits u ≡ true → verb_fits (change u) ≡ true) → IsGood (record m { verbs = insert m.verbs (x, id) (change v) })
       unfolding world_shown
-      changed_good named =
+      changed_good fits =
           let at = good.sound.verbs x id.0 held in
           record {
             sound = put_sound m good.sound x id (change v) m.head.next_verb at.0 at.1 at.2 (omega arith);
-            formed = subst IsWellFormed (sym changed_world) (stays_formed (world_of m) x (changed_at (verb_place m x id) change) m.head.next_verb good.formed (verb_room m good) (changed_named change named (verb_place m x id)));
+            formed = subst IsWellFormed (sym changed_world) (stays_formed (world_of m) x (changed_at (verb_place m x id) change) m.head.next_verb good.formed (verb_room m good) (changed_fit change fits (verb_place m x id)));
           }

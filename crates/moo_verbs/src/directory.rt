@@ -7,6 +7,7 @@ ghost use Rattle.moo_world.specs.Directories.{verb_added, verb_removed, verb_inf
 ghost use Rattle.moo_verbs.specs.Places.{has_verb, verb_place};
 ghost use Rattle.moo_world.specs.Keeps.{Keeps};
 
+use moo_rows::ordered::Row;
 use moo_rows::row::{ArgSpec, VerbBits, VerbId, VerbRow};
 use moo_rows::rows::Rows;
 use moo_rows::walk::each_verb_of;
@@ -42,6 +43,9 @@ pub fn add<R: Rows>(rows: &mut R, x: ObjNo, verb: VerbRow) -> Result<VerbId, All
         (world_of (R.held rows.new).maps ≡ verb_added (world_of (R.held rows.old).maps) x verb) }
     ensures kept { OnOk result (Keeps (R.held rows.old) (R.held rows.new)) }
 {
+    // The limits that the types of the names and the owner keep are known of what was read.
+    let _names = verb.names.bytes();
+    let _owner = verb.owner.0;
     let mut head = rows.head();
     let id = VerbId(head.next_verb);
     head.next_verb += 1;
@@ -84,6 +88,9 @@ pub fn set_info<R: Rows>(
         ≡ verb_info_set (world_of (R.held rows.old).maps) x (verb_place (R.held rows.old).maps x id) owner bits names) }
     ensures kept { OnOk result (Keeps (R.held rows.old) (R.held rows.new)) }
 {
+    // The limits that their types keep are known of what was read.
+    let _names = names.bytes();
+    let _owner = owner.0;
     let args = match rows.verb((x, id)) {
         None => unreachable!(),
         Some(row) => row.args,

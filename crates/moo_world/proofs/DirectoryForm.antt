@@ -8,34 +8,34 @@ use Rattle.std.proofs.lemmas.List.Folds.{list_all-append}
 use Rattle.moo_value.specs.declared.value.ObjNo.{ObjNo}
 use Rattle.moo_rows.specs.declared.row.VerbRow.{VerbRow}
 use Rattle.moo_world.specs.Objects.{same_object}
-use Rattle.moo_world.specs.World.{World, Record, IsWellFormed, KeepsLimits, Climbs, Chain, NamesDiffer, is_object, parent_of, location_of, names_of, owed_by, pair_named, slot_of, accept_of, without_slots, with_slots, is_property_name, has_word}
+use Rattle.moo_world.specs.World.{World, Record, IsWellFormed, KeepsLimits, Climbs, Chain, NamesDiffer, is_object, parent_of, location_of, names_of, owed_by, pair_named, slot_of, row_of, without_slots, with_slots, is_property_name, verb_fits, row_fits}
 use Rattle.moo_world.specs.Directories.{with_verbs, changed_at}
 
 -- the world with the directory of x changed, and that number for the next verb
 abbrev pub with_directory : World → ObjNo → (List VerbRow → List VerbRow) → ℕ → World
 with_directory w x change next = record (with_verbs w x change) { next_verb = next }
 
--- ---- each verb has a name
+-- ---- each verb fits
 
-abbrev pub all_named : List VerbRow → Bool
-all_named verbs = list_all (λ v. has_word v.names) verbs
+abbrev pub all_fit : List VerbRow → Bool
+all_fit verbs = list_all verb_fits verbs
 
 both : {a b : Bool} → a ≡ true → b ≡ true → (a && b) ≡ true
 both e h = λ i. e i && h i
 
-pub added_named : (row : VerbRow) → has_word row.names ≡ true → (verbs : List VerbRow) → all_named verbs ≡ true → all_named (verbs ++ row ∷ []) ≡ true
-added_named row h verbs e = list_all-append (λ v. has_word v.names) verbs (row ∷ []) ∙ both e (both h refl)
+pub added_fit : (row : VerbRow) → verb_fits row ≡ true → (verbs : List VerbRow) → all_fit verbs ≡ true → all_fit (verbs ++ row ∷ []) ≡ true
+added_fit row h verbs e = list_all-append verb_fits verbs (row ∷ []) ∙ both e (both h refl)
 
-pub removed_named : (place : ℕ) (verbs : List VerbRow) → all_named verbs ≡ true → all_named (remove verbs place) ≡ true
-removed_named zero [] e = refl
-removed_named (suc place) [] e = refl
-removed_named zero (v ∷ verbs) e = (and_parts (has_word v.names) (all_named verbs) e).1
-removed_named (suc place) (v ∷ verbs) e = let parts = and_parts (has_word v.names) (all_named verbs) e in both parts.0 (removed_named place verbs parts.1)
+pub removed_fit : (place : ℕ) (verbs : List VerbRow) → all_fit verbs ≡ true → all_fit (remove verbs place) ≡ true
+removed_fit zero [] e = refl
+removed_fit (suc place) [] e = refl
+removed_fit zero (v ∷ verbs) e = (and_parts (verb_fits v) (all_fit verbs) e).1
+removed_fit (suc place) (v ∷ verbs) e = let parts = and_parts (verb_fits v) (all_fit verbs) e in both parts.0 (removed_fit place verbs parts.1)
 
-pub changed_named : (change : VerbRow → VerbRow) → ((v : VerbRow) → has_word v.names ≡ true → has_word (change v).names ≡ true) → (place : ℕ) (verbs : List VerbRow) → all_named verbs ≡ true → all_named (changed_at place change verbs) ≡ true
-changed_named change h place [] e = refl
-changed_named change h zero (v ∷ verbs) e = let parts = and_parts (has_word v.names) (all_named verbs) e in both (h v parts.0) parts.1
-changed_named change h (suc place) (v ∷ verbs) e = let parts = and_parts (has_word v.names) (all_named verbs) e in both parts.0 (changed_named change h place verbs parts.1)
+pub changed_fit : (change : VerbRow → VerbRow) → ((v : VerbRow) → verb_fits v ≡ true → verb_fits (change v) ≡ true) → (place : ℕ) (verbs : List VerbRow) → all_fit verbs ≡ true → all_fit (changed_at place change verbs) ≡ true
+changed_fit change h place [] e = refl
+changed_fit change h zero (v ∷ verbs) e = let parts = and_parts (verb_fits v) (all_fit verbs) e in both (h v parts.0) parts.1
+changed_fit change h (suc place) (v ∷ verbs) e = let parts = and_parts (verb_fits v) (all_fit verbs) e in both parts.0 (changed_fit change h place verbs parts.1)
 
 -- ---- the rest is as it was
 
@@ -70,24 +70,24 @@ module _ (w : World) (x : ObjNo) (change : List VerbRow → List VerbRow) (next 
   bare_names : names_of (without_slots after) ≡ names_of (without_slots w)
   bare_names = λ i y. alike (λ o. unwrap_or (option_map (λ r. r.defines) (option_map (with_slots (λ n. None)) o)) []) (λ r verbs. refl) y i
 
-  bare_accepts : accept_of (without_slots after) ≡ accept_of (without_slots w)
-  bare_accepts = λ i y. alike (λ o. unwrap_or (option_and_then (λ r. r.row.accept) (option_map (with_slots (λ n. None)) o)) []) (λ r verbs. refl) y i
+  bare_rows : row_of (without_slots after) ≡ row_of (without_slots w)
+  bare_rows = λ i y. alike (λ o. option_map (λ r. r.row) (option_map (with_slots (λ n. None)) o)) (λ r verbs. refl) y i
 
   owed_as_before : (l : List ObjNo) → owed_by after l ≡ owed_by w l
   owed_as_before l = λ i. flat_map (λ d. map (λ n. (d, n)) (names i d)) l
 
-  module _ (formed : IsWellFormed w) (room : (0 < next) × (next ≤ 4294967295)) (named : (verbs : List VerbRow) → all_named verbs ≡ true → all_named (change verbs) ≡ true) where
+  module _ (formed : IsWellFormed w) (room : (0 < next) × (next ≤ 4294967295)) (named : (verbs : List VerbRow) → all_fit verbs ≡ true → all_fit (change verbs) ≡ true) where
     object_before : (y : ObjNo) → is_object after y ≡ true → is_object w y ≡ true
     object_before y e = sym (ap (λ f. f y) objects) ∙ e
 
     Chain_before : (y : ObjNo) (l : List ObjNo) → Chain after y l → Chain w y l
     Chain_before y l c = subst (λ link. Climbs link y l) parents c
 
-    words : (y : ObjNo) → all_named (unwrap_or (option_map (λ (r : Record). r.verbs) (option_map (with_slots (λ n. None)) (after.object y))) []) ≡ true
-    words y = by (same_object x y) (w.object y) (formed.limits.words y)
+    fitting : (y : ObjNo) → all_fit (unwrap_or (option_map (λ (r : Record). r.verbs) (option_map (with_slots (λ n. None)) (after.object y))) []) ≡ true
+    fitting y = by (same_object x y) (w.object y) (formed.limits.directories y)
       where
-        by : (b : Bool) (o : Option Record) → all_named (unwrap_or (option_map (λ (r : Record). r.verbs) (option_map (with_slots (λ n. None)) o)) []) ≡ true
-            → all_named (unwrap_or (option_map (λ (r : Record). r.verbs) (option_map (with_slots (λ n. None)) (option_map (λ (r : Record). if b then record r { verbs = change r.verbs } else r) o))) []) ≡ true
+        by : (b : Bool) (o : Option Record) → all_fit (unwrap_or (option_map (λ (r : Record). r.verbs) (option_map (with_slots (λ n. None)) o)) []) ≡ true
+            → all_fit (unwrap_or (option_map (λ (r : Record). r.verbs) (option_map (with_slots (λ n. None)) (option_map (λ (r : Record). if b then record r { verbs = change r.verbs } else r) o))) []) ≡ true
         by b None e = e
         by true (Some r) e = named r.verbs e
         by false (Some r) e = e
@@ -98,8 +98,8 @@ module _ (w : World) (x : ObjNo) (change : List VerbRow → List VerbRow) (next 
       props = formed.limits.props;
       verbs = room;
       names = λ y. subst (λ f. list_all is_property_name (f y) ≡ true) (sym bare_names) (formed.limits.names y);
-      words = words;
-      accepts = λ y. subst (λ f. length (f y) ≤ 1000) (sym bare_accepts) (formed.limits.accepts y);
+      directories = fitting;
+      rows = λ y. subst (λ f. unwrap_or (option_map row_fits (f y)) true ≡ true) (sym bare_rows) (formed.limits.rows y);
     }
 
     pub stays_formed : IsWellFormed after

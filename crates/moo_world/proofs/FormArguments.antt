@@ -1,18 +1,22 @@
 -- What a call is given fits where all its arguments do, and a value changes no field but as it may.
-use Rattle.std.proofs.Common.{◌≡◌, Bool, true, List, [], ◌∷◌, refl, sym, ◌∙◌, ap, Option, Some, None, Result, Ok}
-use Rattle.std.specs.Prelude.{◌&&◌}
+use Rattle.std.proofs.Common.{◌≡◌, Bool, true, false, List, [], ◌∷◌, refl, sym, ◌∙◌, ap, Option, Some, None, Result, Ok, Err, pos}
+use Rattle.std.specs.Prelude.{◌&&◌, nat_le, unwrap_or, if◌then◌else◌}
 use Rattle.std.specs.Option.{option_map}
 use Rattle.std.specs.List.{list_all}
+use Rattle.std.specs.Ordering.{int_eq}
 use Rattle.std.proofs.lemmas.Bool.{and_parts}
 use Rattle.moo_value.specs.declared.code.Code.{Code}
+use Rattle.moo_value.specs.declared.code.Code.TheVariants.{«Type» as wrong_type}
 use Rattle.moo_value.specs.declared.value.ObjNo.{ObjNo}
 use Rattle.moo_value.specs.declared.value.Value.{Value}
-use Rattle.moo_value.specs.declared.value.Value.TheVariants.{Obj, Str, List as a_list}
-use Rattle.moo_value.specs.Value.{spread}
+use Rattle.moo_value.specs.declared.value.Value.TheVariants.{Int, Obj, Str, Error, List as a_list}
+use Rattle.moo_value.specs.Value.{nesting, spread}
+use Rattle.moo_value.specs.Values.{Values, no_values as no_more, int, object, string, error, list}
 use Rattle.moo_world.specs.declared.built_in.BuiltIn.{BuiltIn}
 use Rattle.moo_world.specs.declared.built_in.BuiltIn.TheVariants as field
 use Rattle.moo_world.specs.declared.change.Change.{Change}
-use Rattle.moo_world.specs.Arguments.{Info, fits, with_object, object_text_and_value, info_in, new_property}
+use Rattle.moo_world.specs.Arguments.{Info, in_range, is_number, is_text, all_within_limits, is_within_limits, fits, with_object, object_text_and_value, info_in, new_property, objects_among, object_and_accept, both, desc_of, verb_info_in, texts_in, new_verb, new_verb_info}
+use Rattle.moo_world.specs.declared.descriptor.Desc.{Desc}
 use Rattle.moo_world.specs.Fields.{is_allowed}
 use Rattle.moo_world.specs.Objects.{Name}
 use Rattle.moo_world.specs.PropertyCalls.{change_of}
@@ -23,6 +27,12 @@ abbrev passes : {A : Type 0} → (A → Bool) → Result A Code → Bool
 passes test (Ok a) = test a
 passes test other = true
 
+second : (a b rest : Bool) → (a && (b && rest)) ≡ true → b ≡ true
+second a b rest h = (and_parts b rest (and_parts a (b && rest) h).1).0
+
+third : (a b c rest : Bool) → (a && (b && (c && rest))) ≡ true → c ≡ true
+third a b c rest h = (and_parts c rest (and_parts b (c && rest) (and_parts a (b && (c && rest)) h).1).1).0
+
 abbrev set_value : Result (ObjNo × Name × Value) Code → Bool
 set_value r = passes (λ a. fits a.2) r
 
@@ -30,7 +40,7 @@ abbrev new_value : Result (ObjNo × (Name × Value × Info)) Code → Bool
 new_value r = passes (λ a. fits a.1.1) r
 
 set_fits : (args : List Value) → list_all fits args ≡ true → set_value (object_text_and_value args) ≡ true
-set_fits (Obj x ∷ Str name ∷ v ∷ []) h = (and_parts (fits v) true (and_parts (fits (Obj x)) (fits v && true) h).1).0
+set_fits (Obj x ∷ Str name ∷ v ∷ []) h = third (fits (Obj x)) (fits (Str name)) (fits v) true h
 set_fits [] h = refl
 set_fits (Obj x ∷ []) h = refl
 set_fits (a ∷ []) h = refl
@@ -41,7 +51,7 @@ set_fits (Obj x ∷ Str name ∷ v ∷ d ∷ args) h = refl
 set_fits (a ∷ b ∷ c ∷ d ∷ args) h = refl
 
 new_fits : (args : List Value) → list_all fits args ≡ true → new_value (new_property args) ≡ true
-new_fits (Obj x ∷ Str name ∷ v ∷ a_list info ∷ []) h = by (info_in (spread info)) (and_parts (fits v) (fits (a_list info) && true) (and_parts (fits (Obj x)) (fits v && (fits (a_list info) && true)) h).1).0
+new_fits (Obj x ∷ Str name ∷ v ∷ a_list info ∷ []) h = by (info_in (spread info)) (third (fits (Obj x)) (fits (Str name)) (fits v) (fits (a_list info) && true) h)
   where
     by : (o : Option Info) → fits v ≡ true → new_value (with_object x (option_map (λ i. (name, v, i)) o)) ≡ true
     by None e = refl
@@ -65,17 +75,127 @@ set_value_fits args a e h = sym (ap set_value e) ∙ set_fits args h
 pub new_value_fits : (args : List Value) (a : ObjNo × (Name × Value × Info)) → new_property args ≡ Ok a → list_all fits args ≡ true → fits a.1.1 ≡ true
 new_value_fits args a e h = sym (ap new_value e) ∙ new_fits args h
 
+-- ---- the values of a list
+
+within_spread : (l : Values) → all_within_limits l ≡ list_all is_within_limits (spread l)
+within_spread no_more = refl
+within_spread (int n rest) = ap (λ b. in_range n && b) (within_spread rest)
+within_spread (object n rest) = ap (λ b. in_range n && b) (within_spread rest)
+within_spread (string s rest) = ap (λ b. is_text s && b) (within_spread rest)
+within_spread (error e rest) = within_spread rest
+within_spread (list values rest) = ap (λ b. all_within_limits values && b) (within_spread rest)
+
+each_within : (l : Values) → fits (a_list l) ≡ true → list_all is_within_limits (spread l) ≡ true
+each_within l h = sym (within_spread l) ∙ (and_parts (nat_le (nesting (a_list l)) 32) (all_within_limits l) h).1
+
+-- ---- accept lists
+
+abbrev numbered : Result (ObjNo × Option (List ObjNo)) Code → Bool
+numbered r = passes (λ a. list_all is_number (unwrap_or a.1 [])) r
+
+objects_numbered : (vs : List Value) → list_all is_within_limits vs ≡ true → unwrap_or (option_map (list_all is_number) (objects_among vs)) true ≡ true
+objects_numbered [] h = refl
+objects_numbered (Obj x ∷ vs) h = let parts = and_parts (in_range x.0) (list_all is_within_limits vs) h in by parts.0 (objects_among vs) (objects_numbered vs parts.1)
+  where
+    by : is_number x ≡ true → (o : Option (List ObjNo)) → unwrap_or (option_map (list_all is_number) o) true ≡ true → unwrap_or (option_map (list_all is_number) (option_map (λ l. x ∷ l) o)) true ≡ true
+    by n None e = refl
+    by n (Some l) e = λ i. n i && e i
+objects_numbered (v ∷ vs) h = refl
+
+accept_numbered : (args : List Value) → list_all fits args ≡ true → numbered (object_and_accept args) ≡ true
+accept_numbered (Obj x ∷ a_list l ∷ []) h = by (objects_among (spread l)) (objects_numbered (spread l) (each_within l (second (fits (Obj x)) (fits (a_list l)) true h)))
+  where
+    by : (o : Option (List ObjNo)) → unwrap_or (option_map (list_all is_number) o) true ≡ true → numbered (with_object x (option_map Some o)) ≡ true
+    by None e = refl
+    by (Some objects) e = e
+accept_numbered (Obj x ∷ Int n ∷ []) h = by (int_eq n (pos 0))
+  where
+    by : (b : Bool) → numbered (if b then Ok (x, None) else Err wrong_type) ≡ true
+    by true = refl
+    by false = refl
+accept_numbered [] h = refl
+accept_numbered (Obj x ∷ []) h = refl
+accept_numbered (a ∷ []) h = refl
+accept_numbered (a ∷ b ∷ []) h = refl
+accept_numbered (Obj x ∷ a_list l ∷ c ∷ args) h = refl
+accept_numbered (Obj x ∷ Int n ∷ c ∷ args) h = refl
+accept_numbered (a ∷ b ∷ c ∷ args) h = refl
+
+-- the list that `set_accept` is given
+pub accept_list_numbered : (args : List Value) (a : ObjNo × Option (List ObjNo)) → object_and_accept args ≡ Ok a → list_all fits args ≡ true → list_all is_number (unwrap_or a.1 []) ≡ true
+accept_list_numbered args a e h = sym (ap numbered e) ∙ accept_numbered args h
+
+-- ---- verbs' names
+
+abbrev names_texts : Option (Info × Name) → Bool
+names_texts o = unwrap_or (option_map (λ i. is_text i.1) o) true
+
+info_named : (vs : List Value) → list_all is_within_limits vs ≡ true → names_texts (verb_info_in vs) ≡ true
+info_named (Obj owner ∷ Str perms ∷ Str names ∷ []) h = third (in_range owner.0) (is_text perms) (is_text names) true h
+info_named [] h = refl
+info_named (Obj owner ∷ []) h = refl
+info_named (Obj owner ∷ Str perms ∷ []) h = refl
+info_named (Obj owner ∷ Str perms ∷ Str names ∷ d ∷ vs) h = refl
+info_named (Obj owner ∷ Str perms ∷ c ∷ vs) h = refl
+info_named (Obj owner ∷ b ∷ vs) h = refl
+info_named (a ∷ vs) h = refl
+
+abbrev added : Result (ObjNo × ((Info × Name) × (Name × Name × Name))) Code → Bool
+added r = passes (λ a. is_text a.1.0.1) r
+
+abbrev renamed : Result (ObjNo × (Desc × (Info × Name))) Code → Bool
+renamed r = passes (λ a. is_text a.1.1.1) r
+
+added_named : (args : List Value) → list_all fits args ≡ true → added (new_verb args) ≡ true
+added_named (Obj x ∷ a_list info ∷ a_list texts ∷ []) h = by (verb_info_in (spread info)) (texts_in (spread texts)) (info_named (spread info) (each_within info (second (fits (Obj x)) (fits (a_list info)) (fits (a_list texts) && true) h)))
+  where
+    by : (i : Option (Info × Name)) (t : Option (Name × Name × Name)) → names_texts i ≡ true → added (with_object x (both i t)) ≡ true
+    by None t e = refl
+    by (Some i) None e = refl
+    by (Some i) (Some t) e = e
+added_named [] h = refl
+added_named (Obj x ∷ []) h = refl
+added_named (a ∷ []) h = refl
+added_named (Obj x ∷ a_list info ∷ []) h = refl
+added_named (a ∷ b ∷ []) h = refl
+added_named (a ∷ b ∷ c ∷ []) h = refl
+added_named (Obj x ∷ a_list info ∷ a_list texts ∷ d ∷ args) h = refl
+added_named (a ∷ b ∷ c ∷ d ∷ args) h = refl
+
+renamed_named : (args : List Value) → list_all fits args ≡ true → renamed (new_verb_info args) ≡ true
+renamed_named (Obj x ∷ d ∷ a_list info ∷ []) h = by (desc_of d) (verb_info_in (spread info)) (info_named (spread info) (each_within info (third (fits (Obj x)) (fits d) (fits (a_list info)) true h)))
+  where
+    by : (o : Option Desc) (i : Option (Info × Name)) → names_texts i ≡ true → renamed (with_object x (both o i)) ≡ true
+    by None i e = refl
+    by (Some o) None e = refl
+    by (Some o) (Some i) e = e
+renamed_named [] h = refl
+renamed_named (Obj x ∷ []) h = refl
+renamed_named (a ∷ []) h = refl
+renamed_named (Obj x ∷ d ∷ []) h = refl
+renamed_named (a ∷ b ∷ []) h = refl
+renamed_named (a ∷ b ∷ c ∷ []) h = refl
+renamed_named (Obj x ∷ d ∷ a_list info ∷ e ∷ args) h = refl
+renamed_named (a ∷ b ∷ c ∷ d ∷ args) h = refl
+
+-- the names that `add_verb` and `set_verb_info` are given
+pub new_verb_named : (args : List Value) (a : ObjNo × ((Info × Name) × (Name × Name × Name))) → new_verb args ≡ Ok a → list_all fits args ≡ true → is_text a.1.0.1 ≡ true
+new_verb_named args a e h = sym (ap added e) ∙ added_named args h
+
+pub new_verb_info_named : (args : List Value) (a : ObjNo × (Desc × (Info × Name))) → new_verb_info args ≡ Ok a → list_all fits args ≡ true → is_text a.1.1.1 ≡ true
+new_verb_info_named args a e h = sym (ap renamed e) ∙ renamed_named args h
+
 -- ---- fields
 
-field_free : (w : World) (x : ObjNo) (f : BuiltIn) (v : Value) → passes (is_allowed w x) (change_of f v) ≡ true
-field_free w x field.Location v = refl
-field_free w x field.Contents v = refl
-field_free w x field.Name (Str s) = refl
-field_free w x field.Name v = refl
-field_free w x field.Owner (Obj owner) = refl
-field_free w x field.Owner v = refl
-field_free w x f v = refl
+field_allowed : (w : World) (x : ObjNo) (f : BuiltIn) (v : Value) → fits v ≡ true → passes (is_allowed w x) (change_of f v) ≡ true
+field_allowed w x field.Location v h = refl
+field_allowed w x field.Contents v h = refl
+field_allowed w x field.Name (Str s) h = h
+field_allowed w x field.Name v h = refl
+field_allowed w x field.Owner (Obj owner) h = h
+field_allowed w x field.Owner v h = refl
+field_allowed w x f v h = refl
 
--- what `set` changes of a field is allowed: it never is a place or an accept list
-pub change_allowed : (w : World) (x : ObjNo) (f : BuiltIn) (v : Value) (c : Change) → change_of f v ≡ Ok c → is_allowed w x c ≡ true
-change_allowed w x f v c e = sym (ap (passes (is_allowed w x)) e) ∙ field_free w x f v
+-- what `set` changes of a field is allowed, where the value fits: it never is a place or an accept list
+pub change_allowed : (w : World) (x : ObjNo) (f : BuiltIn) (v : Value) (c : Change) → change_of f v ≡ Ok c → fits v ≡ true → is_allowed w x c ≡ true
+change_allowed w x f v c e h = sym (ap (passes (is_allowed w x)) e) ∙ field_allowed w x f v h

@@ -17,7 +17,7 @@ use Rattle.moo_world.specs.declared.change.Change.TheVariants as to
 use Rattle.moo_world.specs.declared.descriptor.Desc.{Desc}
 use Rattle.moo_world.specs.declared.name.CallName.{CallName}
 use Rattle.moo_world.specs.declared.name.CallName.TheVariants.{Valid, Parent, Children, IsPlayer, Players, MaxObject, Get, Properties, PropertyInfo, IsClearProperty, Verbs, VerbInfo, VerbArgs, AcceptList, Create, Chparent, Recycle, Move, SetPlayerFlag, Set, AddProperty, DeleteProperty, SetPropertyInfo, ClearProperty, AddVerb, DeleteVerb, SetVerbInfo, SetVerbArgs, SetAccept}
-use Rattle.moo_world.specs.Arguments.{Info, fits, no_values, one_object, two_objects, object_and_text, object_and_value, object_text_and_value, parent_and_owner, object_and_accept, new_property, new_property_info, object_and_desc, new_verb, new_verb_info, new_verb_args}
+use Rattle.moo_world.specs.Arguments.{Info, is_number, is_text, fits, no_values, one_object, two_objects, object_and_text, object_and_value, object_text_and_value, parent_and_owner, object_and_accept, new_property, new_property_info, object_and_desc, new_verb, new_verb_info, new_verb_args}
 use Rattle.moo_world.specs.BuiltIns.{built_in}
 use Rattle.moo_world.specs.Calls.{create, chparent, recycle, move, set_player_flag, set_accept}
 use Rattle.moo_world.specs.Changes.{clashes, info_set, with_slot_of}
@@ -35,14 +35,15 @@ use Rattle.moo_world.specs.Rights.{is_wizard, controls, may_be_parent, may_own, 
 use Rattle.moo_world.specs.Step.{named_call, step}
 use Rattle.moo_world.specs.VerbCalls.{add_verb, delete_verb, set_verb_info, set_verb_args}
 use Rattle.moo_world.specs.VerbReading.{args_of}
-use Rattle.moo_world.specs.World.{World, Slot, IsWellFormed, is_object, owner_of, slot_of, chain, has_word, is_property_name}
-use Rattle.moo_world.proofs.DirectoryForm.{all_named, added_named, removed_named, changed_named, stays_formed}
+use Rattle.moo_world.specs.World.{World, Slot, IsWellFormed, is_object, owner_of, slot_of, chain, has_word, is_property_name, verb_fits, state_fits}
+use Rattle.moo_world.proofs.DirectoryForm.{all_fit, added_fit, removed_fit, changed_fit, stays_formed}
 use Rattle.moo_world.proofs.FieldForm.{IsWellFormed-field_changed}
-use Rattle.moo_world.proofs.FormArguments.{set_value_fits, new_value_fits, change_allowed}
+use Rattle.moo_world.proofs.FormArguments.{set_value_fits, new_value_fits, accept_list_numbered, new_verb_named, new_verb_info_named, change_allowed}
 use Rattle.moo_world.proofs.FormChanged.{set_formed, renamed_formed, clashes_same, defines_same}
 use Rattle.moo_world.proofs.FormQuota.{charged_formed, returned_formed}
 use Rattle.moo_world.proofs.Formed.{IsWellFormed-with_slot_of, same_links}
 use Rattle.moo_world.proofs.Insertion.{IsWellFormed-defined}
+use Rattle.moo_world.proofs.Limits.{object_numbered, slot_owner}
 use Rattle.moo_world.proofs.OwnershipCounted.{parent_known}
 use Rattle.moo_world.proofs.OwnershipPassing.{Holds, of_done, on_check, on_room, on_given, on_found, on_next, on_field, on_done}
 use Rattle.moo_world.proofs.Rebuilding.{objects_same}
@@ -112,12 +113,12 @@ module _ (w : World) (p : ObjNo) (wf : IsWellFormed w) where
       on_check _ (is_wizard w p) _ _ (λ wizard.
       on_done _ _ _ (IsWellFormed-field_changed w x (to.Player (is_true v)) xo refl wf)))
 
-  accept_kept : (x : ObjNo) (list : Option (List ObjNo)) → Kept (set_accept w p x list)
-  accept_kept x list =
+  accept_kept : (x : ObjNo) (list : Option (List ObjNo)) → list_all is_number (unwrap_or list []) ≡ true → Kept (set_accept w p x list)
+  accept_kept x list numbered =
       on_check _ (is_object w x) _ _ (λ xo.
       on_check _ (controls w p x) _ _ (λ mine.
       on_check _ (nat_le (length (unwrap_or list [])) 1000) _ _ (λ short.
-      on_done _ _ _ (IsWellFormed-field_changed w x (to.Accept list) xo short wf))))
+      on_done _ _ _ (IsWellFormed-field_changed w x (to.Accept list) xo (both short numbered) wf))))
 
   -- ---- properties
 
@@ -132,17 +133,17 @@ module _ (w : World) (p : ObjNo) (wf : IsWellFormed w) where
       on_check _ (is_object w x) _ _ (λ xo.
       on_field _ (built_in n) _ _ (λ f. same _) (reading x n _))
 
-  set_built_in_kept : (x : ObjNo) (f : BuiltIn) (v : Value) → is_object w x ≡ true → Kept (set_built_in w p x f v)
-  set_built_in_kept x f v xo =
+  set_built_in_kept : (x : ObjNo) (f : BuiltIn) (v : Value) → fits v ≡ true → is_object w x ≡ true → Kept (set_built_in w p x f v)
+  set_built_in_kept x f v fit xo =
       on_given _ (change_of f v) _ (λ c e.
       on_check _ (may_set w p x f) _ _ (λ may.
       on_check _ (names_object w c) _ _ (λ there.
-      on_done _ _ _ (IsWellFormed-field_changed w x c xo (change_allowed w x f v c e) wf))))
+      on_done _ _ _ (IsWellFormed-field_changed w x c xo (change_allowed w x f v c e fit) wf))))
 
   set_kept : (x : ObjNo) (n : Name) (v : Value) → fits v ≡ true → Kept (set w p x n v)
   set_kept x n v fit =
       on_check _ (is_object w x) _ _ (λ xo.
-      on_field _ (built_in n) _ _ (λ f. set_built_in_kept x f v xo)
+      on_field _ (built_in n) _ _ (λ f. set_built_in_kept x f v fit xo)
       (on_found _ (slot_of w x (folded n)) _ _ (λ s e.
       on_check _ (may_write_slot w p s) _ _ (λ may.
       on_done _ _ _ (set_formed w x n v fit wf)))))
@@ -151,7 +152,7 @@ module _ (w : World) (p : ObjNo) (wf : IsWellFormed w) where
   cleared_formed : (x : ObjNo) (n : Name) (s : Slot) → slot_of w x (folded n) ≡ Some s → same_object s.definer x ≡ false → IsWellFormed (with_slot_of w x n (λ z. record z { state = Clear }))
   cleared_formed x n s e other =
       IsWellFormed-with_slot_of w x n (λ z. record z { state = Clear }) wf (λ z. refl)
-      (λ z f d. absurd (both_ways (same_object s.definer x) other ((same_object-Decides s.definer x).1 (ap (λ (k : Slot). k.definer) (same_Some s z (sym e ∙ f)) ∙ d)))) (λ z f. refl)
+      (λ z f d. absurd (both_ways (same_object s.definer x) other ((same_object-Decides s.definer x).1 (ap (λ (k : Slot). k.definer) (same_Some s z (sym e ∙ f)) ∙ d)))) (λ z f. both (slot_owner z f) refl)
 
   clear_kept : (x : ObjNo) (n : Name) → Kept (clear_property w p x n)
   clear_kept x n =
@@ -174,7 +175,7 @@ module _ (w : World) (p : ObjNo) (wf : IsWellFormed w) where
       on_check _ (may_own w p info.0) _ _ (λ mine.
       on_check _ (may_define w x n) _ _ (λ good.
       on_room _ (nat_lt w.next_prop 4294967295) _ (λ left.
-      on_done _ _ _ (IsWellFormed-defined w wf x n (record { definer = x; owner = info.0; bits = bits; state = a_value v }) xo (definable x n good).1 refl (λ c. absurd (cc)) (definable x n good).0 (ltb-true w.next_prop 4294967295 left) fit))))))))
+      on_done _ _ _ (IsWellFormed-defined w wf x n (record { definer = x; owner = info.0; bits = bits; state = a_value v }) xo (definable x n good).1 refl (λ c. absurd (cc)) (definable x n good).0 (ltb-true w.next_prop 4294967295 left) (both (object_numbered w wf info.0 there) fit)))))))))
 
   delete_kept : (x : ObjNo) (n : Name) → Kept (delete_property w p x n)
   delete_kept x n =
@@ -184,8 +185,8 @@ module _ (w : World) (p : ObjNo) (wf : IsWellFormed w) where
       on_done _ _ _ (IsWellFormed-undefined w wf x n))))
 
   -- another owner and other rights
-  info_formed : (x : ObjNo) (n : Name) (owner : ObjNo) (bits : Bits) → IsWellFormed (info_set w x n owner bits)
-  info_formed x n owner bits = IsWellFormed-with_slot_of w x n (λ z. record z { owner = owner; bits = bits }) wf (λ z. refl) (λ z f d. wf.set x (folded n) z f d) (λ z f. f)
+  info_formed : (x : ObjNo) (n : Name) (owner : ObjNo) (bits : Bits) → is_number owner ≡ true → IsWellFormed (info_set w x n owner bits)
+  info_formed x n owner bits numbered = IsWellFormed-with_slot_of w x n (λ z. record z { owner = owner; bits = bits }) wf (λ z. refl) (λ z f d. wf.set x (folded n) z f d) (λ z f. both numbered (and_parts (is_number z.owner) (state_fits z.state) f).1)
 
   info_kept : (x : ObjNo) (n : Name) (info : Info) (new : Option Name) → Kept (set_property_info w p x n info new)
   info_kept x n info new =
@@ -196,24 +197,24 @@ module _ (w : World) (p : ObjNo) (wf : IsWellFormed w) where
       on_check _ (may_write_slot w p s) _ _ (λ may.
       on_check _ (same_object info.0 s.owner || is_wizard w p) _ _ (λ mine.
       on_check _ (may_rename w x n new) _ _ (λ good.
-      on_done _ _ _ (by xo bits new good))))))))
+      on_done _ _ _ (by xo (object_numbered w wf info.0 there) bits new good))))))))
     where
-      by : is_object w x ≡ true → (bits : Bits) (name : Option Name) → may_rename w x n name ≡ true → IsWellFormed (renamed_to (info_set w x n info.0 bits) x n name)
-      by xo bits None good = info_formed x n info.0 bits
-      by xo bits (Some name) good =
+      by : is_object w x ≡ true → is_number info.0 ≡ true → (bits : Bits) (name : Option Name) → may_rename w x n name ≡ true → IsWellFormed (renamed_to (info_set w x n info.0 bits) x n name)
+      by xo numbered bits None good = info_formed x n info.0 bits numbered
+      by xo numbered bits (Some name) good =
           let v = info_set w x n info.0 bits in
           let links = same_links w x n (λ z. record z { owner = info.0; bits = bits }) in
           let parts = and_parts (defines w x n) (may_define w x name) good in
           let named = definable x name parts.1 in
-          renamed_formed v x n name (objects_same v w links x ∙ xo) (defines_same v w links x n ∙ parts.0) named.0 (clashes_same v w links x name ∙ named.1) (info_formed x n info.0 bits)
+          renamed_formed v x n name (objects_same v w links x ∙ xo) (defines_same v w links x n ∙ parts.0) named.0 (clashes_same v w links x name ∙ named.1) (info_formed x n info.0 bits numbered)
 
   -- ---- verbs
 
-  verbs_formed : (x : ObjNo) (change : List VerbRow → List VerbRow) → ((verbs : List VerbRow) → all_named verbs ≡ true → all_named (change verbs) ≡ true) → IsWellFormed (with_verbs w x change)
+  verbs_formed : (x : ObjNo) (change : List VerbRow → List VerbRow) → ((verbs : List VerbRow) → all_fit verbs ≡ true → all_fit (change verbs) ≡ true) → IsWellFormed (with_verbs w x change)
   verbs_formed x change named = stays_formed w x change w.next_verb wf wf.limits.verbs named
 
-  add_verb_kept : (x : ObjNo) (info : Info) (names : Name) (args : Name × Name × Name) → Kept (add_verb w p x info names args)
-  add_verb_kept x info names args =
+  add_verb_kept : (x : ObjNo) (info : Info) (names : Name) (args : Name × Name × Name) → is_text names ≡ true → Kept (add_verb w p x info names args)
+  add_verb_kept x info names args text =
       on_check _ (is_object w x) _ _ (λ xo.
       on_check _ (is_object w info.0) _ _ (λ there.
       on_found _ (verb_bits_of info.1) _ _ (λ bits e.
@@ -222,20 +223,20 @@ module _ (w : World) (p : ObjNo) (wf : IsWellFormed w) where
       on_check _ (may_write_object w p x) _ _ (λ may.
       on_check _ (may_own w p info.0) _ _ (λ mine.
       on_room _ (nat_lt w.next_verb 4294967295) _ (λ left.
-      on_done _ _ _ (added x (record { names = names; owner = info.0; bits = bits; args = spec }) word (ltb-true w.next_verb 4294967295 left))))))))))
+      on_done _ _ _ (added x (record { names = names; owner = info.0; bits = bits; args = spec }) (both word (both text (object_numbered w wf info.0 there))) (ltb-true w.next_verb 4294967295 left))))))))))
     where
-      added : (x : ObjNo) (v : VerbRow) → has_word v.names ≡ true → w.next_verb < 4294967295 → IsWellFormed (verb_added w x v)
-      added x v word room = stays_formed w x (λ verbs. verbs ++ v ∷ []) (w.next_verb + 1) wf (omega arith, omega arith) (added_named v word)
+      added : (x : ObjNo) (v : VerbRow) → verb_fits v ≡ true → w.next_verb < 4294967295 → IsWellFormed (verb_added w x v)
+      added x v fit room = stays_formed w x (λ verbs. verbs ++ v ∷ []) (w.next_verb + 1) wf (omega arith, omega arith) (added_fit v fit)
 
   delete_verb_kept : (x : ObjNo) (desc : Desc) → Kept (delete_verb w p x desc)
   delete_verb_kept x desc =
       on_check _ (is_object w x) _ _ (λ xo.
       on_check _ (may_write_object w p x) _ _ (λ may.
       on_found _ (found_verb w x desc) _ _ (λ found e.
-      on_done _ _ _ (verbs_formed x (λ verbs. remove verbs found.0) (removed_named found.0)))))
+      on_done _ _ _ (verbs_formed x (λ verbs. remove verbs found.0) (removed_fit found.0)))))
 
-  verb_info_kept : (x : ObjNo) (desc : Desc) (info : Info) (names : Name) → Kept (set_verb_info w p x desc info names)
-  verb_info_kept x desc info names =
+  verb_info_kept : (x : ObjNo) (desc : Desc) (info : Info) (names : Name) → is_text names ≡ true → Kept (set_verb_info w p x desc info names)
+  verb_info_kept x desc info names text =
       on_check _ (is_object w x) _ _ (λ xo.
       on_found _ (found_verb w x desc) _ _ (λ found e.
       on_check _ (is_object w info.0) _ _ (λ there.
@@ -243,7 +244,7 @@ module _ (w : World) (p : ObjNo) (wf : IsWellFormed w) where
       on_check _ (has_word names) _ _ (λ word.
       on_check _ (may_write_verb w p found.1) _ _ (λ may.
       on_check _ (may_own w p info.0) _ _ (λ mine.
-      on_done _ _ _ (verbs_formed x _ (changed_named (λ v. record v { owner = info.0; bits = bits; names = names }) (λ v h. word) found.0)))))))))
+      on_done _ _ _ (verbs_formed x _ (changed_fit (λ v. record v { owner = info.0; bits = bits; names = names }) (λ v h. both word (both text (object_numbered w wf info.0 there))) found.0)))))))))
 
   verb_args_kept : (x : ObjNo) (desc : Desc) (args : Name × Name × Name) → Kept (set_verb_args w p x desc args)
   verb_args_kept x desc args =
@@ -251,7 +252,7 @@ module _ (w : World) (p : ObjNo) (wf : IsWellFormed w) where
       on_found _ (found_verb w x desc) _ _ (λ found e.
       on_found _ (args_of args.0 args.1 args.2) _ _ (λ spec f.
       on_check _ (may_write_verb w p found.1) _ _ (λ may.
-      on_done _ _ _ (verbs_formed x _ (changed_named (λ v. record v { args = spec }) (λ v h. h) found.0))))))
+      on_done _ _ _ (verbs_formed x _ (changed_fit (λ v. record v { args = spec }) (λ v h. h) found.0))))))
 
   -- ---- by name
 
@@ -288,11 +289,11 @@ module _ (w : World) (p : ObjNo) (wf : IsWellFormed w) where
   named_kept DeleteProperty args fit = on_given _ (object_and_text args) _ (λ a e. delete_kept a.0 a.1)
   named_kept SetPropertyInfo args fit = on_given _ (new_property_info args) _ (λ a e. info_kept a.0 a.1.0 a.1.1.0 a.1.1.1)
   named_kept ClearProperty args fit = on_given _ (object_and_text args) _ (λ a e. clear_kept a.0 a.1)
-  named_kept AddVerb args fit = on_given _ (new_verb args) _ (λ a e. add_verb_kept a.0 a.1.0.0 a.1.0.1 a.1.1)
+  named_kept AddVerb args fit = on_given _ (new_verb args) _ (λ a e. add_verb_kept a.0 a.1.0.0 a.1.0.1 a.1.1 (new_verb_named args a e fit))
   named_kept DeleteVerb args fit = on_given _ (object_and_desc args) _ (λ a e. delete_verb_kept a.0 a.1)
-  named_kept SetVerbInfo args fit = on_given _ (new_verb_info args) _ (λ a e. verb_info_kept a.0 a.1.0 a.1.1.0 a.1.1.1)
+  named_kept SetVerbInfo args fit = on_given _ (new_verb_info args) _ (λ a e. verb_info_kept a.0 a.1.0 a.1.1.0 a.1.1.1 (new_verb_info_named args a e fit))
   named_kept SetVerbArgs args fit = on_given _ (new_verb_args args) _ (λ a e. verb_args_kept a.0 a.1.0 a.1.1)
-  named_kept SetAccept args fit = on_given _ (object_and_accept args) _ (λ a e. accept_kept a.0 a.1)
+  named_kept SetAccept args fit = on_given _ (object_and_accept args) _ (λ a e. accept_kept a.0 a.1 (accept_list_numbered args a e fit))
 
 pub calls_keep_form : CallsKeepForm
 unfolding step

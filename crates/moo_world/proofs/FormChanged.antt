@@ -1,6 +1,6 @@
 -- A value that is set and a new name keep the world well formed, and worlds with other slots have names clash alike.
-use Rattle.std.proofs.Common.{◌≡◌, true, false, ◌||◌, List, [], ◌∷◌, map, refl, ◌∙◌, ap, subst, ◌⊎◌, inl, inr, None}
-use Rattle.std.specs.Prelude.{is_some, if◌then◌else◌}
+use Rattle.std.proofs.Common.{◌≡◌, Bool, true, false, ◌||◌, List, [], ◌∷◌, map, refl, ◌∙◌, ap, subst, ◌⊎◌, inl, inr, None}
+use Rattle.std.specs.Prelude.{◌&&◌, is_some, if◌then◌else◌}
 use Rattle.std.specs.Option.{option_map}
 use Rattle.std.specs.List.{filter, flat_map, list_any}
 use Rattle.std.proofs.Math.Bool.{or-true}
@@ -15,13 +15,17 @@ use Rattle.moo_world.specs.PropertyCalls.{defines}
 use Rattle.moo_world.specs.Rows.{numbers_below}
 use Rattle.moo_world.specs.World.{World, Record, IsWellFormed, SameButSlots, is_object, is_property_name, names_of, numbers_to, pair_named, chain}
 use Rattle.moo_world.proofs.Formed.{IsWellFormed-with_slot_of}
+use Rattle.moo_world.proofs.Limits.{slot_owner}
 use Rattle.moo_world.proofs.OwnershipCreated.{chains_same}
 use Rattle.moo_world.proofs.Rebuilding.{names_same, objects_same}
 use Rattle.moo_world.proofs.Replacement.{IsWellFormed-renamed}
 
+both : {a b : Bool} → a ≡ true → b ≡ true → (a && b) ≡ true
+both e h = λ i. e i && h i
+
 -- a slot that is set to a value
 pub set_formed : (w : World) (x : ObjNo) (n : Name) (v : Value) → fits v ≡ true → IsWellFormed w → IsWellFormed (with_slot_of w x n (λ s. record s { state = Set v }))
-set_formed w x n v f wf = IsWellFormed-with_slot_of w x n (λ s. record s { state = Set v }) wf (λ s. refl) (λ s e d c. absurd (cc)) (λ s e. f)
+set_formed w x n v f wf = IsWellFormed-with_slot_of w x n (λ s. record s { state = Set v }) wf (λ s. refl) (λ s e d c. absurd (cc)) (λ s e. both (slot_owner s e) f)
 
 -- ---- names
 

@@ -11,13 +11,14 @@ use Rattle.moo_value.specs.declared.value.Value.TheVariants.{Int, Obj, Str, Erro
 use Rattle.moo_value.specs.Value.{nesting}
 use Rattle.moo_rows.specs.declared.row.SlotState.{SlotState}
 use Rattle.moo_rows.specs.declared.row.SlotState.TheVariants.{Clear, Set}
-use Rattle.moo_world.specs.Arguments.{fits, in_range}
+use Rattle.moo_world.specs.Arguments.{fits, in_range, is_number}
 use Rattle.moo_world.specs.Creation.{next_object, owner_or_self, created}
 use Rattle.moo_world.specs.Objects.{Name, nothing, same_object, folded}
 use Rattle.moo_world.specs.Quota.{quota_name, quota_in, quota_of, quota_moved, may_afford, has_quota_left, charged, quota_returned, set_slot}
 use Rattle.moo_world.specs.World.{World, Slot, IsWellFormed, is_object, slot_of, chain, read_in, read_along, read_of, with_record, state_fits}
 use Rattle.moo_world.proofs.FormChanged.{set_formed}
-use Rattle.moo_world.proofs.OwnershipCreated.{formed, read_old}
+use Rattle.moo_world.proofs.Limits.{known_numbered}
+use Rattle.moo_world.proofs.OwnershipCreated.{formed, new_numbered, read_old}
 use Rattle.moo_world.proofs.Ranges.{range_of, fits_signed}
 
 -- ---- what is read
@@ -29,7 +30,7 @@ read_fits w wf n (x ∷ l) v e = by (slot_of w x n) refl e (read_fits w wf n l v
   where
     at : (s : Slot) → slot_of w x n ≡ Some s → (state : SlotState) → s.state ≡ state → elim state [ Clear ↦ read_along w n l | Set u ↦ Some u ] ≡ Some v → (read_along w n l ≡ Some v → fits v ≡ true) → fits v ≡ true
     at s h Clear g f rest = rest f
-    at s h (Set u) g f rest = ap fits (sym (same_Some u v f)) ∙ ap state_fits (sym g) ∙ wf.fit x n s h
+    at s h (Set u) g f rest = ap fits (sym (same_Some u v f)) ∙ ap state_fits (sym g) ∙ (and_parts (is_number s.owner) (state_fits s.state) (wf.fit x n s h)).1
 
     by : (o : Option Slot) → slot_of w x n ≡ o → read_in o (read_along w n l) ≡ Some v → (read_along w n l ≡ Some v → fits v ≡ true) → fits v ≡ true
     by None h f rest = absurd (none-some v f)
@@ -76,8 +77,15 @@ more_in_range k f h = range_of (k +ℤ pos 1) (more k (fits_signed k f) h)
 pub charged_formed : (w : World) → IsWellFormed w → (x q owner : ObjNo) → next_object w ≡ Some x → (is_object w q || same_object nothing q) ≡ true → (is_object w owner || same_object nothing owner) ≡ true → may_afford w owner ≡ true → IsWellFormed (charged (created w x q (owner_or_self x owner)) owner)
 charged_formed w wf x q owner is_next parent known can = by (same_object nothing owner) refl
   where
+    owner_numbered : is_number (owner_or_self x owner) ≡ true
+    owner_numbered = by (same_object nothing owner)
+      where
+        by : (b : Bool) → is_number (if b then x else owner) ≡ true
+        by true = new_numbered w x q owner wf is_next parent
+        by false = known_numbered w wf owner known
+
     made : IsWellFormed (created w x q (owner_or_self x owner))
-    made = formed w x q (owner_or_self x owner) wf is_next parent
+    made = formed w x q (owner_or_self x owner) wf is_next parent owner_numbered
 
     room : same_object nothing owner ≡ false → (had : ℤ) → quota_of (created w x q (owner_or_self x owner)) owner ≡ Some had → in_range (had +ℤ negsuc 0) ≡ true
     room e had h =

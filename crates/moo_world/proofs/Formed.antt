@@ -7,12 +7,12 @@ use Rattle.std.proofs.lemmas.Option.{none-some, same_Some}
 use Rattle.moo_value.specs.declared.value.ObjNo.{ObjNo}
 use Rattle.moo_rows.specs.declared.row.SlotState.TheVariants.{Clear}
 use Rattle.moo_world.specs.Objects.{Name, Pair, same_object, same_text, folded, same_object-Decides, same_text-Decides}
-use Rattle.moo_world.specs.World.{World, Record, Slot, IsTree, IsWellFormed, Climbs, NamesDiffer, is_object, location_of, slot_of, pair_named, with_slots, KeepsLimits, SameButSlots, state_fits}
+use Rattle.moo_world.specs.World.{World, Record, Slot, IsTree, IsWellFormed, Climbs, NamesDiffer, is_object, location_of, slot_of, pair_named, with_slots, KeepsLimits, SameButSlots, slot_fits}
 use Rattle.moo_world.specs.Changes.{with_slot_of}
 use Rattle.moo_world.proofs.Rebuilding.{parents_same, objects_same, owed_same, Chain-same}
 
 -- worlds that differ in slots alone are well formed alike, where the slots have the same definers and those on them are set
-module _ (v w : World) (same : SameButSlots v w) (wf : IsWellFormed w) (definers : (y : ObjNo) (n : Name) → option_map (λ s. s.definer) (slot_of v y n) ≡ option_map (λ s. s.definer) (slot_of w y n)) (set : (y : ObjNo) (n : Name) (s : Slot) → slot_of v y n ≡ Some s → s.definer ≡ y → s.state ≢ Clear) (fit : (y : ObjNo) (n : Name) (s : Slot) → slot_of v y n ≡ Some s → state_fits s.state ≡ true) where
+module _ (v w : World) (same : SameButSlots v w) (wf : IsWellFormed w) (definers : (y : ObjNo) (n : Name) → option_map (λ s. s.definer) (slot_of v y n) ≡ option_map (λ s. s.definer) (slot_of w y n)) (set : (y : ObjNo) (n : Name) (s : Slot) → slot_of v y n ≡ Some s → s.definer ≡ y → s.state ≢ Clear) (fit : (y : ObjNo) (n : Name) (s : Slot) → slot_of v y n ≡ Some s → slot_fits s ≡ true) where
   location_same : location_of v ≡ location_of w
   location_same = (λ i x. sym (bare (v.object x)) i) ∙ ap location_of same ∙ (λ i x. bare (w.object x) i)
     where
@@ -73,7 +73,7 @@ module _ (w : World) (x : ObjNo) (n : Name) (change : Slot → Slot) where
       by true (Some r) = inner r (same_text (folded n) m)
       by false (Some r) = refl
 
-  module _ (wf : IsWellFormed w) (keeps : (s : Slot) → (change s).definer ≡ s.definer) (set : (s : Slot) → slot_of w x (folded n) ≡ Some s → s.definer ≡ x → (change s).state ≢ Clear) (fits_still : (s : Slot) → state_fits s.state ≡ true → state_fits (change s).state ≡ true) where
+  module _ (wf : IsWellFormed w) (keeps : (s : Slot) → (change s).definer ≡ s.definer) (set : (s : Slot) → slot_of w x (folded n) ≡ Some s → s.definer ≡ x → (change s).state ≢ Clear) (fits_still : (s : Slot) → slot_fits s ≡ true → slot_fits (change s) ≡ true) where
     definers : (y : ObjNo) (m : Name) → option_map (λ s. s.definer) (slot_of v y m) ≡ option_map (λ s. s.definer) (slot_of w y m)
     definers y m = ap (option_map (λ (s : Slot). s.definer)) (slot_changed y m) ∙ by (here y m) (slot_of w y m)
       where
@@ -95,13 +95,13 @@ module _ (w : World) (x : ObjNo) (n : Name) (change : Slot → Slot) where
             let is : change t ≡ s = same_Some (change t) s k in
             λ c. set t ((λ i. slot_of w (own i) (named i)) ∙ g) (sym (keeps t) ∙ ap (λ (z : Slot). z.definer) is ∙ d ∙ sym own) (ap (λ (z : Slot). z.state) is ∙ c)
 
-    fit_still : (y : ObjNo) (m : Name) (s : Slot) → slot_of v y m ≡ Some s → state_fits s.state ≡ true
+    fit_still : (y : ObjNo) (m : Name) (s : Slot) → slot_of v y m ≡ Some s → slot_fits s ≡ true
     fit_still y m s e = by (here y m) (slot_of w y m) refl (sym (slot_changed y m) ∙ e)
       where
-        by : (b : Bool) (o : Option Slot) → slot_of w y m ≡ o → (if b then option_map change o else o) ≡ Some s → state_fits s.state ≡ true
+        by : (b : Bool) (o : Option Slot) → slot_of w y m ≡ o → (if b then option_map change o else o) ≡ Some s → slot_fits s ≡ true
         by false o g k = wf.fit y m s (g ∙ k)
         by true None g k = absurd (none-some s k)
-        by true (Some t) g k = ap (λ (z : Slot). state_fits z.state) (sym (same_Some (change t) s k)) ∙ fits_still t (wf.fit y m t g)
+        by true (Some t) g k = ap slot_fits (sym (same_Some (change t) s k)) ∙ fits_still t (wf.fit y m t g)
 
     pub IsWellFormed-with_slot_of : IsWellFormed v
     IsWellFormed-with_slot_of = formed_alike v w same_links wf definers set_still fit_still

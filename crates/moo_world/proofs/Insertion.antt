@@ -11,8 +11,9 @@ use Rattle.moo_rows.specs.declared.row.SlotState.TheVariants.{Clear}
 use Rattle.moo_world.specs.Changes.{clashes, defined}
 use Rattle.moo_world.specs.ObjectLists.{subtree_of, objects_of}
 use Rattle.moo_world.specs.Objects.{Name, Pair, same_object, same_text, same_pair, folded, is_among, same_object-Decides, same_text-Decides}
-use Rattle.moo_world.specs.World.{World, Record, Slot, IsTree, IsWellFormed, Climbs, Chain, NamesDiffer, is_object, parent_of, location_of, chain, names_of, defined_by, owed_by, pair_named, slot_of, fresh, without_slots, with_slots, is_property_name, has_word, state_fits}
+use Rattle.moo_world.specs.World.{World, Record, Slot, IsTree, IsWellFormed, Climbs, Chain, NamesDiffer, is_object, parent_of, location_of, chain, names_of, defined_by, owed_by, pair_named, slot_of, fresh, without_slots, with_slots, is_property_name, verb_fits, row_fits, slot_fits}
 use Rattle.moo_world.proofs.Chains.{Climbs-once}
+use Rattle.moo_world.proofs.Limits.{row_fitting, row_owner, fresh_fits}
 use Rattle.moo_world.proofs.Owed.{named_owed, named_so, definer_among, some_named}
 use Rattle.moo_world.proofs.Subtrees.{among_filter, object_listed, owed_listed}
 use Rattle.moo_world.proofs.Trees.{chain_is, chain_of_none, no_parent}
@@ -300,23 +301,23 @@ module _ (w : World) (wf : IsWellFormed w) (x : ObjNo) (name : Name) (s : Slot) 
         by None g h = absurd (none-some k h)
         by (Some r) g h = test r g (under y) (same_text (folded name) n) h
 
-    module _ (good_name : is_property_name name ≡ true) (left : w.next_prop < 4294967295) (fits_here : state_fits s.state ≡ true) where
-      fit : (y : ObjNo) (n : Name) (k : Slot) → slot_of v y n ≡ Some k → state_fits k.state ≡ true
+    module _ (good_name : is_property_name name ≡ true) (left : w.next_prop < 4294967295) (fits_here : slot_fits s ≡ true) where
+      fit : (y : ObjNo) (n : Name) (k : Slot) → slot_of v y n ≡ Some k → slot_fits k ≡ true
       fit y n k e = by (w.object y) refl e
         where
-          old : (r : Record) → w.object y ≡ Some r → r.slot n ≡ Some k → state_fits k.state ≡ true
+          old : (r : Record) → w.object y ≡ Some r → r.slot n ≡ Some k → slot_fits k ≡ true
           old r g h = wf.fit y n k (ap (option_and_then (λ (z : Record). z.slot n)) g ∙ h)
 
-          new : (r : Record) (b : Bool) → Some (if b then s else fresh r.row.owner s) ≡ Some k → state_fits k.state ≡ true
-          new r true h = ap (λ (z : Slot). state_fits z.state) (sym (same_Some s k h)) ∙ fits_here
-          new r false h = ap (λ (z : Slot). state_fits z.state) (sym (same_Some (fresh r.row.owner s) k h))
+          new : (r : Record) → w.object y ≡ Some r → (b : Bool) → Some (if b then s else fresh r.row.owner s) ≡ Some k → slot_fits k ≡ true
+          new r g true h = ap slot_fits (sym (same_Some s k h)) ∙ fits_here
+          new r g false h = ap slot_fits (sym (same_Some (fresh r.row.owner s) k h)) ∙ fresh_fits r.row.owner s (row_owner r (row_fitting w wf.limits y r g)) fits_here
 
-          test : (r : Record) → w.object y ≡ Some r → (a b : Bool) → (if a then (if b then Some (if same_object x y then s else fresh r.row.owner s) else r.slot n) else r.slot n) ≡ Some k → state_fits k.state ≡ true
+          test : (r : Record) → w.object y ≡ Some r → (a b : Bool) → (if a then (if b then Some (if same_object x y then s else fresh r.row.owner s) else r.slot n) else r.slot n) ≡ Some k → slot_fits k ≡ true
           test r g false b h = old r g h
           test r g true false h = old r g h
-          test r g true true h = new r (same_object x y) h
+          test r g true true h = new r g (same_object x y) h
 
-          by : (o : Option Record) → w.object y ≡ o → option_and_then (λ (z : Record). z.slot n) (option_map (new_record y) o) ≡ Some k → state_fits k.state ≡ true
+          by : (o : Option Record) → w.object y ≡ o → option_and_then (λ (z : Record). z.slot n) (option_map (new_record y) o) ≡ Some k → slot_fits k ≡ true
           by None g h = absurd (none-some k h)
           by (Some r) g h = test r g (under y) (same_text (folded name) n) h
 
@@ -341,10 +342,10 @@ module _ (w : World) (wf : IsWellFormed w) (x : ObjNo) (name : Name) (s : Slot) 
           by None = refl
           by (Some r) = refl
 
-      same_accepts : (y : ObjNo) → unwrap_or (option_and_then (λ r. r.row.accept) (option_map (with_slots (λ n. None)) (v.object y))) [] ≡ unwrap_or (option_and_then (λ r. r.row.accept) (option_map (with_slots (λ n. None)) (w.object y))) []
-      same_accepts y = by (w.object y)
+      same_rows : (y : ObjNo) → option_map (λ r. r.row) (option_map (with_slots (λ n. None)) (v.object y)) ≡ option_map (λ r. r.row) (option_map (with_slots (λ n. None)) (w.object y))
+      same_rows y = by (w.object y)
         where
-          by : (o : Option Record) → unwrap_or (option_and_then (λ r. r.row.accept) (option_map (with_slots (λ n. None)) (option_map (new_record y) o))) [] ≡ unwrap_or (option_and_then (λ r. r.row.accept) (option_map (with_slots (λ n. None)) o)) []
+          by : (o : Option Record) → option_map (λ r. r.row) (option_map (with_slots (λ n. None)) (option_map (new_record y) o)) ≡ option_map (λ r. r.row) (option_map (with_slots (λ n. None)) o)
           by None = refl
           by (Some r) = refl
 
@@ -360,7 +361,7 @@ module _ (w : World) (wf : IsWellFormed w) (x : ObjNo) (name : Name) (s : Slot) 
           props = let low = wf.limits.props.0 in (omega arith, omega arith);
           verbs = wf.limits.verbs;
           names = all_names;
-          words = λ y. ap (list_all (λ k. has_word k.names)) (same_verbs y) ∙ wf.limits.words y;
-          accepts = λ y. subst (λ l. length l ≤ 1000) (sym (same_accepts y)) (wf.limits.accepts y);
+          directories = λ y. ap (list_all verb_fits) (same_verbs y) ∙ wf.limits.directories y;
+          rows = λ y. ap (λ o. unwrap_or (option_map row_fits o) true) (same_rows y) ∙ wf.limits.rows y;
         };
       }

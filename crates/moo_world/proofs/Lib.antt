@@ -49,6 +49,7 @@ pub mod Redirected
 pub mod FieldForm
 pub mod DirectoryForm
 pub mod FormArguments
+pub mod Limits
 pub mod FormChanged
 pub mod FormCalls
 pub mod FormRuns

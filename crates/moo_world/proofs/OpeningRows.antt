@@ -12,7 +12,7 @@ use Rattle.moo_rows.specs.Exact.{object_exact}
 use Rattle.moo_rows.specs.Opening.{opening_maps, system_object, root_class, first_room, wizard}
 use Rattle.moo_rows.proofs.Orders.{object_total}
 use Rattle.moo_world.specs.Objects.{Name, Pair, nothing}
-use Rattle.moo_world.specs.World.{World, Record, Slot, IsTree, IsWellFormed, KeepsLimits, Chain, Places, is_object, slot_of, names_of, owed_by, pair_named, is_property_name, has_word, without_slots, with_slots, NamesDiffer}
+use Rattle.moo_world.specs.World.{World, Record, Slot, IsTree, IsWellFormed, KeepsLimits, Chain, Places, is_object, slot_of, names_of, owed_by, pair_named, is_property_name, verb_fits, row_fits, without_slots, with_slots, NamesDiffer}
 use Rattle.moo_world.specs.Rows.{IsGood, LookUps, AreSound, world_shown, look_ups, prop_id, verb_id, record_of}
 
 abbrev no : ℕ → ObjNo
@@ -134,24 +134,24 @@ limits = record {
   props = (omega arith, omega arith);
   verbs = (omega arith, omega arith);
   names = λ x. names_by x (row_at x);
-  words = λ x. words_by x (row_at x);
-  accepts = λ x. accepts_by x (eq_by_cmp object_cmp x (no 3)) (eq_by_cmp object_cmp x (no 2)) (eq_by_cmp object_cmp x (no 1)) (eq_by_cmp object_cmp x (no 0));
+  directories = λ x. directories_by x (row_at x);
+  rows = λ x. rows_by x (eq_by_cmp object_cmp x (no 3)) (eq_by_cmp object_cmp x (no 2)) (eq_by_cmp object_cmp x (no 1)) (eq_by_cmp object_cmp x (no 0));
 }
   where
     names_by : (x : ObjNo) (o : Option ObjRow) → list_all is_property_name (unwrap_or (option_map (λ (r : Record). r.defines) (option_map (with_slots (λ n. None)) (option_map (record_of opening_look_ups x) o))) []) ≡ true
     names_by x None = refl
     names_by x (Some row) = refl
 
-    words_by : (x : ObjNo) (o : Option ObjRow) → list_all (λ v. has_word v.names) (unwrap_or (option_map (λ (r : Record). r.verbs) (option_map (with_slots (λ n. None)) (option_map (record_of opening_look_ups x) o))) []) ≡ true
-    words_by x None = refl
-    words_by x (Some row) = refl
+    directories_by : (x : ObjNo) (o : Option ObjRow) → list_all verb_fits (unwrap_or (option_map (λ (r : Record). r.verbs) (option_map (with_slots (λ n. None)) (option_map (record_of opening_look_ups x) o))) []) ≡ true
+    directories_by x None = refl
+    directories_by x (Some row) = refl
 
-    accepts_by : (x : ObjNo) (b3 b2 b1 b0 : Bool) → length (unwrap_or (option_and_then (λ (r : Record). r.row.accept) (option_map (with_slots (λ n. None)) (option_map (record_of opening_look_ups x) (row_by b3 b2 b1 b0)))) []) ≤ 1000
-    accepts_by x true b2 b1 b0 = omega arith
-    accepts_by x false true b1 b0 = omega arith
-    accepts_by x false false true b0 = omega arith
-    accepts_by x false false false true = omega arith
-    accepts_by x false false false false = omega arith
+    rows_by : (x : ObjNo) (b3 b2 b1 b0 : Bool) → unwrap_or (option_map row_fits (option_map (λ (r : Record). r.row) (option_map (with_slots (λ n. None)) (option_map (record_of opening_look_ups x) (row_by b3 b2 b1 b0))))) true ≡ true
+    rows_by x true b2 b1 b0 = refl
+    rows_by x false true b1 b0 = refl
+    rows_by x false false true b0 = refl
+    rows_by x false false false true = refl
+    rows_by x false false false false = refl
 
 none_differ : NamesDiffer []
 unfolding IsDistinct

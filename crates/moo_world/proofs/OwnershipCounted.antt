@@ -14,6 +14,7 @@ use Rattle.moo_world.specs.Quota.{quota_name, quota_in, quota_of, quota_moved, c
 use Rattle.moo_world.specs.Recycling.{recycled}
 use Rattle.moo_world.specs.Rights.{may_be_parent, is_fertile, controls, may_own}
 use Rattle.moo_world.specs.World.{World, IsWellFormed, is_object, owner_of}
+use Rattle.moo_world.proofs.Limits.{known_numbered}
 use Rattle.moo_world.proofs.OwnershipCreated.{free, formed, objects_now, owner_new, owner_old, read_old}
 use Rattle.moo_world.proofs.OwnershipPassing.{of_done, on_check, on_next, on_done}
 use Rattle.moo_world.proofs.OwnershipQuota.{quota_read, objects_stay, owners_stay}
@@ -42,7 +43,7 @@ module _ (w : World) (owner : ObjNo) (k : ℤ) where
     moved : TakesOne (Obj x) (quota_moved (created w x q owner) owner (negsuc 0))
     moved =
         let v = created w x q owner in
-        let f = formed w x q owner wf is_next parent in (
+        let f = formed w x q owner wf is_next parent (known_numbered w wf owner known) in (
           quota_read v f.tree owner k (negsuc 0) (ap quota_in (read_old w x q owner wf is_next parent owner quota_name is_there) ∙ had),
           (
             x,

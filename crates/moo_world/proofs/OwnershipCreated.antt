@@ -1,16 +1,18 @@
 -- What stays of a world, and what is new, when an object is made.
-use Rattle.std.proofs.Common.{◌≡◌, Bool, true, false, ◌||◌, List, [], ◌∷◌, refl, sym, ◌∙◌, ap, ◌⊎◌, inl, inr, Option, Some, None, pos, arith}
-use Rattle.std.specs.Prelude.{◌+ℤ◌, ◌<ℤ◌, int_lt, is_some, unwrap_or, if◌then◌else◌}
+use Rattle.std.proofs.Common.{◌≡◌, Bool, true, false, ◌||◌, List, [], ◌∷◌, refl, sym, ◌∙◌, ap, ◌⊎◌, inl, inr, Option, Some, None, ℤ, pos, negsuc, FitsSigned, w32, arith}
+use Rattle.std.specs.Prelude.{◌+ℤ◌, ◌<ℤ◌, ◌≤ℤ◌, int_lt, is_some, unwrap_or, if◌then◌else◌}
 use Rattle.std.specs.Option.{option_map}
 use Rattle.std.proofs.lemmas.Bool.{or_cases}
 use Rattle.std.proofs.lemmas.Int.{ints}
 use Rattle.std.proofs.lemmas.Option.{none-some, same_Some}
 use Rattle.moo_value.specs.declared.value.ObjNo.{ObjNo}
+use Rattle.moo_world.specs.Arguments.{is_number}
 use Rattle.moo_world.specs.Creation.{born, next_object, with_object, created}
 use Rattle.moo_world.specs.Objects.{Name, Pair, nothing, same_object, same_object-Decides}
 use Rattle.moo_world.specs.World.{World, Record, Slot, IsWellFormed, SameButSlots, Chain, is_object, owner_of, chain, climb, numbers_to, slot_of, owed_by, pair_named, slot_for, fresh, read_in, read_along, read_of}
 use Rattle.moo_world.proofs.Creating.{IsWellFormed-created, chain_other, owed_still}
 use Rattle.moo_world.proofs.Owed.{named_owed}
+use Rattle.moo_world.proofs.Ranges.{range_of}
 use Rattle.moo_world.proofs.Rebuilding.{SameButSlots-rebuilt, objects_same, owners_same, parents_same, slot_of-rebuilt}
 use Rattle.moo_world.proofs.Trees.{Chain-chain, linked}
 
@@ -45,7 +47,14 @@ module _ (w : World) (x q owner : ObjNo) (wf : IsWellFormed w) (is_next : next_o
   parent_is : (is_object w q ≡ true) ⊎ (q ≡ nothing)
   parent_is = elim (or_cases _ _ parent) [ inl e ↦ inl e | inr e ↦ inr (sym ((same_object-Decides nothing q).0 e)) ]
 
-  pub formed : IsWellFormed (created w x q owner)
+  -- the number of the new object has 32 bits
+  pub new_numbered : is_number x ≡ true
+  new_numbered = range_of x.0 (within x.0 w.top wf.limits.top.0 next_is.0 next_is.1)
+    where
+      within : (n top : ℤ) → negsuc 0 ≤ℤ top → top <ℤ pos 2147483647 → n ≡ top +ℤ pos 1 → FitsSigned w32 n
+      within n top a b c = grind (arith, ints)
+
+  pub formed : is_number owner ≡ true → IsWellFormed (created w x q owner)
   formed = IsWellFormed-created w x q owner wf free next_is.1 next_is.0 parent_is
 
   -- ---- objects and owners

@@ -9,7 +9,7 @@ use Rattle.moo_value.specs.declared.value.ObjNo.{ObjNo}
 use Rattle.moo_rows.specs.declared.row.SlotState.TheVariants.{Clear}
 use Rattle.moo_world.specs.Changes.{clashes, renamed}
 use Rattle.moo_world.specs.Objects.{Name, Pair, nothing, same_object, same_text, same_pair, folded, is_among, same_object-Decides, same_text-Decides}
-use Rattle.moo_world.specs.World.{World, Record, Slot, IsTree, IsWellFormed, Climbs, Chain, NamesDiffer, is_object, parent_of, location_of, chain, names_of, defined_by, owed_by, pair_named, slot_of, without_slots, with_slots, is_property_name, has_word, state_fits}
+use Rattle.moo_world.specs.World.{World, Record, Slot, IsTree, IsWellFormed, Climbs, Chain, NamesDiffer, is_object, parent_of, location_of, chain, names_of, defined_by, owed_by, pair_named, slot_of, without_slots, with_slots, is_property_name, verb_fits, row_fits, slot_fits}
 use Rattle.moo_world.proofs.Chains.{Climbs-once}
 use Rattle.moo_world.proofs.Owed.{none_named}
 use Rattle.moo_world.proofs.Trees.{chain_is, Chain-chain, no_parent, nothing_is_no_object}
@@ -338,19 +338,19 @@ module _ (w : World) (wf : IsWellFormed w) (x : ObjNo) (old new : Name) (xo : is
       by None g h = absurd (none-some k h)
       by (Some r) g h = test r g (is_among x (chain w y)) (same_text (folded new) n) (same_text (folded old) n) h
 
-  fit : (y : ObjNo) (n : Name) (k : Slot) → slot_of v y n ≡ Some k → state_fits k.state ≡ true
+  fit : (y : ObjNo) (n : Name) (k : Slot) → slot_of v y n ≡ Some k → slot_fits k ≡ true
   fit y n k e = by (w.object y) refl e
     where
-      was : (m : Name) (r : Record) → w.object y ≡ Some r → r.slot m ≡ Some k → state_fits k.state ≡ true
+      was : (m : Name) (r : Record) → w.object y ≡ Some r → r.slot m ≡ Some k → slot_fits k ≡ true
       was m r g h = wf.fit y m k (ap (option_and_then (λ (z : Record). z.slot m)) g ∙ h)
 
-      test : (r : Record) → w.object y ≡ Some r → (a b c : Bool) → (if a then (if b then r.slot (folded old) else (if c then None else r.slot n)) else r.slot n) ≡ Some k → state_fits k.state ≡ true
+      test : (r : Record) → w.object y ≡ Some r → (a b c : Bool) → (if a then (if b then r.slot (folded old) else (if c then None else r.slot n)) else r.slot n) ≡ Some k → slot_fits k ≡ true
       test r g false b c h = was n r g h
       test r g true true c h = was (folded old) r g h
       test r g true false true h = absurd (none-some k h)
       test r g true false false h = was n r g h
 
-      by : (o : Option Record) → w.object y ≡ o → option_and_then (λ (z : Record). z.slot n) (option_map (new_record y) o) ≡ Some k → state_fits k.state ≡ true
+      by : (o : Option Record) → w.object y ≡ o → option_and_then (λ (z : Record). z.slot n) (option_map (new_record y) o) ≡ Some k → slot_fits k ≡ true
       by None g h = absurd (none-some k h)
       by (Some r) g h = test r g (is_among x (chain w y)) (same_text (folded new) n) (same_text (folded old) n) h
 
@@ -399,7 +399,7 @@ module _ (w : World) (wf : IsWellFormed w) (x : ObjNo) (old new : Name) (xo : is
         props = wf.limits.props;
         verbs = wf.limits.verbs;
         names = all_names;
-        words = λ y. unread (λ o. list_all (λ k. has_word k.names) (unwrap_or (option_map (λ r. r.verbs) o) [])) (λ r y. refl) y ∙ wf.limits.words y;
-        accepts = λ y. subst (λ n. n ≤ 1000) (sym (unread (λ o. length (unwrap_or (option_and_then (λ r. r.row.accept) o) [])) (λ r y. refl) y)) (wf.limits.accepts y);
+        directories = λ y. unread (λ o. list_all verb_fits (unwrap_or (option_map (λ r. r.verbs) o) [])) (λ r y. refl) y ∙ wf.limits.directories y;
+        rows = λ y. unread (λ o. unwrap_or (option_map row_fits (option_map (λ r. r.row) o)) true) (λ r y. refl) y ∙ wf.limits.rows y;
       };
     }

@@ -1,13 +1,13 @@
 -- A change of an object's row that keeps its parent: what it keeps of a world.
-use Rattle.std.proofs.Common.{◌≡◌, ◌≤◌, Bool, true, false, refl, sym, ◌∙◌, ap, subst, List, [], length, Option, Some, None}
+use Rattle.std.proofs.Common.{◌≡◌, Bool, true, false, refl, sym, ◌∙◌, ap, subst, List, [], Option, Some, None}
 use Rattle.std.specs.Prelude.{is_some, unwrap_or, if◌then◌else◌}
 use Rattle.std.specs.Option.{option_map, option_and_then}
 use Rattle.moo_value.specs.declared.value.ObjNo.{ObjNo}
 use Rattle.moo_rows.specs.declared.row.ObjRow.{ObjRow}
 use Rattle.moo_world.specs.Objects.{Name, same_object}
-use Rattle.moo_world.specs.World.{World, Record, Places, IsWellFormed, Climbs, is_object, accept_of}
+use Rattle.moo_world.specs.World.{World, Record, Places, IsWellFormed, Climbs, is_object, row_of, row_fits}
 use Rattle.moo_world.specs.Fields.{with_row}
-use Rattle.moo_world.proofs.Shapes.{SameShape, bare_accepts}
+use Rattle.moo_world.proofs.Shapes.{SameShape, bare_rows}
 
 module _ (w : World) (x : ObjNo) (change : ObjRow → ObjRow) where
   abbrev v : World
@@ -55,11 +55,11 @@ module _ (w : World) (x : ObjNo) (change : ObjRow → ObjRow) where
       let p = wf.tree.places y (sym (same_objects y) ∙ e) in
       (p.0, subst (λ link. Climbs link y p.0) (λ i z. sym (kept (λ r. r.row.location) (λ r. location r.row) z) i) p.1)
 
-  -- a change that leaves no long accept list leaves none that is long
-  pub short_lists : ((r : ObjRow) → length (unwrap_or r.accept []) ≤ 1000 → length (unwrap_or (change r).accept []) ≤ 1000) → IsWellFormed w → (y : ObjNo) → length (accept_of v y) ≤ 1000
-  short_lists short wf y = by (w.object y) (same_object x y) (subst (λ f. length (f y) ≤ 1000) (bare_accepts w) (wf.limits.accepts y))
+  -- a change that leaves a row fitting leaves all of them so
+  pub fitting_rows : ((r : ObjRow) → row_fits r ≡ true → row_fits (change r) ≡ true) → IsWellFormed w → (y : ObjNo) → unwrap_or (option_map row_fits (row_of v y)) true ≡ true
+  fitting_rows fits wf y = by (w.object y) (same_object x y) (subst (λ f. unwrap_or (option_map row_fits (f y)) true ≡ true) (bare_rows w) (wf.limits.rows y))
     where
-      by : (o : Option Record) (b : Bool) → length (unwrap_or (option_and_then (λ (r : Record). r.row.accept) o) []) ≤ 1000 → length (unwrap_or (option_and_then (λ (r : Record). r.row.accept) (option_map (λ r. if b then (record r { row = change r.row }) else r) o)) []) ≤ 1000
+      by : (o : Option Record) (b : Bool) → unwrap_or (option_map row_fits (option_map (λ (r : Record). r.row) o)) true ≡ true → unwrap_or (option_map row_fits (option_map (λ (r : Record). r.row) (option_map (λ r. if b then (record r { row = change r.row }) else r) o))) true ≡ true
       by None b k = k
-      by (Some r) true k = short r.row k
+      by (Some r) true k = fits r.row k
       by (Some r) false k = k

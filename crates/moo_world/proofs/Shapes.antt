@@ -4,7 +4,7 @@ use Rattle.std.specs.Prelude.{◌<◌, ◌≤ℤ◌, pos, negsuc, map, unwrap_or
 use Rattle.std.specs.Option.{option_map, option_and_then}
 use Rattle.std.specs.List.{list_all, flat_map}
 use Rattle.moo_value.specs.declared.value.ObjNo.{ObjNo}
-use Rattle.moo_world.specs.World.{World, Record, IsWellFormed, KeepsLimits, Climbs, Chain, Places, NamesDiffer, is_object, parent_of, names_of, owed_by, pair_named, slot_of, verbs_of, accept_of, without_slots, with_slots, is_property_name, has_word}
+use Rattle.moo_world.specs.World.{World, Record, IsWellFormed, KeepsLimits, Climbs, Chain, Places, NamesDiffer, is_object, parent_of, names_of, owed_by, pair_named, slot_of, verbs_of, row_of, without_slots, with_slots, is_property_name, verb_fits, row_fits}
 
 -- the worlds differ in fields of rows alone, and not in parents
 pub record SameShape (w v : World) : Type 0 where
@@ -32,14 +32,14 @@ module _ (w : World) where
       by None = refl
       by (Some r) = refl
 
-  pub bare_accepts : accept_of (without_slots w) ≡ accept_of w
-  bare_accepts = λ i x. by (w.object x) i
+  pub bare_rows : row_of (without_slots w) ≡ row_of w
+  bare_rows = λ i x. by (w.object x) i
     where
-      by : (o : Option Record) → unwrap_or (option_and_then (λ r. r.row.accept) (option_map (with_slots (λ n. None)) o)) [] ≡ unwrap_or (option_and_then (λ r. r.row.accept) o) []
+      by : (o : Option Record) → option_map (λ r. r.row) (option_map (with_slots (λ n. None)) o) ≡ option_map (λ r. r.row) o
       by None = refl
       by (Some r) = refl
 
-module _ (w v : World) (same : SameShape w v) (wf : IsWellFormed w) (places : (x : ObjNo) → is_object v x ≡ true → (l : List ObjNo) × Places v x l) (accepts : (x : ObjNo) → length (accept_of v x) ≤ 1000) where
+module _ (w v : World) (same : SameShape w v) (wf : IsWellFormed w) (places : (x : ObjNo) → is_object v x ≡ true → (l : List ObjNo) × Places v x l) (rows : (x : ObjNo) → unwrap_or (option_map row_fits (row_of v x)) true ≡ true) where
   object_was : (x : ObjNo) → is_object v x ≡ true → is_object w x ≡ true
   object_was x e = sym (ap (λ f. f x) same.objects) ∙ e
 
@@ -55,8 +55,8 @@ module _ (w v : World) (same : SameShape w v) (wf : IsWellFormed w) (places : (x
     props = subst (λ n. (0 < n) × (n ≤ 4294967295)) (sym same.next_prop) wf.limits.props;
     verbs = subst (λ n. (0 < n) × (n ≤ 4294967295)) (sym same.next_verb) wf.limits.verbs;
     names = λ x. subst (λ f. list_all is_property_name (f x) ≡ true) (bare_names w ∙ sym same.names ∙ sym (bare_names v)) (wf.limits.names x);
-    words = λ x. subst (λ f. list_all (λ k. has_word k.names) (f x) ≡ true) (bare_verbs w ∙ sym same.verbs ∙ sym (bare_verbs v)) (wf.limits.words x);
-    accepts = λ x. subst (λ f. length (f x) ≤ 1000) (sym (bare_accepts v)) (accepts x);
+    directories = λ x. subst (λ f. list_all verb_fits (f x) ≡ true) (bare_verbs w ∙ sym same.verbs ∙ sym (bare_verbs v)) (wf.limits.directories x);
+    rows = λ x. subst (λ f. unwrap_or (option_map row_fits (f x)) true ≡ true) (sym (bare_rows v)) (rows x);
   }
 
   pub IsWellFormed-same_shape : IsWellFormed v

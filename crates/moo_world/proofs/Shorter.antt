@@ -8,7 +8,7 @@ use Rattle.std.proofs.lemmas.Option.{none-some, same_Some}
 use Rattle.moo_value.specs.declared.value.ObjNo.{ObjNo}
 use Rattle.moo_world.specs.Changes.{undefined}
 use Rattle.moo_world.specs.Objects.{Name, Pair, nothing, same_object, same_text, same_pair, folded, same_object-Decides, same_text-Decides}
-use Rattle.moo_world.specs.World.{World, Record, Slot, IsTree, IsWellFormed, Climbs, Chain, NamesDiffer, is_object, parent_of, location_of, chain, climb, numbers_to, names_of, defined_by, owed_by, owes, owner_of, pair_named, slot_of, slot_for, fresh, with_record, with_slots, without_slots, is_property_name, has_word}
+use Rattle.moo_world.specs.World.{World, Record, Slot, IsTree, IsWellFormed, Climbs, Chain, NamesDiffer, is_object, parent_of, location_of, chain, climb, numbers_to, names_of, defined_by, owed_by, owes, owner_of, pair_named, slot_of, slot_for, fresh, with_record, with_slots, without_slots, is_property_name, verb_fits, row_fits}
 use Rattle.moo_world.proofs.Keeping.{MayBeRebuilt, IsWellFormed-rebuilt}
 use Rattle.moo_world.proofs.Owed.{named_owed, named_so, none_named}
 use Rattle.moo_world.proofs.Rebuilding.{slot_of-rebuilt}
@@ -201,8 +201,8 @@ module _ (w : World) (wf : IsWellFormed w) (x : ObjNo) (name : Name) where
       props = wf.limits.props;
       verbs = wf.limits.verbs;
       names = all_names;
-      words = λ y. read (λ o. list_all (λ k. has_word k.names) (unwrap_or (option_map (λ r. r.verbs) o) [])) (λ r. refl) y ∙ wf.limits.words y;
-      accepts = λ y. subst (λ n. n ≤ 1000) (sym (read (λ o. length (unwrap_or (option_and_then (λ r. r.row.accept) o) [])) (λ r. refl) y)) (wf.limits.accepts y);
+      directories = λ y. read (λ o. list_all verb_fits (unwrap_or (option_map (λ r. r.verbs) o) [])) (λ r. refl) y ∙ wf.limits.directories y;
+      rows = λ y. read (λ o. unwrap_or (option_map row_fits (option_map (λ r. r.row) o)) true) (λ r. refl) y ∙ wf.limits.rows y;
     };
   }
 

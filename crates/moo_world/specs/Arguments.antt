@@ -1,6 +1,7 @@
 -- What a call is given. A wrong number of arguments is E_ARGS, and a wrong type E_TYPE, which is also said of the length of a
 -- list of an owner and rights and of what stands in it.
-use Rattle.std.specs.Prelude.{ℕ, nat_le, nat_lt, ℤ, pos, negsuc, Bool, true, ◌&&◌, List, [], ◌∷◌, Option, Some, None, Result, Ok, Err, ok_or, if◌then◌else◌}
+use Rattle.std.specs.Prelude.{ℕ, nat_le, nat_lt, ℤ, pos, negsuc, Bool, true, ◌&&◌, List, [], ◌∷◌, length, Option, Some, None, Result, Ok, Err, ok_or, if◌then◌else◌}
+use Rattle.std.specs.List.{list_all}
 use Rattle.std.specs.Option.{option_map}
 use Rattle.std.specs.Ordering.{int_eq}
 use Rattle.moo_value.specs.declared.code.Code.{Code}
@@ -8,6 +9,7 @@ use Rattle.moo_value.specs.declared.code.Code.TheVariants.{«Type» as wrong_typ
 use Rattle.moo_value.specs.declared.value.ObjNo.{ObjNo}
 use Rattle.moo_value.specs.declared.value.Value.{Value}
 use Rattle.moo_value.specs.declared.value.Value.TheVariants.{Int, Obj, Str, Error, List as a_list}
+use Rattle.moo_value.specs.Text.{is_allowed}
 use Rattle.moo_value.specs.Value.{nesting, spread}
 use Rattle.moo_value.specs.Values.{Values, no_values as none_left, int, object, string, error, list}
 use Rattle.moo_world.specs.declared.descriptor.Desc.{Desc}
@@ -19,25 +21,34 @@ abbrev pub in_range : ℤ → Bool
 in_range (pos n) = nat_lt n 2147483648
 in_range (negsuc n) = nat_lt n 2147483648
 
--- so are all integers and objects in the values of a list
-abbrev pub all_in_range : Values → Bool
-all_in_range none_left = true
-all_in_range (int n rest) = in_range n && all_in_range rest
-all_in_range (object n rest) = in_range n && all_in_range rest
-all_in_range (string s rest) = all_in_range rest
-all_in_range (error e rest) = all_in_range rest
-all_in_range (list values rest) = all_in_range values && all_in_range rest
+-- the number of an object has 32 bits
+abbrev pub is_number : ObjNo → Bool
+is_number x = in_range x.0
 
-abbrev pub numbers_in_range : Value → Bool
-numbers_in_range (Int n) = in_range n
-numbers_in_range (Obj o) = in_range o.0
-numbers_in_range (Str s) = true
-numbers_in_range (Error e) = true
-numbers_in_range (a_list values) = all_in_range values
+-- at most 65,535 bytes, each a tab, a space or printing ASCII: the test of IsText
+abbrev pub is_text : List ℕ → Bool
+is_text s = nat_le (length s) 65535 && list_all is_allowed s
 
--- lists nest at most 32 deep in the value, and its numbers have 32 bits
+-- the integers and objects in the values of a list are numbers of 32 bits, and the strings are texts
+abbrev pub all_within_limits : Values → Bool
+all_within_limits none_left = true
+all_within_limits (int n rest) = in_range n && all_within_limits rest
+all_within_limits (object n rest) = in_range n && all_within_limits rest
+all_within_limits (string s rest) = is_text s && all_within_limits rest
+all_within_limits (error e rest) = all_within_limits rest
+all_within_limits (list values rest) = all_within_limits values && all_within_limits rest
+
+-- so are those in a value
+abbrev pub is_within_limits : Value → Bool
+is_within_limits (Int n) = in_range n
+is_within_limits (Obj o) = in_range o.0
+is_within_limits (Str s) = is_text s
+is_within_limits (Error e) = true
+is_within_limits (a_list values) = all_within_limits values
+
+-- lists nest at most 32 deep in the value, its numbers have 32 bits, and its strings are texts
 abbrev pub fits : Value → Bool
-fits v = nat_le (nesting v) 32 && numbers_in_range v
+fits v = nat_le (nesting v) 32 && is_within_limits v
 
 -- ---- objects, names and values
 

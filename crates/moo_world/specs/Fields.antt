@@ -1,12 +1,13 @@
 -- A change of one field of an object.
-use Rattle.std.specs.Prelude.{Bool, true, not, ◌&&◌, ◌||◌, nat_le, length, unwrap_or, []}
+use Rattle.std.specs.Prelude.{Bool, true, not, ◌&&◌, ◌||◌}
 use Rattle.moo_value.specs.declared.value.ObjNo.{ObjNo}
 use Rattle.moo_rows.specs.declared.row.ObjRow.{ObjRow}
 use Rattle.moo_world.specs.declared.change.Change.{Change}
 use Rattle.moo_world.specs.declared.change.Change.TheVariants.{Name, Owner, Location, Player, Programmer, Wizard, Readable, Writable, Fertile, Accept}
+use Rattle.moo_world.specs.Arguments.{is_number, is_text}
 use Rattle.moo_world.specs.Objects.{nothing, same_object}
 use Rattle.moo_world.specs.Rights.{is_within}
-use Rattle.moo_world.specs.World.{World, is_object, with_record}
+use Rattle.moo_world.specs.World.{World, is_object, with_record, accept_fits}
 
 -- a row with one field changed
 abbrev pub changed : Change → ObjRow → ObjRow
@@ -28,8 +29,11 @@ with_row w x change = with_record w x (λ r. record r { row = change r.row })
 abbrev pub field_changed : World → ObjNo → Change → World
 field_changed w x change = with_row w x (changed change)
 
--- the change leaves a well formed world: a place is an object outside x, or nothing, and an accept list is no longer than 1,000
+-- the change leaves a well formed world: a place is an object outside x, or nothing, a name is a text, and owners and what an
+-- accept list names, at most 1,000 objects, are numbers of 32 bits
 abbrev pub is_allowed : World → ObjNo → Change → Bool
+is_allowed w x (Name name) = is_text name
+is_allowed w x (Owner owner) = is_number owner
 is_allowed w x (Location to) = (is_object w to || same_object nothing to) && not (is_within w to x)
-is_allowed w x (Accept list) = nat_le (length (unwrap_or list [])) 1000
+is_allowed w x (Accept list) = accept_fits list
 is_allowed w x change = true

@@ -1,17 +1,20 @@
 -- That each call leaves a well formed world, and so does each run of batches.
-use Rattle.std.specs.Prelude.{◌≡◌, true, Bool, List}
+use Rattle.std.specs.Prelude.{◌≡◌, ℕ, true, Bool, List}
+use Rattle.std.specs.Bool.{Decides}
 use Rattle.std.specs.List.{list_all}
 use Rattle.moo_value.specs.declared.value.ObjNo.{ObjNo}
 use Rattle.moo_value.specs.declared.value.Value.{Value}
+use Rattle.moo_value.specs.Literal.{Fits}
+use Rattle.moo_value.specs.Text.{IsText}
 use Rattle.moo_world.specs.declared.call.Batch.{Batch}
 use Rattle.moo_world.specs.declared.call.Call.{Call}
-use Rattle.moo_world.specs.Arguments.{fits}
+use Rattle.moo_world.specs.Arguments.{is_text, fits}
 use Rattle.moo_world.specs.Judge.{State, after}
 use Rattle.moo_world.specs.Outcomes.{Done}
 use Rattle.moo_world.specs.Step.{step}
 use Rattle.moo_world.specs.World.{World, IsWellFormed}
 
--- in each value that the call is given lists nest at most 32 deep, and numbers have 32 bits
+-- in each value that the call is given lists nest at most 32 deep, numbers have 32 bits, and strings are texts
 abbrev pub arguments_fit : Call → Bool
 arguments_fit call = list_all fits call.args
 
@@ -22,3 +25,13 @@ CallsKeepForm = (w next : World) (p : ObjNo) (call : Call) (v : Value) → IsWel
 -- after any batches, accepted or not, a world that was well formed is well formed
 abbrev pub RunsKeepForm : Type 0
 RunsKeepForm = (s : State) (batches : List Batch) → IsWellFormed s.world → list_all (λ batch. list_all arguments_fit batch.calls) batches ≡ true → IsWellFormed (after s batches).world
+
+-- ---- what is given
+
+-- the test of strings is the rule that their type keeps
+abbrev pub TextIsTested : Type 0
+TextIsTested = (s : List ℕ) → Decides (is_text s) (IsText s)
+
+-- a value fits where it is one within the limits of literals
+abbrev pub FitsIsTested : Type 0
+FitsIsTested = (v : Value) → Decides (fits v) (Fits v)

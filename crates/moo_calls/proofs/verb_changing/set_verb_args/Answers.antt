@@ -1,20 +1,14 @@
-use Rattle.std.proofs.Common.{◌≡◌, Bool, true, Option, Some, ap, sym, ◌∙◌}
-use Rattle.moo_value.specs.declared.code.Code.{Code}
+use Rattle.std.proofs.Common.{ap, sym, ◌∙◌}
 use Rattle.moo_world.specs.World.{is_object}
-use Rattle.moo_world.specs.Outcomes.{Outcome, Done, check, found_or}
+use Rattle.moo_world.specs.Outcomes.{Done}
 use Rattle.moo_world.specs.Answers.{zero}
 use Rattle.moo_world.specs.Rights.{may_write_verb}
 use Rattle.moo_world.specs.VerbReading.{args_of}
 use Rattle.moo_world.specs.Descriptors.{found_verb}
 use Rattle.moo_verbs.specs.Places.{verb_place}
 use Rattle.moo_rights.specs.Outcomes.{world_in}
+use Rattle.moo_calls.proofs.Passed.{check_passed, found_passed}
 use Rattle.moo_calls.proofs.verb_changing.set_verb_args.Goals as goal
-
-check_passed : (b : Bool) (failed rest : Outcome) → b ≡ true → check b failed rest ≡ rest
-check_passed b failed rest holds = ap (λ b. check b failed rest) holds
-
-found_passed : {A : Type 0} (o : Option A) (a : A) (code : Code) (rest : A → Outcome) → o ≡ Some a → found_or o code rest ≡ rest a
-found_passed o a code rest is = ap (λ o. found_or o code rest) is
 
 pub returns-clause-comes : goal.returns-clause-comes
 returns-clause-comes g c =

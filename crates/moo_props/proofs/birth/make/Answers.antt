@@ -1,9 +1,10 @@
-use Rattle.std.proofs.Common.{◌≡◌, refl, sym, ap, ◌∙◌, subst}
+use Rattle.std.proofs.Common.{FitsSigned, w32, rules, ◌≡◌, refl, sym, ap, ◌∙◌, subst}
 use Rattle.moo_rows.specs.Maps.{Maps, Held}
 use Rattle.moo_rows.specs.declared.row.Head.{Head}
 use Rattle.moo_world.specs.Creation.{created}
 use Rattle.moo_world.specs.Rows.{LookUps, AreSound, look_ups, world_of, world_shown}
 use Rattle.moo_world.specs.World.{World, IsWellFormed, read_of}
+use Rattle.moo_world.proofs.Limits.{number_within}
 use Rattle.moo_props.specs.Birth.{objects_with, origins_among}
 use Rattle.moo_props.specs.Reparent.{with_fresh}
 use Rattle.moo_props.proofs.NewSlots.{with_new, look_ups-new, head-fresh}
@@ -32,12 +33,13 @@ returns-clause-world g c = world g c
 pub returns-clause-kept : goal.returns-clause-kept
 returns-clause-kept g c =
     let m = look_ups (t g c) in
+    let owner : FitsSigned w32 c.args.owner.0 = search rules in
     let os = origins_among (walk (t g c) c.args.parent) in
     let held1 = objects_with c.args.x c.args.parent c.args.owner (g.R.Rows.held c.args.rows.now) in
     record {
       good = record {
         sound = subst AreSound (sym (shown g c)) (sound_new m c.requires.good.sound c.requires.good.formed c.args.x c.args.parent c.args.owner c.requires.next c.requires.parent);
-        formed = subst (λ (k : LookUps). IsWellFormed (world_shown k)) (sym (shown g c)) (formed_new m c.requires.good.sound c.requires.good.formed c.args.x c.args.parent c.args.owner c.requires.next c.requires.parent);
+        formed = subst (λ (k : LookUps). IsWellFormed (world_shown k)) (sym (shown g c)) (formed_new m c.requires.good.sound c.requires.good.formed c.args.x c.args.parent c.args.owner c.requires.next c.requires.parent (number_within c.args.owner owner));
       };
       seq = ap (λ (h : Held). h.maps.head.seq) (ends g c) ∙ ap (λ (h : Head). h.seq) (head-fresh c.args.x c.args.owner os held1);
       base = ap (λ (h : Held). h.base) (ends g c) ∙ base-fresh c.args.x c.args.owner os held1;

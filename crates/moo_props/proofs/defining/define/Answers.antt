@@ -1,4 +1,4 @@
-use Rattle.std.proofs.Common.{◌≡◌, refl, sym, ap, ◌∙◌, subst}
+use Rattle.std.proofs.Common.{FitsSigned, w32, rules, ◌≡◌, refl, sym, ap, ◌∙◌, subst}
 use Rattle.moo_rows.specs.Maps.{Maps, Held, wrote}
 use Rattle.moo_rows.specs.declared.row.Head.{Head}
 use Rattle.moo_rows.specs.declared.row.PropId.{PropId}
@@ -7,6 +7,7 @@ use Rattle.moo_rows.specs.declared.row.SlotState.TheVariants.{Set}
 use Rattle.moo_world.specs.Changes.{defined}
 use Rattle.moo_world.specs.Rows.{AreSound, look_ups, world_of, world_shown, prop_id}
 use Rattle.moo_world.specs.World.{IsWellFormed}
+use Rattle.moo_world.proofs.Limits.{number_within, slot_within}
 use Rattle.std.specs.FinMap.{insert}
 use Rattle.moo_props.specs.declared.reparent.Origin.{Origin}
 use Rattle.moo_props.specs.Defining.{fresh_over, with_definition}
@@ -44,13 +45,14 @@ returns-clause-world g c = world g c
 pub returns-clause-kept : goal.returns-clause-kept
 returns-clause-kept g c =
     let m = look_ups (t g c) in
+    let owner : FitsSigned w32 c.args.owner.0 = search rules in
     let o : Origin = record { id = prop_id (t g c).head.next_prop; owner = c.args.owner; bits = c.args.bits } in
     let under = owners_under (t g c) c.args.x in
     let first = with_definition c.args.x c.args.name (g.R.Rows.held c.args.rows.now) in
     record {
       good = record {
         sound = subst AreSound (sym (shown g c)) (sound_with m c.requires.good.sound c.requires.good.formed c.args.x c.args.name c.args.owner c.args.bits c.args.value c.requires.object c.requires.free);
-        formed = subst IsWellFormed (sym (world g c)) (formed_with m c.requires.good.sound c.requires.good.formed c.args.x c.args.name c.args.owner c.args.bits c.args.value c.requires.object c.requires.free c.requires.name c.requires.left c.requires.fit);
+        formed = subst IsWellFormed (sym (world g c)) (formed_with m c.requires.good.sound c.requires.good.formed c.args.x c.args.name c.args.owner c.args.bits c.args.value c.requires.object c.requires.free c.requires.name c.requires.left (slot_within (record { definer = c.args.x; owner = c.args.owner; bits = c.args.bits; state = Set c.args.value }) (number_within c.args.owner owner) c.requires.fit));
       };
       seq = ap (λ (h : Held). h.maps.head.seq) (ends g c) ∙ ap (λ (h : Head). h.seq) (head-over o under first);
       base = ap (λ (h : Held). h.base) (ends g c) ∙ base-over o under first;

@@ -1,36 +1,36 @@
-use Rattle.std.proofs.Common.{◌≡◌, false, refl, sym, ap, ◌∙◌, subst}
+use Rattle.std.proofs.Common.{FitsSigned, w32, rules, ◌≡◌, false, refl, sym, ap, ◌∙◌, subst}
 use Rattle.moo_value.specs.declared.value.ObjNo.{ObjNo}
 use Rattle.moo_rows.specs.Maps.{Held}
 use Rattle.moo_rows.specs.declared.row.SlotRow.{SlotRow}
-use Rattle.moo_rows.specs.declared.row.SlotState.{SlotState}
 use Rattle.moo_rows.specs.declared.row.SlotState.TheVariants.{Clear}
 use Rattle.moo_world.specs.Rows.{world_of, IsGood, slot_seen}
 use Rattle.moo_world.specs.World.{Slot}
+use Rattle.moo_world.proofs.Limits.{number_within, slot_state, slot_within}
 use Rattle.moo_props.specs.Names.{defines}
 use Rattle.moo_props.proofs.States.{put_slot_world, put_slot_good, clear_inherited}
 use Rattle.moo_props.proofs.state.set_info.Goals as goal
 
 abbrev next : (g : _) → goal.In_ok-put_slot g → SlotRow
-next g c = record { owner = c.args.owner; bits = c.args.bits; state = c.in_ok-state-in-Some.state }
+next g c = record (c.in_ok-row-in-Some.row) { owner = c.args.owner; bits = c.args.bits }
 
 abbrev change : (g : _) → goal.In_ok-put_slot g → Slot → Slot
 change g c s = record s { owner = c.args.owner; bits = c.args.bits }
 
-agrees : (g : _) (c : goal.In_ok-put_slot g) (d : ObjNo) → change g c (slot_seen d c.in-Some.slot.now) ≡ slot_seen d (next g c)
-agrees g c d = ap (λ (state : SlotState). slot_seen d (record { owner = c.args.owner; bits = c.args.bits; state = state })) (sym c.in_ok-state-in-Some.ensures)
+agrees : (g : _) (c : goal.In_ok-put_slot g) (d : ObjNo) → change g c (slot_seen d c.in-Some.row.now) ≡ slot_seen d (next g c)
+agrees g c d = ap (λ (row : SlotRow). slot_seen d (record row { owner = c.args.owner; bits = c.args.bits })) (sym c.in_ok-row-in-Some.ensures)
 
-stays_set : (g : _) (c : goal.In_ok-put_slot g) → c.in_ok-state-in-Some.state ≡ Clear → defines (g.R.Rows.held c.args.rows.now).maps c.args.x c.args.id ≡ false
-stays_set g c e = clear_inherited (g.R.Rows.held c.args.rows.now).maps c.requires.good c.args.x c.args.id c.in-Some.slot.now (sym c.in-Some.ensures) (sym c.in_ok-state-in-Some.ensures ∙ e)
+stays_set : (g : _) (c : goal.In_ok-put_slot g) → c.in_ok-row-in-Some.row.state ≡ Clear → defines (g.R.Rows.held c.args.rows.now).maps c.args.x c.args.id ≡ false
+stays_set g c e = clear_inherited (g.R.Rows.held c.args.rows.now).maps c.requires.good c.args.x c.args.id c.in-Some.row.now (sym c.in-Some.ensures) (sym (ap (λ (row : SlotRow). row.state) c.in_ok-row-in-Some.ensures) ∙ e)
 
 pub returns-clause-world : goal.returns-clause-world
 returns-clause-world g c =
     ap (λ (h : Held). world_of h.maps) c.in_ok-put_slot.ensures.ok
-    ∙ put_slot_world (g.R.Rows.held c.args.rows.now).maps c.requires.good.sound c.args.x c.args.id c.in-Some.slot.now (sym c.in-Some.ensures) (next g c) (change g c) (agrees g c)
+    ∙ put_slot_world (g.R.Rows.held c.args.rows.now).maps c.requires.good.sound c.args.x c.args.id c.in-Some.row.now (sym c.in-Some.ensures) (next g c) (change g c) (agrees g c)
 
 pub returns-clause-kept : goal.returns-clause-kept
-returns-clause-kept g c = record {
+returns-clause-kept g c = let owner : FitsSigned w32 c.args.owner.0 = search rules in record {
   good = subst (λ (h : Held). IsGood h.maps) (sym c.in_ok-put_slot.ensures.ok)
-      (put_slot_good (g.R.Rows.held c.args.rows.now).maps c.requires.good.sound c.args.x c.args.id c.in-Some.slot.now (sym c.in-Some.ensures) (next g c) (change g c) (agrees g c) c.requires.good.formed (λ s. refl) (stays_set g c) (λ s h. h));
+      (put_slot_good (g.R.Rows.held c.args.rows.now).maps c.requires.good.sound c.args.x c.args.id c.in-Some.row.now (sym c.in-Some.ensures) (next g c) (change g c) (agrees g c) c.requires.good.formed (λ s. refl) (stays_set g c) (λ s h. slot_within (change g c s) (number_within c.args.owner owner) (slot_state s h)));
   seq = ap (λ (h : Held). h.maps.head.seq) c.in_ok-put_slot.ensures.ok;
   base = ap (λ (h : Held). h.base) c.in_ok-put_slot.ensures.ok;
 }

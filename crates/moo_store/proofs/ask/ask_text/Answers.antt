@@ -1,55 +1,14 @@
-use Rattle.std.proofs.Common.{refl, arith, subst}
-use Rattle.moo_text.specs.Feed.{TakesNext}
-use Rattle.moo_text.specs.Left.{feed_left}
-use Rattle.moo_text.specs.declared.next.Next.{Next}
-use Rattle.moo_text.specs.declared.fault.TextFault.TheVariants.{Long}
 use Rattle.moo_store.specs.Asked.{IsAtIfWorking}
-use Rattle.moo_store.specs.Text.{is_batch, is_lost}
-use Rattle.moo_store.proofs.Asking.{asking_start, asking_next, asking_before, asking_inside, asking_through}
-use Rattle.moo_store.proofs.Items.{takes_one, one_more}
+use Rattle.moo_store.proofs.Going.{IfOk-then, IfErr-then}
+use Rattle.moo_store.proofs.Asking.{known_asks, known_stops_asking}
 use Rattle.moo_store.proofs.ask.ask_text.Goals as goal
 
-pub loop-init : goal.loop-init
-loop-init g c = record {
-  asking = asking_start c.args.world.now.failed (IsAtIfWorking g.S.Store c.args.world.now) (g.R.Read.remaining c.args.reader) (feed_left g.R.Read.remaining c.new-feed.result) (g.W.Write.contents c.args.writer.now) c.new-tally.result.batches c.new-tally.result.lost c.new-feed.ensures.left c.new-tally.ensures.0 c.new-tally.ensures.1;
-  batches = omega (arith, c.new-tally.ensures.0);
-  lost = omega (arith, c.new-tally.ensures.1);
-}
-
-pub loop-preserved : goal.loop-preserved
-loop-preserved g c =
-    let before = feed_left g.R.Read.remaining c.loop.feed in
-    let behind = feed_left g.R.Read.remaining c.next_batch.new.self in
-    record {
-      asking = asking_next c.args.world.now.failed (IsAtIfWorking g.S.Store c.args.world.now) (g.R.Read.remaining c.args.reader) before behind (g.W.Write.contents c.args.writer.now) (g.W.Write.contents c.loop.writer) (g.W.Write.contents c.put_answer.new.writer)
-          c.loop.tally.batches c.loop.tally.lost c.count.new.self.batches c.count.new.self.lost c.in-Ok.item c.in-Some.answer
-          c.loop.invariant.asking (takes_one before behind c.in-Ok.item (c.in-Some.ensures.more refl) c.in-Ok.ensures.next) c.in-Some.ensures.some c.in-Ok-put_answer.ensures.ok c.count.ensures.batches c.count.ensures.lost;
-      batches = one_more (is_batch c.in-Some.answer) c.loop.tally.batches c.count.new.self.batches c.loop.counter c.loop.invariant.batches c.count.ensures.batches;
-      lost = one_more (is_lost c.in-Some.answer) c.loop.tally.lost c.count.new.self.lost c.loop.counter c.loop.invariant.lost c.count.ensures.lost;
-    }
-
-pub returns-in-Err-clause-stops : goal.returns-in-Err-clause-stops
-returns-in-Err-clause-stops g c =
-    asking_before c.args.world.now.failed (IsAtIfWorking g.S.Store c.args.world.now) (g.R.Read.remaining c.args.reader) (feed_left g.R.Read.remaining c.loop.feed) (g.W.Write.contents c.args.writer.now) (g.W.Write.contents c.loop.writer)
-    c.loop.tally.batches c.loop.tally.lost c.in-Err.fault c.loop.invariant.asking
-
-pub returns-in-None-clause-asks : goal.returns-in-None-clause-asks
-returns-in-None-clause-asks g c =
-    let before = feed_left g.R.Read.remaining c.loop.feed in
-    let behind = feed_left g.R.Read.remaining c.next_batch.new.self in
-    asking_through c.args.world.now.failed (IsAtIfWorking g.S.Store c.args.world.now) (g.R.Read.remaining c.args.reader) before behind (g.W.Write.contents c.args.writer.now) (g.W.Write.contents c.loop.writer)
-    c.loop.tally.batches c.loop.tally.lost c.loop.invariant.asking (subst (λ (i : Next). TakesNext before behind i) c.in-None.ensures.none c.in-Ok.ensures.next)
-
-pub returns-in-Err-put_answer-clause-stops : goal.returns-in-Err-put_answer-clause-stops
-returns-in-Err-put_answer-clause-stops g c =
-    let before = feed_left g.R.Read.remaining c.loop.feed in
-    let behind = feed_left g.R.Read.remaining c.next_batch.new.self in
-    let wrote = c.in-Err-put_answer.ensures.err in
-    asking_inside c.args.world.now.failed (IsAtIfWorking g.S.Store c.args.world.now) (g.R.Read.remaining c.args.reader) before behind (g.W.Write.contents c.args.writer.now) (g.W.Write.contents c.loop.writer) (g.W.Write.contents c.put_answer.new.writer)
-    c.loop.tally.batches c.loop.tally.lost c.in-Err-put_answer.fault c.in-Ok.item c.in-Some.answer wrote.0
-    c.loop.invariant.asking (takes_one before behind c.in-Ok.item (c.in-Some.ensures.more refl) c.in-Ok.ensures.next) c.in-Some.ensures.some wrote.1 c.in-Err-put_answer.ensures.fault
+pub returns-clause-asks : goal.returns-clause-asks
+returns-clause-asks g c =
+    let world = c.args.world.now in
+    IfOk-then c.answer_all.result _ _ (λ tally all. known_asks _ _ _ world.failed (IsAtIfWorking g.S.Store world) (g.R.Read.remaining c.args.reader) _ _ tally.batches tally.lost (λ new batch a p. p) all) c.answer_all.ensures.completes
 
 pub returns-clause-stops : goal.returns-clause-stops
 returns-clause-stops g c =
-    asking_before c.args.world.now.failed (IsAtIfWorking g.S.Store c.args.world.now) (g.R.Read.remaining c.args.reader) (feed_left g.R.Read.remaining c.loop.feed) (g.W.Write.contents c.args.writer.now) (g.W.Write.contents c.loop.writer)
-    c.loop.tally.batches c.loop.tally.lost Long c.loop.invariant.asking
+    let world = c.args.world.now in
+    IfErr-then c.answer_all.result _ _ (λ fault some. known_stops_asking _ _ _ world.failed (IsAtIfWorking g.S.Store world) (g.R.Read.remaining c.args.reader) _ _ fault (λ new batch a p. p) some) c.answer_all.ensures.halts

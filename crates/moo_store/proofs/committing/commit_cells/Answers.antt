@@ -1,12 +1,9 @@
 use Rattle.sqlite.specs.Held.{state}
-use Rattle.moo_store.proofs.Committed.{at_written, at_kept, at_undone, survives_next}
+use Rattle.moo_store.proofs.Committed.{at_written, at_kept, survives_next}
 use Rattle.moo_store.proofs.committing.commit_cells.Goals as goal
 
 pub returns-clause-written : goal.returns-clause-written
 returns-clause-written g c clean = at_written (state g.S.Store c.args.conn.now) (state g.S.Store c.commit_changes.new.conn) c.args.cells.now c.commit_changes.result (c.commit_changes.ensures.written clean)
-
-pub returns-clause-undone : goal.returns-clause-undone
-returns-clause-undone g c clean = at_undone (state g.S.Store c.args.conn.now) (state g.S.Store c.commit_changes.new.conn) c.commit_changes.result (c.commit_changes.ensures.undone clean)
 
 pub returns-clause-crash : goal.returns-clause-crash
 returns-clause-crash g c changes base next printed exact keeps = survives_next (state g.S.Store c.args.conn.now) (state g.S.Store c.commit_changes.new.conn) c.args.cells.now changes base next printed exact c.commit_changes.ensures.crash keeps

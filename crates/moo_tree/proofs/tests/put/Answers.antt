@@ -5,6 +5,7 @@ use Rattle.std.specs.Prelude.{◌≤ℤ◌}
 use Rattle.std.proofs.lemmas.Int.{ints}
 use Rattle.std.specs.FinMap.{insert}
 use Rattle.moo_rows.specs.declared.row.Head.{Head}
+use Rattle.moo_rows.specs.declared.row.ObjRow.{ObjRow}
 use Rattle.moo_rows.specs.Maps.{wrote}
 use Rattle.moo_world.specs.Rows.{world_of}
 use Rattle.moo_world.specs.World.{IsTree, is_object}
@@ -24,12 +25,11 @@ returns c =
     let w = world_of t in
     let x = c.args.x in
     let head : Head = record (c.head-head.result) { top = to_z w32 (of_z w32 c.max.result) } in
-    let row = c.in_ok-row.row in
+    let row = record (c.in_ok-row.row) { location = c.args.location } in
     let free : is_object w x ≡ false = sym c.if-valid.ensures in
     let up : may_link w c.args.parent ≡ true = search rules in
-    let out : may_link w c.args.location ≡ true = search rules in
-    let parent : may_link w row.parent ≡ true = ap (may_link w) c.in_ok-row.ensures.parent ∙ up in
-    let location : may_link w row.location ≡ true = ap (may_link w) c.in_ok-row.ensures.location ∙ out in
+    let location : may_link w c.args.location ≡ true = search rules in
+    let parent : may_link w row.parent ≡ true = ap (λ (r : ObjRow). may_link w r.parent) c.in_ok-row.ensures ∙ up in
     let old = ap (λ (h : Head). h.top) c.head-head.ensures in
     let most : SFits w32 c.max.result = search rules in
     let number : SFits w32 x.0 = search rules in

@@ -6,6 +6,7 @@ use Rattle.std.proofs.lemmas.Bool.{or_right}
 use Rattle.std.proofs.lemmas.Int.{ints}
 use Rattle.std.specs.FinMap.{insert}
 use Rattle.moo_rows.specs.declared.row.Head.{Head}
+use Rattle.moo_rows.specs.declared.row.ObjRow.{ObjRow}
 use Rattle.moo_rows.specs.Maps.{wrote}
 use Rattle.moo_world.specs.Objects.{nothing, same_object-Decides}
 use Rattle.moo_world.specs.Rows.{world_of}
@@ -29,8 +30,8 @@ returns c =
     let row = c.in_ok-row.row in
     let free : is_object w x ≡ false = sym c.if-valid.ensures in
     let up : may_link w c.args.parent ≡ true = search rules in
-    let parent : may_link w row.parent ≡ true = ap (may_link w) c.in_ok-row.ensures.parent ∙ up in
-    let location : may_link w row.location ≡ true = ap (may_link w) c.in_ok-row.ensures.location ∙ or_right _ _ ((same_object-Decides nothing nothing).1 refl) in
+    let parent : may_link w row.parent ≡ true = ap (λ (r : ObjRow). may_link w r.parent) c.in_ok-row.ensures ∙ up in
+    let location : may_link w row.location ≡ true = ap (λ (r : ObjRow). may_link w r.location) c.in_ok-row.ensures ∙ or_right _ _ ((same_object-Decides nothing nothing).1 refl) in
     let old = ap (λ (h : Head). h.top) c.head-head.ensures in
     let most : SFits w32 c.max.result = search rules in
     let number : SFits w32 x.0 = search rules in

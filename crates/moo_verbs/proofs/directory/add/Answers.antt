@@ -1,4 +1,4 @@
-use Rattle.std.proofs.Common.{◌≡◌, ◌+◌, refl, sym, ap, ◌∙◌, subst}
+use Rattle.std.proofs.Common.{FitsSigned, w32, rules, ◌≡◌, ◌+◌, refl, sym, ap, ◌∙◌, subst}
 use Rattle.std.specs.FinMap.{insert}
 use Rattle.moo_value.specs.declared.value.ObjNo.{ObjNo}
 use Rattle.moo_rows.specs.declared.row.Head.{Head}
@@ -7,6 +7,7 @@ use Rattle.moo_rows.specs.declared.row.VerbRow.{VerbRow}
 use Rattle.moo_rows.specs.Maps.{Held, wrote}
 use Rattle.moo_world.specs.Rows.{world_of}
 use Rattle.moo_world.specs.Keeps.{Keeps}
+use Rattle.moo_world.proofs.Limits.{verb_within}
 use Rattle.moo_verbs.proofs.Changes.{added_world, added_good}
 use Rattle.moo_verbs.proofs.directory.add.Goals as goal
 
@@ -30,9 +31,10 @@ returns-clause-world g c =
 pub returns-clause-kept : goal.returns-clause-kept
 returns-clause-kept g c =
     let old = g.R.Rows.held c.args.rows.now in
+    let owner : FitsSigned w32 c.args.verb.owner.0 = search rules in
     subst (Keeps old) (sym (whole g c))
     (record {
-      good = added_good old.maps c.requires.good c.args.x c.args.verb (record { 0 = old.maps.head.next_verb }) refl c.requires.object c.requires.left c.requires.names;
+      good = added_good old.maps c.requires.good c.args.x c.args.verb (record { 0 = old.maps.head.next_verb }) refl c.requires.object c.requires.left (verb_within c.args.verb c.requires.names c.bytes-names.ensures.text owner);
       seq = refl;
       base = refl;
     })

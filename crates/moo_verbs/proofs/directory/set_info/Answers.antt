@@ -1,8 +1,9 @@
-use Rattle.std.proofs.Common.{refl, sym, ap, ◌∙◌, subst}
+use Rattle.std.proofs.Common.{FitsSigned, w32, rules, refl, sym, ap, ◌∙◌, subst}
 use Rattle.moo_rows.specs.declared.row.VerbRow.{VerbRow}
 use Rattle.moo_rows.specs.Maps.{Held}
 use Rattle.moo_world.specs.Rows.{world_of}
 use Rattle.moo_world.specs.Keeps.{Keeps}
+use Rattle.moo_world.proofs.Limits.{verb_within}
 use Rattle.moo_verbs.proofs.Changes.{changed_world, changed_good}
 use Rattle.moo_verbs.proofs.directory.set_info.Goals as goal
 
@@ -15,10 +16,11 @@ returns-clause-world g c =
 pub returns-clause-kept : goal.returns-clause-kept
 returns-clause-kept g c =
     let old = g.R.Rows.held c.args.rows.now in
+    let owner : FitsSigned w32 c.args.owner.0 = search rules in
     let change = λ (v : VerbRow). record v { owner = c.args.owner; bits = c.args.bits; names = c.args.names } in
     subst (Keeps old) (sym c.in_ok-put_verb.ensures.ok)
     (record {
-      good = changed_good old.maps c.requires.good c.args.x c.args.id c.requires.held c.in-Some.row.now (sym c.in-Some.ensures) change (λ u named. c.requires.names);
+      good = changed_good old.maps c.requires.good c.args.x c.args.id c.requires.held c.in-Some.row.now (sym c.in-Some.ensures) change (λ u fit. verb_within (change u) c.requires.names c.bytes-names.ensures.text owner);
       seq = refl;
       base = refl;
     })

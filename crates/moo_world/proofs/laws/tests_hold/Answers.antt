@@ -8,6 +8,7 @@ use Rattle.moo_world.proofs.Places.{places_is, Places-places}
 use Rattle.moo_world.proofs.Rebuilding.{Owes-Decides}
 use Rattle.moo_world.proofs.Reading.{Reads-from_along, along_from_Reads}
 use Rattle.moo_world.proofs.Accepting.{accepted}
+use Rattle.moo_world.proofs.Ranges.{text_tested, fits_tested}
 use Rattle.moo_world.proofs.laws.tests_hold.Goals as goal
 
 chains : ChainIsFound
@@ -55,3 +56,9 @@ returns-clause-within c = within
 
 pub returns-clause-accepts : goal.returns-clause-accepts
 returns-clause-accepts c = accepted
+
+pub returns-clause-text : goal.returns-clause-text
+returns-clause-text c = text_tested
+
+pub returns-clause-fits : goal.returns-clause-fits
+returns-clause-fits c = fits_tested

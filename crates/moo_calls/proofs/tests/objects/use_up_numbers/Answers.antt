@@ -31,8 +31,8 @@ up m good = record {
       props = good.formed.limits.props;
       verbs = good.formed.limits.verbs;
       names = good.formed.limits.names;
-      words = good.formed.limits.words;
-      accepts = good.formed.limits.accepts;
+      directories = good.formed.limits.directories;
+      rows = good.formed.limits.rows;
     };
   };
 }

@@ -73,8 +73,8 @@ module _ (m : Maps) (good : IsGood m) (last : â„•) (higher : m.head.next_prop â‰
         props = (let counted = room m good in omega arith, fits);
         verbs = good.formed.limits.verbs;
         names = good.formed.limits.names;
-        words = good.formed.limits.words;
-        accepts = good.formed.limits.accepts;
+        directories = good.formed.limits.directories;
+        rows = good.formed.limits.rows;
       };
     });
   }

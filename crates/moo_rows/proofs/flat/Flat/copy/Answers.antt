@@ -5,7 +5,7 @@ use Rattle.moo_value.specs.declared.value.ObjNo.{ObjNo}
 use Rattle.moo_rows.specs.declared.row.PropId.{PropId}
 use Rattle.moo_rows.specs.declared.row.VerbId.{VerbId}
 use Rattle.moo_rows.specs.Maps.{Held}
-use Rattle.moo_rows.proofs.Clones.{object_clone, prop_clone, slot_clone, verb_clone}
+use Rattle.moo_rows.specs.SameClones.{object_clone, prop_clone, slot_clone, verb_clone}
 use Rattle.moo_rows.proofs.flat.Flat.copy.Goals as goal
 
 -- clones of equal keys and rows leave equal maps

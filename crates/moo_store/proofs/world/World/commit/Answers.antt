@@ -12,6 +12,8 @@ use Rattle.moo_tables.specs.Inside.{Rests}
 use Rattle.moo_tables.proofs.InsideLemmas.{clean_before}
 use Rattle.moo_store.specs.States.{LeavesRows}
 use Rattle.moo_store.specs.Untouched.{KeepsCells}
+use Rattle.moo_store.specs.Shows.{ShowsRows}
+use Rattle.moo_store.proofs.Committed.{shown_by}
 use Rattle.moo_store.proofs.Crashes.{left_by_write, keeps_state, rows_written}
 use Rattle.moo_store.proofs.Running.{when_ok}
 use Rattle.moo_store.proofs.world.World.commit.Goals as goal
@@ -92,14 +94,21 @@ returns-clause-rows g c next exact =
 pub returns-clause-cells : goal.returns-clause-cells
 returns-clause-cells g c next tables exact clean rests =
     let rows = c.self.inside.rows.maps in
+    let works : c.self.inside.failed ≡ false = subst (λ (w : World _). w.failed ≡ false) (sym c.self.view_is) c.requires.works in
     let here : AreChanges rows next c.args.changes = subst (λ (w : World _). AreChanges w.rows.maps next c.args.changes) (sym c.self.view_is) exact in
     let rest : Rests (state g.S.Store c.self.inside.connection) tables = subst (λ w. Rests (store_of g.S.Store w) tables) (sym c.self.view_is) rests in
     let new = state g.S.Store c.commit_cells.new.conn in
     let old_rows = c.args.self.now.rows.maps in
+    let shown : HasCleanDisk new → ShowsRows tables rows = λ clean.
+    shown_by (state g.S.Store c.self.inside.connection) rows tables
+    (c.self.invariant.2 works (clean_before (state g.S.Store c.self.inside.connection) new (λ x. LeavesRows x next) (c.commit_cells.ensures.crash c.args.changes rows next c.requires.printed here (c.self.invariant.2 works)) clean)) rest in
     let wrote : HasCleanDisk new → (after : Tables) × Rests new after × KeepsCells old_rows next tables after = λ clean.
-    let it = c.in_default.ensures.cells clean c.args.changes rows next tables c.requires.printed here rest in
+    let it = c.in_default.ensures.cells clean c.args.changes rows next tables c.requires.printed here rest (shown clean) in
     (it.0, it.1, subst (λ (w : World _). KeepsCells w.rows.maps next tables it.0) c.self.view_is it.2) in
     elim c.if-is_err.branch [
       | then-is_err w ↦ subst (λ v. HasCleanDisk (store_of g.S.Store v) → (after : Tables) × Rests (store_of g.S.Store v) after × KeepsCells old_rows next tables after) (sym w.self-is) wrote clean
       | else-is_err w ↦ subst (λ v. HasCleanDisk (store_of g.S.Store v) → (after : Tables) × Rests (store_of g.S.Store v) after × KeepsCells old_rows next tables after) (sym w.self-is) wrote clean
     ]
+
+pub returns-in-Err-clause-undone : goal.returns-in-Err-clause-undone
+returns-in-Err-clause-undone g c clean opened tables rests = c.in-Err.ensures.undone clean opened tables (subst (λ w. Rests (store_of g.S.Store w) tables) (sym c.self.view_is) rests)

@@ -2,7 +2,7 @@ use Rattle.std.proofs.Common.{◌≡◌, ◌+◌, vec_len, refl, arith, Ok, Err}
 use Rattle.std.specs.Prelude.{⊤}
 use Rattle.moo_store.specs.declared.fault.StoreFault.TheVariants.{OutOfMemory, Closed}
 use Rattle.moo_store.proofs.Running.{when_ok, starts, goes_on, answers, is_at_end, stops, left_at}
-use Rattle.moo_store.proofs.Untouched.{wrote_at_start, wrote_on, wrote_all, wrote_stopped}
+use Rattle.moo_store.proofs.Untouched.{wrote_at_start, wrote_on, wrote_stopped, same_stopped}
 use Rattle.moo_store.specs.Answered.{added}
 use Rattle.moo_store.proofs.world.World.run.Goals as goal
 
@@ -56,7 +56,7 @@ loop-batch-preserved g c = record {
   progress = goes_on g.S.Store c.args.self.now c.loop-batch.self c.run_one.new.self c.args.batches.now c.loop-batch.batch-index c.args.replies.now.items c.loop-batch.replies.items c.push.new.self.items c.batch-item.result c.in-Ok.reply
       c.loop-batch-test.true c.batch-item.is c.loop-batch.invariant.progress (rw c.unwrap.ensures at c.push.ensures.items) c.in-Ok.ensures.runs;
   cells = wrote_on g.S.Store c.args.self.now c.loop-batch.self c.run_one.new.self c.args.batches.now c.loop-batch.batch-index c.args.replies.now.items c.loop-batch.replies.items c.push.new.self.items c.batch-item.result c.in-Ok.reply
-      c.loop-batch-test.true c.batch-item.is c.loop-batch.invariant.progress (rw c.unwrap.ensures at c.push.ensures.items) c.loop-batch.invariant.cells c.in-Ok.ensures.fails c.in-Ok.ensures.cells;
+      c.loop-batch-test.true c.batch-item.is c.loop-batch.invariant.progress (rw c.unwrap.ensures at c.push.ensures.items) c.loop-batch.invariant.cells c.in-Ok.ensures.fails c.in-Ok.ensures.cells c.in-Ok.ensures.same;
   room = let longer : vec_len c.push.new.self ≡ vec_len c.loop-batch.replies + 1 = rw c.unwrap.ensures at c.push.ensures.len in omega (arith, longer, c.loop-batch.invariant.room, c.push.ensures.capacity, c.loop-batch-test.true);
 }
 
@@ -88,14 +88,23 @@ returns-clause-left g c s it =
 -- what was written
 
 pub returns-then-self-clause-cells : goal.returns-then-self-clause-cells
-returns-then-self-clause-cells g c = (wrote_at_start g.S.Store c.args.self.now c.args.batches.now c.args.replies.now.items c.args.replies.now.items refl).written
+returns-then-self-clause-cells g c clean known = (wrote_at_start g.S.Store c.args.self.now c.args.batches.now c.args.replies.now.items c.args.replies.now.items refl).written clean
 
 pub returns-then-is_err-clause-cells : goal.returns-then-is_err-clause-cells
-returns-then-is_err-clause-cells g c = (wrote_at_start g.S.Store c.args.self.now c.args.batches.now c.args.replies.now.items c.reserve.new.self.items c.reserve.ensures.items).written
+returns-then-is_err-clause-cells g c clean known = (wrote_at_start g.S.Store c.args.self.now c.args.batches.now c.args.replies.now.items c.reserve.new.self.items c.reserve.ensures.items).written clean
 
 pub returns-in-Err-clause-cells : goal.returns-in-Err-clause-cells
 returns-in-Err-clause-cells g c =
-    wrote_stopped (Unit {0}) g.S.Store c.args.self.now c.loop-batch.self c.run_one.new.self c.args.batches.now (added c.args.replies.now.items c.loop-batch.replies.items) c.in-Err.fault c.loop-batch.invariant.cells c.in-Err.ensures.fails
+    wrote_stopped (Unit {0}) g.S.Store c.args.self.now c.loop-batch.self c.run_one.new.self c.args.batches.now (added c.args.replies.now.items c.loop-batch.replies.items) c.batch-item.result c.in-Err.fault c.loop-batch.invariant.cells c.in-Err.ensures.fails c.in-Err.ensures.cells
 
 pub returns-clause-cells : goal.returns-clause-cells
-returns-clause-cells g c = wrote_all {T = Unit {0}} g.S.Store c.args.self.now c.loop-batch.self c.args.batches.now (added c.args.replies.now.items c.loop-batch.replies.items) (Ok tt) c.loop-batch.invariant.cells
+returns-clause-cells g c clean known = c.loop-batch.invariant.cells.written clean
+
+-- where none was acknowledged
+
+pub returns-in-Err-clause-same : goal.returns-in-Err-clause-same
+returns-in-Err-clause-same g c =
+    same_stopped (Unit {0}) g.S.Store c.args.self.now c.loop-batch.self c.run_one.new.self c.args.batches.now (added c.args.replies.now.items c.loop-batch.replies.items) c.in-Err.fault c.loop-batch.invariant.cells c.in-Err.ensures.fails
+
+pub returns-clause-same : goal.returns-clause-same
+returns-clause-same g c = c.loop-batch.invariant.cells.same

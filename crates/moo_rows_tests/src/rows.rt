@@ -1,0 +1,207 @@
+//! What no clause says: that the definitions mean what the manual means, and that each call succeeds where memory is left.
+ghost use Rattle.std.specs.Iterator.{IsFinite};
+
+use moo_rows::flat::Flat;
+use moo_rows::opening::opening_world;
+use moo_rows::ordered::Row;
+use moo_rows::row::*;
+use moo_rows::rows::Rows;
+use moo_rows::walk::*;
+use moo_value::text::MooStr;
+use moo_value::value::{ObjNo, Value};
+use std::test::*;
+
+const LEAST: ObjNo = ObjNo(-2147483648);
+
+const GREATEST: ObjNo = ObjNo(2147483647);
+
+const LAST: u32 = 4294967295;
+
+/// What `put_ends` puts: objects, properties, and the objects with the numbers of their slots and of their verbs.
+const OBJECTS: [ObjNo; 3] = [LEAST, ObjNo(0), GREATEST];
+
+const PROPS: [PropId; 2] = [PropId(0), PropId(LAST)];
+
+const PARTS: [(ObjNo, u32); 6] = [
+    (LEAST, 1),
+    (LEAST, LAST),
+    (ObjNo(0), 1),
+    (ObjNo(0), LAST),
+    (GREATEST, 1),
+    (GREATEST, LAST),
+];
+
+fn text(rt: &HostRuntime, bytes: &[u8]) -> Result<MooStr, Fail> {
+    Ok(MooStr::from_bytes(rt.alloc(), bytes)?)
+}
+
+/// Whether a walk gives these keys, in this order.
+fn gives<K: PartialEq + Drop, V: Drop, I: Iterator<Item = (K, V)> + Drop>(
+    walk: I,
+    want: &[K],
+) -> bool
+    requires can { I.can_next walk }
+    requires ends { IsFinite (I.remaining walk) }
+{
+    let mut rest = want.iter();
+    for (key, _) in walk {
+        if rest.next() != Some(&key) {
+            return false;
+        }
+    }
+    rest.next().is_none()
+}
+
+/// Whether the rows are those of these objects, properties, slots and verbs.
+fn walks_give(rows: &Flat, objects: &[ObjNo], props: &[PropId], parts: &[(ObjNo, u32)]) -> bool {
+    let slots = each_slot(rows).map(|((x, id), row)| ((x, id.0), row));
+    let verbs = each_verb(rows).map(|((x, id), row)| ((x, id.0), row));
+    gives(each_object(rows), objects)
+        && gives(each_prop(rows), props)
+        && gives(slots, parts)
+        && gives(verbs, parts)
+}
+
+#[test]
+fn the_opening_world_is_the_four_objects(rt: HostRuntime) -> Result<(), Fail> {
+    let rows = opening_world(rt.alloc())?;
+    let head = rows.head();
+    let counters = (head.next_prop, head.next_verb, head.seq);
+    assert_eq!(rt; (head.top, counters), (3, (1, 1, 0)));
+    let objects = [ObjNo(0), ObjNo(1), ObjNo(2), ObjNo(3)];
+    assert!(rt; walks_give(&rows, &objects, &[], &[]));
+    for (number, name, places, is_wizard, is_fertile) in [
+        (0, "System Object", [3, 1, -1], false, false),
+        (1, "Root Class", [3, -1, -1], false, true),
+        (2, "The First Room", [3, 1, -1], false, false),
+        (3, "Wizard", [3, 1, 2], true, false),
+    ] {
+        let row = rows.object(ObjNo(number)).ok_or("no object")?;
+        assert!(rt; row.name.bytes() == name.as_bytes(), "{name}");
+        assert_eq!(rt; [row.owner.0, row.parent.0, row.location.0], places);
+        assert_eq!(rt; [row.player, row.programmer, row.wizard], [is_wizard; 3]);
+        assert_eq!(rt; [row.r, row.w, row.f], [false, false, is_fertile]);
+        assert_eq!(rt; row.accept.is_some(), number == 2);
+        if let Some(list) = &row.accept {
+            assert!(rt; list.items() == [ObjNo(1)].as_slice());
+        }
+    }
+    let under_root = children(&rows, rt.alloc(), ObjNo(1))?;
+    assert!(rt; under_root.items() == [ObjNo(0), ObjNo(2), ObjNo(3)].as_slice());
+    Ok(())
+}
+
+#[test]
+fn letters_in_any_order_and_case_are_rights(rt: HostRuntime) -> Result<(), Fail> {
+    // What a text of letters says for a property and for a verb, `-` where it says nothing.
+    for (letters, property, verb) in [
+        ("", "", ""),
+        ("r", "r", "r"),
+        ("rwc", "rwc", "-"),
+        ("CWR", "rwc", "-"),
+        ("cr", "rc", "-"),
+        ("wwWrw", "rw", "rw"),
+        ("dxwr", "-", "rwxd"),
+        ("XdX", "-", "xd"),
+        ("rw c", "-", "-"),
+        ("rwf", "-", "-"),
+        ("r1", "-", "-"),
+        ("D", "-", "d"),
+        ("{r}", "-", "-"),
+    ] {
+        let letters = text(&rt, letters.as_bytes())?;
+        let of_property = Bits::read(&letters).map_or("-", |bits| bits.letters());
+        let of_verb = VerbBits::read(&letters).map_or("-", |bits| bits.letters());
+        assert_eq!(rt; (of_property, of_verb), (property, verb));
+    }
+    Ok(())
+}
+
+fn slot_row(rt: &HostRuntime, state: SlotState) -> Result<SlotRow, Fail> {
+    let bits = Bits::read(&text(rt, b"rc")?).ok_or("no rights")?;
+    let owner = LEAST;
+    Ok(SlotRow { owner, bits, state })
+}
+
+fn verb_row(rt: &HostRuntime) -> Result<VerbRow, Fail> {
+    Ok(VerbRow {
+        names: text(rt, b"get take")?,
+        owner: ObjNo(3),
+        bits: VerbBits::read(&text(rt, b"rd")?).ok_or("no rights")?,
+        args: ArgSpec {
+            dobj: Place::This,
+            prep: Preposition::Set(PrepositionSet::With),
+            iobj: Place::Any,
+        },
+    })
+}
+
+fn room(rt: &HostRuntime) -> Result<ObjRow, Fail> {
+    let opening = opening_world(rt.alloc())?;
+    let room = opening.object(ObjNo(2)).ok_or("no room")?;
+    Ok(room.copy(rt.alloc())?)
+}
+
+fn put_ends(rt: &HostRuntime, rows: &mut Flat) -> Result<(), Fail> {
+    for key in [GREATEST, ObjNo(0), LEAST] {
+        rows.put_object(key, room(rt)?)?;
+        for id in [LAST, 1] {
+            rows.put_slot((key, PropId(id)), slot_row(rt, SlotState::Clear)?)?;
+            rows.put_verb((key, VerbId(id)), verb_row(rt)?)?;
+        }
+    }
+    for id in [LAST, 0] {
+        let name = text(rt, b"a name")?;
+        let definer = LEAST;
+        rows.put_prop(PropId(id), PropRow { definer, name })?;
+    }
+    Ok(())
+}
+
+#[test]
+fn walks_go_from_end_to_end(rt: HostRuntime) -> Result<(), Fail> {
+    let mut rows = Flat::new(rt.alloc());
+    assert!(rt; walks_give(&rows, &[], &[], &[]));
+    rows.put_object(GREATEST, room(&rt)?)?;
+    assert!(rt; walks_give(&rows, &[GREATEST], &[], &[]));
+    put_ends(&rt, &mut rows)?;
+    assert!(rt; walks_give(&rows, &OBJECTS, &PROPS, &PARTS));
+    for x in OBJECTS {
+        for (last, want) in [
+            (0, [(x, 1), (x, LAST)].as_slice()),
+            (1, &[(x, LAST)]),
+            (LAST, &[]),
+        ] {
+            let slots = each_slot_of(&rows, x, PropId(last));
+            assert!(rt; gives(slots.map(|((x, id), row)| ((x, id.0), row)), want));
+            let verbs = each_verb_of(&rows, x, VerbId(last));
+            assert!(rt; gives(verbs.map(|((x, id), row)| ((x, id.0), row)), want));
+        }
+    }
+    assert!(rt; gives(each_slot_of(&rows, ObjNo(1), PropId(0)), &[]));
+    assert!(rt; gives(each_verb_of(&rows, ObjNo(-1), VerbId(0)), &[]));
+    Ok(())
+}
+
+#[test]
+fn copies_keep_what_the_rows_lose(rt: HostRuntime) -> Result<(), Fail> {
+    let mut rows = Flat::new(rt.alloc());
+    put_ends(&rt, &mut rows)?;
+    let (slot, verb) = ((LEAST, PropId(1)), (LEAST, VerbId(1)));
+    let seven = slot_row(&rt, SlotState::Set(Value::Int(7)))?;
+    rows.put_slot(slot, seven.copy(rt.alloc())?)?;
+    let copy = rows.copy(rt.alloc())?;
+    rows.remove_object(LEAST)?;
+    rows.remove_prop(PropId(0))?;
+    rows.remove_slot(slot)?;
+    rows.remove_slot((ObjNo(7), PropId(7)))?;
+    rows.remove_verb(verb)?;
+    assert!(rt; walks_give(&rows, &OBJECTS[1..], &PROPS[1..], &PARTS[1..]));
+    assert!(rt; rows.object(LEAST).is_none() && rows.prop(PropId(0)).is_none());
+    assert!(rt; rows.slot(slot).is_none() && rows.verb(verb).is_none());
+    assert!(rt; walks_give(&copy, &OBJECTS, &PROPS, &PARTS));
+    assert!(rt; copy.slot(slot) == Some(&seven));
+    assert!(rt; copy.slot((LEAST, PropId(LAST))) == Some(&slot_row(&rt, SlotState::Clear)?));
+    assert!(rt; copy.verb(verb) == Some(&verb_row(&rt)?));
+    Ok(())
+}

@@ -1,0 +1,79 @@
+//! Answering the items of a text in turn.
+
+ghost use Rattle.std.specs.Prelude.{◌≡◌, ◌≤◌, ◌<◌, length, IfOk, IfErr, IfSome, IfNone, IsErrOf, OnOk};
+ghost use Rattle.moo_world.specs.declared.call.Batch.{Batch};
+ghost use Rattle.moo_text.specs.Items.{items};
+ghost use Rattle.moo_text.specs.declared.reply.Answer.{Answer};
+ghost use Rattle.moo_store.specs.Text.{answer_to};
+ghost use Rattle.moo_store.specs.Turns.{Turn, Completes, Halts};
+
+use crate::fault::StoreFault;
+use crate::output::put_answer;
+use crate::tally::Tally;
+use moo_text::fault::TextFault;
+use moo_text::feed::Feed;
+use moo_text::next::Next;
+use moo_text::reply::{Answer, Reply};
+use moo_world::call::Batch;
+use std::alloc::Global;
+use std::io::{Read, Write};
+
+/// What answers the batches of a text.
+pub(crate) trait Answering {
+    // What an answer to a batch says of the one that gives it, before and after.
+    ghost answered: { Self → Self → Batch → Answer → Type 0 };
+
+    /// Answers one batch.
+    fn answer(&mut self, batch: &Batch) -> Answer
+        ensures { answered self.old self.new batch.now result };
+}
+
+/// The answer to a batch that a World ran or was asked.
+pub(crate) fn answered_by(reply: Result<Reply, StoreFault>) -> Answer
+    ensures { result ≡ answer_to reply }
+{
+    match reply {
+        Ok(reply) => Answer::Replied(reply),
+        Err(StoreFault::Closed) => Answer::Closed,
+        Err(_) => Answer::Fault,
+    }
+}
+
+/// Answers one item of a text; its end has no answer.
+fn answer_item<A: Answering>(answering: &mut A, item: &Next) -> Option<Answer>
+    ensures some { IfSome result (λ answer. Turn A.answered answering.old answering.new item.now answer) }
+    ensures none { IfNone result ((item.now ≡ Next.End) × (answering.new ≡ answering.old)) }
+{
+    match item {
+        Next::Batch(batch) => Some(answering.answer(batch)),
+        Next::Malformed(number) => Some(Answer::Malformed(*number)),
+        Next::Truncated => Some(Answer::Truncated),
+        Next::End => None,
+    }
+}
+
+/// Answers each item of a text, and writes its answer before the next item is read.
+pub(crate) fn answer_all<R: Read + Drop, W: Write, A: Answering>(
+    alloc: Global,
+    reader: R,
+    writer: &mut W,
+    answering: &mut A,
+) -> Result<Tally, TextFault>
+    ensures completes { IfOk result (λ tally. IfSome (R.remaining reader) (λ text.
+        Completes A.answered answering.old answering.new (items text) (W.contents writer.old) (W.contents writer.new) tally.batches tally.lost)) }
+    ensures halts { IfErr result (λ fault. IfSome (R.remaining reader) (λ text.
+        Halts A.answered answering.old answering.new (items text) (W.contents writer.old) (W.contents writer.new) fault)) }
+    ensures short { OnOk result (IfSome (R.remaining reader) (λ text. length text ≤ 1073741824)) }
+    ensures long { IsErrOf result TextFault.Long → IfSome (R.remaining reader) (λ text. 1073741824 < length text) }
+{
+    let mut feed = Feed::new(alloc, reader);
+    let mut tally = Tally::new();
+    loop {
+        let item = feed.next_batch()?;
+        let Some(answer) = answer_item(answering, &item) else {
+            return Ok(tally);
+        };
+        tally.count(&answer);
+        put_answer(alloc, writer, &answer)?;
+    }
+}

@@ -1,0 +1,40 @@
+//! Counting the answers to a text.
+
+ghost use Rattle.std.specs.Prelude.{◌≡◌, ◌<◌, ◌+◌, ◌^◌, cond};
+ghost use Rattle.moo_store.specs.Text.{is_batch, is_lost};
+
+use moo_text::reply::Answer;
+
+/// How many batches a text had, and how many of them met a fault.
+#[derive(Clone, Copy, Debug)]
+pub struct Tally {
+    pub batches: u64,
+    pub lost: u64,
+}
+
+impl Tally {
+    pub(crate) fn new() -> Tally
+        ensures { (result.batches ≡ 0) × (result.lost ≡ 0) }
+    {
+        Tally {
+            batches: 0,
+            lost: 0,
+        }
+    }
+
+    pub(crate) fn count(&mut self, answer: &Answer)
+        requires room { self.old.batches < 2 ^ 63 }
+        requires room_lost { self.old.lost < 2 ^ 63 }
+        ensures batches { self.new.batches ≡ self.old.batches + cond (is_batch answer.now) 1 0 }
+        ensures lost { self.new.lost ≡ self.old.lost + cond (is_lost answer.now) 1 0 }
+    {
+        match answer {
+            Answer::Replied(_) => self.batches += 1,
+            Answer::Fault | Answer::Closed => {
+                self.batches += 1;
+                self.lost += 1;
+            }
+            Answer::Malformed(_) | Answer::Truncated => {}
+        }
+    }
+}
