@@ -1,5 +1,1 @@
 mod Created
-mod OwnProperty
-mod Passed
-mod PropertyNames
-mod Renamed

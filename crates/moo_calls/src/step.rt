@@ -8,10 +8,12 @@ ghost use Rattle.moo_world.specs.Keeps.{Keeps};
 ghost use Rattle.moo_world.specs.Rows.{IsGood};
 ghost use Rattle.moo_world.specs.Step.{step, named_call};
 
-use crate::{
-    changing, clearing, creating, definitions, deleting, moving, parents, property_info,
-    property_reading, reading, recycling, values, verb_adding, verb_changing, verb_reading,
-};
+use crate::{changing, creating, moving, parents, reading, recycling, values};
+use moo_property_calls::clearing::{clear_property, is_clear_property};
+use moo_property_calls::definitions::add_property;
+use moo_property_calls::deleting::delete_property;
+use moo_property_calls::info::set_property_info;
+use moo_property_calls::reading::{properties, property_info};
 use moo_rights::accept_lists::object_and_accept;
 use moo_rights::args::{
     no_values, object_and_text, object_and_value, object_text_and_value, one_object,
@@ -24,6 +26,9 @@ use moo_rows::rows::Rows;
 use moo_tree::valid;
 use moo_value::code::Code;
 use moo_value::value::{ObjNo, Value};
+use moo_verb_calls::adding::add_verb;
+use moo_verb_calls::changing::{delete_verb, set_verb_args, set_verb_info};
+use moo_verb_calls::reading::{verb_args, verb_info, verbs};
 use moo_world::call::Call;
 use moo_world::name::CallName;
 use std::alloc::Global;
@@ -58,28 +63,23 @@ fn named_call<R: Rows>(
             let (x, property) = object_and_text(args)?;
             values::get(rows, alloc, programmer, x, property)
         }
-        CallName::Properties => property_reading::properties(
-            rows,
-            alloc,
-            programmer,
-            one_object(args)?,
-        ),
+        CallName::Properties => properties(rows, alloc, programmer, one_object(args)?),
         CallName::PropertyInfo => {
             let (x, property) = object_and_text(args)?;
-            property_reading::property_info(rows, alloc, programmer, x, property)
+            property_info(rows, alloc, programmer, x, property)
         }
         CallName::IsClearProperty => {
             let (x, property) = object_and_text(args)?;
-            clearing::is_clear_property(rows, programmer, x, property)
+            is_clear_property(rows, programmer, x, property)
         }
-        CallName::Verbs => verb_reading::verbs(rows, alloc, programmer, one_object(args)?),
+        CallName::Verbs => verbs(rows, alloc, programmer, one_object(args)?),
         CallName::VerbInfo => {
             let (x, desc) = object_and_desc(alloc, args)?;
-            verb_reading::verb_info(rows, alloc, programmer, x, &desc)
+            verb_info(rows, alloc, programmer, x, &desc)
         }
         CallName::VerbArgs => {
             let (x, desc) = object_and_desc(alloc, args)?;
-            verb_reading::verb_args(rows, alloc, programmer, x, &desc)
+            verb_args(rows, alloc, programmer, x, &desc)
         }
         CallName::AcceptList => reading::accept_list(rows, alloc, one_object(args)?),
         CallName::Create => {
@@ -105,17 +105,17 @@ fn named_call<R: Rows>(
         }
         CallName::AddProperty => {
             let new = new_property(args)?;
-            definitions::add_property(
+            add_property(
                 rows, alloc, programmer, new.object, new.name, new.value, new.info,
             )
         }
         CallName::DeleteProperty => {
             let (x, property) = object_and_text(args)?;
-            deleting::delete_property(rows, alloc, programmer, x, property)
+            delete_property(rows, alloc, programmer, x, property)
         }
         CallName::SetPropertyInfo => {
             let new = new_property_info(args)?;
-            property_info::set_property_info(
+            set_property_info(
                 rows,
                 alloc,
                 programmer,
@@ -127,23 +127,23 @@ fn named_call<R: Rows>(
         }
         CallName::ClearProperty => {
             let (x, property) = object_and_text(args)?;
-            clearing::clear_property(rows, programmer, x, property)
+            clear_property(rows, programmer, x, property)
         }
         CallName::AddVerb => {
             let new = new_verb(args)?;
-            verb_adding::add_verb(rows, alloc, programmer, new.object, new.verb, new.args)
+            add_verb(rows, alloc, programmer, new.object, new.verb, new.args)
         }
         CallName::DeleteVerb => {
             let (x, desc) = object_and_desc(alloc, args)?;
-            verb_changing::delete_verb(rows, programmer, x, &desc)
+            delete_verb(rows, programmer, x, &desc)
         }
         CallName::SetVerbInfo => {
             let new = new_verb_info(alloc, args)?;
-            verb_changing::set_verb_info(rows, alloc, programmer, new.object, &new.desc, new.verb)
+            set_verb_info(rows, alloc, programmer, new.object, &new.desc, new.verb)
         }
         CallName::SetVerbArgs => {
             let new = new_verb_args(alloc, args)?;
-            verb_changing::set_verb_args(rows, alloc, programmer, new.object, &new.desc, new.args)
+            set_verb_args(rows, alloc, programmer, new.object, &new.desc, new.args)
         }
         CallName::SetAccept => {
             let (x, list) = object_and_accept(alloc, args)?;

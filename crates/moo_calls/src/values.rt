@@ -8,9 +8,9 @@ ghost use Rattle.moo_world.specs.PropertyCalls.{get, set};
 ghost use Rattle.moo_world.specs.Rows.{IsGood};
 
 use crate::fields::field_of;
-use crate::property_reading::get_property;
-use crate::property_setting::set_property;
 use crate::setting::set_built_in;
+use moo_property_calls::reading::get_property;
+use moo_property_calls::setting::set_property;
 use moo_rights::fault::Fault;
 use moo_rows::rows::Rows;
 use moo_tree::valid;

@@ -1,2 +1,3 @@
-mod Changed
 mod AcceptLaws
+mod Changed
+pub mod Passed

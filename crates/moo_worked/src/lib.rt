@@ -1,4 +1,4 @@
-//! Worked batches and what they come to, as the rules have it and not as the code answers. The tests of `moo_calls` take
+//! Worked batches and what they come to, as the rules have it and not as the code answers. `moo_calls_tests` takes
 //! their calls one by one, those of `moo` give them to the program as texts.
 //!
 //! Each text here holds scenes, with an empty line between two of them. A scene is about a new world. Its first line, behind

@@ -1,0 +1,3 @@
+mod OwnProperty
+mod PropertyNames
+mod Renamed

@@ -1,0 +1,74 @@
+//! Clear properties, which have no value of their own.
+
+ghost use Rattle.std.specs.Prelude.{◌≡◌, OnOk};
+ghost use Rattle.moo_world.specs.Keeps.{Keeps};
+ghost use Rattle.moo_world.specs.PropertyCalls.{clear_property, is_clear, is_clear_property};
+ghost use Rattle.moo_world.specs.Rows.{IsGood};
+ghost use Rattle.moo_rights.specs.Outcomes.{world_in, Answers, ComesTo};
+
+use crate::slots::{readable_slot, writable_slot};
+use moo_props::state::clear;
+use moo_rights::answers::{ZERO, flag};
+use moo_rights::fault::Fault;
+use moo_rows::row::SlotState;
+use moo_rows::rows::Rows;
+use moo_tree::valid;
+use moo_value::code::Code;
+use moo_value::text::MooStr;
+use moo_value::value::{ObjNo, Value};
+
+/// Whether a slot has no value of its own.
+fn is_clear(state: &SlotState) -> bool
+    ensures { result ≡ is_clear state.now }
+{
+    match state {
+        SlotState::Clear => true,
+        SlotState::Set(_) => false,
+    }
+}
+
+/// `is_clear_property(object, name)`: 1 where the property is clear on the object, so that it reads its parent's value, else
+/// 0, as always on the object that defines it. E_INVARG where the object is none; E_PROPNF where it has no property of the
+/// name; E_PERM where the programmer may not read the object's own slot of it.
+/// LambdaMOO Programmer's Manual, 'Operations on Properties'.
+pub fn is_clear_property<R: Rows>(
+    rows: &R,
+    programmer: ObjNo,
+    x: ObjNo,
+    name: &MooStr,
+) -> Result<Value, Fault>
+    requires { IsGood (R.held rows.now).maps }
+    ensures { Answers (is_clear_property (world_in (R.held rows.now)) programmer x name.now) (R.held rows.now) result }
+{
+    if !valid(rows, x) {
+        return Err(Fault::Moo(Code::InvalidArgument));
+    }
+    let found = readable_slot(rows, programmer, x, name)?;
+    Ok(flag(is_clear(&found.slot.state)))
+}
+
+/// `clear_property(object, name)`: the property has no value of its own on the object from now on, so that the object reads
+/// what its parent reads; the answer is 0. E_INVARG where the object is none; E_PROPNF where it has no property of the name;
+/// E_PERM where the programmer may not write the object's own slot of it; E_INVARG where the object itself defines it.
+/// LambdaMOO Programmer's Manual, 'Operations on Properties'.
+pub fn clear_property<R: Rows>(
+    rows: &mut R,
+    programmer: ObjNo,
+    x: ObjNo,
+    name: &MooStr,
+) -> Result<Value, Fault>
+    requires { IsGood (R.held rows.old).maps }
+    ensures comes { ComesTo (clear_property (world_in (R.held rows.old)) programmer x name.now) (R.held rows.old) (R.held rows.new) result }
+    ensures kept { OnOk result (Keeps (R.held rows.old) (R.held rows.new)) }
+{
+    if !valid(rows, x) {
+        return Err(Fault::Moo(Code::InvalidArgument));
+    }
+    let found = writable_slot(rows, programmer, x, name)?;
+    if found.definer == x {
+        return Err(Fault::Moo(Code::InvalidArgument));
+    }
+    let id = found.id;
+    clear(rows, x, id)?;
+    Ok(ZERO)
+}

@@ -1,0 +1,138 @@
+//! Defining properties.
+
+ghost use Rattle.std.specs.Prelude.{◌≡◌, true, is_some, nat_lt, Some, IfSome, IfOk, IfErr, OnOk};
+ghost use Rattle.moo_rows.specs.Bits.{bits_of};
+ghost use Rattle.moo_rows.specs.declared.row.Bits.{Bits};
+ghost use Rattle.moo_world.specs.Arguments.{fits};
+ghost use Rattle.moo_world.specs.Keeps.{Keeps};
+ghost use Rattle.moo_world.specs.PropertyCalls.{add_property, defines, may_define};
+ghost use Rattle.moo_world.specs.Rows.{IsGood};
+ghost use Rattle.moo_world.specs.Objects.{folded};
+ghost use Rattle.moo_world.specs.Outcomes.{Outcome, Failed};
+ghost use Rattle.moo_world.specs.World.{is_object, is_property_name};
+ghost use Rattle.moo_props.specs.Names.{defines as defines_property, name_of};
+ghost use Rattle.moo_rights.specs.Outcomes.{world_in, ComesTo};
+ghost use Rattle.moo_property_calls.specs.Checks.{taking_info};
+
+use moo_props::clashing::clashes;
+use moo_props::defining::define;
+use moo_props::finding::slot_of;
+use moo_rights::answers::ZERO;
+use moo_rights::fault::Fault;
+use moo_rights::infos::Info;
+use moo_rights::rights;
+use moo_rows::row::{Bits, PropId};
+use moo_rows::rows::Rows;
+use moo_tree::valid;
+use moo_value::code::Code;
+use moo_value::text::MooStr;
+use moo_value::value::{ObjNo, Value};
+use moo_world::built_in::BuiltIn;
+use std::alloc::Global;
+
+/// The most bytes in the name of a property.
+const MAX_NAME: usize = 255;
+
+/// Whether a property may have the name: 1 to 255 bytes, and not built in.
+fn is_property_name(name: &MooStr) -> bool
+    ensures { result ≡ is_property_name name.now }
+{
+    let length = name.bytes().len();
+    0 < length && length <= MAX_NAME && BuiltIn::of_name(name).is_none()
+}
+
+/// Whether a new property of x may have the name: one that a property may have, and that no property has which x, an
+/// ancestor or a descendant of x defines.
+pub(crate) fn may_define<R: Rows>(rows: &R, x: ObjNo, name: &MooStr) -> bool
+    requires { IsGood (R.held rows.now).maps }
+    ensures { result ≡ may_define (world_in (R.held rows.now)) x name.now }
+{
+    is_property_name(name) && !clashes(rows, x, name)
+}
+
+/// The property of a name that x itself defines.
+pub(crate) fn own_property<R: Rows>(rows: &R, x: ObjNo, name: &MooStr) -> Option<PropId>
+    requires { IsGood (R.held rows.now).maps }
+    ensures exact { is_some result ≡ defines (world_in (R.held rows.now)) x name.now }
+    ensures own { IfSome result (λ id. defines_property (R.held rows.now).maps x id ≡ true) }
+    ensures named { IfSome result (λ id. name_of (R.held rows.now).maps id ≡ folded name.now) }
+{
+    let Some(found) = slot_of(rows, x, name) else {
+        return None;
+    };
+    if found.definer == x {
+        Some(found.id)
+    } else {
+        None
+    }
+}
+
+/// Whether x itself defines a property of the name.
+pub(crate) fn defines<R: Rows>(rows: &R, x: ObjNo, name: &MooStr) -> bool
+    requires { IsGood (R.held rows.now).maps }
+    ensures { result ≡ defines (world_in (R.held rows.now)) x name.now }
+{
+    own_property(rows, x, name).is_some()
+}
+
+/// The rights that a property takes with an owner, or E_INVARG: where the owner is no object, then where the rights have
+/// another letter than `r`, `w` and `c`.
+pub(crate) fn bits_taken<R: Rows>(rows: &R, info: Info<'_>) -> Result<Bits, Code>
+    ensures owner { OnOk result (is_object (world_in (R.held rows.now)) info.entry.owner ≡ true) }
+    ensures bits { IfOk result (λ bits. bits_of info.entry.perms.now ≡ Some bits) }
+    ensures err { IfErr result (λ code. (then : Bits → Outcome) → taking_info (world_in (R.held rows.now)) (info.entry.owner, info.entry.perms.now) then ≡ Failed code) }
+{
+    if !valid(rows, info.owner) {
+        return Err(Code::InvalidArgument);
+    }
+    Bits::read(info.perms).ok_or(Code::InvalidArgument)
+}
+
+/// Whether a number is left for one more property.
+fn has_number_left<R: Rows>(rows: &R) -> bool
+    ensures { result ≡ nat_lt (world_in (R.held rows.now)).next_prop 4294967295 }
+{
+    rows.head().next_prop < u32::MAX
+}
+
+/// `add_property(object, name, value, {owner, perms})`: defines a property on the object, with the value; each descendant
+/// gets it clear. The answer is 0. E_INVARG where the object is none, then where the owner is none, then where a letter of
+/// perms is none of `r`, `w` and `c`; E_PERM where the programmer may not write the object, then where it is neither the
+/// owner nor a wizard; E_INVARG where the name is empty, longer than 255 bytes or built in, or the object, an ancestor or a
+/// descendant defines a property of it. Full where every number of a property has been given.
+/// LambdaMOO Programmer's Manual, 'Operations on Properties'.
+pub fn add_property<R: Rows>(
+    rows: &mut R,
+    alloc: Global,
+    programmer: ObjNo,
+    x: ObjNo,
+    name: &MooStr,
+    value: &Value,
+    info: Info<'_>,
+) -> Result<Value, Fault>
+    requires good { IsGood (R.held rows.old).maps }
+    requires fit { fits value.now ≡ true }
+    ensures comes { ComesTo (add_property (world_in (R.held rows.old)) programmer x name.now value.now (info.entry.owner, info.entry.perms.now)) (R.held rows.old) (R.held rows.new) result }
+    ensures kept { OnOk result (Keeps (R.held rows.old) (R.held rows.new)) }
+{
+    if !valid(rows, x) {
+        return Err(Fault::Moo(Code::InvalidArgument));
+    }
+    let bits = bits_taken(rows, info)?;
+    if !rights::may_write_object(rows, programmer, x) {
+        return Err(Fault::Moo(Code::Permission));
+    }
+    if !rights::may_own(rows, programmer, info.owner) {
+        return Err(Fault::Moo(Code::Permission));
+    }
+    if !may_define(rows, x, name) {
+        return Err(Fault::Moo(Code::InvalidArgument));
+    }
+    if !has_number_left(rows) {
+        return Err(Fault::Full);
+    }
+    let name = name.copy(alloc)?;
+    let value = value.copy(alloc)?;
+    define(alloc, rows, x, name, value, info.owner, bits)?;
+    Ok(ZERO)
+}

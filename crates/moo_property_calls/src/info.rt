@@ -1,0 +1,125 @@
+//! Changing the owner, the rights and the name of a property.
+
+ghost use Rattle.std.specs.Prelude.{◌≡◌, ◌||◌, true, is_some, option_map, IfOk, OnOk};
+ghost use Rattle.std.specs.FinMap.{get};
+ghost use Rattle.moo_world.specs.Changes.{info_set};
+ghost use Rattle.moo_world.specs.Keeps.{Keeps};
+ghost use Rattle.moo_world.specs.Objects.{same_object};
+ghost use Rattle.moo_world.specs.PropertyCalls.{may_rename, renamed_to, set_property_info};
+ghost use Rattle.moo_world.specs.Rights.{is_wizard};
+ghost use Rattle.moo_world.specs.Rows.{world_of, IsGood};
+ghost use Rattle.moo_props.specs.Names.{spelling_of};
+ghost use Rattle.moo_rights.specs.Outcomes.{world_in, ComesTo};
+
+use crate::definitions::{bits_taken, defines, may_define};
+use crate::slots::may_write;
+use moo_props::finding::slot_of;
+use moo_props::renaming::rename;
+use moo_props::state::set_info;
+use moo_rights::answers::ZERO;
+use moo_rights::fault::Fault;
+use moo_rights::infos::Info;
+use moo_rights::rights;
+use moo_rows::row::{Bits, PropId};
+use moo_rows::rows::Rows;
+use moo_tree::valid;
+use moo_value::code::Code;
+use moo_value::text::MooStr;
+use moo_value::value::{ObjNo, Value};
+use std::alloc::{AllocError, Global};
+
+/// Whether the owner is the one that there is, or the programmer may give another one.
+fn may_give<R: Rows>(rows: &R, programmer: ObjNo, owner: ObjNo, present: ObjNo) -> bool
+    ensures { result ≡ (same_object owner present || is_wizard (world_in (R.held rows.now)) programmer) }
+{
+    owner == present || rights::is_wizard(rows, programmer)
+}
+
+/// Whether a property of x may have the new name, if there is one: x itself defines it, and a new property of x may have it.
+fn may_rename<R: Rows>(rows: &R, x: ObjNo, name: &MooStr, new: Option<&MooStr>) -> bool
+    requires { IsGood (R.held rows.now).maps }
+    ensures { result ≡ may_rename (world_in (R.held rows.now)) x name.now (option_map (λ n. n.now) new.entry) }
+{
+    match new {
+        None => true,
+        Some(new) => defines(rows, x, name) && may_define(rows, x, new),
+    }
+}
+
+/// A copy of a name, if there is one. The only error is want of memory.
+fn copy_of(alloc: Global, name: Option<&MooStr>) -> Result<Option<MooStr>, AllocError>
+    ensures { IfOk result (λ copy. copy ≡ option_map (λ n. n.now) name.entry) }
+{
+    match name {
+        None => Ok(None),
+        Some(name) => Ok(Some(name.copy(alloc)?)),
+    }
+}
+
+/// Gives a property that x has an owner and rights on x, and another name, if there is one. The only error is want of
+/// memory, after which the rows may be half changed.
+fn change_info<R: Rows>(
+    rows: &mut R,
+    alloc: Global,
+    x: ObjNo,
+    id: PropId,
+    owner: ObjNo,
+    bits: Bits,
+    new: Option<MooStr>,
+) -> Result<(), AllocError>
+    requires good { IsGood (R.held rows.old).maps }
+    requires has { is_some (get (R.held rows.old).maps.slots (x, id)) ≡ true }
+    requires may { may_rename (world_of (R.held rows.old).maps) x (spelling_of (R.held rows.old).maps id) new ≡ true }
+    ensures world { OnOk result (world_of (R.held rows.new).maps
+        ≡ renamed_to (info_set (world_of (R.held rows.old).maps) x (spelling_of (R.held rows.old).maps id) owner bits) x (spelling_of (R.held rows.old).maps id) new) }
+    ensures kept { OnOk result (Keeps (R.held rows.old) (R.held rows.new)) }
+{
+    set_info(alloc, rows, x, id, owner, bits)?;
+    if let Some(new) = new {
+        rename(rows, x, id, new)?;
+    }
+    Ok(())
+}
+
+/// `set_property_info(object, name, {owner, perms})` and `(object, name, {owner, perms, new-name})`: sets the owner and the
+/// rights of the property on that object alone, and gives the property the new name everywhere. The answer is 0. E_INVARG
+/// where the object is none; E_PROPNF where it has no property of the name; E_INVARG where the owner is none, then where a
+/// letter of perms is none of `r`, `w` and `c`; E_PERM where the programmer may not write the object's own slot of it, then
+/// where the owner is another one than before and the programmer no wizard; E_INVARG where there is a new name and the object
+/// itself doesn't define the property, or no new property of the object may have the name, so where it differs from the old
+/// one in case alone.
+/// LambdaMOO Programmer's Manual, 'Operations on Properties'.
+pub fn set_property_info<R: Rows>(
+    rows: &mut R,
+    alloc: Global,
+    programmer: ObjNo,
+    x: ObjNo,
+    name: &MooStr,
+    info: Info<'_>,
+    new_name: Option<&MooStr>,
+) -> Result<Value, Fault>
+    requires { IsGood (R.held rows.old).maps }
+    ensures comes { ComesTo (set_property_info (world_in (R.held rows.old)) programmer x name.now (info.entry.owner, info.entry.perms.now) (option_map (λ n. n.now) new_name.entry)) (R.held rows.old) (R.held rows.new) result }
+    ensures kept { OnOk result (Keeps (R.held rows.old) (R.held rows.new)) }
+{
+    if !valid(rows, x) {
+        return Err(Fault::Moo(Code::InvalidArgument));
+    }
+    let Some(found) = slot_of(rows, x, name) else {
+        return Err(Fault::Moo(Code::PropertyNotFound));
+    };
+    let bits = bits_taken(rows, info)?;
+    if !may_write(rows, programmer, found) {
+        return Err(Fault::Moo(Code::Permission));
+    }
+    if !may_give(rows, programmer, info.owner, found.slot.owner) {
+        return Err(Fault::Moo(Code::Permission));
+    }
+    if !may_rename(rows, x, name, new_name) {
+        return Err(Fault::Moo(Code::InvalidArgument));
+    }
+    let id = found.id;
+    let new = copy_of(alloc, new_name)?;
+    change_info(rows, alloc, x, id, info.owner, bits, new)?;
+    Ok(ZERO)
+}

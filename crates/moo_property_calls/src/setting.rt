@@ -1,0 +1,41 @@
+//! Setting properties.
+
+ghost use Rattle.std.specs.Prelude.{◌≡◌, true, OnOk};
+ghost use Rattle.moo_world.specs.Arguments.{fits};
+ghost use Rattle.moo_world.specs.Keeps.{Keeps};
+ghost use Rattle.moo_world.specs.PropertyCalls.{set_property};
+ghost use Rattle.moo_world.specs.Rows.{IsGood};
+ghost use Rattle.moo_rights.specs.Outcomes.{world_in, ComesTo};
+
+use crate::slots::writable_slot;
+use moo_props::state::set_value;
+use moo_rights::answers::ZERO;
+use moo_rights::fault::Fault;
+use moo_rows::rows::Rows;
+use moo_value::text::MooStr;
+use moo_value::value::{ObjNo, Value};
+use std::alloc::Global;
+
+/// `set(object, name, value)` of a name that isn't built in: the object's own slot of the property has the value from now
+/// on, and the answer is 0. E_PROPNF where the object has no property of the name; E_PERM where the programmer may not write
+/// the object's own slot of it. Its owner and rights stay.
+/// LambdaMOO Programmer's Manual, 'Operations on Properties'.
+pub fn set_property<R: Rows>(
+    rows: &mut R,
+    alloc: Global,
+    programmer: ObjNo,
+    x: ObjNo,
+    name: &MooStr,
+    value: &Value,
+) -> Result<Value, Fault>
+    requires good { IsGood (R.held rows.old).maps }
+    requires fit { fits value.now ≡ true }
+    ensures comes { ComesTo (set_property (world_in (R.held rows.old)) programmer x name.now value.now) (R.held rows.old) (R.held rows.new) result }
+    ensures kept { OnOk result (Keeps (R.held rows.old) (R.held rows.new)) }
+{
+    let found = writable_slot(rows, programmer, x, name)?;
+    let id = found.id;
+    let value = value.copy(alloc)?;
+    set_value(rows, x, id, value)?;
+    Ok(ZERO)
+}

@@ -1,0 +1,17 @@
+use Rattle.std.proofs.Common.{rules, ◌≡◌, sym, ◌∙◌}
+use Rattle.moo_world.specs.Outcomes.{Failed}
+use Rattle.moo_world.specs.World.{is_object}
+use Rattle.moo_world.specs.VerbCalls.{add_verb}
+use Rattle.moo_rights.specs.Outcomes.{world_in}
+use Rattle.moo_rights.proofs.Passed.{check_passed}
+use Rattle.moo_verb_calls.proofs.adding.add_verb.Goals as goal
+
+pub returns-in_err-bits-clause-comes : goal.returns-in_err-bits-clause-comes
+returns-in_err-bits-clause-comes g c =
+    let w = world_in (g.R.Rows.held c.args.rows.now) in
+    let a = c.args.args in
+    let verb = c.args.verb in
+    let failed : add_verb w c.args.programmer c.args.x (verb.info.owner, verb.info.perms.now) verb.names.now (a.dobj.now, a.prep.now, a.iobj.now) ≡ Failed c.in_err-bits.field-0.0 =
+    check_passed (is_object w c.args.x) _ _ (sym c.valid.ensures ∙ c.if-not-valid.false)
+    ∙ c.in_err-bits.ensures.err _
+    in search rules

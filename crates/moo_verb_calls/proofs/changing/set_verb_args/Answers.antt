@@ -1,0 +1,25 @@
+use Rattle.std.proofs.Common.{ap, sym, ◌∙◌}
+use Rattle.moo_world.specs.World.{is_object}
+use Rattle.moo_world.specs.Outcomes.{Done}
+use Rattle.moo_world.specs.Answers.{zero}
+use Rattle.moo_world.specs.Rights.{may_write_verb}
+use Rattle.moo_world.specs.VerbReading.{args_of}
+use Rattle.moo_world.specs.Descriptors.{found_verb}
+use Rattle.moo_verbs.specs.Places.{verb_place}
+use Rattle.moo_rights.specs.Outcomes.{world_in}
+use Rattle.moo_rights.proofs.Passed.{check_passed, found_passed}
+use Rattle.moo_verb_calls.proofs.changing.set_verb_args.Goals as goal
+
+pub returns-clause-comes : goal.returns-clause-comes
+returns-clause-comes g c =
+    let old = g.R.Rows.held c.args.rows.now in
+    let w = world_in old in
+    let a = c.args.args in
+    let verb = c.in-Some.verb in
+    let found = found_verb w c.args.x c.args.desc.now in
+    let named = args_of a.dobj.now a.prep.now a.iobj.now in
+    check_passed (is_object w c.args.x) _ _ (sym c.valid.ensures ∙ c.if-not-valid.false)
+    ∙ found_passed found (verb_place old.maps c.args.x verb.id, verb.row.now) _ _ (sym {b = found} c.in-Some.ensures.verb)
+    ∙ found_passed named c.in-Some-args_of.args _ _ (sym {b = named} c.in-Some-args_of.ensures)
+    ∙ check_passed (may_write_verb w c.args.programmer verb.row.now) _ _ (sym c.may_write_verb.ensures ∙ c.if-not-may_write_verb.false)
+    ∙ ap (Done zero) (sym c.in_ok-set_args.ensures.world)

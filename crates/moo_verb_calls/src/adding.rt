@@ -1,0 +1,106 @@
+//! Adding verbs.
+
+ghost use Rattle.std.specs.Prelude.{◌≡◌, true, Some, OnOk, IfOk, IfErr};
+ghost use Rattle.moo_rows.specs.Bits.{verb_bits_of};
+ghost use Rattle.moo_rows.specs.declared.row.VerbBits.{VerbBits};
+ghost use Rattle.moo_world.specs.Rows.{IsGood};
+ghost use Rattle.moo_world.specs.World.{is_object, has_word};
+ghost use Rattle.moo_world.specs.Outcomes.{Outcome, Failed};
+ghost use Rattle.moo_world.specs.VerbReading.{args_of};
+ghost use Rattle.moo_world.specs.VerbCalls.{add_verb};
+ghost use Rattle.moo_world.specs.Keeps.{Keeps};
+ghost use Rattle.moo_rights.specs.Outcomes.{world_in, ComesTo};
+ghost use Rattle.moo_verb_calls.specs.Checks.{taking_info};
+
+use moo_rights::answers::ZERO;
+use moo_rights::fault::Fault;
+use moo_rights::rights;
+use moo_rights::verb_args::{ArgTexts, VerbInfo};
+use moo_rows::row::{ArgSpec, VerbBits, VerbRow};
+use moo_rows::rows::Rows;
+use moo_tree::valid;
+use moo_value::code::Code;
+use moo_value::text::MooStr;
+use moo_value::value::{ObjNo, Value};
+use moo_verbs::directory;
+use moo_verbs::reading::{check_names, read_args};
+use std::alloc::Global;
+
+/// Whether the names have a word.
+fn has_word(names: &MooStr) -> bool
+    ensures { result ≡ has_word names.now }
+{
+    check_names(names).is_ok()
+}
+
+/// The rights that a verb takes with an owner and names, or E_INVARG: where the owner is no object, then where the rights have
+/// another letter than `r`, `w`, `x` and `d`, then where the names are empty or all spaces.
+pub(crate) fn bits_taken<R: Rows>(rows: &R, verb: VerbInfo<'_>) -> Result<VerbBits, Code>
+    ensures owner { OnOk result (is_object (world_in (R.held rows.now)) verb.entry.info.owner ≡ true) }
+    ensures bits { IfOk result (λ bits. verb_bits_of verb.entry.info.perms.now ≡ Some bits) }
+    ensures names { OnOk result (has_word verb.entry.names.now ≡ true) }
+    ensures err { IfErr result (λ code. (then : VerbBits → Outcome) → taking_info (world_in (R.held rows.now)) (verb.entry.info.owner, verb.entry.info.perms.now) verb.entry.names.now then ≡ Failed code) }
+{
+    if !valid(rows, verb.info.owner) {
+        return Err(Code::InvalidArgument);
+    }
+    let Some(bits) = VerbBits::read(verb.info.perms) else {
+        return Err(Code::InvalidArgument);
+    };
+    if !has_word(verb.names) {
+        return Err(Code::InvalidArgument);
+    }
+    Ok(bits)
+}
+
+/// The arguments that texts name, where they name some.
+pub(crate) fn args_of(args: ArgTexts<'_>) -> Option<ArgSpec>
+    ensures { result ≡ args_of args.entry.dobj.now args.entry.prep.now args.entry.iobj.now }
+{
+    read_args(args.dobj, args.prep, args.iobj).ok()
+}
+
+/// `add_verb(x, {owner, perms, names}, {dobj, prep, iobj})`: puts a verb last in the directory of an object and answers 0.
+/// E_INVARG where x or the owner is no object, where the rights have another letter than `r`, `w`, `x` and `d`, where the
+/// names are empty or all spaces, and where the arguments are none that a verb may have; then E_PERM where the programmer may
+/// not write x, and where the owner is another than a programmer who is no wizard. Full where every number has been given.
+/// LambdaMOO Programmer's Manual, 'Operations on Verbs'.
+pub fn add_verb<R: Rows>(
+    rows: &mut R,
+    alloc: Global,
+    programmer: ObjNo,
+    x: ObjNo,
+    verb: VerbInfo<'_>,
+    args: ArgTexts<'_>,
+) -> Result<Value, Fault>
+    requires { IsGood (R.held rows.old).maps }
+    ensures comes { ComesTo
+        (add_verb (world_in (R.held rows.old)) programmer x (verb.entry.info.owner, verb.entry.info.perms.now) verb.entry.names.now (args.entry.dobj.now, args.entry.prep.now, args.entry.iobj.now))
+        (R.held rows.old) (R.held rows.new) result }
+    ensures kept { OnOk result (Keeps (R.held rows.old) (R.held rows.new)) }
+{
+    if !valid(rows, x) {
+        return Err(Fault::Moo(Code::InvalidArgument));
+    }
+    let bits = bits_taken(rows, verb)?;
+    let Some(args) = args_of(args) else {
+        return Err(Fault::Moo(Code::InvalidArgument));
+    };
+    if !rights::may_write_object(rows, programmer, x) {
+        return Err(Fault::Moo(Code::Permission));
+    }
+    if !rights::may_own(rows, programmer, verb.info.owner) {
+        return Err(Fault::Moo(Code::Permission));
+    }
+    if rows.head().next_verb == u32::MAX {
+        return Err(Fault::Full);
+    }
+    let row = VerbRow {
+        names: verb.names.copy(alloc)?,
+        owner: verb.info.owner,
+        bits,
+        args,
+    };
+    directory::add(rows, x, row)?;
+    Ok(ZERO)
+}

@@ -1,0 +1,121 @@
+//! Changing and deleting verbs.
+
+ghost use Rattle.std.specs.Prelude.{◌≡◌, OnOk};
+ghost use Rattle.moo_world.specs.Rows.{IsGood};
+ghost use Rattle.moo_world.specs.VerbCalls.{delete_verb, set_verb_info, set_verb_args};
+ghost use Rattle.moo_world.specs.Keeps.{Keeps};
+ghost use Rattle.moo_rights.specs.Outcomes.{world_in, ComesTo};
+
+use crate::adding::{args_of, bits_taken};
+use moo_rights::answers::ZERO;
+use moo_rights::fault::Fault;
+use moo_rights::rights;
+use moo_rights::verb_args::{ArgTexts, VerbInfo};
+use moo_rows::rows::Rows;
+use moo_tree::valid;
+use moo_value::code::Code;
+use moo_value::value::{ObjNo, Value};
+use moo_verbs::directory;
+use moo_verbs::find::found_verb;
+use moo_world::descriptor::Desc;
+use std::alloc::Global;
+
+/// `delete_verb(x, desc)`: takes a verb out of the directory of an object and answers 0.
+/// E_INVARG where x is no object; E_PERM where the programmer may not write x; E_VERBNF where no verb of x itself is meant.
+/// LambdaMOO Programmer's Manual, 'Operations on Verbs'.
+pub fn delete_verb<R: Rows>(
+    rows: &mut R,
+    programmer: ObjNo,
+    x: ObjNo,
+    desc: &Desc,
+) -> Result<Value, Fault>
+    requires { IsGood (R.held rows.old).maps }
+    ensures comes { ComesTo (delete_verb (world_in (R.held rows.old)) programmer x desc.now) (R.held rows.old) (R.held rows.new) result }
+    ensures kept { OnOk result (Keeps (R.held rows.old) (R.held rows.new)) }
+{
+    if !valid(rows, x) {
+        return Err(Fault::Moo(Code::InvalidArgument));
+    }
+    if !rights::may_write_object(rows, programmer, x) {
+        return Err(Fault::Moo(Code::Permission));
+    }
+    let Some(verb) = found_verb(rows, x, desc) else {
+        return Err(Fault::Moo(Code::VerbNotFound));
+    };
+    let id = verb.id;
+    directory::delete(rows, x, id)?;
+    Ok(ZERO)
+}
+
+/// `set_verb_info(x, desc, {owner, perms, names})`: changes the owner, the rights and the names of a verb and answers 0.
+/// E_INVARG where x is no object; E_VERBNF where no verb of x itself is meant; E_INVARG where the owner is no object, where
+/// the rights have another letter than `r`, `w`, `x` and `d`, and where the names are empty or all spaces; then E_PERM where
+/// the programmer may not write the verb, and where the owner is another than a programmer who is no wizard.
+/// LambdaMOO Programmer's Manual, 'Operations on Verbs'.
+pub fn set_verb_info<R: Rows>(
+    rows: &mut R,
+    alloc: Global,
+    programmer: ObjNo,
+    x: ObjNo,
+    desc: &Desc,
+    verb: VerbInfo<'_>,
+) -> Result<Value, Fault>
+    requires { IsGood (R.held rows.old).maps }
+    ensures comes { ComesTo
+        (set_verb_info (world_in (R.held rows.old)) programmer x desc.now (verb.entry.info.owner, verb.entry.info.perms.now) verb.entry.names.now)
+        (R.held rows.old) (R.held rows.new) result }
+    ensures kept { OnOk result (Keeps (R.held rows.old) (R.held rows.new)) }
+{
+    if !valid(rows, x) {
+        return Err(Fault::Moo(Code::InvalidArgument));
+    }
+    let Some(found) = found_verb(rows, x, desc) else {
+        return Err(Fault::Moo(Code::VerbNotFound));
+    };
+    let bits = bits_taken(rows, verb)?;
+    if !rights::may_write_verb(rows, programmer, found.row) {
+        return Err(Fault::Moo(Code::Permission));
+    }
+    if !rights::may_own(rows, programmer, verb.info.owner) {
+        return Err(Fault::Moo(Code::Permission));
+    }
+    let names = verb.names.copy(alloc)?;
+    let id = found.id;
+    directory::set_info(rows, x, id, verb.info.owner, bits, names)?;
+    Ok(ZERO)
+}
+
+/// `set_verb_args(x, desc, {dobj, prep, iobj})`: changes the arguments of a verb and answers 0.
+/// E_INVARG where x is no object; E_VERBNF where no verb of x itself is meant; E_INVARG where the arguments are none that a
+/// verb may have; E_PERM where the programmer may not write the verb.
+/// LambdaMOO Programmer's Manual, 'Operations on Verbs'.
+pub fn set_verb_args<R: Rows>(
+    rows: &mut R,
+    alloc: Global,
+    programmer: ObjNo,
+    x: ObjNo,
+    desc: &Desc,
+    args: ArgTexts<'_>,
+) -> Result<Value, Fault>
+    requires { IsGood (R.held rows.old).maps }
+    ensures comes { ComesTo
+        (set_verb_args (world_in (R.held rows.old)) programmer x desc.now (args.entry.dobj.now, args.entry.prep.now, args.entry.iobj.now))
+        (R.held rows.old) (R.held rows.new) result }
+    ensures kept { OnOk result (Keeps (R.held rows.old) (R.held rows.new)) }
+{
+    if !valid(rows, x) {
+        return Err(Fault::Moo(Code::InvalidArgument));
+    }
+    let Some(verb) = found_verb(rows, x, desc) else {
+        return Err(Fault::Moo(Code::VerbNotFound));
+    };
+    let Some(args) = args_of(args) else {
+        return Err(Fault::Moo(Code::InvalidArgument));
+    };
+    if !rights::may_write_verb(rows, programmer, verb.row) {
+        return Err(Fault::Moo(Code::Permission));
+    }
+    let id = verb.id;
+    directory::set_args(alloc, rows, x, id, args)?;
+    Ok(ZERO)
+}

@@ -1,0 +1,146 @@
+//! Reading verbs.
+
+ghost use Rattle.std.specs.Prelude.{◌≡◌, [], ◌∷◌, IfOk, IfErr};
+ghost use Rattle.moo_value.specs.Text.{IsText};
+ghost use Rattle.moo_value.specs.declared.value.Value.TheVariants.{Obj, Str};
+ghost use Rattle.moo_rows.specs.Bits.{verb_letters_of};
+ghost use Rattle.moo_rows.specs.declared.row.VerbRow.{VerbRow};
+ghost use Rattle.moo_world.specs.Rows.{IsGood};
+ghost use Rattle.moo_world.specs.Answers.{list_of};
+ghost use Rattle.moo_world.specs.Outcomes.{Outcome, Failed};
+ghost use Rattle.moo_world.specs.Prepositions.{prep_text, place_text};
+ghost use Rattle.moo_world.specs.VerbCalls.{verbs, verb_info, verb_args};
+ghost use Rattle.moo_rights.specs.Outcomes.{world_in, Answers};
+ghost use Rattle.moo_verb_calls.specs.Checks.{reading_verb};
+
+use moo_rights::answers::{list_of, text_list};
+use moo_rights::fault::Fault;
+use moo_rights::rights;
+use moo_rows::row::{ArgSpec, VerbRow};
+use moo_rows::rows::Rows;
+use moo_tree::valid;
+use moo_value::code::Code;
+use moo_value::fault::LiteralFault;
+use moo_value::text::MooStr;
+use moo_value::value::{ObjNo, Value};
+use moo_verbs::directory;
+use moo_verbs::find::found_verb;
+use moo_verbs::prep::{print_place, print_prep};
+use moo_verbs::reading::bits_letters;
+use moo_world::descriptor::Desc;
+use std::alloc::{AllocError, Global};
+
+/// `verbs(x)`: answers the names of the verbs of an object, each string whole as given, in the order of the directory.
+/// E_INVARG where x is no object; E_PERM where the programmer may not read it.
+/// LambdaMOO Programmer's Manual, 'Operations on Verbs'.
+pub fn verbs<R: Rows>(rows: &R, alloc: Global, programmer: ObjNo, x: ObjNo) -> Result<Value, Fault>
+    requires { IsGood (R.held rows.now).maps }
+    ensures { Answers (verbs (world_in (R.held rows.now)) programmer x) (R.held rows.now) result }
+{
+    if !valid(rows, x) {
+        return Err(Fault::Moo(Code::InvalidArgument));
+    }
+    if !rights::may_read_object(rows, programmer, x) {
+        return Err(Fault::Moo(Code::Permission));
+    }
+    let names = directory::list(alloc, rows, x)?;
+    let answer = text_list(alloc, names)?;
+    Ok(answer)
+}
+
+/// A text as a string. It may stand in one, so that only memory can be wanting.
+fn text(alloc: Global, text: &'static str) -> Result<Value, AllocError>
+    requires { IsText text.now }
+    ensures { IfOk result (λ value. value ≡ Str text.now) }
+{
+    match MooStr::from_bytes(alloc, text.as_bytes()) {
+        Ok(text) => Ok(Value::Str(text)),
+        Err(fault) => match fault {
+            LiteralFault::OutOfMemory => Err(AllocError),
+            _ => unreachable!(),
+        },
+    }
+}
+
+/// The verb that a call on x reads, or the error: E_INVARG where x is no object, then E_VERBNF where no verb of x itself is
+/// meant, then E_PERM where the programmer may not read the verb.
+fn readable_verb<'a, R: Rows>(
+    rows: &'a R,
+    programmer: ObjNo,
+    x: ObjNo,
+    desc: &Desc,
+) -> Result<&'a VerbRow, Code>
+    requires { IsGood (R.held rows.now).maps }
+    ensures ok { IfOk result (λ verb. (then : VerbRow → Outcome) → reading_verb (world_in (R.held rows.now)) programmer x desc.now then ≡ then verb.now) }
+    ensures err { IfErr result (λ code. (then : VerbRow → Outcome) → reading_verb (world_in (R.held rows.now)) programmer x desc.now then ≡ Failed code) }
+{
+    if !valid(rows, x) {
+        return Err(Code::InvalidArgument);
+    }
+    let Some(found) = found_verb(rows, x, desc) else {
+        return Err(Code::VerbNotFound);
+    };
+    if !rights::may_read_verb(rows, programmer, found.row) {
+        return Err(Code::Permission);
+    }
+    Ok(found.row)
+}
+
+/// `{owner, perms, names}` of a verb. The only error is want of memory.
+fn info_of(alloc: Global, verb: &VerbRow) -> Result<Value, AllocError>
+    ensures { IfOk result (λ value. value
+        ≡ list_of (Obj verb.now.owner ∷ Str (verb_letters_of verb.now.bits) ∷ Str verb.now.names ∷ [])) }
+{
+    let perms = text(alloc, bits_letters(verb.bits))?;
+    let names = Value::Str(verb.names.copy(alloc)?);
+    let values = vec![in alloc; Value::Obj(verb.owner), perms, names]?;
+    Ok(list_of(values))
+}
+
+/// `verb_info(x, desc)`: answers `{owner, perms, names}` of a verb, the letters of the rights in the order `rwxd`.
+/// E_INVARG where x is no object; E_VERBNF where no verb of x itself is meant; E_PERM where the programmer may not read the verb.
+/// LambdaMOO Programmer's Manual, 'Operations on Verbs'.
+pub fn verb_info<R: Rows>(
+    rows: &R,
+    alloc: Global,
+    programmer: ObjNo,
+    x: ObjNo,
+    desc: &Desc,
+) -> Result<Value, Fault>
+    requires { IsGood (R.held rows.now).maps }
+    ensures { Answers (verb_info (world_in (R.held rows.now)) programmer x desc.now) (R.held rows.now) result }
+{
+    let verb = readable_verb(rows, programmer, x, desc)?;
+    let answer = info_of(alloc, verb)?;
+    Ok(answer)
+}
+
+/// `{dobj, prep, iobj}` of a verb. The only error is want of memory.
+fn args_of(alloc: Global, args: ArgSpec) -> Result<Value, AllocError>
+    ensures { IfOk result (λ value. value
+        ≡ list_of (Str (place_text args.dobj) ∷ Str (prep_text args.prep) ∷ Str (place_text args.iobj) ∷ [])) }
+{
+    let dobj = text(alloc, print_place(args.dobj))?;
+    let prep = text(alloc, print_prep(args.prep))?;
+    let iobj = text(alloc, print_place(args.iobj))?;
+    let values = vec![in alloc; dobj, prep, iobj]?;
+    Ok(list_of(values))
+}
+
+/// `verb_args(x, desc)`: answers `{dobj, prep, iobj}` of a verb, the preposition as its whole set with slashes.
+/// E_INVARG where x is no object; E_VERBNF where no verb of x itself is meant; E_PERM where the programmer may not read the verb.
+/// LambdaMOO Programmer's Manual, 'Operations on Verbs'.
+pub fn verb_args<R: Rows>(
+    rows: &R,
+    alloc: Global,
+    programmer: ObjNo,
+    x: ObjNo,
+    desc: &Desc,
+) -> Result<Value, Fault>
+    requires { IsGood (R.held rows.now).maps }
+    ensures { Answers (verb_args (world_in (R.held rows.now)) programmer x desc.now) (R.held rows.now) result }
+{
+    let verb = readable_verb(rows, programmer, x, desc)?;
+    let answer = args_of(alloc, verb.args)?;
+    Ok(answer)
+}
