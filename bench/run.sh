@@ -9,9 +9,9 @@ batches=${1:-2000}
 rounds=${2:-5}
 folder=$(mktemp -d "${3:-${TMPDIR:-/tmp}}/moo-bench.XXXXXX") || exit 1
 trap 'rm -rf "$folder"' EXIT
-program=$here/crates/moo_store_bench/out/moo_store_bench
+program=$here/crates/moo_file_bench/out/moo_file_bench
 if [ ! -x "$program" ]; then
-    (cd "$here/crates/moo_store_bench" && rt run </dev/null >"$folder/build.log" 2>&1) || {
+    (cd "$here/crates/moo_file_bench" && rt run </dev/null >"$folder/build.log" 2>&1) || {
         cat "$folder/build.log" >&2
         exit 1
     }
@@ -24,7 +24,7 @@ rate() {
 
 round=0
 while [ "$round" -lt "$rounds" ]; do
-    "$program" "$batches" "$folder/ours.$round" >"$folder/done" 2>"$folder/ours.err" || exit 1
+    python3 "$here/bench/moo_rate.py" "$program" "$batches" "$folder" 2>"$folder/ours.err" || exit 1
     python3 "$here/bench/sqlite_baseline.py" "$batches" "$folder/theirs.$round" 2>"$folder/theirs.err" || exit 1
     rate "$folder/ours.err" >>"$folder/ours.rates"
     rate "$folder/theirs.err" >>"$folder/theirs.rates"

@@ -1,15 +1,99 @@
--- What a run of the program writes.
-use Rattle.std.specs.Prelude.{ℕ, List, Option}
+-- What a run of the program writes, and the status that it ends with.
+use Rattle.std.specs.Prelude.{◌≡◌, ◌⊎◌, ◌≤◌, ◌<◌, ◌==◌, ◌||◌, ◌++◌, ℕ, Bool, List, [], ◌∷◌, take, length, Option, if◌then◌else◌, codes, nat_eq}
+use Rattle.std.specs.Cmp.Lexicographic.{pointwise}
+use Rattle.std.specs.List.{count_by}
 use Rattle.std.specs.Io.KnownBytes.{Appends}
 use Rattle.moo_rows.specs.Opening.{opening_maps}
 use Rattle.moo_world.specs.Judge.{State, state_of}
 use Rattle.moo_text.specs.Items.{items}
+use Rattle.moo_text.specs.declared.next.Next.{Next}
+use Rattle.moo_text.specs.declared.fault.TextFault.{TextFault}
+use Rattle.moo_text.specs.declared.fault.TextFault.TheVariants as text_fault
 use Rattle.moo_text.specs.declared.reply.Answer.{Answer}
-use Rattle.moo_store.specs.Text.{AnsweredItems, text_of}
+use Rattle.moo_store.specs.declared.fault.StoreFault.{StoreFault}
+use Rattle.moo_store.specs.declared.fault.StoreFault.TheVariants as store_fault
+use Rattle.moo_store.specs.Text.{AnsweredItems, Fronts, text_of, is_lost}
+use Rattle.moo.specs.declared.failure.Failure.{Failure}
+use Rattle.moo.specs.declared.failure.Failure.TheVariants.{Usage, Store, Read, Write, TooLong, NoMemory}
 
--- the items of the text are answered, from the opening world on, and their answers are written and nothing else
-pub record AnswersText (text : List ℕ) (old new : Option (List ℕ)) : Type 0 where
+-- ---- the words of the command line
+
+abbrev pub same_words : List (List ℕ) → List (List ℕ) → Bool
+same_words = pointwise (pointwise nat_eq)
+
+-- they ask for the batches of the input to be run on a new world in memory
+abbrev pub asks_to_apply : List (List ℕ) → Bool
+asks_to_apply words =
+    same_words words (codes "moo" ∷ [])
+    || same_words words (codes "moo" ∷ codes "apply" ∷ codes ":memory:" ∷ codes "-" ∷ [])
+
+-- ---- failures
+
+-- the line that says so; of a failure of the writer there is none
+abbrev pub line_of : Failure → List ℕ
+line_of Usage = codes "moo: usage\n"
+line_of Store = codes "moo: store fault\n"
+line_of Read = codes "moo: read fault\n"
+line_of Write = []
+line_of TooLong = codes "moo: input too long\n"
+line_of NoMemory = codes "moo: no memory\n"
+
+abbrev pub status_of : Failure → ℕ
+status_of Usage = 2
+status_of Store = 1
+status_of Read = 1
+status_of Write = 1
+status_of TooLong = 1
+status_of NoMemory = 4
+
+-- what stops a text, or the making of a world, as a failure
+abbrev pub text_failure : TextFault → Failure
+text_failure text_fault.Read = Read
+text_failure text_fault.Write = Write
+text_failure text_fault.OutOfMemory = NoMemory
+text_failure text_fault.Long = TooLong
+
+abbrev pub store_failure : StoreFault → Failure
+store_failure (store_fault.Store error) = Store
+store_failure store_fault.OutOfMemory = NoMemory
+store_failure store_fault.Closed = Store
+
+-- The failure's line is written, and its status answered. Or the writer fails on the way: a front of the line is written, and the
+-- status is that of a failed writer.
+abbrev pub Reports : Failure → Option (List ℕ) → Option (List ℕ) → ℕ → Type 0
+Reports failure old new status =
+    (Appends old new (line_of failure) × (status ≡ status_of failure))
+    ⊎ ((count : ℕ) × Appends old new (take count (line_of failure)) × (status ≡ status_of Write))
+
+-- ---- runs
+
+-- All items of the text are answered, from the opening world on, so many of them by `fault` or `closed`; the answers are
+-- written and nothing else.
+pub record AnswersText (text : List ℕ) (lost : ℕ) (old new : Option (List ℕ)) : Type 0 where
+  pub short : length text ≤ 1073741824
   pub answers : List Answer
   pub end : State
   pub answered : AnsweredItems (state_of opening_maps) (items text) answers end
+  pub lost_are : lost ≡ count_by is_lost answers
   pub wrote : Appends old new (text_of answers)
+
+-- The run of the text stops: the items that are done are answered, from the opening world on; their answers are written, and a
+-- front of the next one. The failure is TooLong only where the text is too long.
+pub record StopsText (text : List ℕ) (failure : Failure) (old new : Option (List ℕ)) : Type 0 where
+  pub long : failure ≡ TooLong → 1073741824 < length text
+  pub done : List Next
+  pub left : List Next
+  pub whole : items text ≡ done ++ left
+  pub answers : List Answer
+  pub end : State
+  pub answered : AnsweredItems (state_of opening_maps) done answers end
+  pub front : List ℕ
+  pub next : State
+  pub in_hand : Fronts end left front next
+  pub wrote : Appends old new (text_of answers ++ front)
+
+-- a text is answered whole, at status 1 where an answer is `fault` or `closed`; or its run stops and the failure is reported
+abbrev pub RunsText : List ℕ → Option (List ℕ) → Option (List ℕ) → ℕ → Type 0
+RunsText text old new status =
+    ((lost : ℕ) × AnswersText text lost old new × (status ≡ (if lost == 0 then 0 else 1)))
+    ⊎ ((failure : Failure) × (between : Option (List ℕ)) × StopsText text failure old between × Reports failure between new status)

@@ -1,7 +1,7 @@
 //! What the words of the command line do.
 
-ghost use Rattle.std.specs.Prelude.{◌≡◌, ◌<◌, IfOk, IfSome};
-ghost use Rattle.moo.specs.Run.{AnswersText};
+ghost use Rattle.std.specs.Prelude.{◌≡◌, true, false, map, IfOk, IfErr, IfSome};
+ghost use Rattle.moo.specs.Run.{asks_to_apply, AnswersText, Reports, RunsText, StopsText};
 
 use crate::failure::Failure;
 use moo_store::creating::create_in;
@@ -12,14 +12,10 @@ use std::alloc::Global;
 use std::io::{Read, Write};
 
 /// Whether the words ask for the one thing that there is so far: `apply :memory: -`, which no words at all ask for too.
-fn asks_to_apply(words: &[&str]) -> bool {
-    match words {
-        ["moo"] => true,
-        ["moo", command, file, batches] => {
-            *command == "apply" && *file == ":memory:" && *batches == "-"
-        }
-        _ => false,
-    }
+fn asks_to_apply(words: &[&str]) -> bool
+    ensures { result ≡ asks_to_apply (map (λ word. word.now) words.now) }
+{
+    words == ["moo"].as_slice() || words == ["moo", "apply", ":memory:", "-"].as_slice()
 }
 
 /// Runs a text of batches on a new world in memory.
@@ -28,7 +24,8 @@ fn apply_in_memory<R: Read + Drop, W: Write>(
     input: R,
     output: &mut W,
 ) -> Result<Tally, Failure>
-    ensures { IfOk result (λ tally. IfSome (R.remaining input) (λ text. AnswersText text (W.contents output.old) (W.contents output.new))) }
+    ensures answers { IfOk result (λ tally. IfSome (R.remaining input) (λ text. AnswersText text tally.lost (W.contents output.old) (W.contents output.new))) }
+    ensures stops { IfErr result (λ failure. IfSome (R.remaining input) (λ text. StopsText text failure (W.contents output.old) (W.contents output.new))) }
 {
     let conn = match Connection::open_in_memory(alloc) {
         Ok(conn) => conn,
@@ -46,11 +43,11 @@ fn apply_in_memory<R: Read + Drop, W: Write>(
 
 /// Writes the line of a failure, and answers its status.
 fn report<W: Write>(failure: Failure, output: &mut W) -> u8
-    ensures { 0 < result }
+    ensures { Reports failure (W.contents output.old) (W.contents output.new) result }
 {
-    match failure.line() {
-        Some(line) if put_all(output, line.as_bytes()).is_err() => Failure::Write.status(),
-        _ => failure.status(),
+    match put_all(output, failure.line().as_bytes()) {
+        Ok(()) => failure.status(),
+        Err(_) => Failure::Write.status(),
     }
 }
 
@@ -66,8 +63,8 @@ pub fn run_words<R: Read + Drop, W: Write>(
     input: R,
     output: &mut W,
 ) -> u8
-    // At status 0 each batch of the text was judged, after the accepted ones before it, and the answers are what was written.
-    ensures { result ≡ 0 → IfSome (R.remaining input) (λ text. AnswersText text (W.contents output.old) (W.contents output.new)) }
+    ensures runs { asks_to_apply (map (λ word. word.now) words.now) ≡ true → IfSome (R.remaining input) (λ text. RunsText text (W.contents output.old) (W.contents output.new) result) }
+    ensures usage { asks_to_apply (map (λ word. word.now) words.now) ≡ false → Reports Failure.Usage (W.contents output.old) (W.contents output.new) result }
 {
     if !asks_to_apply(words) {
         return report(Failure::Usage, output);

@@ -17,7 +17,7 @@ use std::alloc::{AllocError, Global};
 use std::collections::BTreeMap;
 use std::marker::Model;
 
-/// Keys in ascending order, each with its new row, or none where the row was removed.
+/// Keys, each with its new row, or none where the row was removed. `Draft::into_changes` gives them ascending, each once.
 #[derive(Drop)]
 pub struct ChangeList<K, V> {
     items: Vec<(K, Option<V>)>,
@@ -32,7 +32,7 @@ impl<K, V> Model for ChangeList<K, V> {
 }
 
 impl<K, V> ChangeList<K, V> {
-    /// The list of these changes.
+    /// The list of these changes, as they stand.
     pub fn from_vec(items: Vec<(K, Option<V>)>) -> ChangeList<K, V>
         ensures { result ≡ items.items }
     {

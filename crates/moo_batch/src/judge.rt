@@ -40,7 +40,7 @@ pub enum Verdict {
     Full { call: u32 },
     /// The batch names another number of accepted batches than the present one, which is `seq`.
     Stale { seq: u64 },
-    /// Want of memory.
+    /// Memory ran out while calls were run; nothing changed.
     OutOfMemory,
 }
 

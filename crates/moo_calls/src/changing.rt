@@ -1,4 +1,4 @@
-//! The calls that change one field of an object, whoever may set it.
+//! The calls `set_player_flag` and `set_accept`, each of which changes one field of an object.
 
 ghost use Rattle.std.specs.Prelude.{◌≡◌, true, OnOk, [], length, nat_le, unwrap_or};
 ghost use Rattle.std.specs.List.{list_all};

@@ -54,7 +54,8 @@ fn set_to(quota: i32, by: i32) -> SlotState
     SlotState::Set(Value::Int(quota + by))
 }
 
-/// Adds to the quota of o, where it has one. What is stored is set on o itself; owner and bits of its slot stay.
+/// Adds to the quota of o, where it has one. What is stored is set on o itself; owner and bits of its slot stay. The only error
+/// is want of memory.
 pub fn move_quota<R: Rows>(rows: &mut R, o: ObjNo, by: i32) -> Result<(), AllocError>
     requires good { IsGood (R.held rows.old).maps }
     requires room { HasRoom (quota_of (world_of (R.held rows.old).maps) o) by }
@@ -69,7 +70,7 @@ pub fn move_quota<R: Rows>(rows: &mut R, o: ObjNo, by: i32) -> Result<(), AllocE
     Ok(())
 }
 
-/// Takes one from the quota of o, where it has one.
+/// Takes one from the quota of o, where it has one. The only error is want of memory.
 pub fn take_quota<R: Rows>(rows: &mut R, o: ObjNo) -> Result<(), AllocError>
     requires good { IsGood (R.held rows.old).maps }
     requires left { has_quota_left (world_of (R.held rows.old).maps) o ≡ true }
@@ -79,7 +80,7 @@ pub fn take_quota<R: Rows>(rows: &mut R, o: ObjNo) -> Result<(), AllocError>
     move_quota(rows, o, -1)
 }
 
-/// Gives one back to the quota of o, where it has one. A quota at the greatest integer stays.
+/// Gives one back to the quota of o, where it has one. A quota at the greatest integer stays. The only error is want of memory.
 pub fn return_quota<R: Rows>(rows: &mut R, o: ObjNo) -> Result<(), AllocError>
     requires { IsGood (R.held rows.old).maps }
     ensures world { OnOk result (world_of (R.held rows.new).maps ≡ quota_returned (world_of (R.held rows.old).maps) o) }

@@ -59,7 +59,8 @@ pub fn may_be_parent<R: Rows>(rows: &R, programmer: ObjNo, parent: ObjNo) -> boo
         || (valid(rows, parent) && (is_fertile(rows, parent) || controls(rows, programmer, parent)))
 }
 
-/// Whether the programmer may make an object for this owner: itself, or anybody where the programmer is a wizard.
+/// Whether the programmer may give what it makes, or a verb that it changes, to this owner: itself, or anybody where the
+/// programmer is a wizard.
 pub fn may_own<R: Rows>(rows: &R, programmer: ObjNo, owner: ObjNo) -> bool
     ensures { result ≡ may_own (world_in (R.held rows.now)) programmer owner }
 {

@@ -1,4 +1,4 @@
-//! Tests of the rows. `moo_rows` stands below every other crate but one, and a crate with tests is proved twice.
+//! Tests of the rows. `moo_rows` stands below every crate but `moo_value` and `moo_worked`, and a crate with tests is proved twice.
 #![tactic(auto)]
 
 #[cfg(test)]

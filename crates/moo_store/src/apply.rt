@@ -23,7 +23,8 @@ impl<S: Alter + Drop> Answering for World<S> {
     }
 }
 
-/// Runs the batches of a text in turn, and writes each answer before the next batch is read.
+/// Runs the batches of a text in turn, and writes each answer before the next batch is read. Answers how many batches the text had
+/// and how many met a fault; behind a `fault` the text is read on, and its batches are answered `closed`.
 ///
 /// The faults: Read where the reader fails, and the unfinished batch is dropped; Write where the writer fails or takes no
 /// bytes, and OutOfMemory, which may come after a commit that stands; Long where the text goes on behind 1,073,741,824 bytes.

@@ -61,8 +61,8 @@ fn opening(alloc: Global) -> Result<(CellChanges, Flat), AllocError>
 /// is 0, and its objects are the system object, the root class, the first room and the wizard.
 ///
 /// The connection has to be in no transaction (`is_autocommit`), and comes back at each refusal. OutOfMemory: nothing was
-/// done. Store: the database has tables already, and stays as it is; or the store failed, and its tables are those before,
-/// or a crash may leave those of the opening world.
+/// done. Store with `ErrorCode::NameTaken`: the database has a table, an index or a view already, and stays as it is. Any other
+/// Store: the store failed, and its tables are those before, or a crash may leave those of the opening world.
 pub fn create_in<S: Alter + Drop>(
     alloc: Global,
     conn: Connection<S>,

@@ -5,7 +5,7 @@ ghost use Rattle.moo_store.specs.Text.{is_batch, is_lost};
 
 use moo_text::reply::Answer;
 
-/// How many batches a text had, and how many of them met a fault.
+/// How many batches of a text were read whole, and how many of these were answered `fault` or `closed`.
 #[derive(Clone, Copy, Debug)]
 pub struct Tally {
     pub batches: u64,

@@ -208,14 +208,14 @@ impl<S: Alter + Drop> World<S> {
         })
     }
 
-    /// A World that works stands for the world of its rows.
+    /// A World that works stands for the world of its rows. The call does nothing; its contract is what it is for.
     pub fn stands(&self)
         ensures { self.now.failed ≡ false → StandsFor S.Store self.now (state_of self.now.rows.maps) }
     {
         let _failed = self.failed;
     }
 
-    /// The number of the batches that were accepted. The only fault is Closed.
+    /// The number of the batches that were accepted, 0 to 9,223,372,036,854,775,807. The only fault is Closed.
     pub fn seq(&self) -> Result<u64, StoreFault>
         ensures number { (s : _) → StandsFor S.Store self.now s → result ≡ Ok s.seq }
         ensures closed { IsTrue self.now.failed → IsErrOf result StoreFault.Closed }

@@ -1,17 +1,14 @@
-//! How many batches of one call a World runs in a second.
+//! How many batches of one call a World in memory runs in a second.
 //!
-//! The words of the command line are the number of batches and, for a world in a file, the path where the file is to be made;
-//! with no path the world is in memory, and with no words it runs a few batches. What was done goes to standard output, and the
-//! time to standard error.
+//! The word of the command line is the number of batches; with no word it runs a few. What was done goes to standard output, and
+//! the time to standard error.
 #![tactic(auto)]
-
-ghost use Rattle.std.specs.Prelude.{◌≡◌, false};
 
 use anyhow::{Context, Result, bail};
 use moo_store::apply_text;
 use moo_store::creating::create_in;
 use moo_store::world::World;
-use sqlite::{Alter, Connection};
+use sqlite::{Connection, MemStore};
 use std::alloc::Global;
 use std::env;
 use std::time::Instant;
@@ -32,7 +29,7 @@ fn renamings(alloc: Global, count: u32) -> Result<String> {
 }
 
 /// Runs a text, and answers how many batches it had.
-fn run<S: Alter + Drop>(alloc: Global, world: &mut World<S>, text: &str) -> Result<u64> {
+fn run(alloc: Global, world: &mut World<MemStore>, text: &str) -> Result<u64> {
     let mut replies = Vec::new(alloc);
     match apply_text(alloc, text.as_bytes(), &mut replies, world) {
         Ok(tally) if tally.lost == 0 => Ok(tally.batches),
@@ -40,15 +37,12 @@ fn run<S: Alter + Drop>(alloc: Global, world: &mut World<S>, text: &str) -> Resu
     }
 }
 
-/// Runs so many batches on a new world, reports, and answers the connection.
-fn measure<S: Alter + Drop>(
-    rt: &HostRuntime,
-    conn: Connection<S>,
-    count: u32,
-) -> Result<Connection<S>>
-    requires { conn.in_transaction ≡ false }
-{
+/// Runs so many batches on a new world in memory, and reports.
+fn measure(rt: &HostRuntime, count: u32) -> Result<()> {
     let alloc = rt.alloc();
+    let Ok(conn) = Connection::open_in_memory(alloc) else {
+        bail!("no memory");
+    };
     let Ok(mut world) = create_in(alloc, conn) else {
         bail!("no world was made");
     };
@@ -65,27 +59,6 @@ fn measure<S: Alter + Drop>(
         .checked_div(taken)
         .unwrap_or(0);
     eprintln!(rt; "{batches} batches in {taken} us, {a_second} a second")?;
-    Ok(world.into_connection())
-}
-
-/// Runs so many batches on a world in memory.
-fn measure_memory(rt: &HostRuntime, count: u32) -> Result<()> {
-    let Ok(conn) = Connection::open_in_memory(rt.alloc()) else {
-        bail!("no memory");
-    };
-    measure(rt, conn, count)?;
-    Ok(())
-}
-
-/// Runs so many batches on a world in a new file, and closes the file.
-fn measure_file(rt: &HostRuntime, count: u32, path: &str) -> Result<()> {
-    let Ok(conn) = Connection::open(rt, path) else {
-        bail!("no file could be opened at {path}");
-    };
-    let conn = measure(rt, conn, count)?;
-    if conn.close().is_err() {
-        bail!("the file could not be closed");
-    }
     Ok(())
 }
 
@@ -95,8 +68,5 @@ fn main(rt: HostRuntime) -> Result<()> {
         Some(word) => word.parse::<u32>().context("how many batches?")?,
         None => FEW,
     };
-    match words.next() {
-        Some(path) => measure_file(&rt, count, path.as_str()),
-        None => measure_memory(&rt, count),
-    }
+    measure(&rt, count)
 }

@@ -3,8 +3,6 @@
 #![tactic(auto)]
 
 #[cfg(test)]
-mod behind;
-#[cfg(test)]
 mod calls;
 #[cfg(test)]
 mod runs;

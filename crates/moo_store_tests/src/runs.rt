@@ -1,8 +1,6 @@
 //! Runs on new worlds in memory.
 
-use crate::behind::run_and_ask;
-use moo_tables::CellLists;
-use sqlite::Row;
+use moo_store_behind::{have_same_cells, run_and_ask, slots_of};
 use std::alloc::Global;
 use std::test::Fail;
 
@@ -57,91 +55,82 @@ fn put_created(
     put(text, "end\n")
 }
 
-/// How many objects have a slot of this property.
-fn slots_of(tables: &CellLists, prop: i64) -> Result<usize, Fail> {
-    let mut count = 0;
-    for row in tables.slot.iter() {
-        let of: i64 = row.get(1)?;
-        if of == prop && count < 10_000 {
-            count += 1;
-        }
-    }
-    Ok(count)
-}
-
-/// Whether two tables have the same cells, one row after another.
-fn are_alike(alloc: Global, some: &[Row], others: &[Row]) -> Result<bool, Fail> {
-    if some.len() != others.len() {
-        return Ok(false);
-    }
-    for (row, other) in some.iter().zip(others.iter()) {
-        let cells = format!(in alloc; "{row:?}")?;
-        let other_cells = format!(in alloc; "{other:?}")?;
-        if cells.as_str() != other_cells.as_str() {
-            return Ok(false);
-        }
-    }
-    Ok(true)
-}
-
-/// Whether all five tables have the same cells.
-fn have_same_cells(alloc: Global, some: &CellLists, others: &CellLists) -> Result<bool, Fail> {
-    Ok(
-        are_alike(alloc, &some.head, &others.head)?
-            && are_alike(alloc, &some.object, &others.object)?
-            && are_alike(alloc, &some.prop, &others.prop)?
-            && are_alike(alloc, &some.slot, &others.slot)?
-            && are_alike(alloc, &some.verb, &others.verb)?,
-    )
-}
-
-#[test]
-fn two_thousand_descendants_move_with_their_slots(rt: HostRuntime) -> Result<(), Fail> {
-    let alloc = rt.alloc();
+/// The tree, and then two thousand descendants of `#4`, with those that it has.
+fn two_thousand(alloc: Global) -> Result<Vec<u8>, Fail> {
     let mut text = Vec::new(alloc);
     put(&mut text, TREE)?;
     put_creates(&mut text, 1000)?;
     put_creates(&mut text, 999)?;
+    Ok(text)
+}
+
+/// What `two_thousand` is answered, and then this.
+fn two_thousand_answers(alloc: Global, more: &str) -> Result<Vec<u8>, Fail> {
+    let mut text = Vec::new(alloc);
+    put(&mut text, TREE_ANSWERS)?;
+    put_created(alloc, &mut text, 2, 8, 1008)?;
+    put_created(alloc, &mut text, 3, 1008, 2007)?;
+    put(&mut text, more)?;
+    Ok(text)
+}
+
+/// Whether behind two thousand descendants and a last text these replies are written, and how many objects have slots of a, b
+/// and c.
+fn behind_two_thousand(
+    alloc: Global,
+    last: &str,
+    replies: &str,
+) -> Result<(bool, usize, usize, usize), Fail> {
+    let text = two_thousand(alloc)?;
+    let behind = run_and_ask(alloc, &text, b"", last.as_bytes())?;
+    let expected = two_thousand_answers(alloc, replies)?;
+    let is_answered = behind.written.as_slice() == expected.as_slice();
+    let a = slots_of(&behind.tables, A)?;
+    let b = slots_of(&behind.tables, B)?;
+    let c = slots_of(&behind.tables, C)?;
+    Ok((is_answered, a, b, c))
+}
+
+#[test]
+fn two_thousand_descendants_move_with_their_slots(rt: HostRuntime) -> Result<(), Fail> {
+    let before = behind_two_thousand(rt.alloc(), "", "")?;
+    assert_eq!(rt; before, (true, 2002, 2001, 1));
+    let last = "batch as #3\nchparent(#5, #7)\nget(#2006, \"b\")\nend\n";
+    let after = behind_two_thousand(rt.alloc(), last, "accepted 4\n0\n21\nend\n")?;
+    assert_eq!(rt; after, (true, 1, 2001, 2002));
+    Ok(())
+}
+
+/// Whether behind the tree, a question and a last text these replies are written, and whether each cell is as behind the tree
+/// alone.
+fn beside_tree(
+    alloc: Global,
+    asked: &str,
+    last: &str,
+    replies: &str,
+) -> Result<(bool, bool), Fail> {
+    let plain = run_and_ask(alloc, TREE.as_bytes(), b"", b"")?;
+    let behind = run_and_ask(alloc, TREE.as_bytes(), asked.as_bytes(), last.as_bytes())?;
     let mut expected = Vec::new(alloc);
     put(&mut expected, TREE_ANSWERS)?;
-    put_created(alloc, &mut expected, 2, 8, 1008)?;
-    put_created(alloc, &mut expected, 3, 1008, 2007)?;
-    let before = run_and_ask(alloc, &text, b"", b"")?;
-    assert!(rt; before.written.as_slice() == expected.as_slice());
-    assert_eq!(rt; slots_of(&before.tables, A)?, 2002);
-    assert_eq!(rt; slots_of(&before.tables, B)?, 2001);
-    assert_eq!(rt; slots_of(&before.tables, C)?, 1);
-    let last = "batch as #3\nchparent(#5, #7)\nget(#2006, \"b\")\nend\n";
-    put(&mut expected, "accepted 4\n0\n21\nend\n")?;
-    let after = run_and_ask(alloc, &text, b"", last.as_bytes())?;
-    assert!(rt; after.written.as_slice() == expected.as_slice());
-    assert_eq!(rt; slots_of(&after.tables, A)?, 1);
-    assert_eq!(rt; slots_of(&after.tables, B)?, 2001);
-    assert_eq!(rt; slots_of(&after.tables, C)?, 2002);
-    Ok(())
+    put(&mut expected, replies)?;
+    let is_answered = behind.written.as_slice() == expected.as_slice();
+    let is_same = have_same_cells(alloc, &plain.tables, &behind.tables)?;
+    Ok((is_answered, is_same))
 }
 
 #[test]
 fn refused_batches_and_questions_leave_every_cell(rt: HostRuntime) -> Result<(), Fail> {
     let alloc = rt.alloc();
     let calls = "batch as #3\ncreate(#6)\nset(#8, \"b\", 5)\nchparent(#5, #7)\nrecycle(#6)\n";
-    let plain = run_and_ask(alloc, TREE.as_bytes(), b"", b"")?;
     let refused = format!(in alloc; "{calls}create(#99)\nend\n")?;
-    let refused = run_and_ask(alloc, TREE.as_bytes(), b"", refused.as_bytes())?;
-    let mut expected = Vec::new(alloc);
-    put(&mut expected, TREE_ANSWERS)?;
-    put(&mut expected, "refused 5 E_PERM\n")?;
-    assert!(rt; refused.written.as_slice() == expected.as_slice());
-    assert!(rt; have_same_cells(alloc, &plain.tables, &refused.tables)?);
+    let refused = beside_tree(alloc, "", &refused, "refused 5 E_PERM\n")?;
+    assert_eq!(rt; refused, (true, true));
     let question = format!(in alloc; "{calls}max_object()\nend\n")?;
-    let asked = run_and_ask(alloc, TREE.as_bytes(), question.as_bytes(), b"")?;
-    let mut expected = Vec::new(alloc);
-    put(&mut expected, TREE_ANSWERS)?;
-    put(&mut expected, "accepted 1\n#8\n0\n0\n0\n#8\nend\n")?;
-    assert!(rt; asked.written.as_slice() == expected.as_slice());
-    assert!(rt; have_same_cells(alloc, &plain.tables, &asked.tables)?);
-    let run = run_and_ask(alloc, TREE.as_bytes(), b"", question.as_bytes())?;
-    assert!(rt; !have_same_cells(alloc, &plain.tables, &run.tables)?);
+    let asked = beside_tree(alloc, &question, "", "accepted 1\n#8\n0\n0\n0\n#8\nend\n")?;
+    assert_eq!(rt; asked, (true, true));
+    let (_, is_same) = beside_tree(alloc, "", &question, "")?;
+    assert!(rt; !is_same);
     Ok(())
 }
 

@@ -33,7 +33,7 @@ pub record SpellsHeader (header : Header) (line : List ℕ) : Type 0 where
   pub in_range : InRange header.programmer.0
   pub place : SpellsAt header.at more
 
--- letters, digits and low lines that name a call, in any case
+-- letters, digits and underscores that name a call, in any case
 pub record SpellsCallName (name : CallName) (b : List ℕ) : Type 0 where
   pub letters : AllByRecursion (λ c. IsTrue (is_word c)) b
   pub names : folded b ≡ spelling name

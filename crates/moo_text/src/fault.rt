@@ -8,7 +8,9 @@ use std::alloc::{AllocError, AllocFailed};
 /// Why a line is read as no call.
 #[derive(Clone, Copy, Debug, PartialEq, Eq)]
 pub enum CallFault {
+    /// The line spells no call.
     Malformed,
+    /// Memory ran out.
     OutOfMemory,
 }
 
@@ -19,6 +21,7 @@ pub enum TextFault {
     Read,
     /// The writer failed, or took no bytes.
     Write,
+    /// Memory ran out.
     OutOfMemory,
     /// The text is longer than 1,073,741,824 bytes.
     Long,

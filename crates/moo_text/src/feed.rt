@@ -141,8 +141,8 @@ impl<R: Read> Feed<R> {
         }
     }
 
-    /// What comes next in the text: a batch, the number of the first bad line of one, or its end. A line of spaces and tabs is
-    /// skipped. Read where the reader fails, Long where the text goes on behind 1,073,741,824 bytes, OutOfMemory where memory
+    /// What comes next in the text: a batch, the number of the first bad line of one, that the text ends inside one, or its end.
+    /// A line of spaces and tabs is skipped. Read where the reader fails, Long where the text goes on behind 1,073,741,824 bytes, OutOfMemory where memory
     /// runs out. After a fault each call gives that fault again.
     pub fn next_batch(&mut self) -> Result<Next, TextFault>
         ensures next { IfOk result (TakesNext (feed_left R.remaining self.old) (feed_left R.remaining self.new)) }

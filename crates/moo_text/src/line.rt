@@ -66,7 +66,7 @@ pub fn is_end_line(line: &[u8]) -> bool
     }
 }
 
-/// The letters, digits and low lines in front, and what follows.
+/// The letters, digits and underscores in front, and what follows.
 pub fn split_word(bytes: &[u8]) -> (&[u8], &[u8])
     ensures front { result.0.now ≡ word bytes.now }
     ensures back { result.1.now ≡ after_word bytes.now }

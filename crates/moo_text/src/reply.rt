@@ -19,7 +19,7 @@ pub enum Reply {
     Accepted { seq: u64, answers: Answers },
     /// Its call number `call`, from 1 on, failed with `code`, and nothing changed.
     Refused { call: u32, code: Code },
-    /// Its call number `call` found no number left, and nothing changed.
+    /// Its call number `call` found no number left, or, with 0, the batch itself found none; nothing changed.
     Full { call: u32 },
     /// It named another number than `seq`, the present one.
     Stale { seq: u64 },
@@ -30,9 +30,11 @@ pub enum Reply {
 /// What is written for one batch of a text.
 #[derive(Drop)]
 pub enum Answer {
+    /// The batch was read whole.
     Replied(Reply),
     /// The number of the batch's first bad line.
     Malformed(u32),
+    /// The text ended inside the batch.
     Truncated,
     /// The store failed.
     Fault,
@@ -116,7 +118,7 @@ fn put_answer(alloc: Global, answer: &Answer, out: &mut Vec<u8>) -> Result<(), A
     }
 }
 
-/// Appends the lines of a reply. An `Err` changes nothing.
+/// Appends the lines of a reply. The only error is want of memory, and it leaves the bytes as they were.
 pub fn print_reply(alloc: Global, reply: &Reply, out: &mut Vec<u8>) -> Result<(), AllocError>
     ensures ok { OnOk result (out.new.items ≡ out.old.items ++ reply_text reply.now) }
     ensures err { OnErr result (out.new.items ≡ out.old.items) }
@@ -129,7 +131,7 @@ pub fn print_reply(alloc: Global, reply: &Reply, out: &mut Vec<u8>) -> Result<()
     result
 }
 
-/// Appends the lines that answer a batch of a text. An `Err` changes nothing.
+/// Appends the lines that answer a batch of a text. The only error is want of memory, and it leaves the bytes as they were.
 pub fn print_answer(alloc: Global, answer: &Answer, out: &mut Vec<u8>) -> Result<(), AllocError>
     ensures ok { OnOk result (out.new.items ≡ out.old.items ++ answer_text answer.now) }
     ensures err { OnErr result (out.new.items ≡ out.old.items) }

@@ -41,7 +41,7 @@ pub same_by-exact : {A : Type 0} (coded : Coded A) → IsExact (same_by coded)
 same_by-exact coded x y =
     let h = code-exact (coded.code x) (coded.code y) in (λ t. coded.inj x y (h.0 t), λ e. h.1 (ap coded.code e))
 
--- one way round and the other
+-- two tests that imply each other are equal
 pub both_ways : (a b : Bool) → (a ≡ true → b ≡ true) → (b ≡ true → a ≡ true) → a ≡ b
 both_ways true b f g = sym (f refl)
 both_ways false true f g = g refl

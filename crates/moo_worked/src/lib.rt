@@ -1,5 +1,5 @@
-//! Worked batches and what they come to, as the rules have it and not as the code answers. `moo_calls_tests` takes
-//! their calls one by one, those of `moo` give them to the program as texts.
+//! Worked batches and what they come to, as the definitions have it and not as the code answers. `moo_calls_tests` takes their
+//! calls one by one, and the tests of `moo` give them to the program as texts.
 //!
 //! Each text here holds scenes, with an empty line between two of them. A scene is about a new world. Its first line, behind
 //! a `-`, says what it shows. Each further line is a batch: the programmer, the calls, and the reply with the answers, as in

@@ -123,7 +123,7 @@ definer_stays_set = refl
 
 -- ---- names
 
--- a name that a descendant defines clashes with one above the new parent
+-- a name that a descendant defines clashes with one of the new parent
 clash_below : answers (run_calls T (no 3) (call AddProperty (o 6 ∷ text (codes "C") ∷ i 1 ∷ list_of (o 3 ∷ text [] ∷ []) ∷ []) ∷ [])) ≡ Some (zero ∷ [])
 unfolding world_shown chain same_object same_text same_pair folded rebuilt step
 clash_below = refl

@@ -4,15 +4,15 @@ use moo_store::creating::create_in;
 use moo_store::world::World;
 use moo_store::{apply_text, ask_text};
 use moo_tables::{CellLists, read_tables};
-use sqlite::{Alter, Connection};
+use sqlite::{Alter, Connection, MemStore};
 use std::alloc::Global;
 use std::test::Fail;
 
 /// What was written for some texts, and the cells of the tables behind them.
 #[derive(Drop)]
-pub(crate) struct Behind {
-    pub(crate) written: Vec<u8>,
-    pub(crate) tables: CellLists,
+pub struct Behind {
+    pub written: Vec<u8>,
+    pub tables: CellLists,
 }
 
 fn run<S: Alter + Drop>(
@@ -52,14 +52,16 @@ fn go_through<S: Alter + Drop>(
     Ok(Behind { written, tables })
 }
 
-/// What is behind a new world that runs one text, is asked another, and runs a last one.
-pub(crate) fn run_and_ask(
-    alloc: Global,
-    first: &[u8],
-    asked: &[u8],
-    last: &[u8],
-) -> Result<Behind, Fail> {
+/// A new world in memory.
+pub(crate) fn new_world(alloc: Global) -> Result<World<MemStore>, Fail> {
     let conn = Connection::open_in_memory(alloc)?;
-    let world = create_in(alloc, conn).map_err(|(fault, _conn)| fault)?;
-    go_through(alloc, world, first, asked, last)
+    match create_in(alloc, conn) {
+        Ok(world) => Ok(world),
+        Err((fault, _conn)) => Err(Fail::from(fault)),
+    }
+}
+
+/// What is behind a new world that runs one text, is asked another, and runs a last one.
+pub fn run_and_ask(alloc: Global, first: &[u8], asked: &[u8], last: &[u8]) -> Result<Behind, Fail> {
+    go_through(alloc, new_world(alloc)?, first, asked, last)
 }
