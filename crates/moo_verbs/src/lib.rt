@@ -8,5 +8,3 @@ pub mod laws;
 pub mod matching;
 pub mod prep;
 pub mod reading;
-#[cfg(test)]
-mod tests;
