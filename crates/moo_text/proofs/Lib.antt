@@ -1,7 +1,8 @@
 pub mod Words
 pub mod Places
 pub mod Kept
-pub mod Rooms
+pub mod Giving
+pub mod SoFar
 pub mod Reading
 pub mod Carrying
 pub mod Headers
