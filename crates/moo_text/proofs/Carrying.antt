@@ -76,6 +76,31 @@ no_room n h = grind (arith, h)
 has_room : (n : ℕ) → n < 1000 → nat_lt n 1000 ≡ true
 has_room n h = grind (arith, h)
 
+pub between_blank : (line : List ℕ) (rest : List (List ℕ)) → is_blank_line line ≡ true → between (line ∷ rest) ≡ between rest
+between_blank line rest blank = rw blank refl
+
+pub between_end : (line : List ℕ) (rest : List (List ℕ)) → is_blank_line line ≡ false → is_end_line line ≡ true → between (line ∷ rest) ≡ Malformed 1 ∷ between rest
+between_end line rest not_blank end = rw (not_blank, end) refl
+
+pub between_header : (line : List ℕ) (rest : List (List ℕ)) (header : Header) → is_blank_line line ≡ false → is_end_line line ≡ false → header_of line ≡ Some header → between (line ∷ rest) ≡ within header [] 1 rest
+between_header line rest header not_blank not_end is = rw (not_blank, not_end, is) refl
+
+pub between_none : (line : List ℕ) (rest : List (List ℕ)) → is_blank_line line ≡ false → is_end_line line ≡ false → header_of line ≡ None → between (line ∷ rest) ≡ skipping 1 rest
+between_none line rest not_blank not_end none = rw (not_blank, not_end, none) refl
+
+pub skipping_end : (n : ℕ) (line : List ℕ) (rest : List (List ℕ)) → is_end_line line ≡ true → skipping n (line ∷ rest) ≡ Malformed n ∷ between rest
+skipping_end n line rest end = rw end refl
+
+pub skipping_on : (n : ℕ) (line : List ℕ) (rest : List (List ℕ)) → is_end_line line ≡ false → skipping n (line ∷ rest) ≡ skipping n rest
+skipping_on n line rest not_end = rw not_end refl
+
+pub within_blank : (header : Header) (calls : List Call) (n : ℕ) (line : List ℕ) (rest : List (List ℕ)) → is_blank_line line ≡ true → within header calls n (line ∷ rest) ≡ within header calls (n + 1) rest
+within_blank header calls n line rest blank = rw blank refl
+
+pub within_end : (header : Header) (calls : List Call) (n : ℕ) (all : List Call) (line : List ℕ) (rest : List (List ℕ)) → is_blank_line line ≡ false → is_end_line line ≡ true → calls ≡ all
+    → within header calls n (line ∷ rest) ≡ Whole (record { programmer = header.programmer; at = header.at; calls = all }) ∷ between rest
+within_end header calls n all line rest not_blank end is = subst (λ (cs : List Call). within header calls n (line ∷ rest) ≡ Whole (record { programmer = header.programmer; at = header.at; calls = cs }) ∷ between rest) is (rw (not_blank, end) refl)
+
 pub bad_line : (header : Header) (calls : List Call) (n : ℕ) (line : List ℕ) (rest : List (List ℕ)) → is_blank_line line ≡ false → is_end_line line ≡ false → call_of line ≡ None
     → within header calls n (line ∷ rest) ≡ skipping (n + 1) rest
 bad_line header calls n line rest not_blank not_end none = rw (not_blank, not_end, none) refl
