@@ -51,7 +51,7 @@ pub Reads-map : (a b : Side) (P Q : List ℕ → List ℕ → Type 0) → Reads 
 Reads-map a b P Q p f = record { given = p.given; gives = p.gives; room = p.room; holds = λ rest none. f (a.ahead ++ (p.given ++ rest)) (b.ahead ++ rest) (p.holds rest none) }
 
 -- a call, and one that is stopped
-Explains-then : (x y m n : ℕ) (fault : TextFault) → x ≡ m + y → Explains y n fault → Explains x (m + n) fault
+pub Explains-then : (x y m n : ℕ) (fault : TextFault) → x ≡ m + y → Explains y n fault → Explains x (m + n) fault
 Explains-then x y m n Long e s = omega (arith, e, s)
 Explains-then x y m n Write e s = s
 Explains-then x y m n Read e s = omega (arith, e, s)

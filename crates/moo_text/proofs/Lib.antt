@@ -5,6 +5,7 @@ pub mod Giving
 pub mod SoFar
 pub mod Reading
 pub mod Carrying
+pub mod Joining
 pub mod Headers
 pub mod Calls
 pub mod Cutting

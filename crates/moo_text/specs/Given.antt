@@ -1,9 +1,9 @@
 -- What reading does to the bytes of a text, said of the bytes that the reader gave, whether or not it tells them beforehand.
-use Rattle.std.specs.Prelude.{◌≡◌, ◌≤◌, ◌+◌, ℕ, true, List, [], ◌++◌, length, Option}
+use Rattle.std.specs.Prelude.{◌≡◌, ◌≤◌, ◌+◌, ℕ, true, List, [], ◌++◌, length, Option, IfSome}
 use Rattle.std.specs.Io.KnownBytes.{Consumes, IsAtEnd}
 use Rattle.moo_text.specs.Items.{items}
 use Rattle.moo_text.specs.Feed.{TakesLine, Carries, TakesFirst, TakesNext}
-use Rattle.moo_text.specs.Side.{Side}
+use Rattle.moo_text.specs.Side.{Side, untouched}
 use Rattle.moo_text.specs.declared.fault.TextFault.{TextFault}
 use Rattle.moo_text.specs.declared.fault.TextFault.TheVariants.{Read, Write, OutOfMemory, Long}
 use Rattle.moo_text.specs.declared.next.Next.{Next}
@@ -56,3 +56,21 @@ ReadsNext old new item = Reads old new (λ before behind. TakesNext before behin
 -- these items are read
 abbrev pub ReadsItems : Side → Side → List Next → Type 0
 ReadsItems old new done = Reads old new (λ before behind. items before ≡ done ++ items behind)
+
+-- these are all items that the text has
+abbrev pub ReadsAll : Side → Side → List Next → Type 0
+ReadsAll old new all = Reads old new (λ before behind. items before ≡ all)
+
+-- From the start of a text on reading was stopped behind these items: whatever the reader may give behind what it gave, they come first.
+pub record StopsBehind (left : Option (List ℕ)) (room : ℕ) (new : Side) (done : List Next) (fault : TextFault) : Type 0 where
+  pub given : List ℕ
+  pub gives : Gives (untouched left room) new given
+  pub count : Explains room (length given) fault
+  pub front : (rest : List ℕ) → (new.ended ≡ true → rest ≡ []) → (more : List Next) × (items (given ++ rest) ≡ done ++ more)
+
+-- where the reader tells its bytes, these are all of them, or they stand in front
+abbrev pub GivesAll : Option (List ℕ) → List ℕ → Type 0
+GivesAll left given = IfSome left (λ text. given ≡ text)
+
+abbrev pub GivesFront : Option (List ℕ) → List ℕ → Type 0
+GivesFront left given = IfSome left (λ text. (rest : List ℕ) × (text ≡ given ++ rest))

@@ -92,4 +92,4 @@ returns-in_err-read_piece-clause-cause g c =
     let next = lines_side g.R.Read.remaining c.read_piece.new.self in
     let fault = c.in_err-read_piece.field-0.0 in
     handed_on c.from_residual-in_err-read_piece.result (λ f. BreaksOff first next f) fault c.from_residual-in_err-read_piece.ensures.1
-      (piece_fails first now next c.loop-at.line.items c.skip-in-None.new.self fault c.loop-at.invariant c.in_err-read_piece.ensures.cause)
+    (piece_fails first now next c.loop-at.line.items c.skip-in-None.new.self fault c.loop-at.invariant c.in_err-read_piece.ensures.cause)
