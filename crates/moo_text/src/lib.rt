@@ -5,7 +5,7 @@ mod ahead;
 pub mod call_text;
 pub mod fault;
 pub mod feed;
-mod header;
+pub mod header;
 mod line;
 mod lines;
 mod literal;

@@ -1,10 +1,13 @@
 use crate::call_text::read_call;
 use crate::fault::{CallFault, TextFault};
 use crate::feed::Feed;
+use crate::header::object_of;
+use crate::lines::LineReader;
 use crate::next::Next;
 use crate::reply::{Answer, Reply, print_answer, print_reply};
 use moo_value::code::Code;
 use moo_value::reading::read_literal;
+use moo_value::value::ObjNo;
 use moo_world::answers::Answers;
 use std::io;
 use std::io::Read;
@@ -216,6 +219,55 @@ fn a_text_is_read_in_whatever_pieces_it_comes(rt: HostRuntime) -> Result<(), Fai
     Ok(())
 }
 
+/// Gives the pieces one after another, an empty one too, as a terminal does behind an end of input; an error behind the last.
+#[derive(Drop)]
+struct PieceByPiece<'a> {
+    pieces: &'a [&'a [u8]],
+}
+
+impl<'a> Read for PieceByPiece<'a> {
+    fn read(&mut self, buf: &mut [u8]) -> io::Result<usize> {
+        let Some((piece, others)) = self.pieces.split_first() else {
+            return Err(io::Error::from(io::ErrorKind::WouldBlock));
+        };
+        let count = buf.len().min(piece.len());
+        buf[..count].copy_from_slice(&piece[..count]);
+        self.pieces = others;
+        Ok(count)
+    }
+}
+
+#[test]
+fn a_line_ends_where_no_bytes_come(rt: HostRuntime) -> Result<(), Fail> {
+    let pieces: [&[u8]; 3] = [b"ab", b"", b"c\n"];
+    let mut lines = LineReader::new(rt.alloc(), PieceByPiece { pieces: &pieces }, 100);
+    let line = lines.next_line()?;
+    assert!(rt; matches!(&line, Some(line) if line.as_slice() == b"ab".as_slice()));
+    assert!(rt; lines.next_line()?.is_none());
+    assert!(rt; lines.next_line()?.is_none());
+    Ok(())
+}
+
+#[test]
+fn a_text_ends_where_no_bytes_come(rt: HostRuntime) -> Result<(), Fail> {
+    let cases: [(&[&[u8]], &[u8]); 4] = [
+        (
+            &[b"batch as #3\nend", b"", b"x\nbatch as #2\nend\n"],
+            b"#3: 0\n",
+        ),
+        (
+            &[b"batch as #3\nend\nbatch as", b"", b" #2\nend\n"],
+            b"#3: 0\ntruncated\n",
+        ),
+        (&[b"batch as #3\n", b"en", b"d", b""], b"#3: 0\n"),
+        (&[b"", b"batch as #3\nend\n"], b""),
+    ];
+    for (pieces, told) in cases {
+        assert!(rt; items_of(&rt, PieceByPiece { pieces })?.as_slice() == told);
+    }
+    Ok(())
+}
+
 /// What a text has that is cut off behind so many bytes: its first batch ends with byte 15, its second with byte 53.
 fn told_of_front(count: usize) -> &'static [u8] {
     match count {
@@ -333,6 +385,16 @@ fn calls_are_read(rt: HostRuntime) -> Result<(), Fail> {
     ];
     for line in malformed {
         assert!(rt; matches!(read_call(rt.alloc(), line), Err(CallFault::Malformed)));
+    }
+    Ok(())
+}
+
+#[test]
+fn objects_are_read(rt: HostRuntime) -> Result<(), Fail> {
+    assert!(rt; object_of(rt.alloc(), b"#-7")? == Some(ObjNo(-7)));
+    let others: [&[u8]; 5] = [b"", b"7", b"# 7", b"#7 ", b"#2147483648"];
+    for word in others {
+        assert!(rt; object_of(rt.alloc(), word)?.is_none());
     }
     Ok(())
 }
