@@ -12,7 +12,7 @@ use Rattle.moo_tables.specs.Inside.{Rests}
 use Rattle.moo_tables.proofs.InsideLemmas.{clean_before}
 use Rattle.moo_store.specs.States.{LeavesRows}
 use Rattle.moo_store.specs.Untouched.{KeepsCells}
-use Rattle.moo_store.specs.Shows.{ShowsRows}
+use Rattle.moo_cells.specs.Shows.{ShowsRows}
 use Rattle.moo_store.proofs.Committed.{shown_by}
 use Rattle.moo_store.proofs.Crashes.{left_by_write, keeps_state, rows_written}
 use Rattle.moo_store.proofs.Running.{when_ok}
