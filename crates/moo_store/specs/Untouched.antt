@@ -14,7 +14,7 @@ use Rattle.moo_world.specs.Rows.{IsGood}
 use Rattle.moo_world.specs.Judge.{state_of}
 use Rattle.moo_text.specs.declared.reply.Reply.{Reply}
 use Rattle.moo_store.specs.Answered.{next_of, acknowledged}
-use Rattle.moo_store.specs.Shows.{ShowsRows}
+use Rattle.moo_cells.specs.Shows.{ShowsRows}
 use Rattle.moo_store.specs.World.{store_of, MatchStore}
 use Rattle.moo_store.specs.Kept.{World}
 use Rattle.moo_store.specs.declared.fault.StoreFault.{StoreFault}

@@ -6,7 +6,7 @@ ghost use Rattle.sqlite.specs.Held.{state};
 ghost use Rattle.moo_rows.specs.Maps.{Maps};
 ghost use Rattle.moo_batch.specs.declared.changes.Changes.{Changes};
 ghost use Rattle.moo_batch.specs.Changes.{AreChanges};
-ghost use Rattle.moo_store.specs.Shows.{ShowsRows};
+ghost use Rattle.moo_cells.specs.Shows.{ShowsRows};
 ghost use Rattle.moo_store.specs.Printed.{Prints};
 ghost use Rattle.moo_store.specs.States.{KeepsRows, LeavesRows};
 ghost use Rattle.moo_tables.specs.Tables.{Tables};

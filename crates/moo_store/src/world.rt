@@ -50,7 +50,7 @@ impl<S: Alter + Drop> World<S> {
     ghost use Rattle.moo_world.specs.Judge.{state_of, judge as verdict, after};
     ghost use Rattle.moo_batch.specs.Changes.{AreChanges};
     ghost use Rattle.moo_store.specs.Printed.{Prints};
-    ghost use Rattle.moo_store.specs.Shows.{ShowsRows};
+    ghost use Rattle.moo_cells.specs.Shows.{ShowsRows};
     ghost use Rattle.moo_store.specs.States.{LeavesState};
     ghost use Rattle.moo_store.specs.Answered.{answer_of, IsRun, AnsweredOne, Answered, acknowledged, added};
     ghost use Rattle.moo_tables.specs.Tables.{Tables};

@@ -10,7 +10,7 @@ use Rattle.moo_store.specs.States.{KeepsRows}
 use Rattle.moo_tables.specs.Tables.{Tables}
 use Rattle.moo_tables.specs.Inside.{Rests}
 use Rattle.moo_store.specs.Untouched.{KeepsCells}
-use Rattle.moo_store.specs.Shows.{ShowsRows}
+use Rattle.moo_cells.specs.Shows.{ShowsRows}
 use Rattle.moo_store.proofs.Crashes.{left_by_write, keeps_state, rows_written}
 use Rattle.moo_store.proofs.Running.{when_ok}
 use Rattle.moo_store.proofs.world.World.commit.Goals as goal

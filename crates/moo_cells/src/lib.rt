@@ -1,0 +1,2 @@
+//! The cells of the tables, read as rows.
+#![tactic(auto)]
