@@ -23,7 +23,8 @@ pub fn read_place_cell(bytes: &[u8]) -> Option<Place>
 
 /// The first of these sets whose phrases, with slashes between them, are the bytes.
 fn set_spelled(sets: &[PrepositionSet], bytes: &[u8]) -> Option<PrepositionSet>
-    ensures { result ≡ find (λ set. bytes_eq (set_text set) bytes.now) sets.now }
+    ensures first { result ≡ find (λ set. bytes_eq (set_text set) bytes.now) sets.now }
+    ensures found { IfSome result (λ set. bytes.now ≡ set_text set) }
 {
     sets.iter().copied().find(|set| set_text(*set).as_bytes() == bytes)
 }
@@ -34,10 +35,10 @@ pub fn read_prep_cell(bytes: &[u8]) -> Option<Preposition>
     ensures found { IfSome result (λ prep. bytes.now ≡ prep_text prep) }
     ensures only { (prep : Preposition) → bytes.now ≡ prep_text prep → result ≡ Some prep }
 {
-    if bytes == b"none" {
+    if bytes == b"none".as_slice() {
         return Some(Preposition::None);
     }
-    if bytes == b"any" {
+    if bytes == b"any".as_slice() {
         return Some(Preposition::Any);
     }
     set_spelled(&ALL_SETS, bytes).map(Preposition::Set)
