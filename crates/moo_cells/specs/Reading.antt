@@ -21,7 +21,7 @@ pub record ObjectFits (n : ObjNo) (row : ObjRow) : Type 0 where
   pub number : is_number n ≡ true
   pub parent : is_number row.parent ≡ true
   pub location : is_number row.location ≡ true
-  pub row : row_fits row ≡ true
+  pub fits : row_fits row ≡ true
 
 pub record PropFits (id : PropId) (row : PropRow) : Type 0 where
   pub number : IsId id.0
@@ -37,7 +37,7 @@ pub record SlotFits (key : ObjNo × PropId) (row : SlotRow) : Type 0 where
 pub record VerbFits (key : ObjNo × VerbId) (row : VerbRow) : Type 0 where
   pub object : is_number key.0 ≡ true
   pub number : IsId key.1.0
-  pub row : verb_fits row ≡ true
+  pub fits : verb_fits row ≡ true
 
 -- the cells show this row of this key, and it is within its limits
 abbrev pub ReadsObject : ObjNo → Row → ObjRow → Type 0

@@ -33,13 +33,19 @@ fn flags_of(cells: &Row) -> Result<Flags, RowFault>
     ensures ok { IfOk result (λ flags. HasFlags cells.now flags) }
     ensures err { IfErr result (λ _. (flags : Flags) → ¬ (HasFlags cells.now flags)) }
 {
+    let player = flag_at(cells, 5)?;
+    let programmer = flag_at(cells, 6)?;
+    let wizard = flag_at(cells, 7)?;
+    let r = flag_at(cells, 8)?;
+    let w = flag_at(cells, 9)?;
+    let f = flag_at(cells, 10)?;
     Ok(Flags {
-        player: flag_at(cells, 5)?,
-        programmer: flag_at(cells, 6)?,
-        wizard: flag_at(cells, 7)?,
-        r: flag_at(cells, 8)?,
-        w: flag_at(cells, 9)?,
-        f: flag_at(cells, 10)?,
+        player,
+        programmer,
+        wizard,
+        r,
+        w,
+        f,
     })
 }
 

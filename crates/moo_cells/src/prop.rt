@@ -37,11 +37,11 @@ pub fn read_prop(alloc: Global, cells: &Row) -> Result<(PropId, PropRow), RowFau
     if cells.column_count() != COLUMNS {
         return Err(RowFault::Unreadable);
     }
-    let id = PropId(id_at(cells, 0)?);
+    let id = id_at(cells, 0)?;
     let definer = object_at(cells, 1)?;
     let name = string_at(alloc, cells, 2)?;
     if !is_property_name(&name) {
         return Err(RowFault::Unreadable);
     }
-    Ok((id, PropRow { definer, name }))
+    Ok((PropId(id), PropRow { definer, name }))
 }

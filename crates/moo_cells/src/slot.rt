@@ -26,9 +26,9 @@ pub fn read_slot(alloc: Global, cells: &Row) -> Result<((ObjNo, PropId), SlotRow
         return Err(RowFault::Unreadable);
     }
     let object = object_at(cells, 0)?;
-    let prop = PropId(id_at(cells, 1)?);
+    let prop = id_at(cells, 1)?;
     let owner = object_at(cells, 2)?;
     let bits = bits_at(cells, 3)?;
     let state = state_at(alloc, cells, 4)?;
-    Ok(((object, prop), SlotRow { owner, bits, state }))
+    Ok(((object, PropId(prop)), SlotRow { owner, bits, state }))
 }

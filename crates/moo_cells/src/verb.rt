@@ -23,11 +23,10 @@ fn args_of(cells: &Row) -> Result<ArgSpec, RowFault>
     ensures ok { IfOk result (λ args. HasArgs cells.now args) }
     ensures err { IfErr result (λ _. (args : ArgSpec) → ¬ (HasArgs cells.now args)) }
 {
-    Ok(ArgSpec {
-        dobj: place_at(cells, 5)?,
-        prep: prep_at(cells, 6)?,
-        iobj: place_at(cells, 7)?,
-    })
+    let dobj = place_at(cells, 5)?;
+    let prep = prep_at(cells, 6)?;
+    let iobj = place_at(cells, 7)?;
+    Ok(ArgSpec { dobj, prep, iobj })
 }
 
 /// The verb that these cells show.
@@ -41,7 +40,7 @@ pub fn read_verb(alloc: Global, cells: &Row) -> Result<((ObjNo, VerbId), VerbRow
         return Err(RowFault::Unreadable);
     }
     let object = object_at(cells, 0)?;
-    let id = VerbId(id_at(cells, 1)?);
+    let id = id_at(cells, 1)?;
     let names = string_at(alloc, cells, 2)?;
     if check_names(&names).is_err() {
         return Err(RowFault::Unreadable);
@@ -50,7 +49,7 @@ pub fn read_verb(alloc: Global, cells: &Row) -> Result<((ObjNo, VerbId), VerbRow
     let bits = verb_bits_at(cells, 4)?;
     let args = args_of(cells)?;
     Ok((
-        (object, id),
+        (object, VerbId(id)),
         VerbRow {
             names,
             owner,
