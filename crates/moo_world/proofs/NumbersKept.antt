@@ -1,5 +1,5 @@
 -- Numbers that stay, over one call and over many.
-use Rattle.std.proofs.Common.{◌≡◌, ℕ, ◌<◌, ◌≤◌, ◌⊎◌, inl, inr, Bool, true, false, cond, Option, Some, None, Ordering, List, [], ◌∷◌, refl, sym, ap, ◌∙◌, subst, arith}
+use Rattle.std.proofs.Common.{◌≡◌, ℕ, ◌+◌, ◌<◌, ◌≤◌, ◌⊎◌, inl, inr, Bool, true, false, cond, Option, Some, None, Ordering, List, [], ◌∷◌, refl, sym, ap, ◌∙◌, subst, arith}
 use Rattle.std.specs.Prelude.{is_some, if◌then◌else◌}
 use Rattle.std.specs.Cmp.{IsTotalOrder}
 use Rattle.std.specs.Ordering.{eq_by_cmp}
@@ -23,6 +23,12 @@ use Rattle.moo_world.specs.Rows.{prop_id, verb_id}
 use Rattle.moo_world.proofs.MapLaws.{key-Decides}
 
 -- ---- one call
+
+pub as_high : (old new : ℕ) → new ≡ old → old ≤ new
+as_high old new e = omega (arith, e)
+
+pub one_higher : (old new : ℕ) → new ≡ old + 1 → old ≤ new
+one_higher old new e = omega (arith, e)
 
 pub numbers_same : (old new : Maps) → new.props ≡ old.props → new.verbs ≡ old.verbs → new.head.next_prop ≡ old.head.next_prop → new.head.next_verb ≡ old.head.next_verb → KeepsNumbers old new
 numbers_same old new props verbs p v = record { props = props_stay props; verbs = verbs_stay verbs; next_prop = omega (arith, p); next_verb = omega (arith, v) }
