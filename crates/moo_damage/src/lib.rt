@@ -7,8 +7,6 @@ mod differences;
 mod kind;
 mod laws;
 mod local;
-#[cfg(test)]
-mod tests;
 mod trees;
 
 pub use damage::damage_of;

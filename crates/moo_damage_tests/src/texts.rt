@@ -1,6 +1,6 @@
 //! The texts of kinds and keys.
 
-use crate::{Key, Kind};
+use moo_damage::{Key, Kind};
 use std::test::Fail;
 
 #[test]
