@@ -12,7 +12,6 @@ use crate::definitions::{Definitions, all_definitions};
 use crate::fault::DumpFault;
 use crate::objects::object_text;
 use crate::output::put_all;
-use moo_rows::row::Head;
 use moo_rows::rows::Rows;
 use moo_rows::walk::each_object;
 use moo_value::value::{ObjNo, Value};
