@@ -5,6 +5,8 @@ mod ahead;
 pub mod call_text;
 pub mod fault;
 pub mod feed;
+#[cfg(test)]
+mod feed_tests;
 pub mod header;
 mod line;
 mod lines;

@@ -1,4 +1,4 @@
-use Rattle.std.proofs.Common.{rules, arith, ◌≤◌, ◌<◌, ◌≡◌, Some, None, true, false, ◌∷◌, refl}
+use Rattle.std.proofs.Common.{rules, arith, ◌<◌, ◌≡◌, Some, None, true, false, ◌∷◌, refl}
 use Rattle.moo_text.specs.Line.{is_end_line}
 use Rattle.moo_text.specs.Items.{between, skipping}
 use Rattle.moo_text.specs.Side.{lines_side, lines_room}
