@@ -58,5 +58,5 @@ returns-in-Ok-into_changes g c =
     let judged = judge-run (state_of t) batch due room ∙ ap (verdict_of t.head.seq) (same ∙ c.in-Ok.ensures.comes)
     ∙ ap (λ w. Accepted c.in-Ok.answers (record { world = w; seq = t.head.seq + 1 })) (sym (world_of-with_seq (t.head.seq + 1) after)) in
     let lead : CallsLead batch.programmer batch.calls t after =
-        subst (λ m. CallsLead batch.programmer batch.calls m after) c.new-draft.ensures.maps (subst (λ calls. CallsLead batch.programmer calls c.new-draft.result.maps after) c.items.ensures.value c.in-Ok.ensures.kept.numbers) in
+    subst (λ m. CallsLead batch.programmer batch.calls m after) c.new-draft.ensures.maps (subst (λ calls. CallsLead batch.programmer calls c.new-draft.result.maps after) c.items.ensures.value c.in-Ok.ensures.kept.numbers) in
     (next, subst (λ b. AreChanges b next c.in-Ok-into_changes.changes) base (subst (λ n. AreChanges c.set_head.new.self.base n c.in-Ok-into_changes.changes) maps c.in-Ok-into_changes.ensures), good-with_seq (t.head.seq + 1) after c.in-Ok.ensures.kept.good, judged, (after, lead, refl))
