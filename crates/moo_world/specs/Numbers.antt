@@ -1,5 +1,5 @@
 -- What a call does to the numbers of properties and verbs, which no world shows: what stays has the number that it had, and what
--- is new the next one. So the world that a call leaves fixes its rows.
+-- is new the next one. With the world that the call leaves this fixes the rows, but for which of two verbs alike was deleted.
 use Rattle.std.specs.Prelude.{◌≡◌, ◌≤◌, ◌<◌, ℕ, true, Option, Some, None, is_some, if◌then◌else◌}
 use Rattle.std.specs.Option.{option_and_then}
 use Rattle.std.specs.FinMap.{FinMap, get, insert, remove}

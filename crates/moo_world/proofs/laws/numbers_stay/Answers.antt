@@ -1,4 +1,3 @@
-use Rattle.moo_world.specs.Between.{BatchesKeepNumbers}
 use Rattle.moo_world.proofs.NumbersKept.{batches_keep_numbers}
 use Rattle.moo_world.proofs.laws.numbers_stay.Goals as goal
 
