@@ -20,7 +20,7 @@ use Rattle.moo_store.specs.Answered.{AnsweredOne}
 use Rattle.moo_store.specs.World.{store_of, IsAt, RunsOne, FailsAtStore}
 use Rattle.moo_store.specs.Kept.{World}
 use Rattle.moo_store.specs.declared.fault.StoreFault.{StoreFault}
-use Rattle.moo_store.specs.declared.fault.StoreFault.TheVariants.{Store, OutOfMemory, Closed}
+use Rattle.moo_store.specs.declared.fault.StoreFault.TheVariants.{Store, Damaged, NewerVersion, OutOfMemory, Closed}
 use Rattle.moo_store.specs.Text.{AnsweredItem, AnsweredItems, IsAtMostOneOf, LeftOrOneMore, IsAtOrFailed, RunsBatch, answer_to, accepted_at, accepted, IsNextOf, KeepsRest, Answers, Applies, Stops}
 use Rattle.moo_store.specs.Untouched.{taken_of}
 use Rattle.moo_store.specs.Turns.{Turn, Turns, Completes, Halts}
@@ -74,6 +74,8 @@ still_at g old new s batch (Store error) all before behind place fails runs it =
       let lost = runs s (works_at g old s all fails.0 it) clean trees left in
       one_of s batch all before behind trees place lost.0 lost.1 lost.2,
 )
+still_at g old new s batch (Damaged kind key) all before behind place fails runs it = absurd fails
+still_at g old new s batch NewerVersion all before behind place fails runs it = absurd fails
 still_at g old new s batch OutOfMemory all before behind place fails runs it = absurd fails
 still_at g old new s batch Closed all before behind place fails runs it = subst (λ w. IsAtOrFailed g w s all) (sym fails.1) it
 
@@ -94,6 +96,8 @@ ran g old new s batch a all before behind place settled it at = by_result it.res
     by_result (Ok reply) is fails runs = subst (λ x. Answers g new s (Whole batch) x all) (sym is) (replied g old new s batch reply all before behind place settled fails runs at)
     by_result (Err (Store error)) is fails runs = subst (λ x. Answers g new s (Whole batch) x all) (sym is) (faulted g old new s batch (Store error) answer.Fault all before behind place settled refl fails runs at)
     by_result (Err Closed) is fails runs = subst (λ x. Answers g new s (Whole batch) x all) (sym is) (faulted g old new s batch Closed answer.Closed all before behind place settled refl fails runs at)
+    by_result (Err (Damaged kind key)) is fails runs = absurd fails
+    by_result (Err NewerVersion) is fails runs = absurd fails
     by_result (Err OutOfMemory) is fails runs = absurd fails
 
 -- what a turn says of every state that the World may be at
@@ -121,6 +125,8 @@ turns_answer g settled old new s all before (item ∷ done) left (a ∷ answers)
 one_taken : (batch : Batch) (a : Answer) (r : Result Reply StoreFault) → a ≡ answer_to r → accepted_at (Whole batch) a ≡ taken_of batch r
 one_taken batch a (Ok reply) is = ap (accepted_at (Whole batch)) is
 one_taken batch a (Err (Store error)) is = ap (accepted_at (Whole batch)) is
+one_taken batch a (Err (Damaged kind key)) is = ap (accepted_at (Whole batch)) is
+one_taken batch a (Err NewerVersion) is = ap (accepted_at (Whole batch)) is
 one_taken batch a (Err OutOfMemory) is = ap (accepted_at (Whole batch)) is
 one_taken batch a (Err Closed) is = ap (accepted_at (Whole batch)) is
 

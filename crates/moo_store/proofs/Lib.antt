@@ -10,3 +10,5 @@ pub mod WholeRuns
 pub mod Opened
 pub mod Untouched
 pub mod Asking
+pub mod AdoptLemmas
+pub mod HeadlineLemmas

@@ -19,7 +19,7 @@ use Rattle.moo_store.specs.Answered.{reply_of, next_of, IsRun, AnsweredOne, Answ
 use Rattle.moo_store.specs.World.{store_of, IsAt, Left, LeftOrNext, RunsOne, MatchStore}
 use Rattle.moo_store.specs.Kept.{World}
 use Rattle.moo_store.specs.declared.fault.StoreFault.{StoreFault}
-use Rattle.moo_store.specs.declared.fault.StoreFault.TheVariants.{Store, OutOfMemory, Closed}
+use Rattle.moo_store.specs.declared.fault.StoreFault.TheVariants.{Store, Damaged, NewerVersion, OutOfMemory, Closed}
 
 pub when_ok : {T E P : Type 0} (r : Result T E) → false ≡ is_err r → OnOk r P → P
 when_ok (Ok x) e p = p
@@ -70,6 +70,8 @@ accepted_one g new s batch answers next (Err (Store error)) judged is at fault c
   | inl was ↦ (0, omega arith, was)
   | inr on ↦ (1, omega arith, subst (LeavesState trees) (sym (ap (left_by s) judged)) on)
 ]
+accepted_one g new s batch answers next (Err (Damaged kind key)) judged is at fault crash = let no : (Damaged kind key) ≡ Store fault.0 = fault.1 in absurd cc
+accepted_one g new s batch answers next (Err NewerVersion) judged is at fault crash = let no : NewerVersion ≡ Store fault.0 = fault.1 in absurd cc
 accepted_one g new s batch answers next (Err OutOfMemory) judged is at fault crash = let no : OutOfMemory ≡ Store fault.0 = fault.1 in absurd cc
 accepted_one g new s batch answers next (Err Closed) judged is at fault crash = let no : Closed ≡ Store fault.0 = fault.1 in absurd cc
 
@@ -186,6 +188,8 @@ stops T g old now new all count before replies batch (Store error) low is p runs
     let lost = runs end (is_at_end g old now all count before replies p s it) clean trees left in
     let place : length (added before replies) ≡ count = ap length (added_is g old now all count before replies p) ∙ p.each in
     (lost.0, lost.1, subst (LeavesState trees) (next_is all count batch end lost.0 lost.1 low is ∙ ap (λ n. after end (take lost.0 (drop n all))) (sym place)) lost.2)
+stops T g old now new all count before replies batch (Damaged kind key) low is p runs s it = absurd (runs (after s (acknowledged all (added before replies))) (is_at_end g old now all count before replies p s it))
+stops T g old now new all count before replies batch NewerVersion low is p runs s it = absurd (runs (after s (acknowledged all (added before replies))) (is_at_end g old now all count before replies p s it))
 stops T g old now new all count before replies batch OutOfMemory low is p runs s it = absurd (runs (after s (acknowledged all (added before replies))) (is_at_end g old now all count before replies p s it))
 stops T g old now new all count before replies batch Closed low is p runs s it = runs (after s (acknowledged all (added before replies))) (is_at_end g old now all count before replies p s it)
 
@@ -194,5 +198,7 @@ pub left_at : {S T : Type 0} (g : Ghosts S) (new : World S) (end : State) (r : R
     → MatchStore r (HasCleanDisk (store_of g new) → Left (store_of g new) end) ⊤
 left_at g new end (Ok x) Q settled it = λ clean. left_at_rest (store_of g new) end settled (it.tables clean)
 left_at g new end (Err (Store error)) Q settled it = tt
+left_at g new end (Err (Damaged kind key)) Q settled it = λ clean. left_at_rest (store_of g new) end settled (it.tables clean)
+left_at g new end (Err NewerVersion) Q settled it = λ clean. left_at_rest (store_of g new) end settled (it.tables clean)
 left_at g new end (Err OutOfMemory) Q settled it = λ clean. left_at_rest (store_of g new) end settled (it.tables clean)
 left_at g new end (Err Closed) Q settled it = λ clean. left_at_rest (store_of g new) end settled (it.tables clean)

@@ -7,3 +7,5 @@ pub mod Text
 pub mod Turns
 pub mod Untouched
 pub mod Asked
+pub mod Opening
+pub mod Reopened

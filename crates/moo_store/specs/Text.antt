@@ -24,7 +24,7 @@ use Rattle.moo_store.specs.Answered.{AnsweredOne}
 use Rattle.moo_store.specs.World.{store_of, IsAt, RunsOne, FailsAtStore}
 use Rattle.moo_store.specs.Untouched.{HasWritten, WritesOne}
 use Rattle.moo_store.specs.declared.fault.StoreFault.{StoreFault}
-use Rattle.moo_store.specs.declared.fault.StoreFault.TheVariants.{Store, OutOfMemory, Closed}
+use Rattle.moo_store.specs.declared.fault.StoreFault.TheVariants.{Store, Damaged, NewerVersion, OutOfMemory, Closed}
 use Rattle.moo_store.specs.Kept.{World}
 
 -- a batch is answered as it is judged, or isn't run; the other items answer for themselves
@@ -66,6 +66,8 @@ is_lost answer.Truncated = false
 abbrev pub answer_to : Result Reply StoreFault → Answer
 answer_to (Ok reply) = answer.Replied reply
 answer_to (Err (Store error)) = answer.Fault
+answer_to (Err (Damaged kind key)) = answer.Fault
+answer_to (Err NewerVersion) = answer.Fault
 answer_to (Err OutOfMemory) = answer.Fault
 answer_to (Err Closed) = answer.Closed
 

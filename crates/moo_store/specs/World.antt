@@ -11,7 +11,7 @@ use Rattle.moo_store.specs.States.{KeepsRows, Keeps, LeavesState}
 use Rattle.moo_store.specs.Answered.{AnsweredOne}
 use Rattle.moo_store.specs.Kept.{World}
 use Rattle.moo_store.specs.declared.fault.StoreFault.{StoreFault}
-use Rattle.moo_store.specs.declared.fault.StoreFault.TheVariants.{Store, OutOfMemory, Closed}
+use Rattle.moo_store.specs.declared.fault.StoreFault.TheVariants.{Store, Damaged, NewerVersion, OutOfMemory, Closed}
 
 -- what the connection of a World shows
 abbrev pub store_of : {S : Type 0} (g : Ghosts S) → World S → Database
@@ -44,6 +44,8 @@ LeftOrNext store s batches = (trees : Trees) → store.may_leave trees → (more
 abbrev pub MatchStore : {T : Type 0} → Result T StoreFault → Type 0 → Type 0 → Type 0
 MatchStore (Ok x) P Q = P
 MatchStore (Err (Store error)) P Q = Q
+MatchStore (Err (Damaged kind key)) P Q = P
+MatchStore (Err NewerVersion) P Q = P
 MatchStore (Err OutOfMemory) P Q = P
 MatchStore (Err Closed) P Q = P
 
@@ -52,6 +54,8 @@ abbrev pub RunsOne : {S : Type 0} (g : Ghosts S) → World S → State → Batch
 RunsOne g new s batch (Ok reply) = (next : State) × AnsweredOne s batch reply next × IsAt g new next
 RunsOne g new s batch (Err (Store error)) = HasCleanDisk (store_of g new) → LeftOrNext (store_of g new) s (batch ∷ [])
 RunsOne g new s batch (Err Closed) = IsAt g new s
+RunsOne g new s batch (Err (Damaged kind key)) = ⊥
+RunsOne g new s batch (Err NewerVersion) = ⊥
 RunsOne g new s batch (Err OutOfMemory) = ⊥
 
 -- the World has failed at a fault of the store, and at no other
@@ -59,4 +63,6 @@ abbrev pub FailsAtStore : {T : Type 0} {S : Type 0} (g : Ghosts S) → World S �
 FailsAtStore g old new (Ok x) = old.failed ≡ false
 FailsAtStore g old new (Err (Store error)) = (old.failed ≡ false) × (new.failed ≡ true)
 FailsAtStore g old new (Err Closed) = (old.failed ≡ true) × (new ≡ old)
+FailsAtStore g old new (Err (Damaged kind key)) = ⊥
+FailsAtStore g old new (Err NewerVersion) = ⊥
 FailsAtStore g old new (Err OutOfMemory) = ⊥

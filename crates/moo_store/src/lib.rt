@@ -1,6 +1,7 @@
 //! A world kept in the tables of a store.
 #![tactic(auto)]
 
+mod adopting;
 mod answering;
 mod apply;
 mod ask;
@@ -10,9 +11,13 @@ pub mod fault;
 pub mod laws;
 pub mod output;
 mod printing;
+mod reading;
+mod reopening;
 mod tally;
 pub mod world;
 
+pub use adopting::adopt;
 pub use apply::apply_text;
 pub use ask::ask_text;
+pub use reopening::{run_and_reopen, run_then_crash_then_adopt};
 pub use tally::Tally;
