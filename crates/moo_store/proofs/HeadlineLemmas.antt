@@ -1,5 +1,5 @@
 -- From what a crash left to the World that is found.
-use Rattle.std.proofs.Common.{◌≡◌, ◌≤◌, ℕ, List, [], ◌∷◌, ◌++◌, take, drop, length, Result, Ok, Err, refl, sym, subst, arith}
+use Rattle.std.proofs.Common.{◌≡◌, ◌≤◌, ℕ, List, [], ◌∷◌, ◌++◌, take, drop, length, Result, Ok, Err, refl, sym, ap, subst, ◌∙◌, arith}
 use Rattle.std.specs.Prelude.{⊤}
 use Rattle.sqlite.specs.State.{State as Database, HasCleanDisk, Opens}
 use Rattle.sqlite.specs.Effect.{IsDatabase}
@@ -14,7 +14,7 @@ use Rattle.moo_store.specs.States.{Keeps, LeavesState}
 use Rattle.moo_store.specs.Answered.{acknowledged}
 use Rattle.moo_store.specs.Kept.{World}
 use Rattle.moo_store.specs.World.{store_of, IsAt, StandsFor, Left, LeftOrNext, MatchStore}
-use Rattle.moo_store.specs.Reopened.{HoldsAcknowledged}
+use Rattle.moo_store.specs.Reopened.{HoldsAcknowledged, kept_of, RunsInParts, IsKeptOf}
 use Rattle.moo_store.specs.declared.fault.StoreFault.{StoreFault}
 use Rattle.moo_store.specs.declared.fault.StoreFault.TheVariants.{Store, Damaged, NewerVersion, OutOfMemory, Closed}
 
@@ -57,3 +57,16 @@ found crashed again s batches replies left may =
 pub holds : {T : Type 0} (g : Ghosts T) (again : Database) (world : World T) (s : State) (batches : List Batch) (replies : List Reply) (it : Found again s batches replies)
     → StandsFor g world (after s (acknowledged batches replies ++ take it.more (drop (length replies) batches))) → HoldsAcknowledged g world s batches replies
 holds g again world s batches replies it stands = record { more = it.more; at_most_one = it.at_most_one; stands = stands }
+
+-- ---- several parts
+
+pub one_part_more : (s t end : State) (parts : List (List Batch × List Reply)) (batches : List Batch) (replies : List Reply) (more : ℕ) → more ≤ 1 → end ≡ after t (kept_of batches replies more) → RunsInParts s parts t → RunsInParts s (parts ++ (batches, replies) ∷ []) end
+one_part_more s t end [] batches replies more few is runs = (more, few, is ∙ ap (λ u. after u (kept_of batches replies more)) runs)
+one_part_more s t end (part ∷ parts) batches replies more few is runs = (runs.0, runs.1, one_part_more (after s (kept_of part.0 part.1 runs.0)) t end parts batches replies more few is runs.2)
+
+pub parts_joined : (s end : State) (parts : List (List Batch × List Reply)) → RunsInParts s parts end → (kept : List Batch) × IsKeptOf kept parts × (end ≡ after s kept)
+parts_joined s end [] runs = ([], refl, runs)
+parts_joined s end (part ∷ parts) runs =
+    let first = kept_of part.0 part.1 runs.0 in
+    let rest = parts_joined (after s first) end parts runs.2 in
+    (first ++ rest.0, (runs.0, rest.0, runs.1, rest.1, refl), rest.2 ∙ sym (after_joined s first rest.0))

@@ -12,3 +12,4 @@ pub mod Untouched
 pub mod Asking
 pub mod AdoptLemmas
 pub mod HeadlineLemmas
+pub mod CheckLemmas

@@ -9,3 +9,4 @@ pub mod Untouched
 pub mod Asked
 pub mod Opening
 pub mod Reopened
+pub mod Checked

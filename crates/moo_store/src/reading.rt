@@ -75,6 +75,9 @@ pub(crate) fn read_rows<S: Alter>(
     ensures outside { (state S.Store conn.new).in_transaction ≡ false }
     ensures read { OnOk result (HasTables moo_schema (state S.Store conn.old) × Reads moo_schema (state S.Store conn.old) (state S.Store conn.new)) }
     ensures failed { OnErr result ((conn.new ≡ conn.old) ⊎ (HasTables moo_schema (state S.Store conn.old) × FailsToRead moo_schema (state S.Store conn.old) (state S.Store conn.new))) }
+    // Where the store didn't fail, the cells were read and nothing more, or nothing was done.
+    ensures quiet { IfErr result (λ fault. ((error : _) × (fault ≡ StoreFault.Store error)) ⊎ ((conn.new ≡ conn.old) ⊎ Reads moo_schema (state S.Store conn.old) (state S.Store conn.new))) }
+    ensures open { IfErr result (λ fault. fault ≢ StoreFault.Closed) }
     ensures settled { IsTrue (state S.Store conn.old).is_open → (state S.Store conn.old).now ≡ (state S.Store conn.old).committed }
     ensures other { (state S.Store conn.old).now.schema ≢ moo_schema → IsErrAnd result (λ fault. IsOfStore fault × (conn.new ≡ conn.old)) }
     ensures rows { HasCleanDisk (state S.Store conn.new) → IfOk result (λ rows. (tables : Tables) → Rests (state S.Store conn.old) tables → ShowsRows tables rows.maps) }

@@ -1,12 +1,15 @@
 //! The headline: runs, a crash, and the opening of what it left.
 
-ghost use Rattle.std.specs.Prelude.{◌≡◌, IfOk, IfErr, IfSome, false};
+ghost use Rattle.std.specs.Prelude.{◌≡◌, List, [], ◌∷◌, ◌++◌, IfOk, IfErr, IfSome, false};
 ghost use Rattle.sqlite.specs.State.{HasCleanDisk};
 ghost use Rattle.sqlite.specs.Held.{state};
+ghost use Rattle.moo_world.specs.declared.call.Batch.{Batch};
+ghost use Rattle.moo_world.specs.Judge.{State, after};
+ghost use Rattle.moo_text.specs.declared.reply.Reply.{Reply};
 ghost use Rattle.moo_tables.specs.Inside.{MayOpenAs};
 ghost use Rattle.moo_store.specs.Answered.{added};
 ghost use Rattle.moo_store.specs.Opening.{IsOfStore};
-ghost use Rattle.moo_store.specs.Reopened.{HoldsAcknowledged};
+ghost use Rattle.moo_store.specs.Reopened.{HoldsAcknowledged, RunsInParts, IsKeptOf};
 ghost use Rattle.moo_store.specs.World.{store_of, StandsFor};
 
 use crate::adopting::adopt;
@@ -58,4 +61,17 @@ pub fn run_then_crash_then_adopt<S: Alter + Reopen + Drop>(
         Some(found) => Some(adopt(alloc, found)),
         None => None,
     }
+}
+
+/// Runs that each start from what the opening after the one before found join to one list of batches.
+///
+/// The World here was found after the last part. The call does nothing; its contract is what it is for.
+pub fn parts_join<S: Alter + Drop>(world: &World<S>)
+    // One part more, from the state that the parts before it left.
+    ensures goes_on { (s t : State) (parts : List (List Batch × List Reply)) (batches : List Batch) (replies : List Reply) → RunsInParts s parts t → HoldsAcknowledged S.Store world.now t batches replies →
+        (end : State) × RunsInParts s (parts ++ (batches, replies) ∷ []) end × StandsFor S.Store world.now end }
+    // All parts together: every acknowledged batch of each, and at most one more behind them.
+    ensures joins { (s end : State) (parts : List (List Batch × List Reply)) → RunsInParts s parts end → (kept : List Batch) × IsKeptOf kept parts × (end ≡ after s kept) }
+{
+    let _world = world;
 }
