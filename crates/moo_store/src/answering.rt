@@ -21,11 +21,11 @@ use std::io::{Read, Write};
 /// What answers the batches of a text.
 pub(crate) trait Answering {
     // What an answer to a batch says of the one that gives it, before and after.
-    ghost answered: { Self → Self → Batch → Answer → Type 0 };
+    ghost answered: { Self → Batch → Answer → Self → Type 0 };
 
     /// Answers one batch.
     fn answer(&mut self, batch: &Batch) -> Answer
-        ensures { answered self.old self.new batch.now result };
+        ensures { answered self.old batch.now result self.new };
 }
 
 /// The answer to a batch that a World ran or was asked.
@@ -34,6 +34,7 @@ pub(crate) fn answered_by(reply: Result<Reply, StoreFault>) -> Answer
 {
     match reply {
         Ok(reply) => Answer::Replied(reply),
+        Err(StoreFault::OutOfMemory) => Answer::Replied(Reply::NoMemory),
         Err(StoreFault::Closed) => Answer::Closed,
         Err(_) => Answer::Fault,
     }
@@ -41,7 +42,7 @@ pub(crate) fn answered_by(reply: Result<Reply, StoreFault>) -> Answer
 
 /// Answers one item of a text; its end has no answer.
 fn answer_item<A: Answering>(answering: &mut A, item: &Next) -> Option<Answer>
-    ensures some { IfSome result (λ answer. Turn A.answered answering.old answering.new item.now answer) }
+    ensures some { IfSome result (λ answer. Turn A.answered answering.old item.now answer answering.new) }
     ensures none { IfNone result ((item.now ≡ Next.End) × (answering.new ≡ answering.old)) }
 {
     match item {

@@ -3,9 +3,8 @@ use Rattle.std.specs.Prelude.{IfSome}
 use Rattle.moo_text.specs.Items.{items}
 use Rattle.moo_text.specs.Left.{feed_left, feed_room}
 use Rattle.moo_text.proofs.Rooms.{TakesRoom-then, handed_on}
-use Rattle.moo_store.specs.Text.{is_batch, is_lost}
-use Rattle.moo_store.specs.Turns.{Halts}
-use Rattle.moo_store.proofs.Going.{starts_with, known_start, known_on, known_before, known_inside, one_more, falls_at_turn, no_read}
+use Rattle.moo_store.specs.Turns.{is_batch, is_lost, Halts}
+use Rattle.moo_store.proofs.Going.{starts_with, known_start, known_on, known_before, known_inside, one_more, falls_at_turn}
 use Rattle.moo_store.proofs.answering.answer_all.Goals as goal
 
 pub loop-feed-init : goal.loop-feed-init
@@ -68,4 +67,4 @@ returns-in_err-put_answer-clause-halts g c =
     let wrote = c.in_err-put_answer.ensures.err in
     handed_on c.from_residual-in_err-put_answer.result (λ fault. IfSome text (λ t. Halts g.A.Answering.answered c.args.answering.now c.answer_item.new.answering (items t) before behind fault)) fault c.from_residual-in_err-put_answer.ensures.1
     (known_inside g.A.Answering.answered c.args.answering.now c.loop-feed.answering c.answer_item.new.answering text (feed_left g.R.Read.remaining c.loop-feed.feed) (feed_left g.R.Read.remaining c.next_batch.new.self) before (g.W.Write.contents c.loop-feed.writer) behind
-    c.loop-feed.tally.batches c.loop-feed.tally.lost fault c.in_ok-item.item c.in-Some.answer wrote.0 c.loop-feed.invariant.going c.in_ok-item.ensures.next c.in-Some.ensures.some wrote.1 (no_read fault c.in_err-put_answer.ensures.fault))
+    c.loop-feed.tally.batches c.loop-feed.tally.lost fault c.in_ok-item.item c.in-Some.answer wrote.0 c.loop-feed.invariant.going c.in_ok-item.ensures.next c.in-Some.ensures.some wrote.1 c.in_err-put_answer.ensures.fault wrote.2)
