@@ -1,12 +1,10 @@
 -- What the asking of a text answers.
-use Rattle.std.proofs.Common.{◌≡◌, inl, inr, ℕ, true, List, Option, Some, None, Result, Ok, Err, refl, ap, subst, sym}
-use Rattle.std.specs.Prelude.{◌⊎◌, IsTrue, IfSome, IfOk}
+use Rattle.std.proofs.Common.{◌≡◌, inl, inr, ℕ, true, List, Option, Result, Ok, Err, refl, ap, subst, sym}
+use Rattle.std.specs.Prelude.{◌⊎◌, IsTrue, IfOk}
 use Rattle.std.specs.Result.{IsOkAnd}
 use Rattle.sqlite.specs.Store.{Ghosts}
 use Rattle.moo_world.specs.declared.call.Batch.{Batch}
 use Rattle.moo_world.specs.Judge.{State, judge}
-use Rattle.moo_text.specs.Items.{items}
-use Rattle.moo_text.specs.declared.next.Next.{Next}
 use Rattle.moo_text.specs.declared.fault.TextFault.{TextFault}
 use Rattle.moo_text.specs.declared.reply.Answer.{Answer}
 use Rattle.moo_text.specs.declared.reply.Answer.TheVariants as answer
@@ -56,22 +54,12 @@ module _ {A : Type 0} (P : A → Batch → Answer → A → Type 0) (it : A) (st
       let asked = asks batch a new (subst (λ x. P x batch a new) stays.0 one) in
       (stand, (asked.0, refl), subst (λ x. AsksBatch x batch a stand) (sym stays.1) asked.1)
 
-  asks_all : (new : A) (all : List Next) (before behind : Option (List ℕ)) (b l : ℕ) → Completes P it new all before behind b l → Completes AsksBatch stand stand all before behind b l
-  asks_all new all before behind b l c =
-      let done = completes-follows P AsksBatch Stays step it new stand all before behind b l (refl, refl) c in
-      subst (λ end. Completes AsksBatch stand end all before behind b l) done.1.1 done.2
+  pub asks_all : (new : A) (text before behind : Option (List ℕ)) (b l : ℕ) → Completes P it new text before behind b l → Completes AsksBatch stand stand text before behind b l
+  asks_all new text before behind b l c =
+      let done = completes-follows P AsksBatch Stays step it new stand text before behind b l (refl, refl) c in
+      subst (λ end. Completes AsksBatch stand end text before behind b l) done.1.1 done.2
 
-  stops_asking : (new : A) (all : List Next) (before behind : Option (List ℕ)) (fault : TextFault) → Halts P it new all before behind fault → Halts AsksBatch stand stand all before behind fault
-  stops_asking new all before behind fault h =
-      let done = halts-follows P AsksBatch Stays step it new stand all before behind fault (refl, refl) h in
-      subst (λ end. Halts AsksBatch stand end all before behind fault) done.1.1 done.2
-
-  -- ---- the same where the text is known
-
-  pub known_asks : (new : A) (text before behind : Option (List ℕ)) (b l : ℕ) → IfSome text (λ t. Completes P it new (items t) before behind b l) → IfSome text (λ t. Completes AsksBatch stand stand (items t) before behind b l)
-  known_asks new None before behind b l c = tt
-  known_asks new (Some text) before behind b l c = asks_all new (items text) before behind b l c
-
-  pub known_stops_asking : (new : A) (text before behind : Option (List ℕ)) (fault : TextFault) → IfSome text (λ t. Halts P it new (items t) before behind fault) → IfSome text (λ t. Halts AsksBatch stand stand (items t) before behind fault)
-  known_stops_asking new None before behind fault h = tt
-  known_stops_asking new (Some text) before behind fault h = stops_asking new (items text) before behind fault h
+  pub stops_asking : (new : A) (text before behind : Option (List ℕ)) (fault : TextFault) → Halts P it new text before behind fault → Halts AsksBatch stand stand text before behind fault
+  stops_asking new text before behind fault h =
+      let done = halts-follows P AsksBatch Stays step it new stand text before behind fault (refl, refl) h in
+      subst (λ end. Halts AsksBatch stand end text before behind fault) done.1.1 done.2

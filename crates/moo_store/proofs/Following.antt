@@ -1,6 +1,7 @@
 -- What answers the items of a text, seen as something else.
 use Rattle.std.proofs.Common.{◌≡◌, ℕ, List, [], ◌∷◌, Option, refl, sym, subst}
 use Rattle.moo_world.specs.declared.call.Batch.{Batch}
+use Rattle.moo_text.specs.Items.{items}
 use Rattle.moo_text.specs.declared.next.Next.{Next}
 use Rattle.moo_text.specs.declared.next.Next.TheVariants.{Batch as Whole, Malformed, Truncated, End}
 use Rattle.moo_text.specs.declared.reply.Answer.{Answer}
@@ -25,23 +26,26 @@ module _ {A B : Type 0} (P : A → Batch → Answer → A → Type 0) (Q : B →
       let rest = turns-follow turns.0 new one.0 items answers one.1 turns.2 in
       (rest.0, rest.1, (one.0, one.2, rest.2))
 
-  abbrev pub completes-follows : (old new : A) (stand : B) (items : List Next) (before behind : Option (List ℕ)) (b l : ℕ) → As old stand → Completes P old new items before behind b l
-      → (next : B) × As new next × Completes Q stand next items before behind b l
-  completes-follows old new stand items before behind b l it c =
-      let all = turns-follow old new stand items c.answers it c.turns in
-      (all.0, all.1, record { answers = c.answers; turns = all.2; wrote = c.wrote; batches_are = c.batches_are; lost_are = c.lost_are })
+  abbrev pub completes-follows : (old new : A) (stand : B) (text before behind : Option (List ℕ)) (b l : ℕ) → As old stand → Completes P old new text before behind b l
+      → (next : B) × As new next × Completes Q stand next text before behind b l
+  completes-follows old new stand text before behind b l it c =
+      let all = turns-follow old new stand (items c.given) c.answers it c.turns in
+      (all.0, all.1, record { given = c.given; all = c.all; short = c.short; answers = c.answers; turns = all.2; wrote = c.wrote; batches_are = c.batches_are; lost_are = c.lost_are })
 
-  abbrev pub halts-follows : (old new : A) (stand : B) (items : List Next) (before behind : Option (List ℕ)) (fault : TextFault) → As old stand → Halts P old new items before behind fault
-      → (next : B) × As new next × Halts Q stand next items before behind fault
-  halts-follows old new stand items before behind fault it h =
+  abbrev pub halts-follows : (old new : A) (stand : B) (text before behind : Option (List ℕ)) (fault : TextFault) → As old stand → Halts P old new text before behind fault
+      → (next : B) × As new next × Halts Q stand next text before behind fault
+  halts-follows old new stand text before behind fault it h =
       let done = turns-follow old h.mid stand h.done h.answers it h.turns in
       let last = turns-follow h.mid new done.0 h.hand h.last done.1 h.in_hand in (
         last.0,
         last.1,
         record {
+          given = h.given;
+          ended = h.ended;
+          front = h.front;
+          long = h.long;
           done = h.done;
           hand = h.hand;
-          left = h.left;
           whole = h.whole;
           answers = h.answers;
           mid = done.0;

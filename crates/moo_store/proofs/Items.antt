@@ -1,6 +1,5 @@
 -- What a run over a text leaves of a World.
 use Rattle.std.proofs.Common.{◌≡◌, inl, inr, ℕ, Bool, true, false, List, [], ◌∷◌, ◌++◌, append_assoc, Option, Some, None, Result, Ok, Err, refl, sym, ap, subst, ◌∙◌}
-use Rattle.std.specs.Prelude.{IfSome}
 use Rattle.std.proofs.lemmas.List.{append-nil}
 use Rattle.sqlite.specs.State.{HasCleanDisk}
 use Rattle.sqlite.specs.Store.{Ghosts}
@@ -67,22 +66,22 @@ keeps_rest g old new stand batches it at clean known tables rests = it.written c
 -- ---- a whole text
 
 module _ {S : Type 0} (g : Ghosts S) (settled : (w : World S) → IsSettled (store_of g w)) where
-  applies : (old new : World S) (all : List Next) (before behind : Option (List ℕ)) (b l : ℕ) → Completes (Runs g) old new all before behind b l → (stand : Stand) → StandsAt g old stand → Applies g stand all before behind old new b l
-  applies old new all before behind b l c stand at =
-      let run = completes-follows (Runs g) RunsBatch (StandsAt g) (λ old new stand batch a it one. one.stands stand it) old new stand all before behind b l at c in
-      let wrote = turns_written g old old new [] all c.answers (written_none g old) c.turns in
+  pub applies : (old new : World S) (text before behind : Option (List ℕ)) (b l : ℕ) → Completes (Runs g) old new text before behind b l → (stand : Stand) → StandsAt g old stand → Applies g stand text before behind old new b l
+  applies old new text before behind b l c stand at =
+      let run = completes-follows (Runs g) RunsBatch (StandsAt g) (λ old new stand batch a it one. one.stands stand it) old new stand text before behind b l at c in
+      let wrote = turns_written g old old new [] (items c.given) c.answers (written_none g old) c.turns in
       record {
         new = run.0;
         stands = run.1;
         completes = run.2;
         crash = crash_leaves g new run.0 (settled new) run.1;
         clean = wrote.clean;
-        cells = keeps_rest g old new stand (accepted all c.answers) wrote at;
+        cells = keeps_rest g old new stand (accepted (items c.given) c.answers) wrote at;
       }
 
-  stops : (old new : World S) (all : List Next) (before behind : Option (List ℕ)) (fault : TextFault) → Halts (Runs g) old new all before behind fault → (stand : Stand) → StandsAt g old stand → Stops g stand all before behind old new fault
-  stops old new all before behind fault h stand at =
-      let run = halts-follows (Runs g) RunsBatch (StandsAt g) (λ old new stand batch a it one. one.stands stand it) old new stand all before behind fault at h in
+  pub stops : (old new : World S) (text before behind : Option (List ℕ)) (fault : TextFault) → Halts (Runs g) old new text before behind fault → (stand : Stand) → StandsAt g old stand → Stops g stand text before behind old new fault
+  stops old new text before behind fault h stand at =
+      let run = halts-follows (Runs g) RunsBatch (StandsAt g) (λ old new stand batch a it one. one.stands stand it) old new stand text before behind fault at h in
       let done = turns_written g old old h.mid [] h.done h.answers (written_none g old) h.turns in
       let wrote = turns_written g old h.mid new (accepted h.done h.answers) h.hand h.last done h.in_hand in
       record {
@@ -93,15 +92,3 @@ module _ {S : Type 0} (g : Ghosts S) (settled : (w : World S) → IsSettled (sto
         clean = wrote.clean;
         cells = keeps_rest g old new stand (accepted h.done h.answers ++ accepted h.hand h.last) wrote at;
       }
-
-  -- ---- the same where the text is known
-
-  pub known_applies : (old new : World S) (text before behind : Option (List ℕ)) (b l : ℕ) → IfSome text (λ t. Completes (Runs g) old new (items t) before behind b l)
-      → (stand : Stand) → StandsAt g old stand → IfSome text (λ t. Applies g stand (items t) before behind old new b l)
-  known_applies old new None before behind b l c stand at = tt
-  known_applies old new (Some text) before behind b l c stand at = applies old new (items text) before behind b l c stand at
-
-  pub known_stops : (old new : World S) (text before behind : Option (List ℕ)) (fault : TextFault) → IfSome text (λ t. Halts (Runs g) old new (items t) before behind fault)
-      → (stand : Stand) → StandsAt g old stand → IfSome text (λ t. Stops g stand (items t) before behind old new fault)
-  known_stops old new None before behind fault h stand at = tt
-  known_stops old new (Some text) before behind fault h stand at = stops old new (items text) before behind fault h stand at

@@ -4,6 +4,7 @@ use Rattle.sqlite.specs.State.{HasCleanDisk}
 use Rattle.sqlite.specs.Store.{Ghosts}
 use Rattle.sqlite.specs.declared.error.Error.{Error}
 use Rattle.moo_world.specs.declared.call.Batch.{Batch}
+use Rattle.moo_text.specs.Items.{items}
 use Rattle.moo_text.specs.declared.next.Next.{Next}
 use Rattle.moo_text.specs.declared.next.Next.TheVariants.{Batch as Whole, Malformed, Truncated, End}
 use Rattle.moo_text.specs.declared.fault.TextFault.{TextFault}
@@ -68,20 +69,20 @@ KeepsRest g was world batches =
     HasCleanDisk (store_of g world) → (world.failed ≡ false) ⊎ IsTrue (store_of g world).is_open → (tables : Tables) → Rests (store_of g was) tables → HasWritten g was world tables batches
 
 -- The text was run to its end.
-pub record Applies {S : Type 0} (g : Ghosts S) (old : Stand) (items : List Next) (before behind : Option (List ℕ)) (was world : World S) (batches lost : ℕ) : Type 0 where
+pub record Applies {S : Type 0} (g : Ghosts S) (old : Stand) (text before behind : Option (List ℕ)) (was world : World S) (batches lost : ℕ) : Type 0 where
   pub new : Stand
   pub stands : StandsAt g world new
-  pub completes : Completes RunsBatch old new items before behind batches lost
+  pub completes : Completes RunsBatch old new text before behind batches lost
   pub crash : HasCleanDisk (store_of g world) → CrashLeaves (store_of g world) new
   pub clean : HasCleanDisk (store_of g world) → HasCleanDisk (store_of g was)
   -- in the tables, each acknowledged batch keeps the cells of the rows that it leaves as they are
-  pub cells : KeepsRest g was world (accepted items completes.answers)
+  pub cells : KeepsRest g was world (accepted (items completes.given) completes.answers)
 
 -- The run of the text stopped.
-pub record Stops {S : Type 0} (g : Ghosts S) (old : Stand) (items : List Next) (before behind : Option (List ℕ)) (was world : World S) (fault : TextFault) : Type 0 where
+pub record Stops {S : Type 0} (g : Ghosts S) (old : Stand) (text before behind : Option (List ℕ)) (was world : World S) (fault : TextFault) : Type 0 where
   pub new : Stand
   pub stands : StandsAt g world new
-  pub halts : Halts RunsBatch old new items before behind fault
+  pub halts : Halts RunsBatch old new text before behind fault
   pub crash : HasCleanDisk (store_of g world) → CrashLeaves (store_of g world) new
   pub clean : HasCleanDisk (store_of g world) → HasCleanDisk (store_of g was)
   pub cells : KeepsRest g was world (accepted halts.done halts.answers ++ accepted halts.hand halts.last)

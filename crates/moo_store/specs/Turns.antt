@@ -1,8 +1,10 @@
 -- How the items of a text are answered in turn, and what is written for them.
-use Rattle.std.specs.Prelude.{◌≡◌, ◌≢◌, ◌⊎◌, ℕ, ◌≤◌, Bool, true, false, List, [], ◌∷◌, ◌++◌, length, take, Option}
+use Rattle.std.specs.Prelude.{◌≡◌, ◌≢◌, ◌⊎◌, ℕ, ◌≤◌, Bool, true, false, List, [], ◌∷◌, ◌++◌, length, take, Option, IfSome}
 use Rattle.std.specs.List.{flat_map, count_by}
 use Rattle.std.specs.Io.KnownBytes.{Appends}
 use Rattle.moo_world.specs.declared.call.Batch.{Batch}
+use Rattle.moo_text.specs.Given.{GivesAll}
+use Rattle.moo_text.specs.Items.{items}
 use Rattle.moo_text.specs.Replies.{answer_text}
 use Rattle.moo_text.specs.declared.next.Next.{Next}
 use Rattle.moo_text.specs.declared.next.Next.TheVariants.{Batch as Whole, Malformed, Truncated, End}
@@ -40,21 +42,32 @@ Turns step old [] [] new = new ≡ old
 Turns {A = A} step old (item ∷ items) (a ∷ answers) new = (mid : A) × Turn step old item a mid × Turns step mid items answers new
 Turns step old items answers new = ⊥
 
--- All items have had their turns, and their answers are written.
-pub record Completes {A : Type 0} (step : A → Batch → Answer → A → Type 0) (old new : A) (items : List Next) (before behind : Option (List ℕ)) (batches lost : ℕ) : Type 0 where
+-- The text is at its end: all its items have had their turns, and their answers are written. What the reader gave is the text.
+pub record Completes {A : Type 0} (step : A → Batch → Answer → A → Type 0) (old new : A) (text before behind : Option (List ℕ)) (batches lost : ℕ) : Type 0 where
+  pub given : List ℕ
+  pub all : GivesAll text given
+  pub short : length given ≤ 1073741824
   pub answers : List Answer
-  pub turns : Turns step old items answers new
+  pub turns : Turns step old (items given) answers new
   pub wrote : Appends before behind (text_of answers)
   pub batches_are : batches ≡ count_by is_batch answers
   pub lost_are : lost ≡ count_by is_lost answers
 
+-- where the reader tells its bytes, these stand in front of them, and are all of them if it has ended
+abbrev pub GivesFront : Option (List ℕ) → Bool → List ℕ → Type 0
+GivesFront text ended given = IfSome text (λ bytes. (rest : List ℕ) × (bytes ≡ given ++ rest) × (ended ≡ true → rest ≡ []))
+
 -- Some items are done, and their answers are written whole. Then a fault came; or the next item had its turn first, and a front of
 -- its answer is written.
-pub record Halts {A : Type 0} (step : A → Batch → Answer → A → Type 0) (old new : A) (items : List Next) (before behind : Option (List ℕ)) (fault : TextFault) : Type 0 where
+pub record Halts {A : Type 0} (step : A → Batch → Answer → A → Type 0) (old new : A) (text before behind : Option (List ℕ)) (fault : TextFault) : Type 0 where
+  pub given : List ℕ
+  pub ended : Bool
+  pub front : GivesFront text ended given
+  pub long : (fault ≡ Long → length given ≡ 1073741825) × (fault ≢ Long → length given ≤ 1073741824)
   pub done : List Next
   pub hand : List Next
-  pub left : List Next
-  pub whole : items ≡ done ++ (hand ++ left)
+  -- they come first, whatever the reader may give behind what it gave
+  pub whole : (rest : List ℕ) → (ended ≡ true → rest ≡ []) → (left : List Next) × (items (given ++ rest) ≡ done ++ (hand ++ left))
   pub answers : List Answer
   pub mid : A
   pub turns : Turns step old done answers mid

@@ -1,8 +1,7 @@
 //! Answering the items of a text in turn.
 
-ghost use Rattle.std.specs.Prelude.{◌≡◌, ◌≤◌, ◌<◌, length, IfOk, IfErr, IfSome, IfNone, IsErrOf, OnOk};
+ghost use Rattle.std.specs.Prelude.{◌≡◌, IfOk, IfErr, IfSome, IfNone};
 ghost use Rattle.moo_world.specs.declared.call.Batch.{Batch};
-ghost use Rattle.moo_text.specs.Items.{items};
 ghost use Rattle.moo_text.specs.declared.reply.Answer.{Answer};
 ghost use Rattle.moo_store.specs.Text.{answer_to};
 ghost use Rattle.moo_store.specs.Turns.{Turn, Completes, Halts};
@@ -60,12 +59,8 @@ pub(crate) fn answer_all<R: Read + Drop, W: Write, A: Answering>(
     writer: &mut W,
     answering: &mut A,
 ) -> Result<Tally, TextFault>
-    ensures completes { IfOk result (λ tally. IfSome (R.remaining reader) (λ text.
-        Completes A.answered answering.old answering.new (items text) (W.contents writer.old) (W.contents writer.new) tally.batches tally.lost)) }
-    ensures halts { IfErr result (λ fault. IfSome (R.remaining reader) (λ text.
-        Halts A.answered answering.old answering.new (items text) (W.contents writer.old) (W.contents writer.new) fault)) }
-    ensures short { OnOk result (IfSome (R.remaining reader) (λ text. length text ≤ 1073741824)) }
-    ensures long { IsErrOf result TextFault.Long → IfSome (R.remaining reader) (λ text. 1073741824 < length text) }
+    ensures completes { IfOk result (λ tally. Completes A.answered answering.old answering.new (R.remaining reader) (W.contents writer.old) (W.contents writer.new) tally.batches tally.lost) }
+    ensures halts { IfErr result (λ fault. Halts A.answered answering.old answering.new (R.remaining reader) (W.contents writer.old) (W.contents writer.new) fault) }
 {
     let mut feed = Feed::new(alloc, reader);
     let mut tally = Tally::new();
