@@ -55,6 +55,8 @@ text_failure text_fault.Long = TooLong
 
 abbrev pub store_failure : StoreFault → Failure
 store_failure (store_fault.Store error) = Store
+store_failure (store_fault.Damaged kind key) = Store
+store_failure store_fault.NewerVersion = Store
 store_failure store_fault.OutOfMemory = NoMemory
 store_failure store_fault.Closed = Store
 

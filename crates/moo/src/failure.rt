@@ -69,6 +69,8 @@ impl From<StoreFault> for Failure {
     fn from(fault: StoreFault) -> Failure {
         match fault {
             StoreFault::Store(_error) => Failure::Store,
+            StoreFault::Damaged(_kind, _key) => Failure::Store,
+            StoreFault::NewerVersion => Failure::Store,
             StoreFault::OutOfMemory => Failure::NoMemory,
             StoreFault::Closed => Failure::Store,
         }

@@ -3,6 +3,9 @@ pub mod Shown
 pub mod Committed
 pub mod Crashes
 pub mod Running
+pub mod Judged
+pub mod Following
+pub mod Standing
 pub mod Going
 pub mod Items
 pub mod Writing
@@ -10,3 +13,6 @@ pub mod WholeRuns
 pub mod Opened
 pub mod Untouched
 pub mod Asking
+pub mod AdoptLemmas
+pub mod HeadlineLemmas
+pub mod CheckLemmas

@@ -2,8 +2,11 @@ pub mod Printed
 pub mod States
 pub mod Kept
 pub mod Answered
+pub mod Stand
 pub mod World
-pub mod Text
 pub mod Turns
 pub mod Untouched
-pub mod Asked
+pub mod Text
+pub mod Opening
+pub mod Reopened
+pub mod Checked
