@@ -1,3 +1,6 @@
 pub mod Columns
-pub mod Table
 pub mod Texts
+pub mod Exits
+pub mod Table
+pub mod Keys
+pub mod HeadLemmas

@@ -1,4 +1,7 @@
 pub mod Shows
 pub mod Reading
 pub mod Columns
-pub mod Damage
+pub mod Unread
+pub mod Holding
+pub mod Head
+pub mod HeadCells

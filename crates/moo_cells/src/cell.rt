@@ -1,8 +1,9 @@
 //! Single cells.
 
-ghost use Rattle.std.specs.Prelude.{◌≡◌, ◌≢◌, ℕ, ℤ, pos, ◌<◌, Bool, true, List, Some, IfOk, IfErr};
+ghost use Rattle.std.specs.Prelude.{◌≡◌, ◌≢◌, ℕ, ℤ, pos, ◌<◌, Bool, true, List, Some, IfOk, IfErr, IsTrue};
 ghost use Rattle.sqlite.specs.Order.{column};
 ghost use Rattle.sqlite.specs.declared.types.Value.TheVariants.{Int as Number, Text};
+ghost use Rattle.sqlite_trees.specs.View.{is_int};
 ghost use Rattle.moo_value.specs.declared.value.ObjNo.{ObjNo};
 ghost use Rattle.moo_rows.specs.declared.row.Bits.{Bits};
 ghost use Rattle.moo_rows.specs.declared.row.VerbBits.{VerbBits};
@@ -35,6 +36,17 @@ pub(crate) fn int_at(cells: &Row, at: usize) -> Result<i64, RowFault>
     match cells.get_ref(at) {
         Ok(ValueRef::Int(number)) => Ok(number),
         _ => Err(RowFault::Unreadable),
+    }
+}
+
+/// The whole number in a column that has one.
+pub(crate) fn int_in(cells: &Row, at: usize) -> i64
+    requires { IsTrue (is_int (column cells.now at)) }
+    ensures { column cells.now at ≡ Number result }
+{
+    match cells.get_ref(at) {
+        Ok(ValueRef::Int(number)) => number,
+        _ => unreachable!(),
     }
 }
 

@@ -6,13 +6,16 @@
 
 mod cell;
 mod fault;
+mod head;
 mod literal;
 mod object;
 mod prop;
 mod slot;
+mod tables;
 mod verb;
 
-pub use fault::RowFault;
+pub use fault::{CellFault, RowFault};
+pub use head::read_head;
 pub use object::read_object;
 pub use prop::read_prop;
 pub use slot::read_slot;

@@ -1,5 +1,5 @@
--- Damage of cells: rows that can't be read, and heads that are none.
-use Rattle.std.specs.Prelude.{◌≡◌, ◌≢◌, ℕ, ℤ, pos, negsuc, ◌<ℤ◌, ◌≤ℤ◌, ◌<◌, ◌≤◌, Option, None, Some}
+-- Rows that can't be read.
+use Rattle.std.specs.Prelude.{◌≡◌, Option, Some}
 use Rattle.sqlite.specs.Order.{Row}
 use Rattle.moo_cells.specs.Reading.{IsRead}
 
