@@ -12,7 +12,7 @@ use Rattle.sqlite.specs.Edit.{id_in}
 use Rattle.moo_rows.specs.declared.row.Head.{Head}
 use Rattle.moo_tables.specs.Inside.{AreKeyed}
 use Rattle.moo_tables.proofs.KeyLemmas.{int_value}
-use Rattle.moo_cells.specs.Head.{head_row, HeadIs, HeadFits, ReadsHead, ReadsNewer, ReadsKnown, IsNewer, HasHead, SaysOfHead}
+use Rattle.moo_cells.specs.Head.{head_row, HeadIs, HeadFits, ReadsHead, ReadsNewer, ReadsKnown, IsNewerThan, HasHead, SaysOfHead}
 use Rattle.moo_cells.specs.HeadCells.{cells_of, IsHead}
 use Rattle.moo_cells.specs.declared.head.HeadCells.{HeadCells}
 use Rattle.moo_cells.specs.declared.fault.CellFault.{CellFault}
@@ -151,7 +151,7 @@ module _ (rows : List Row) (keyed : AreKeyed rows) where
   abbrev table : ℤ → Option Row
   table n = find (has_rowid n) rows
 
-  pub no_head : (length rows ≡ 1 → ⊥) → ¬ (HasHead (pos 1) table) × ¬ (IsNewer (pos 1) table)
+  pub no_head : (length rows ≡ 1 → ⊥) → ¬ (HasHead (pos 1) table) × ¬ (IsNewerThan (pos 1) table)
   no_head many = (
     (λ h. many (ap length (only_head rows keyed h.0 h.1))),
     (λ h. many (ap length (only_head rows keyed h.0 h.1))),
@@ -164,7 +164,7 @@ module _ (rows : List Row) (keyed : AreKeyed rows) where
     pub head_is : column r 0 ≡ Number (pos 1) → HeadIs table r
     head_is id = let P : List Row → Type 0 = λ l. HeadIs (λ n. find (has_rowid n) l) r in subst P (sym whole) (head_alone r id)
 
-    pub says_table : (fault : CellFault) → SaysOfHead (ReadsKnown (pos 1) r) (ReadsNewer (pos 1) r) fault → SaysOfHead (HasHead (pos 1) table) (IsNewer (pos 1) table) fault
+    pub says_table : (fault : CellFault) → SaysOfHead (ReadsKnown (pos 1) r) (ReadsNewer (pos 1) r) fault → SaysOfHead (HasHead (pos 1) table) (IsNewerThan (pos 1) table) fault
     says_table (Damaged kind key) says = (
       says.0,
       says.1,
@@ -173,3 +173,20 @@ module _ (rows : List Row) (keyed : AreKeyed rows) where
     )
     says_table NewerVersion says = (r, head_is (ap (λ (c : Row). column c 0) says.5), says)
     says_table OutOfMemory says = says
+
+-- ---- a head that is read
+
+pub head_known : (table : ℤ → Option Row) (cells : Row) (head : Head) → HeadIs table cells → ReadsHead (pos 1) head cells → HasHead (pos 1) table
+head_known table cells head is reads = (cells, is, (pos 1, head, (omega (arith, ints), omega (arith, ints)), reads))
+
+one_version : (v : ℤ) → pos 1 <ℤ v → pos 1 ≡ v → ⊥
+one_version v above same = absurd (omega (arith, ints))
+
+pub head_not_newer : (table : ℤ → Option Row) (cells : Row) (head : Head) → HeadIs table cells → ReadsHead (pos 1) head cells → ¬ (IsNewerThan (pos 1) table)
+head_not_newer table cells head is reads newer =
+    let same = one_some cells newer.0 (sym is.row ∙ newer.1.row) in
+    let shown = sym reads.0 ∙ same ∙ newer.2.5 in
+    one_version newer.2.0 newer.2.6 (int_inj (pos 1) newer.2.0 (ap (λ (c : Row). column c 1) shown))
+  where
+    one_some : (a b : Row) → Some a ≡ Some b → a ≡ b
+    one_some a b e = cc

@@ -128,7 +128,7 @@ pair_same j k r p q under =
     let b = and_parts _ _ q in
     pair_irreflexive j k under (same_tie (column r 0) j.0 k.0 a.0 b.0) (same_tie (column r 1) j.1 k.1 a.1 b.1)
 
-pair_mine : (r : Row) (m n : ℤ) → column r 0 ≡ Int m → column r 1 ≡ Int n → begins_with (m, n) r ≡ true
+pub pair_mine : (r : Row) (m n : ℤ) → column r 0 ≡ Int m → column r 1 ≡ Int n → begins_with (m, n) r ≡ true
 pair_mine r m n p q = and_from _ _ (self_tied (column r 0) m p) (self_tied (column r 1) n q)
 
 pair_only : (j : ℤ × ℤ) (r : Row) (m n : ℤ) → column r 0 ≡ Int m → column r 1 ≡ Int n → begins_with j r ≡ true → j ≡ (m, n)

@@ -4,3 +4,6 @@ pub mod Exits
 pub mod Table
 pub mod Keys
 pub mod HeadLemmas
+pub mod RowsLemmas
+pub mod OneRows
+pub mod GoodRows

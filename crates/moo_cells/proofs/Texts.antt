@@ -134,7 +134,7 @@ spells_list b vs items objects spells gathered same = subst (λ v. Spells v b) (
 pub fits_spelled : (vs : Values) (items : List MooValue) (objects : List ObjNo) → Fits (a_list vs) → gather items ≡ vs → items ≡ map Obj objects → length objects ≤ 1000 → accept_fits (Some objects) ≡ true
 fits_spelled vs items objects fits gathered same short = list_fits objects short (subst Fits (ap a_list (sym gathered ∙ ap gather same)) fits)
 
-spread_objects : (objects : List ObjNo) → spread (gather (map Obj objects)) ≡ map Obj objects
+pub spread_objects : (objects : List ObjNo) → spread (gather (map Obj objects)) ≡ map Obj objects
 spread_objects [] = refl
 spread_objects (x ∷ objects) = ap (λ l. Obj x ∷ l) (spread_objects objects)
 

@@ -37,8 +37,8 @@ abbrev pub ReadsKnown : ℤ → Row → Type 0
 ReadsKnown greatest cells = (version : ℤ) × (head : Head) × ((pos 1 ≤ℤ version) × (version ≤ℤ greatest)) × ReadsHead version head cells
 
 -- tables of a version past the greatest that is known
-abbrev pub IsNewer : ℤ → (ℤ → Option Row) → Type 0
-IsNewer greatest table = (cells : Row) × HeadIs table cells × ReadsNewer greatest cells
+abbrev pub IsNewerThan : ℤ → (ℤ → Option Row) → Type 0
+IsNewerThan greatest table = (cells : Row) × HeadIs table cells × ReadsNewer greatest cells
 
 -- tables that have a head
 abbrev pub HasHead : ℤ → (ℤ → Option Row) → Type 0

@@ -5,3 +5,4 @@ pub mod Unread
 pub mod Holding
 pub mod Head
 pub mod HeadCells
+pub mod Damage

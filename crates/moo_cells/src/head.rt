@@ -1,11 +1,12 @@
 //! The table of the head.
 
-ghost use Rattle.std.specs.Prelude.{◌≡◌, ℤ, pos, find, IfOk, IfErr, IfSome, IfNone};
+ghost use Rattle.std.specs.Prelude.{◌≡◌, ◌≢◌, ℕ, ◌<◌, ◌≤◌, ℤ, pos, negsuc, ◌≤ℤ◌, find, FitsSigned, IfOk, IfErr, IfSome, IfNone};
+ghost use Rattle.std.specs.Int.{w32};
 ghost use Rattle.sqlite.specs.Tree.{has_rowid};
 ghost use Rattle.moo_rows.specs.declared.row.Head.{Head};
 ghost use Rattle.moo_tables.specs.Inside.{AreKeyed};
-ghost use Rattle.moo_cells.specs.Head.{head_row, HeadIs, HeadFits, ReadsHead, ReadsNewer, ReadsKnown, IsNewer, HasHead, SaysOfHead};
-ghost use Rattle.moo_cells.specs.HeadCells.{cells_of, IsHead};
+ghost use Rattle.moo_cells.specs.Head.{HeadIs, ReadsHead, ReadsNewer, ReadsKnown, IsNewerThan, HasHead, SaysOfHead};
+ghost use Rattle.moo_cells.specs.HeadCells.{cells_of, AreWords, IsHead};
 ghost use Rattle.moo_cells.specs.declared.head.HeadCells.{HeadCells};
 
 use crate::cell::int_at;
@@ -36,6 +37,7 @@ struct HeadCells {
 /// The numbers in these cells.
 fn numbers_of(cells: &Row) -> Result<HeadCells, RowFault>
     ensures ok { IfOk result (λ numbers. cells.now ≡ cells_of numbers) }
+    ensures words { IfOk result (λ numbers. AreWords numbers) }
     ensures err { IfErr result (λ _. (numbers : HeadCells) → ¬ (cells.now ≡ cells_of numbers)) }
 {
     if cells.column_count() != COLUMNS {
@@ -57,18 +59,49 @@ fn numbers_of(cells: &Row) -> Result<HeadCells, RowFault>
     })
 }
 
+/// How many batches were accepted.
+fn seq_in(number: i64) -> Option<u64>
+    ensures some { IfSome result (λ seq. number ≡ pos seq) }
+    ensures none { IfNone result ((seq : ℕ) → number ≢ pos seq) }
+{
+    u64::try_from(number).ok()
+}
+
+/// The greatest number of an object.
+fn top_in(number: i64) -> Option<i32>
+    ensures some { IfSome result (λ top. number ≡ top) }
+    ensures within { IfSome result (λ top. (negsuc 0 ≤ℤ top) × (top ≤ℤ pos 2147483647)) }
+    ensures fits { IfSome result (λ top. FitsSigned w32 top) }
+    ensures none { IfNone result (((negsuc 0 ≤ℤ number) × (number ≤ℤ pos 2147483647)) → ⊥) }
+{
+    match i32::try_from(number) {
+        Ok(top) if -1 <= top => Some(top),
+        _ => None,
+    }
+}
+
+/// The next number of a property or a verb.
+fn counter_in(number: i64) -> Option<u32>
+    ensures some { IfSome result (λ counter. number ≡ pos counter) }
+    ensures within { IfSome result (λ counter. (0 < counter) × (counter ≤ 4294967295)) }
+    ensures none { IfNone result ((counter : ℕ) → (0 < counter) × (counter ≤ 4294967295) → number ≢ pos counter) }
+{
+    match u32::try_from(number) {
+        Ok(counter) if 0 < counter => Some(counter),
+        _ => None,
+    }
+}
+
 /// The head of these numbers, where they are within its limits.
 fn head_within(numbers: HeadCells) -> Option<Head>
+    requires { AreWords numbers }
     ensures some { IfSome result (λ head. IsHead numbers head) }
     ensures none { IfNone result ((head : Head) → ¬ (IsHead numbers head)) }
 {
-    let seq = u64::try_from(numbers.seq).ok()?;
-    let top = i32::try_from(numbers.top).ok()?;
-    let next_prop = u32::try_from(numbers.next_prop).ok()?;
-    let next_verb = u32::try_from(numbers.next_verb).ok()?;
-    if top < -1 || next_prop == 0 || next_verb == 0 {
-        return None;
-    }
+    let seq = seq_in(numbers.seq)?;
+    let top = top_in(numbers.top)?;
+    let next_prop = counter_in(numbers.next_prop)?;
+    let next_verb = counter_in(numbers.next_verb)?;
     Some(Head {
         top,
         next_prop,
@@ -107,7 +140,7 @@ fn head_of(cells: &Row) -> Result<Head, CellFault>
 pub fn read_head(rows: &[Row]) -> Result<Head, CellFault>
     requires { AreKeyed rows.now }
     ensures ok { IfOk result (λ head. (cells : _) × HeadIs (λ n. find (has_rowid n) rows.now) cells × ReadsHead (pos 1) head cells) }
-    ensures err { IfErr result (SaysOfHead (HasHead (pos 1) (λ n. find (has_rowid n) rows.now)) (IsNewer (pos 1) (λ n. find (has_rowid n) rows.now))) }
+    ensures err { IfErr result (SaysOfHead (HasHead (pos 1) (λ n. find (has_rowid n) rows.now)) (IsNewerThan (pos 1) (λ n. find (has_rowid n) rows.now))) }
 {
     if rows.len() != 1 {
         return Err(BAD_HEAD);
