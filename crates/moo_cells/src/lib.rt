@@ -6,14 +6,21 @@
 
 mod cell;
 mod fault;
+mod head;
+mod laws;
 mod literal;
 mod object;
 mod prop;
+mod rows;
 mod slot;
+mod tables;
 mod verb;
 
-pub use fault::RowFault;
+pub use fault::{CellFault, RowFault};
+pub use head::read_head;
+pub use laws::one_set_of_rows;
 pub use object::read_object;
 pub use prop::read_prop;
+pub use rows::read_rows;
 pub use slot::read_slot;
 pub use verb::read_verb;
