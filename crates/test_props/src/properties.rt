@@ -1,8 +1,8 @@
 //! Worked examples.
 
-use crate::clashing::clashes;
-use crate::dropping::drop_object;
-use crate::quota::{quota_of, return_quota};
+use moo_props::clashing::clashes;
+use moo_props::dropping::drop_object;
+use moo_props::quota::{quota_of, return_quota};
 use moo_rows::rows::Rows;
 use moo_tree::valid;
 use moo_value::text::MooStr;

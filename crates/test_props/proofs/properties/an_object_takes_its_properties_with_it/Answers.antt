@@ -1,6 +1,6 @@
 use Rattle.std.specs.Prelude.{refl}
 use Rattle.moo_world.specs.Objects.{same_text, folded}
-use Rattle.moo_props.proofs.tests.an_object_takes_its_properties_with_it.Goals as goal
+use Rattle.test_props.proofs.properties.an_object_takes_its_properties_with_it.Goals as goal
 
 pub added-requires-clause-name : goal.added-requires-clause-name
 unfolding same_text folded
