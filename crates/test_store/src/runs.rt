@@ -1,6 +1,7 @@
 //! Runs on new worlds in memory.
 
-use moo_store_behind::{have_same_cells, run_and_ask, slots_of};
+use crate::behind::run_and_ask;
+use crate::cells::{have_same_cells, slots_of};
 use std::alloc::Global;
 use std::test::Fail;
 

@@ -1,6 +1,7 @@
 //! What the tables hold behind a batch, read back.
 
-use moo_store_behind::{are_opening_objects, has_head, has_no_other, is_object, run_and_ask};
+use crate::behind::run_and_ask;
+use crate::cells::{are_opening_objects, has_head, has_no_other, is_object};
 use std::test::Fail;
 
 #[test]

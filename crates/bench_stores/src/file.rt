@@ -1,9 +1,6 @@
-//! Runs the text of batches on the standard input on a new world, over any disk.
-//!
-//! What is known of the store in files goes through the check of each call that takes any store, and wants more memory than
-//! all else of the benchmark. So the one such call stands here alone, and the crates above pass the disk and not the store.
-#![tactic(auto)]
+//! The text of batches on the standard input, run on a new world in a file.
 
+use anyhow::{Result, bail};
 use moo_store::apply_text;
 use moo_store::creating::create_in;
 use sqlite::{Alter, Connection, FileStore};
@@ -30,11 +27,25 @@ fn run_on<S: Alter + Drop>(
     }
 }
 
-/// As `run_on`, at the store in files.
-pub fn run_over<D: Disk + Drop>(
+/// As `run_on`, at the store in files: the one call at this store of a function that takes any, since the check of each such call
+/// takes much memory.
+fn run_over<D: Disk + Drop>(
     rt: &HostRuntime,
     conn: Connection<FileStore<D>>,
     is_done: &mut bool,
 ) -> Connection<FileStore<D>> {
     run_on(rt, conn, is_done)
+}
+
+/// Makes a new world in the file at this path, runs the text, writes the replies and closes the file.
+pub fn run_in(rt: &HostRuntime, path: &str) -> Result<()> {
+    let Ok(conn) = Connection::open(rt, path) else {
+        bail!("no file was made");
+    };
+    let mut is_done = false;
+    let conn = run_over(rt, conn, &mut is_done);
+    if conn.close().is_err() || !is_done {
+        bail!("a batch met a fault, or the file was not closed");
+    }
+    Ok(())
 }

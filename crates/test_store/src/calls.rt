@@ -1,6 +1,6 @@
 //! The calls of a World: runs, a question, and the number of accepted batches.
 
-use moo_store_behind::run_and_question;
+use crate::answers::run_and_question;
 use std::test::Fail;
 
 #[test]

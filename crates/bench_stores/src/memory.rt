@@ -1,20 +1,12 @@
 //! How many batches of one call a World in memory runs in a second.
-//!
-//! The word of the command line is the number of batches; with no word it runs a few. What was done goes to standard output, and
-//! the time to standard error.
-#![tactic(auto)]
 
-use anyhow::{Context, Result, bail};
+use anyhow::{Result, bail};
 use moo_store::apply_text;
 use moo_store::creating::create_in;
 use moo_store::world::World;
 use sqlite::{Connection, MemStore};
 use std::alloc::Global;
-use std::env;
 use std::time::Instant;
-
-/// How many batches are run where no number is given.
-const FEW: u32 = 10;
 
 /// A text of so many batches, each of which gives `#4` another name.
 fn renamings(alloc: Global, count: u32) -> Result<String> {
@@ -38,7 +30,7 @@ fn run(alloc: Global, world: &mut World<MemStore>, text: &str) -> Result<u64> {
 }
 
 /// Runs so many batches on a new world in memory, and reports.
-fn measure(rt: &HostRuntime, count: u32) -> Result<()> {
+pub fn measure(rt: &HostRuntime, count: u32) -> Result<()> {
     let alloc = rt.alloc();
     let Ok(conn) = Connection::open_in_memory(alloc) else {
         bail!("no memory");
@@ -60,13 +52,4 @@ fn measure(rt: &HostRuntime, count: u32) -> Result<()> {
         .unwrap_or(0);
     eprintln!(rt; "{batches} batches in {taken} us, {a_second} a second")?;
     Ok(())
-}
-
-fn main(rt: HostRuntime) -> Result<()> {
-    let mut words = env::args(&rt)?.skip(1);
-    let count = match words.next() {
-        Some(word) => word.parse::<u32>().context("how many batches?")?,
-        None => FEW,
-    };
-    measure(&rt, count)
 }
