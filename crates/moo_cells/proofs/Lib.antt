@@ -7,3 +7,5 @@ pub mod HeadLemmas
 pub mod RowsLemmas
 pub mod OneRows
 pub mod GoodRows
+pub mod CellsLemmas
+pub mod OneDamage
