@@ -1,8 +1,7 @@
 -- With good rows nothing is wrong.
-use Rattle.std.proofs.Common.{◌≡◌, ◌≢◌, ℕ, ◌<◌, ℤ, pos, Bool, true, false, ◌||◌, ◌&&◌, Option, None, Some, List, [], ◌∷◌, refl, sym, ap, ◌∙◌, subst, ◌⊎◌, inl, inr, arith}
+use Rattle.std.proofs.Common.{◌≡◌, ℕ, ◌<◌, ℤ, pos, Bool, true, false, ◌||◌, ◌&&◌, Option, None, Some, List, [], ◌∷◌, refl, sym, ap, ◌∙◌, subst, inl, inr, arith}
 use Rattle.std.specs.Prelude.{◌≤ℤ◌, int_lt, nat_lt, nat_le, not, is_some, unwrap_or}
 use Rattle.std.specs.Option.{option_map}
-use Rattle.std.specs.List.{list_any}
 use Rattle.std.specs.FinMap.{get, entries}
 use Rattle.std.proofs.lemmas.Bool.{false≢true, and_parts, or_cases}
 use Rattle.std.proofs.lemmas.Bool.Decides.{nat_tests}
@@ -17,8 +16,8 @@ use Rattle.moo_rows.specs.declared.row.SlotState.{SlotState}
 use Rattle.moo_rows.specs.declared.row.SlotState.TheVariants.{Clear, Set}
 use Rattle.moo_rows.specs.Maps.{Maps}
 use Rattle.moo_world.specs.Objects.{Pair, same_object, same_text, folded, is_among, same_object-Decides, same_text-Decides}
-use Rattle.moo_world.specs.Rows.{LookUps, IsGood, look_ups, world_of, world_shown, prop_id, slot_seen}
-use Rattle.moo_world.specs.World.{World, Slot, Climbs, Chain, is_object, chain, slot_of, owed_by, pair_named}
+use Rattle.moo_world.specs.Rows.{IsGood, look_ups, world_of, world_shown, prop_id, slot_seen}
+use Rattle.moo_world.specs.World.{World, Slot, Climbs, Chain, is_object, chain, owed_by, pair_named}
 use Rattle.moo_world.proofs.Owed.{named_owed, definer_among}
 use Rattle.moo_world.proofs.PairLists.{some_of}
 use Rattle.moo_world.proofs.RowLaws.{slot_shown}
@@ -26,10 +25,9 @@ use Rattle.moo_world.proofs.Seen.{is_object_seen}
 use Rattle.moo_world.proofs.Trees.{Chain-chain, chain_of_none, nothing_is_no_object}
 use Rattle.moo_props.proofs.Gains.{slot_on_heir}
 use Rattle.moo_props.proofs.Owing.{entries_held}
-use Rattle.moo_damage.specs.declared.trees.Link.TheVariants.{Parent, Place}
-use Rattle.moo_damage.specs.Damage.{Ends, share_name, is_object_past, is_prop_past, is_double, is_owed, is_clear, IsClean}
+use Rattle.moo_damage.specs.Damage.{share_name, is_double, is_owed, is_clear, IsClean}
 use Rattle.moo_props.specs.Names.{defines}
-use Rattle.moo_damage.proofs.Apart.{one_passing, both_true}
+use Rattle.moo_damage.proofs.Apart.{one_passing}
 use Rattle.moo_damage.proofs.Good.{parents_seen, places_seen}
 
 not_past : (x top : ℤ) → (pos 0 ≤ℤ x) × (x ≤ℤ top) → (int_lt x (pos 0) || int_lt top x) ≡ false

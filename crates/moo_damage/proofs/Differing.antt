@@ -1,8 +1,7 @@
 -- Where two lots of rows differ first.
-use Rattle.std.proofs.Common.{◌≡◌, ◌≢◌, ℕ, ◌<◌, ℤ, pos, negsuc, None, Some, Less, sym, ◌⊎◌, inl, inr, arith}
-use Rattle.std.specs.Prelude.{◌<ℤ◌}
+use Rattle.std.proofs.Common.{◌≡◌, ◌≢◌, pos, negsuc, None, Some, Less, sym, arith}
 use Rattle.std.specs.Cmp.{int_cmp_is}
-use Rattle.std.specs.FinMap.{get, same_map}
+use Rattle.std.specs.FinMap.{same_map}
 use Rattle.moo_value.specs.declared.value.ObjNo.{ObjNo}
 use Rattle.moo_rows.specs.declared.row.PropId.{PropId}
 use Rattle.moo_rows.specs.declared.row.VerbId.{VerbId}

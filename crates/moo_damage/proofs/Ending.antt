@@ -1,6 +1,6 @@
 -- Chains of links among rows: how long they are, and one step along them.
-use Rattle.std.proofs.Common.{◌≡◌, ℕ, suc, ◌+◌, ◌≤◌, Bool, true, false, cond, ◌||◌, Option, None, Some, List, [], ◌∷◌, length, Ordering, refl, sym, ap, ◌∙◌, subst, ◌⊎◌, inl, inr, arith}
-use Rattle.std.specs.Prelude.{is_some, IsSome}
+use Rattle.std.proofs.Common.{◌≡◌, suc, ◌≤◌, Bool, true, false, cond, Option, None, Some, List, [], ◌∷◌, length, Ordering, refl, sym, ap, ◌∙◌, subst, ◌⊎◌, inl, inr}
+use Rattle.std.specs.Prelude.{is_some}
 use Rattle.std.specs.Option.{option_map}
 use Rattle.std.specs.Cmp.{eq_by_cmp_equiv}
 use Rattle.std.specs.Ordering.{eq_by_cmp}
@@ -20,7 +20,7 @@ use Rattle.moo_world.specs.World.{Climbs}
 use Rattle.moo_world.proofs.Chains.{Climbs-once}
 use Rattle.moo_world.proofs.MapLaws.{decided_alike, key-Decides}
 use Rattle.moo_damage.specs.declared.trees.Link.{Link}
-use Rattle.moo_damage.specs.Damage.{link_of, next_of, Ends, Loops, LinksHold}
+use Rattle.moo_damage.specs.Damage.{link_of, next_of, Ends, LinksHold}
 use Rattle.moo_damage.specs.Noted.{AreEnding}
 
 find-lookup : {K X : Type 0} (cmp : K → K → Ordering) (q : K) (es : List (K × X)) → lookup (eq_by_cmp cmp q) es ≡ find cmp q es

@@ -54,15 +54,22 @@ module _ {K X : Type 0} (right bad : K → X → Type 0) where
     found_at [] s key f = absurd (none-some key (sym f))
     found_at (x ∷ es) s key (inr f) =
         let is : key ≡ x.0 = same_Some key x.0 f.1 in
-        subst (Found (x ∷ es)) (sym is) (x.1, here cmp x.0 x es (ap is_eq (tied_itself total x.0)), f.0,
-        λ k r l e. absurd (none-some r (sym (elsewhere cmp k x es (ap is_eq l) ∙ none_below k x.0 es l (first_of _ _ s)) ∙ e)))
+        subst (Found (x ∷ es)) (sym is) (
+          x.1,
+          here cmp x.0 x es (ap is_eq (tied_itself total x.0)),
+          f.0,
+          λ k r l e. absurd (none-some r (sym (elsewhere cmp k x es (ap is_eq l) ∙ none_below k x.0 es l (first_of _ _ s)) ∙ e)),
+        )
     found_at (x ∷ es) s key (inl f) = more (found_at es (second_of _ _ s) key f.1)
       where
         more : Found es key → Found (x ∷ es) key
         more g =
-            let less : cmp x.0 key ≡ Less = above_first x.0 key g.0 es (first_of _ _ s) g.1 in
-            (g.0, elsewhere cmp key x es (ap is_eq (total.antisymm key x.0 ∙ ap ordering_reverse less)) ∙ g.1, g.2,
-            λ k r l e. by k r l (eq_by_cmp cmp k x.0) refl e)
+            let less : cmp x.0 key ≡ Less = above_first x.0 key g.0 es (first_of _ _ s) g.1 in (
+              g.0,
+              elsewhere cmp key x es (ap is_eq (total.antisymm key x.0 ∙ ap ordering_reverse less)) ∙ g.1,
+              g.2,
+              λ k r l e. by k r l (eq_by_cmp cmp k x.0) refl e,
+            )
           where
             by : (k : K) (r : X) → cmp k key ≡ Less → (b : Bool) → eq_by_cmp cmp k x.0 ≡ b → cond b (Some x.1) (find cmp k es) ≡ Some r → right k r
             by k r l true h e = subst (λ v. right k v) (same_Some x.1 r e) (subst (λ j. right j x.1) (sym ((key-Decides cmp total exact k x.0).0 h)) f.0)

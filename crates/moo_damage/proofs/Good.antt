@@ -1,8 +1,8 @@
 -- Rows within the limits that nothing is wrong with are sound, and their world is well formed.
-use Rattle.std.proofs.Common.{◌≡◌, ◌≢◌, ℕ, ◌<◌, ◌≤◌, ℤ, pos, negsuc, Bool, true, false, ◌||◌, ◌&&◌, Option, None, Some, List, [], ◌∷◌, ◌++◌, map, refl, sym, ap, ◌∙◌, subst, ◌⊎◌, inl, inr, arith}
+use Rattle.std.proofs.Common.{◌≡◌, ◌≢◌, ℕ, ◌<◌, ◌≤◌, ℤ, pos, negsuc, Bool, true, false, ◌||◌, ◌&&◌, Option, None, Some, List, [], ◌∷◌, refl, sym, ap, ◌∙◌, subst, ◌⊎◌, inl, inr, arith}
 use Rattle.std.specs.Prelude.{◌≤ℤ◌, int_lt, nat_lt, nat_le, not, is_some, unwrap_or, if◌then◌else◌}
 use Rattle.std.specs.Option.{option_map, option_and_then}
-use Rattle.std.specs.List.{find, filter_map, list_any, list_all, IsDistinct, AllByRecursion}
+use Rattle.std.specs.List.{filter_map, list_any, list_all, IsDistinct, AllByRecursion}
 use Rattle.std.specs.FinMap.{get, entries, get-entries}
 use Rattle.std.proofs.lemmas.Bool.{false≢true, both_ways, and_parts, or_parts, or_cases, or_left, or_right, cases_lt}
 use Rattle.std.proofs.lemmas.Bool.Decides.{nat_tests}
@@ -10,19 +10,15 @@ use Rattle.std.proofs.lemmas.Int.{ints}
 use Rattle.std.proofs.lemmas.Option.{none-some, same_Some}
 use Rattle.moo_value.specs.declared.value.ObjNo.{ObjNo}
 use Rattle.moo_rows.specs.declared.row.ObjRow.{ObjRow}
-use Rattle.moo_rows.specs.declared.row.PropId.{PropId}
 use Rattle.moo_rows.specs.declared.row.PropRow.{PropRow}
 use Rattle.moo_rows.specs.declared.row.SlotRow.{SlotRow}
-use Rattle.moo_rows.specs.declared.row.SlotState.{SlotState}
 use Rattle.moo_rows.specs.declared.row.SlotState.TheVariants.{Clear}
-use Rattle.moo_rows.specs.declared.row.VerbRow.{VerbRow}
 use Rattle.moo_rows.specs.Exact.{prop_exact}
 use Rattle.moo_rows.specs.Maps.{Maps, prop_cmp}
 use Rattle.moo_rows.proofs.Orders.{prop_total}
-use Rattle.moo_world.specs.Arguments.{is_number}
-use Rattle.moo_world.specs.Objects.{Name, Pair, nothing, same_object, same_text, same_pair, folded, is_among, same_object-Decides, same_text-Decides}
-use Rattle.moo_world.specs.Rows.{LookUps, AreSound, IsGood, look_ups, world_of, world_shown, record_of, numbers_below, name_on, slot_seen, prop_id, verb_id}
-use Rattle.moo_world.specs.World.{World, Record, Slot, Climbs, IsTree, IsWellFormed, KeepsLimits, Chain, NamesDiffer, is_object, parent_of, location_of, chain, names_of, defined_by, owed_by, pair_named, slot_of, slot_fits, state_fits, row_fits, verb_fits, is_property_name, without_slots, row_of, verbs_of}
+use Rattle.moo_world.specs.Objects.{Name, Pair, nothing, same_object, same_text, folded, is_among, same_object-Decides, same_text-Decides}
+use Rattle.moo_world.specs.Rows.{LookUps, AreSound, IsGood, look_ups, world_of, world_shown, record_of, numbers_below, name_on, prop_id, verb_id}
+use Rattle.moo_world.specs.World.{World, Record, Slot, Climbs, IsTree, KeepsLimits, Chain, NamesDiffer, is_object, parent_of, location_of, chain, names_of, defined_by, owed_by, pair_named, slot_of, slot_fits, row_fits, verb_fits, is_property_name, without_slots}
 use Rattle.moo_world.proofs.Chains.{Climbs-once}
 use Rattle.moo_world.proofs.Keeping.{named_is}
 use Rattle.moo_world.proofs.Owed.{named_so, found_among}
@@ -37,7 +33,7 @@ use Rattle.moo_props.proofs.Owing.{any_owed, entries_held}
 use Rattle.moo_props.proofs.Walked.{any_held}
 use Rattle.moo_damage.specs.declared.trees.Link.{Link}
 use Rattle.moo_damage.specs.declared.trees.Link.TheVariants.{Parent, Place}
-use Rattle.moo_damage.specs.Damage.{next_of, link_of, share_name, is_double, is_clear, is_clear_definer, is_object_past, is_lost, NumbersGiven, LinksEnd, LinksHold, IsClean}
+use Rattle.moo_damage.specs.Damage.{next_of, link_of, share_name, is_double, is_clear, is_clear_definer, is_lost, NumbersGiven, LinksEnd, LinksHold, IsClean}
 use Rattle.moo_damage.specs.Limits.{AreWithin}
 use Rattle.moo_damage.proofs.Apart.{both_true, all_map, none_any, one_passing, all_made, distinct_append, all_numbers, distinct_numbers, distinct_mapped}
 
@@ -265,7 +261,7 @@ module _ (m : Maps) (fit : AreWithin m) (clean : IsClean m) where
             let names : folded p.0.name ≡ folded q.0.name = ap folded p.3 ∙ (same_text-Decides (folded u) (folded v)).0 e ∙ sym (ap folded q.3) in
             let same : p.0.definer ≡ q.0.definer = p.2 ∙ sym q.2 in
             let here : is_among q.0.definer (chain w p.0.definer) ≡ true =
-                (λ k. is_among (q.2 k) (chain w (p.2 k))) ∙ ap (is_among d) chain_d ∙ or_left (same_object d d) (is_among d l) ((same_object-Decides d d).1 refl) in
+            (λ k. is_among (q.2 k) (chain w (p.2 k))) ∙ ap (is_among d) chain_d ∙ or_left (same_object d d) (is_among d l) ((same_object-Decides d d).1 refl) in
             let one : i ≡ j = one_property i j p.0 q.0 p.1 q.1 names (or_left _ _ here) in
             absurd (omega arith)
 
@@ -281,7 +277,7 @@ module _ (m : Maps) (fit : AreWithin m) (clean : IsClean m) where
         by true h =
             let p = name_row d i n e in
             let k = one_passing (λ e. get m.props e.0 ≡ Some e.1) (λ e. is_among e.1.definer l && same_text (folded n) (folded e.1.name)) (entries m.props) (entries_held m sound)
-                (sym (any_owed m sound (λ k. same_text (folded n) (folded k.1)) l) ∙ h) in
+            (sym (any_owed m sound (λ k. same_text (folded n) (folded k.1)) l) ∙ h) in
             let parts = and_parts (is_among k.0.1.definer l) (same_text (folded n) (folded k.0.1.name)) k.2 in
             let names : folded p.0.name ≡ folded k.0.1.name = ap folded p.3 ∙ (same_text-Decides (folded n) (folded k.0.1.name)).0 parts.1 in
             let here : is_among k.0.1.definer (chain w p.0.definer) ≡ true = ap (λ z. is_among k.0.1.definer (chain w z)) p.2 ∙ ap (is_among k.0.1.definer) chain_d ∙ or_right (same_object k.0.1.definer d) (is_among k.0.1.definer l) parts.0 in
@@ -327,7 +323,7 @@ module _ (m : Maps) (fit : AreWithin m) (clean : IsClean m) where
           let named : folded q.1 ≡ n = named_so (owed_by w l) n q f in
           let any = found_among (λ k. same_text (folded k.1) n) (λ k. same_text (folded k.1) n) (owed_by w l) q ((same_text-Decides (folded q.1) n).1 named) f in
           let k = one_passing (λ e. get m.props e.0 ≡ Some e.1) (λ e. is_among e.1.definer l && same_text (folded e.1.name) n) (entries m.props) (entries_held m sound)
-              (sym (any_owed m sound (λ k. same_text (folded k.1) n) l) ∙ any) in
+          (sym (any_owed m sound (λ k. same_text (folded k.1) n) l) ∙ any) in
           let parts = and_parts (is_among k.0.1.definer l) (same_text (folded k.0.1.name) n) k.2 in
           let among : is_among k.0.1.definer (chain w x) ≡ true = ap (is_among k.0.1.definer) (chain_is w tree x l c) ∙ parts.0 in
           let owed : unwrap_or (option_map (λ p. is_among p.definer (chain w x)) (get m.props k.0.0)) false ≡ true = ap (λ o. unwrap_or (option_map (λ (p : PropRow). is_among p.definer (chain w x)) o) false) k.1 ∙ among in

@@ -1,5 +1,5 @@
 -- Slots that are just those that are owed, with names apart, hold locally.
-use Rattle.std.proofs.Common.{◌≡◌, ℕ, ◌<◌, ◌≤◌, Bool, true, false, ◌||◌, ◌&&◌, Option, None, Some, List, [], ◌∷◌, refl, sym, ap, ◌∙◌, subst, ◌⊎◌, inl, inr, arith}
+use Rattle.std.proofs.Common.{◌≡◌, ◌<◌, ◌≤◌, Bool, true, false, ◌||◌, ◌&&◌, Option, None, Some, List, [], ◌∷◌, refl, sym, ap, ◌∙◌, subst, ◌⊎◌, inl, inr, arith}
 use Rattle.std.specs.Prelude.{nat_lt, not, is_some, unwrap_or}
 use Rattle.std.specs.Option.{option_map}
 use Rattle.std.specs.FinMap.{get, entries, get-entries}
@@ -13,7 +13,7 @@ use Rattle.moo_rows.specs.declared.row.PropRow.{PropRow}
 use Rattle.moo_rows.specs.Exact.{prop_exact}
 use Rattle.moo_rows.specs.Maps.{Maps, prop_cmp}
 use Rattle.moo_rows.proofs.Orders.{prop_total}
-use Rattle.moo_world.specs.Objects.{same_object, same_text, folded, is_among, same_object-Decides, same_text-Decides}
+use Rattle.moo_world.specs.Objects.{same_object, folded, is_among, same_object-Decides, same_text-Decides}
 use Rattle.moo_world.specs.Rows.{look_ups, world_of}
 use Rattle.moo_world.specs.World.{World, IsTree, Chain, is_object, parent_of, chain}
 use Rattle.moo_world.proofs.PairLists.{some_of}

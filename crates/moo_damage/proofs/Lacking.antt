@@ -1,6 +1,6 @@
 -- The first slot that is missing, as the least key at which one is.
-use Rattle.std.proofs.Common.{◌≡◌, Bool, true, false, Option, None, Some, Less, sym, ap, ◌∙◌, subst, inl, inr}
-use Rattle.std.specs.Prelude.{◌<ℤ◌, not, pos, is_some, IsSome, unwrap_or, ◌⊎◌}
+use Rattle.std.proofs.Common.{◌≡◌, Bool, true, false, Option, None, Some, Less, sym, ap, subst, inl, inr}
+use Rattle.std.specs.Prelude.{◌<ℤ◌, not, pos, is_some, unwrap_or, ◌⊎◌}
 use Rattle.std.specs.Cmp.{int_cmp_is}
 use Rattle.std.specs.Option.{option_map}
 use Rattle.std.specs.FinMap.{get}
@@ -18,7 +18,7 @@ use Rattle.moo_damage.specs.declared.kind.Kind.TheVariants.{MissingSlot}
 use Rattle.moo_damage.specs.Damage.{is_owed, is_missing}
 use Rattle.moo_damage.specs.Kinds.{AtSlot, InRows, IsLeast}
 use Rattle.moo_damage.specs.Missing.{IsFirstMissing, Misses}
-use Rattle.moo_damage.proofs.Least.{none_met, least_slot, number_less}
+use Rattle.moo_damage.proofs.Least.{least_slot, number_less}
 
 mapped_some : {A : Type 0} (o : Option A) (f : A → Bool) → unwrap_or (option_map f o) false ≡ true → is_some o ≡ true
 mapped_some None f e = absurd (false≢true e)

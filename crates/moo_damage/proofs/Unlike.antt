@@ -1,12 +1,11 @@
 -- Where two maps differ first.
 use Rattle.std.proofs.Common.{◌≡◌, ◌≢◌, Bool, true, false, Option, None, Some, Ordering, Less, Equal, Greater, refl, sym, ap, ◌∙◌, subst}
-use Rattle.std.specs.Prelude.{IsTrue, ◌↔◌, not}
+use Rattle.std.specs.Prelude.{IsTrue, ◌↔◌}
 use Rattle.std.specs.Cmp.{IsTotalOrder}
 use Rattle.std.specs.Ordering.{match_ordering, ordering_reverse}
 use Rattle.std.specs.FinMap.{FinMap, get}
 use Rattle.std.proofs.lemmas.Bool.{false≢true}
 use Rattle.std.proofs.lemmas.Map.Lookups.{CmpEqualImpliesEq}
-use Rattle.std.proofs.lemmas.Option.{none-some}
 use Rattle.moo_damage.specs.Differences.{IsFirstUnlike, lesser}
 use Rattle.moo_damage.specs.First.{IsFirst}
 
@@ -27,16 +26,19 @@ module _ {K X : Type 0} {cmp : K → K → Ordering} (total : IsTotalOrder cmp) 
   Unlike x y = IsFirst x (λ k r. get y k ≡ Some r) (λ k r. get y k ≢ Some r)
 
   by_order : (x y : K) (o : Ordering) → cmp y x ≡ o → Unlike a b (Some x) → Unlike b a (Some y) → IsFirstUnlike a b (match_ordering o (Some y) (Some x) (Some x))
-  by_order x y Less e f g =
-      (λ h. g.2 (h ∙ g.1),
-      λ k l. both_agree (get a k) (get b k) (λ r. f.3 k r (total.trans k y x l e)) (λ r. g.3 k r l))
+  by_order x y Less e f g = (
+    λ h. g.2 (h ∙ g.1),
+    λ k l. both_agree (get a k) (get b k) (λ r. f.3 k r (total.trans k y x l e)) (λ r. g.3 k r l),
+  )
   by_order x y Equal e f g =
-      let same : y ≡ x = exact y x e in
-      (λ h. f.2 (sym h ∙ f.1),
-      λ k l. both_agree (get a k) (get b k) (λ r. f.3 k r l) (λ r. g.3 k r (subst (λ z. cmp k z ≡ Less) (sym same) l)))
-  by_order x y Greater e f g =
-      (λ h. f.2 (sym h ∙ f.1),
-      λ k l. both_agree (get a k) (get b k) (λ r. f.3 k r l) (λ r. g.3 k r (total.trans k x y l (total.antisymm x y ∙ ap ordering_reverse e))))
+      let same : y ≡ x = exact y x e in (
+        λ h. f.2 (sym h ∙ f.1),
+        λ k l. both_agree (get a k) (get b k) (λ r. f.3 k r l) (λ r. g.3 k r (subst (λ z. cmp k z ≡ Less) (sym same) l)),
+      )
+  by_order x y Greater e f g = (
+    λ h. f.2 (sym h ∙ f.1),
+    λ k l. both_agree (get a k) (get b k) (λ r. f.3 k r l) (λ r. g.3 k r (total.trans k x y l (total.antisymm x y ∙ ap ordering_reverse e))),
+  )
 
   pub first_unlike : (o p : Option K) → Unlike a b o → Unlike b a p → IsFirstUnlike a b (lesser cmp o p)
   first_unlike None None f g = λ k. both_agree (get a k) (get b k) (f k) (g k)

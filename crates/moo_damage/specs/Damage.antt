@@ -1,5 +1,5 @@
 -- What can be wrong with rows. Each kind is a test of one row, or what a chain of links comes to.
-use Rattle.std.specs.Prelude.{◌≡◌, ℕ, ℤ, pos, negsuc, ◌≤ℤ◌, ◌<◌, ◌≤◌, nat_lt, nat_le, int_lt, Bool, true, false, not, ◌&&◌, ◌||◌, List, Option, None, Some, is_some, unwrap_or, ◌⊎◌}
+use Rattle.std.specs.Prelude.{◌≡◌, pos, nat_lt, nat_le, int_lt, Bool, true, false, not, ◌&&◌, ◌||◌, List, Option, None, Some, is_some, unwrap_or, ◌⊎◌}
 use Rattle.std.specs.Option.{option_map}
 use Rattle.std.specs.List.{list_any}
 use Rattle.std.specs.FinMap.{get, entries}

@@ -10,7 +10,8 @@ ghost use Rattle.moo_damage.specs.Limits.{AreWithin};
 ghost use Rattle.moo_damage.specs.Local.{SlotsHold};
 
 use crate::checks::{
-    first_clear, first_lost, first_object_past, first_prop_past, first_strange_verb, first_undefined, first_verb_past,
+    first_clear, first_lost, first_object_past, first_prop_past, first_strange_verb,
+    first_undefined, first_verb_past,
 };
 use crate::kind::{Key, Kind, object_key, prop_key, slot_key, verb_key};
 use crate::local::{double_name, missing_slot, slots_hold, strange_slot};

@@ -15,5 +15,6 @@ pub use damage::damage_of;
 pub use differences::first_difference;
 pub use kind::{Key, Kind};
 pub use laws::{
-    clean_rows_are_good, good_rows_are_clean, good_rows_have_no_damage, held_slots_are_local, local_slots_hold,
+    clean_rows_are_good, good_rows_are_clean, good_rows_have_no_damage, held_slots_are_local,
+    local_slots_hold,
 };
