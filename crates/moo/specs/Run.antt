@@ -1,18 +1,15 @@
 -- What a run of the program writes, and the status that it ends with.
-use Rattle.std.specs.Prelude.{◌≡◌, ◌⊎◌, ◌≤◌, ◌<◌, ◌==◌, ◌||◌, ◌++◌, ℕ, Bool, List, [], ◌∷◌, take, length, Option, if◌then◌else◌, codes, nat_eq}
+use Rattle.std.specs.Prelude.{◌≡◌, ◌⊎◌, ◌==◌, ◌||◌, ℕ, Bool, List, [], ◌∷◌, take, Option, if◌then◌else◌, codes, nat_eq}
 use Rattle.std.specs.Cmp.Lexicographic.{pointwise}
-use Rattle.std.specs.List.{count_by}
 use Rattle.std.specs.Io.KnownBytes.{Appends}
 use Rattle.moo_rows.specs.Opening.{opening_maps}
-use Rattle.moo_world.specs.Judge.{State, state_of}
-use Rattle.moo_text.specs.Items.{items}
-use Rattle.moo_text.specs.declared.next.Next.{Next}
+use Rattle.moo_world.specs.Judge.{state_of}
 use Rattle.moo_text.specs.declared.fault.TextFault.{TextFault}
 use Rattle.moo_text.specs.declared.fault.TextFault.TheVariants as text_fault
-use Rattle.moo_text.specs.declared.reply.Answer.{Answer}
 use Rattle.moo_store.specs.declared.fault.StoreFault.{StoreFault}
 use Rattle.moo_store.specs.declared.fault.StoreFault.TheVariants as store_fault
-use Rattle.moo_store.specs.Text.{AnsweredItems, Fronts, text_of, is_lost}
+use Rattle.moo_store.specs.Stand.{Stand, Works, RunsBatch}
+use Rattle.moo_store.specs.Turns.{Completes, Halts}
 use Rattle.moo.specs.declared.failure.Failure.{Failure}
 use Rattle.moo.specs.declared.failure.Failure.TheVariants.{Usage, Store, Read, Write, TooLong, NoMemory}
 
@@ -69,33 +66,16 @@ Reports failure old new status =
 
 -- ---- runs
 
--- All items of the text are answered, from the opening world on, so many of them by `fault` or `closed`; the answers are
--- written and nothing else.
-pub record AnswersText (text : List ℕ) (lost : ℕ) (old new : Option (List ℕ)) : Type 0 where
-  pub short : length text ≤ 1073741824
-  pub answers : List Answer
-  pub end : State
-  pub answered : AnsweredItems (state_of opening_maps) (items text) answers end
-  pub lost_are : lost ≡ count_by is_lost answers
-  pub wrote : Appends old new (text_of answers)
+-- A run of the text stops, with its answers before that written. Or the store or memory failed before the text was read, and nothing is
+-- written.
+abbrev pub StopsText : Option (List ℕ) → Failure → Option (List ℕ) → Option (List ℕ) → Type 0
+StopsText text failure old new =
+    ((fault : TextFault) × (stand : Stand) × (failure ≡ text_failure fault) × Halts RunsBatch (Works (state_of opening_maps)) stand text old new fault)
+    ⊎ (((failure ≡ Store) ⊎ (failure ≡ NoMemory)) × Appends old new [])
 
--- The run of the text stops: the items that are done are answered, from the opening world on; their answers are written, and a
--- front of the next one. The failure is TooLong only where the text is too long.
-pub record StopsText (text : List ℕ) (failure : Failure) (old new : Option (List ℕ)) : Type 0 where
-  pub long : failure ≡ TooLong → 1073741824 < length text
-  pub done : List Next
-  pub left : List Next
-  pub whole : items text ≡ done ++ left
-  pub answers : List Answer
-  pub end : State
-  pub answered : AnsweredItems (state_of opening_maps) done answers end
-  pub front : List ℕ
-  pub next : State
-  pub in_hand : Fronts end left front next
-  pub wrote : Appends old new (text_of answers ++ front)
-
--- a text is answered whole, at status 1 where an answer is `fault` or `closed`; or its run stops and the failure is reported
-abbrev pub RunsText : List ℕ → Option (List ℕ) → Option (List ℕ) → ℕ → Type 0
+-- A text is run from the opening world on, at status 1 where an answer is `fault` or `closed`; or its run stops and the failure is
+-- reported.
+abbrev pub RunsText : Option (List ℕ) → Option (List ℕ) → Option (List ℕ) → ℕ → Type 0
 RunsText text old new status =
-    ((lost : ℕ) × AnswersText text lost old new × (status ≡ (if lost == 0 then 0 else 1)))
+    ((stand : Stand) × (batches lost : ℕ) × Completes RunsBatch (Works (state_of opening_maps)) stand text old new batches lost × (status ≡ (if lost == 0 then 0 else 1)))
     ⊎ ((failure : Failure) × (between : Option (List ℕ)) × StopsText text failure old between × Reports failure between new status)

@@ -1,7 +1,11 @@
 //! What the words of the command line do.
 
-ghost use Rattle.std.specs.Prelude.{◌≡◌, true, false, map, IfOk, IfErr, IfSome};
-ghost use Rattle.moo.specs.Run.{asks_to_apply, AnswersText, Reports, RunsText, StopsText};
+ghost use Rattle.std.specs.Prelude.{◌≡◌, ℕ, true, false, map, IfOk, IfErr};
+ghost use Rattle.moo_rows.specs.Opening.{opening_maps};
+ghost use Rattle.moo_world.specs.Judge.{state_of};
+ghost use Rattle.moo_store.specs.Stand.{Stand, Works, RunsBatch};
+ghost use Rattle.moo_store.specs.Turns.{Completes};
+ghost use Rattle.moo.specs.Run.{asks_to_apply, Reports, RunsText, StopsText};
 
 use crate::failure::Failure;
 use moo_store::creating::create_in;
@@ -24,8 +28,8 @@ fn apply_in_memory<R: Read + Drop, W: Write>(
     input: R,
     output: &mut W,
 ) -> Result<Tally, Failure>
-    ensures answers { IfOk result (λ tally. IfSome (R.remaining input) (λ text. AnswersText text tally.lost (W.contents output.old) (W.contents output.new))) }
-    ensures stops { IfErr result (λ failure. IfSome (R.remaining input) (λ text. StopsText text failure (W.contents output.old) (W.contents output.new))) }
+    ensures answers { IfOk result (λ tally. (stand : Stand) × (batches : ℕ) × Completes RunsBatch (Works (state_of opening_maps)) stand (R.remaining input) (W.contents output.old) (W.contents output.new) batches tally.lost) }
+    ensures stops { IfErr result (λ failure. StopsText (R.remaining input) failure (W.contents output.old) (W.contents output.new)) }
 {
     let conn = match Connection::open_in_memory(alloc) {
         Ok(conn) => conn,
@@ -63,7 +67,7 @@ pub fn run_words<R: Read + Drop, W: Write>(
     input: R,
     output: &mut W,
 ) -> u8
-    ensures runs { asks_to_apply (map (λ word. word.now) words.now) ≡ true → IfSome (R.remaining input) (λ text. RunsText text (W.contents output.old) (W.contents output.new) result) }
+    ensures runs { asks_to_apply (map (λ word. word.now) words.now) ≡ true → RunsText (R.remaining input) (W.contents output.old) (W.contents output.new) result }
     ensures usage { asks_to_apply (map (λ word. word.now) words.now) ≡ false → Reports Failure.Usage (W.contents output.old) (W.contents output.new) result }
 {
     if !asks_to_apply(words) {

@@ -1,7 +1,6 @@
 -- Damage of tables, and damage of the rows that they show.
-use Rattle.std.proofs.Common.{◌≡◌, ◌⊎◌, inl, inr, ℕ, ◌<◌, ℤ, pos, negsuc, Option, Some, None, refl, sym, ap, subst, ◌∙◌, arith}
+use Rattle.std.proofs.Common.{◌≡◌, ◌⊎◌, inl, inr, ◌<◌, pos, negsuc, Option, Some, None, refl, sym, subst, ◌∙◌, arith}
 use Rattle.std.specs.FinMap.{get}
-use Rattle.std.proofs.lemmas.Int.{ints}
 use Rattle.sqlite.specs.Order.{Row}
 use Rattle.moo_rows.specs.Maps.{Maps}
 use Rattle.moo_world.specs.Rows.{IsGood}
@@ -11,11 +10,11 @@ use Rattle.moo_damage.specs.declared.kind.Kind.{Kind}
 use Rattle.moo_damage.specs.declared.kind.Kind.TheVariants.{BadHead, BadCell, PastHead, NoParent, ParentLoop, NoPlace, PlaceLoop, NoDefiner, DoubleName, StrangeSlot, MissingSlot, ClearDefiner, StrangeVerb, Mismatch}
 use Rattle.moo_damage.specs.declared.kind.Key.{Key}
 use Rattle.moo_damage.specs.declared.kind.Key.TheVariants.{Head, Object, Prop, Slot, Verb}
-use Rattle.moo_damage.specs.Kinds.{place, IsBelow, NoneBefore, IsLeast, IsFirstMet, IsFirstInRows, InRows}
+use Rattle.moo_damage.specs.Kinds.{place, NoneBefore, IsLeast, IsFirstInRows, InRows}
 use Rattle.moo_damage.specs.Limits.{AreWithin}
 use Rattle.moo_damage.proofs.Clean.{clean}
 use Rattle.moo_damage.proofs.Told.{none_told}
-use Rattle.moo_cells.specs.Head.{HeadIs, ReadsHead, HasHead}
+use Rattle.moo_cells.specs.Head.{HeadIs, ReadsHead}
 use Rattle.moo_cells.specs.Reading.{IsRead, ObjectFits, PropFits, SlotFits, VerbFits}
 use Rattle.moo_cells.specs.Shows.{ShowsOrNone, ShowsObject, ShowsProp, ShowsSlot, ShowsVerb, ShowsRows}
 use Rattle.moo_cells.specs.Damage.{version, IsNewer, IsBadHead, IsBadCell, IsMet, Damage, SaysOfCells}

@@ -1,5 +1,5 @@
 -- Sound rows of a well formed world are within the limits.
-use Rattle.std.proofs.Common.{◌≡◌, ℕ, zero, suc, ◌<◌, ◌≤◌, ℤ, pos, negsuc, Bool, true, false, ◌&&◌, List, [], ◌∷◌, ◌++◌, Option, Some, None, refl, sym, ap, subst, ◌∙◌, arith, ◌⊎◌, inl, inr}
+use Rattle.std.proofs.Common.{◌≡◌, ℕ, zero, suc, ◌<◌, ◌≤◌, ℤ, pos, negsuc, Bool, true, List, [], ◌∷◌, Option, Some, None, refl, sym, ap, subst, ◌∙◌, arith}
 use Rattle.std.specs.Prelude.{◌≤ℤ◌, is_some, unwrap_or, if◌then◌else◌}
 use Rattle.std.specs.Option.{option_map, option_and_then}
 use Rattle.std.specs.List.{filter_map, list_all, cons_option}
@@ -19,7 +19,7 @@ use Rattle.moo_rows.specs.declared.row.VerbId.{VerbId}
 use Rattle.moo_rows.specs.declared.row.VerbRow.{VerbRow}
 use Rattle.moo_rows.specs.Maps.{Maps}
 use Rattle.moo_world.specs.Arguments.{in_range, is_number}
-use Rattle.moo_world.specs.Objects.{Name, nothing, same_object, same_object-Decides}
+use Rattle.moo_world.specs.Objects.{same_object, same_object-Decides}
 use Rattle.moo_world.specs.Rows.{IsGood, look_ups, world_of, world_shown, record_of, numbers_below, name_on, slot_seen}
 use Rattle.moo_world.specs.World.{Record, KeepsLimits, Climbs, is_object, row_fits, is_property_name, state_fits, verb_fits, without_slots}
 use Rattle.moo_world.proofs.PairLists.{some_of}

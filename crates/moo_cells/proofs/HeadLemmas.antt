@@ -1,9 +1,8 @@
 -- The head, from the rows of its table.
-use Rattle.std.proofs.Common.{◌≡◌, ◌≢◌, inl, inr, ℕ, zero, suc, ℤ, pos, negsuc, ◌<ℤ◌, ◌≤ℤ◌, List, [], ◌∷◌, length, get_or, find, cond, Bool, true, false, true≢false, Option, Some, None, refl, sym, ap, subst, ◌∙◌, arith, IsTrue}
+use Rattle.std.proofs.Common.{◌≡◌, ◌≢◌, inl, inr, ℕ, ℤ, pos, ◌<ℤ◌, ◌≤ℤ◌, List, [], ◌∷◌, length, get_or, find, cond, Bool, true, false, true≢false, Option, Some, None, refl, sym, ap, subst, ◌∙◌, arith, IsTrue}
 use Rattle.std.proofs.lemmas.Int.{ints}
-use Rattle.sqlite.specs.declared.types.Value.{Value}
 use Rattle.sqlite.specs.declared.types.Value.TheVariants.{Int as Number}
-use Rattle.sqlite.specs.Order.{Row, column, value_cmp}
+use Rattle.sqlite.specs.Order.{Row, column}
 use Rattle.sqlite.specs.Tree.{rowid, has_rowid}
 use Rattle.sqlite_rules.specs.Lists.{Has}
 use Rattle.sqlite_rules.proofs.ListLemmas.{all_has}
@@ -12,7 +11,7 @@ use Rattle.sqlite.specs.Edit.{id_in}
 use Rattle.moo_rows.specs.declared.row.Head.{Head}
 use Rattle.moo_tables.specs.Inside.{AreKeyed}
 use Rattle.moo_tables.proofs.KeyLemmas.{int_value}
-use Rattle.moo_cells.specs.Head.{head_row, HeadIs, HeadFits, ReadsHead, ReadsNewer, ReadsKnown, IsNewerThan, HasHead, SaysOfHead}
+use Rattle.moo_cells.specs.Head.{head_row, HeadIs, ReadsHead, ReadsNewer, ReadsKnown, IsNewerThan, HasHead, SaysOfHead}
 use Rattle.moo_cells.specs.HeadCells.{cells_of, IsHead}
 use Rattle.moo_cells.specs.declared.head.HeadCells.{HeadCells}
 use Rattle.moo_cells.specs.declared.fault.CellFault.{CellFault}
@@ -71,8 +70,8 @@ not_newer cells n is low k =
 pub too_old : (cells : Row) (n : HeadCells) → cells ≡ cells_of n → n.version <ℤ pos 1 → ¬ (ReadsKnown (pos 1) cells) × ¬ (ReadsNewer (pos 1) cells)
 too_old cells n is low = (
   (λ k.
-    let same = version_is cells n is k.0 (pos k.1.seq) k.1.top (pos k.1.next_prop) (pos k.1.next_verb) k.3.0 in
-    let above = k.2.0 in absurd (omega (arith, ints))),
+      let same = version_is cells n is k.0 (pos k.1.seq) k.1.top (pos k.1.next_prop) (pos k.1.next_verb) k.3.0 in
+      let above = k.2.0 in absurd (omega (arith, ints))),
   not_newer cells n is (omega (arith, ints)),
 )
 
@@ -80,16 +79,16 @@ too_old cells n is low = (
 pub outside : (cells : Row) (n : HeadCells) → cells ≡ cells_of n → n.version ≤ℤ pos 1 → ((head : Head) → ¬ (IsHead n head)) → ¬ (ReadsKnown (pos 1) cells) × ¬ (ReadsNewer (pos 1) cells)
 outside cells n is low none = (
   (λ k.
-    let v = k.0 in
-    let head = k.1 in
-    let shown = k.3.0 in
-    none head (record {
-      seq = seq_is cells n is v (pos head.seq) head.top (pos head.next_prop) (pos head.next_verb) shown;
-      top = top_is cells n is v (pos head.seq) head.top (pos head.next_prop) (pos head.next_verb) shown;
-      next_prop = next_prop_is cells n is v (pos head.seq) head.top (pos head.next_prop) (pos head.next_verb) shown;
-      next_verb = next_verb_is cells n is v (pos head.seq) head.top (pos head.next_prop) (pos head.next_verb) shown;
-      fits = k.3.1;
-    })),
+      let v = k.0 in
+      let head = k.1 in
+      let shown = k.3.0 in
+      none head (record {
+        seq = seq_is cells n is v (pos head.seq) head.top (pos head.next_prop) (pos head.next_verb) shown;
+        top = top_is cells n is v (pos head.seq) head.top (pos head.next_prop) (pos head.next_verb) shown;
+        next_prop = next_prop_is cells n is v (pos head.seq) head.top (pos head.next_prop) (pos head.next_verb) shown;
+        next_verb = next_verb_is cells n is v (pos head.seq) head.top (pos head.next_prop) (pos head.next_verb) shown;
+        fits = k.3.1;
+      })),
   not_newer cells n is low,
 )
 

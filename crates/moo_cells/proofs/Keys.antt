@@ -1,5 +1,5 @@
 -- How the rows of each table bear their keys.
-use Rattle.std.proofs.Common.{◌≡◌, ◌⊎◌, inl, inr, ℕ, ℤ, pos, negsuc, ◌<ℤ◌, ◌&&◌, Bool, true, false, refl, sym, ap, subst, ◌∙◌, arith, true≢false}
+use Rattle.std.proofs.Common.{◌≡◌, inl, inr, ℕ, ℤ, pos, negsuc, ◌<ℤ◌, true, refl, sym, ap, ◌∙◌, arith}
 use Rattle.std.specs.Ordering.{is_eq, int_cmp, ordering_then}
 use Rattle.std.specs.Cmp.{int_ranked, tied_itself, alike_right}
 use Rattle.std.specs.declared.cmp.Ordering.{Ordering}
@@ -11,9 +11,6 @@ use Rattle.sqlite.specs.declared.types.Value.TheVariants.{Int}
 use Rattle.sqlite.specs.Order.{Row, column, value_cmp}
 use Rattle.sqlite.specs.Tree.{rowid, has_rowid}
 use Rattle.sqlite_value.proofs.OrderLemmas.{value_cmp_total, value_cmp-Int}
-use Rattle.moo_value.specs.declared.value.ObjNo.{ObjNo}
-use Rattle.moo_rows.specs.declared.row.PropId.{PropId}
-use Rattle.moo_rows.specs.declared.row.VerbId.{VerbId}
 use Rattle.moo_tables.specs.Listing.{begins_with, IsBelow}
 use Rattle.moo_cells.specs.Reading.{ReadsObject, ReadsProp, ReadsSlot, ReadsVerb}
 use Rattle.moo_cells.specs.Holding.{object_number, prop_number, slot_number, verb_number, IsLess, IsPairLess}

@@ -1,5 +1,5 @@
 -- Damage is of one kind, at one key.
-use Rattle.std.proofs.Common.{◌≡◌, ◌⊎◌, inl, inr, ℕ, ◌<◌, ◌-◌, ℤ, pos, ◌<ℤ◌, List, [], ◌∷◌, get_or, Some, refl, sym, ap, subst, ◌∙◌, arith}
+use Rattle.std.proofs.Common.{◌≡◌, ◌⊎◌, inl, inr, ℕ, ◌<◌, ◌-◌, ℤ, ◌<ℤ◌, [], ◌∷◌, get_or, refl, sym, ap, subst, ◌∙◌, arith}
 use Rattle.std.specs.Ordering.{int_cmp, nat_cmp}
 use Rattle.std.specs.Cmp.{int_ranked, ranked}
 use Rattle.std.specs.declared.cmp.Ordering.{Ordering}

@@ -1,6 +1,6 @@
 -- Tables show one lot of rows within the limits at most.
-use Rattle.std.proofs.Common.{◌≡◌, ℕ, ℤ, pos, negsuc, List, [], ◌∷◌, map, find, Bool, true, false, Option, Some, None, Result, Ok, Err, refl, sym, ap, subst, ◌∙◌, IsTrue}
-use Rattle.std.specs.FinMap.{get, same_map}
+use Rattle.std.proofs.Common.{◌≡◌, ℕ, pos, List, [], ◌∷◌, map, find, Bool, true, false, Option, Some, None, Result, Ok, Err, refl, sym, ap, subst, ◌∙◌}
+use Rattle.std.specs.FinMap.{same_map}
 use Rattle.std.specs.Str.{bytes_eq}
 use Rattle.std.proofs.lemmas.Bool.{and_parts}
 use Rattle.sqlite.specs.declared.types.Value.{Value}
@@ -8,7 +8,7 @@ use Rattle.sqlite.specs.declared.types.Value.TheVariants.{Null, Int as Number, R
 use Rattle.sqlite.specs.Order.{Row, column}
 use Rattle.moo_value.specs.declared.value.ObjNo.{ObjNo}
 use Rattle.moo_value.specs.declared.value.Value.{Value as MooValue}
-use Rattle.moo_value.specs.declared.value.Value.TheVariants.{Int, Obj, Str, Error, List as a_list}
+use Rattle.moo_value.specs.declared.value.Value.TheVariants.{Obj, List as a_list}
 use Rattle.moo_value.specs.Literal.{Spells, Fits}
 use Rattle.moo_value.specs.Reading.{literal_at}
 use Rattle.moo_value.specs.declared.fault.LiteralFault.{LiteralFault}
@@ -16,8 +16,6 @@ use Rattle.moo_value.specs.declared.fault.LiteralFault.TheVariants.{NotALiteral}
 use Rattle.moo_value.proofs.Literals.{front_again}
 use Rattle.moo_value.specs.Value.{spread}
 use Rattle.moo_value.proofs.Printed.{one_spelled, whole}
-use Rattle.moo_rows.specs.declared.row.Bits.{Bits}
-use Rattle.moo_rows.specs.declared.row.VerbBits.{VerbBits}
 use Rattle.moo_rows.specs.declared.row.Head.{Head}
 use Rattle.moo_rows.specs.declared.row.ObjRow.{ObjRow}
 use Rattle.moo_rows.specs.declared.row.PropId.{PropId}
@@ -43,7 +41,7 @@ use Rattle.moo_tables.specs.Tables.{Tables}
 use Rattle.moo_tables.specs.Cells.{flag, head_cells}
 use Rattle.moo_damage.specs.Limits.{AreWithin}
 use Rattle.moo_cells.specs.Shows.{ShowsOrNone, ShowsAccept, ShowsState, ShowsObject, ShowsProp, ShowsSlot, ShowsVerb, ShowsRows, object_list}
-use Rattle.moo_cells.proofs.Texts.{text_inj, int_inj, fits_list, spread_objects}
+use Rattle.moo_cells.proofs.Texts.{int_inj, fits_list, spread_objects}
 use Rattle.moo_cells.proofs.Keys.{pos_inj}
 
 one_some : {A : Type 0} (x y : A) → Some x ≡ Some y → x ≡ y

@@ -1,35 +1,26 @@
 -- The rows of all tables.
-use Rattle.std.proofs.Common.{◌≡◌, ◌⊎◌, inl, inr, ℕ, ℤ, pos, negsuc, ◌<◌, ◌≤◌, List, find, Option, Some, None, true, refl, sym, ap, subst, ◌∙◌, arith}
+use Rattle.std.proofs.Common.{◌≡◌, ◌⊎◌, inl, inr, ℕ, ℤ, pos, negsuc, ◌<◌, find, Option, Some, None, refl, sym, ap, subst, ◌∙◌, arith}
 use Rattle.std.specs.FinMap.{get}
 use Rattle.std.specs.List.{AllByRecursion}
 use Rattle.sqlite.specs.Order.{Row}
 use Rattle.sqlite.specs.Tree.{has_rowid}
-use Rattle.moo_value.specs.declared.value.ObjNo.{ObjNo}
 use Rattle.moo_rows.specs.declared.row.Head.{Head as HeadRow}
-use Rattle.moo_rows.specs.declared.row.ObjRow.{ObjRow}
-use Rattle.moo_rows.specs.declared.row.PropId.{PropId}
-use Rattle.moo_rows.specs.declared.row.PropRow.{PropRow}
-use Rattle.moo_rows.specs.declared.row.SlotRow.{SlotRow}
-use Rattle.moo_rows.specs.declared.row.VerbId.{VerbId}
-use Rattle.moo_rows.specs.declared.row.VerbRow.{VerbRow}
 use Rattle.moo_rows.specs.Maps.{Maps}
-use Rattle.moo_world.specs.World.{row_fits, is_property_name, state_fits, verb_fits}
 use Rattle.std.proofs.lemmas.Bool.{and_from}
 use Rattle.moo_tables.specs.declared.reading.CellLists.{CellLists}
 use Rattle.moo_tables.specs.Tables.{Tables}
-use Rattle.moo_tables.specs.Listing.{AreListed, tables_of, begins_with}
+use Rattle.moo_tables.specs.Listing.{tables_of, begins_with}
 use Rattle.moo_damage.specs.declared.kind.Kind.{Kind}
 use Rattle.moo_damage.specs.declared.kind.Kind.TheVariants.{BadHead, BadCell, PastHead, NoParent, ParentLoop, NoPlace, PlaceLoop, NoDefiner, DoubleName, StrangeSlot, MissingSlot, ClearDefiner, StrangeVerb, Mismatch}
 use Rattle.moo_damage.specs.declared.kind.Key.{Key}
 use Rattle.moo_damage.specs.declared.kind.Key.TheVariants.{Head, Object, Prop, Slot, Verb}
-use Rattle.moo_damage.specs.Kinds.{place, IsBelow, NoneBefore, IsFirstMet}
+use Rattle.moo_damage.specs.Kinds.{place, IsBelow, NoneBefore}
 use Rattle.moo_damage.specs.Limits.{AreWithin}
-use Rattle.moo_cells.specs.Head.{HeadIs, ReadsHead, HasHead, IsNewerThan, SaysOfHead}
+use Rattle.moo_cells.specs.Head.{HeadIs, ReadsHead, HasHead, SaysOfHead}
 use Rattle.moo_cells.specs.Reading.{IsRead, ReadsObject, ReadsProp, ReadsSlot, ReadsVerb}
-use Rattle.moo_cells.specs.Shows.{ShowsOrNone, ShowsObject, ShowsProp, ShowsSlot, ShowsVerb, ShowsMaps, ShowsRows}
-use Rattle.moo_cells.specs.Unread.{FirstUnread}
+use Rattle.moo_cells.specs.Shows.{ShowsOrNone, ShowsObject, ShowsProp, ShowsSlot, ShowsVerb, ShowsRows}
 use Rattle.moo_cells.specs.Holding.{HoldsTable, SaysUnread, object_number, prop_number, slot_number, verb_number, object_key, prop_key, slot_key, verb_key, IsLess, IsPairLess}
-use Rattle.moo_cells.specs.Damage.{version, IsNewer, IsBadCell, IsMet, Damage, SaysOfCells}
+use Rattle.moo_cells.specs.Damage.{version, IsNewer, IsBadCell, IsMet, SaysOfCells}
 use Rattle.moo_cells.specs.declared.fault.CellFault.{CellFault}
 use Rattle.moo_cells.specs.declared.fault.CellFault.TheVariants.{Damaged, NewerVersion, OutOfMemory}
 use Rattle.moo_cells.proofs.Keys.{objects_bear, props_bear, slots_bear, verbs_bear}

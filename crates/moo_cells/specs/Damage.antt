@@ -1,5 +1,5 @@
 -- What reading the cells of tables comes to: the rows that they show, or the first kind of damage with its least key.
-use Rattle.std.specs.Prelude.{◌≡◌, ℤ, pos, ◌⊎◌, ⊤}
+use Rattle.std.specs.Prelude.{ℤ, pos, ⊤}
 use Rattle.moo_rows.specs.Maps.{Maps}
 use Rattle.moo_tables.specs.Tables.{Tables}
 use Rattle.moo_damage.specs.declared.kind.Kind.{Kind}

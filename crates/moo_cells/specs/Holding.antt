@@ -1,5 +1,5 @@
 -- What is read of a table so far, and the keys of rows as the tables have them.
-use Rattle.std.specs.Prelude.{◌≡◌, ℤ, pos, ◌<ℤ◌, ◌⊎◌, Bool, List, find, Option, ⊤}
+use Rattle.std.specs.Prelude.{◌≡◌, ℤ, pos, ◌<ℤ◌, ◌⊎◌, Bool, List, find, ⊤}
 use Rattle.std.specs.List.{AllByRecursion}
 use Rattle.std.specs.FinMap.{FinMap, get, insert}
 use Rattle.std.specs.declared.cmp.Ordering.{Ordering}

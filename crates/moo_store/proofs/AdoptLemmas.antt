@@ -1,5 +1,5 @@
 -- From what was read of a connection to the World over it.
-use Rattle.std.proofs.Common.{◌≡◌, ◌⊎◌, inl, inr, Result, Ok, Err, IfOk, IfErr, OnOk, OnErr, IsTrue, false, sym, ap, subst, subst₂, ◌∙◌}
+use Rattle.std.proofs.Common.{◌≡◌, ◌⊎◌, inl, inr, Result, Ok, Err, IfOk, IfErr, IsTrue, false, sym, ap, subst, subst₂, ◌∙◌}
 use Rattle.sqlite.specs.State.{State as Database, HasCleanDisk, IsUnchanged, IsRolledBack, Survives}
 use Rattle.sqlite.specs.Store.{Ghosts}
 use Rattle.sqlite.specs.Held.{Held, state}

@@ -1,5 +1,5 @@
 -- What a run over a text leaves of a World.
-use Rattle.std.proofs.Common.{◌≡◌, inl, inr, ℕ, Bool, true, false, List, [], ◌∷◌, ◌++◌, append_assoc, Option, Some, None, Result, Ok, Err, refl, sym, ap, subst, ◌∙◌}
+use Rattle.std.proofs.Common.{◌≡◌, ℕ, true, false, List, [], ◌∷◌, ◌++◌, append_assoc, Option, Result, Ok, Err, sym, ap, subst, ◌∙◌}
 use Rattle.std.proofs.lemmas.List.{append-nil}
 use Rattle.sqlite.specs.State.{HasCleanDisk}
 use Rattle.sqlite.specs.Store.{Ghosts}
@@ -12,7 +12,7 @@ use Rattle.moo_text.specs.declared.reply.Reply.{Reply}
 use Rattle.moo_text.specs.declared.fault.TextFault.{TextFault}
 use Rattle.moo_tables.specs.Tables.{Tables}
 use Rattle.moo_tables.specs.Inside.{Rests}
-use Rattle.moo_store.specs.World.{store_of, CrashLeaves, StandsAt}
+use Rattle.moo_store.specs.World.{store_of, StandsAt}
 use Rattle.moo_store.specs.Stand.{Stand, Works, Failed, StoreFailed, RunsBatch}
 use Rattle.moo_store.specs.Kept.{World}
 use Rattle.moo_store.specs.declared.fault.StoreFault.{StoreFault}

@@ -1,10 +1,9 @@
 -- One batch, and then a list of them.
-use Rattle.std.proofs.Common.{◌≡◌, ◌⊎◌, inl, inr, ℕ, zero, suc, ◌+◌, ◌≤◌, ◌<◌, Bool, List, [], ◌∷◌, ◌++◌, take, drop, length, get_or, append_assoc, length-append, Result, Ok, Err, OnOk, OnErr, IfOk, IfErr, true, false, refl, sym, ap, subst, ◌∙◌, arith}
+use Rattle.std.proofs.Common.{◌≡◌, inl, inr, ℕ, zero, suc, ◌+◌, ◌≤◌, ◌<◌, Bool, List, [], ◌∷◌, ◌++◌, take, drop, length, get_or, append_assoc, length-append, Result, Ok, Err, OnOk, OnErr, IfErr, true, false, refl, sym, ap, subst, ◌∙◌, arith}
 use Rattle.std.specs.Prelude.{is_err, ⊤, IsTrue, map}
 use Rattle.moo_store.proofs.Crashes.{IsSettled, left_at_rest}
 use Rattle.std.proofs.lemmas.List.{append-nil, take_more}
 use Rattle.std.proofs.Math.Seq.{drop-append_seam, drop-cons}
-use Rattle.sqlite.specs.Tree.{Trees}
 use Rattle.sqlite.specs.State.{HasCleanDisk}
 use Rattle.sqlite.specs.Store.{Ghosts}
 use Rattle.sqlite.specs.declared.error.Error.{Error}
@@ -18,12 +17,11 @@ use Rattle.moo_world.specs.Judge.{State, Ran, Through, FailedAt, FullAt, Verdict
 use Rattle.moo_store.specs.States.{LeavesState}
 use Rattle.moo_store.specs.Answered.{reply_of, next_of, IsRun, AnsweredOne, Answered, acknowledged, added}
 use Rattle.moo_text.specs.declared.next.Next.TheVariants.{Batch as Whole}
-use Rattle.moo_text.specs.declared.reply.Answer.{Answer}
 use Rattle.moo_text.specs.declared.reply.Answer.TheVariants as answer
 use Rattle.moo_store.specs.Stand.{Stand, Works, Failed, StoreFailed, state_at, Leaves, RunsBatch}
 use Rattle.moo_store.specs.Turns.{Turns}
 use Rattle.moo_store.specs.Text.{StandsBehind, RunsAll, answer_to}
-use Rattle.moo_store.specs.World.{store_of, IsAt, StandsFor, StandsAt, Left, LeftOrNext, MatchStore}
+use Rattle.moo_store.specs.World.{store_of, IsAt, StandsAt, Left, LeftOrNext, MatchStore}
 use Rattle.moo_store.specs.Kept.{World}
 use Rattle.moo_store.specs.declared.fault.StoreFault.{StoreFault}
 use Rattle.moo_store.specs.declared.fault.StoreFault.TheVariants.{Store, Damaged, NewerVersion, OutOfMemory, Closed}

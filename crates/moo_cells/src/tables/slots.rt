@@ -39,7 +39,10 @@ pub(crate) fn read_slots(alloc: Global, cells: &[Row], rows: &mut Flat) -> Resul
         match take_slot(alloc, row, rows) {
             Ok(()) => {}
             Err(RowFault::Unreadable) => {
-                return Err(CellFault::Damaged(Kind::BadCell, Key::Slot(int_in(row, 0), int_in(row, 1))));
+                return Err(CellFault::Damaged(
+                    Kind::BadCell,
+                    Key::Slot(int_in(row, 0), int_in(row, 1)),
+                ));
             }
             Err(RowFault::OutOfMemory) => return Err(CellFault::OutOfMemory),
         }

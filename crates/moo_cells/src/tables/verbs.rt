@@ -39,7 +39,10 @@ pub(crate) fn read_verbs(alloc: Global, cells: &[Row], rows: &mut Flat) -> Resul
         match take_verb(alloc, row, rows) {
             Ok(()) => {}
             Err(RowFault::Unreadable) => {
-                return Err(CellFault::Damaged(Kind::BadCell, Key::Verb(int_in(row, 0), int_in(row, 1))));
+                return Err(CellFault::Damaged(
+                    Kind::BadCell,
+                    Key::Verb(int_in(row, 0), int_in(row, 1)),
+                ));
             }
             Err(RowFault::OutOfMemory) => return Err(CellFault::OutOfMemory),
         }

@@ -1,4 +1,4 @@
-use Rattle.std.proofs.Common.{◌≡◌, pos, find, refl, ap}
+use Rattle.std.proofs.Common.{pos, find, refl, ap}
 use Rattle.sqlite.specs.Order.{Row, column}
 use Rattle.sqlite.specs.Tree.{has_rowid}
 use Rattle.moo_rows.specs.declared.row.Head.{Head}

@@ -7,6 +7,6 @@ returns-in_default c = record {
   ok = tt;
   fits = tt;
   err = λ unreadable objects short same.
-    let within : c.loop-value.value-index < length c.args.values.now = omega arith in
-    not_objects c.args.values.now c.loop-value.value-index c.value-item.result within c.value-item.is (λ x e. c.in_default.not-Obj x e) objects same;
+      let within : c.loop-value.value-index < length c.args.values.now = omega arith in
+      not_objects c.args.values.now c.loop-value.value-index c.value-item.result within c.value-item.is (λ x e. c.in_default.not-Obj x e) objects same;
 }

@@ -1,4 +1,4 @@
-use Rattle.std.proofs.Common.{◌≡◌, length, [], ◌∷◌, true, ◌&&◌, refl, ap, sym, ◌∙◌}
+use Rattle.std.proofs.Common.{◌≡◌, length, [], ◌∷◌, ap, sym, ◌∙◌}
 use Rattle.std.proofs.lemmas.Bool.{and_parts, and_from}
 use Rattle.std.proofs.lemmas.Result.{err_from_is_err_and}
 use Rattle.sqlite.specs.Order.{Row, column}
@@ -49,8 +49,8 @@ returns-clause-ok c =
         accept.0,
         accept.1,
         twelve c.args.cells.now long
-        ∙ (λ i. c.in_ok-number.ensures.ok i ∷ c.in_ok-name.ensures.ok i ∷ c.in_ok-owner.ensures.ok i ∷ c.in_ok-parent.ensures.ok i ∷ c.in_ok-location.ensures.ok i
-        ∷ flags.player i ∷ flags.programmer i ∷ flags.wizard i ∷ flags.r i ∷ flags.w i ∷ flags.f i ∷ accept.2 i ∷ []),
+            ∙ (λ i. c.in_ok-number.ensures.ok i ∷ c.in_ok-name.ensures.ok i ∷ c.in_ok-owner.ensures.ok i ∷ c.in_ok-parent.ensures.ok i ∷ c.in_ok-location.ensures.ok i
+            ∷ flags.player i ∷ flags.programmer i ∷ flags.wizard i ∷ flags.r i ∷ flags.w i ∷ flags.f i ∷ accept.2 i ∷ []),
       ),
       record {
         number = c.in_ok-number.ensures.fits;

@@ -1,4 +1,4 @@
-use Rattle.std.proofs.Common.{◌≡◌, length, [], ◌∷◌, true, ◌&&◌, refl, ap, sym, ◌∙◌}
+use Rattle.std.proofs.Common.{◌≡◌, length, [], ◌∷◌, ap, sym, ◌∙◌}
 use Rattle.std.proofs.lemmas.Bool.{and_parts, and_from}
 use Rattle.std.proofs.lemmas.Result.{err_from_is_err_and}
 use Rattle.sqlite.specs.Order.{Row, column}
@@ -46,7 +46,7 @@ returns-clause-ok c =
         bits.0,
         bits.1,
         eight c.args.cells.now long
-        ∙ (λ i. c.in_ok-object.ensures.ok i ∷ c.in_ok-id.ensures.ok i ∷ c.in_ok-names.ensures.ok i ∷ c.in_ok-owner.ensures.ok i ∷ bits.2 i ∷ args.dobj i ∷ args.prep i ∷ args.iobj i ∷ []),
+            ∙ (λ i. c.in_ok-object.ensures.ok i ∷ c.in_ok-id.ensures.ok i ∷ c.in_ok-names.ensures.ok i ∷ c.in_ok-owner.ensures.ok i ∷ bits.2 i ∷ args.dobj i ∷ args.prep i ∷ args.iobj i ∷ []),
       ),
       record {
         object = c.in_ok-object.ensures.fits;

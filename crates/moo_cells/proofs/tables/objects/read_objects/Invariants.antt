@@ -1,6 +1,5 @@
 use Rattle.std.proofs.Common.{◌≡◌, take}
 use Rattle.sqlite.specs.Tree.{has_rowid}
-use Rattle.moo_tables.specs.Listing.{begins_with}
 use Rattle.moo_cells.specs.Reading.{ReadsObject}
 use Rattle.moo_cells.specs.Holding.{object_number, HoldsTable}
 use Rattle.moo_cells.proofs.tables.objects.read_objects.Given as goal

@@ -1,4 +1,4 @@
-use Rattle.std.proofs.Common.{◌≡◌, ◌<◌, length, refl, ap, ◌∙◌, w64, arith}
+use Rattle.std.proofs.Common.{◌<◌, length, refl, ap, ◌∙◌, w64, arith}
 use Rattle.std.proofs.lemmas.Int.{to_z-of_z}
 use Rattle.sqlite.specs.Order.{column}
 use Rattle.moo_rows.proofs.Orders.{prop_total}
@@ -22,8 +22,7 @@ loop-row-preserved c =
 pub returns-in-Err-Unreadable-clause-fault : goal.returns-in-Err-Unreadable-clause-fault
 returns-in-Err-Unreadable-clause-fault c =
     let within : c.loop-row.row-index < length c.args.cells.now = omega arith in
-    let one = to_z-of_z w64 c.int_in.result c.int_in.ensures.fits in
-    (
+    let one = to_z-of_z w64 c.int_in.result c.int_in.ensures.fits in (
       c.int_in.result,
       refl,
       λ i. Prop (one i),

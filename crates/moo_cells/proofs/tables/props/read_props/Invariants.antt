@@ -1,6 +1,5 @@
 use Rattle.std.proofs.Common.{◌≡◌, take}
 use Rattle.sqlite.specs.Tree.{has_rowid}
-use Rattle.moo_tables.specs.Listing.{begins_with}
 use Rattle.moo_cells.specs.Reading.{ReadsProp}
 use Rattle.moo_cells.specs.Holding.{prop_number, HoldsTable}
 use Rattle.moo_cells.proofs.tables.props.read_props.Given as goal

@@ -1,6 +1,5 @@
-use Rattle.std.proofs.Common.{◌≡◌, ◌<◌, length, refl, ap, ◌∙◌, w64, arith}
+use Rattle.std.proofs.Common.{◌<◌, length, refl, ap, ◌∙◌, w64, arith}
 use Rattle.std.proofs.lemmas.Int.{to_z-of_z}
-use Rattle.sqlite.specs.Order.{column}
 use Rattle.moo_rows.proofs.Orders.{verb_total}
 use Rattle.moo_rows.specs.Exact.{verb_exact}
 use Rattle.moo_rows.specs.Maps.{Maps}
@@ -23,8 +22,7 @@ pub returns-in-Err-Unreadable-clause-fault : goal.returns-in-Err-Unreadable-clau
 returns-in-Err-Unreadable-clause-fault c =
     let within : c.loop-row.row-index < length c.args.cells.now = omega arith in
     let one = to_z-of_z w64 c.int_in.result c.int_in.ensures.fits in
-    let two = to_z-of_z w64 c.int_in-in-Err-Unreadable.result c.int_in-in-Err-Unreadable.ensures.fits in
-    (
+    let two = to_z-of_z w64 c.int_in-in-Err-Unreadable.result c.int_in-in-Err-Unreadable.ensures.fits in (
       (c.int_in.result, c.int_in-in-Err-Unreadable.result),
       refl,
       λ i. Verb (one i) (two i),

@@ -1,5 +1,4 @@
 use Rattle.std.proofs.Common.{◌≡◌, take}
-use Rattle.sqlite.specs.Tree.{has_rowid}
 use Rattle.moo_tables.specs.Listing.{begins_with}
 use Rattle.moo_cells.specs.Reading.{ReadsVerb}
 use Rattle.moo_cells.specs.Holding.{verb_number, HoldsTable}
