@@ -10,6 +10,7 @@ mod committing;
 pub mod creating;
 pub mod fault;
 pub mod laws;
+mod looking;
 pub mod output;
 mod printing;
 mod reading;
