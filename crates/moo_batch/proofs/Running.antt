@@ -3,25 +3,34 @@ use Rattle.std.proofs.Common.{◌≡◌, ◌+◌, List, [], ◌∷◌, ◌++◌,
 use Rattle.moo_value.specs.declared.value.ObjNo.{ObjNo}
 use Rattle.moo_value.specs.declared.value.Value.{Value}
 use Rattle.moo_value.specs.declared.code.Code.{Code}
-use Rattle.moo_rows.specs.Maps.{Held}
+use Rattle.moo_rows.specs.Maps.{Maps, Held}
 use Rattle.moo_world.specs.declared.call.Call.{Call}
 use Rattle.moo_world.specs.World.{World}
+use Rattle.moo_world.specs.Between.{CallsLead}
 use Rattle.moo_world.specs.Rows.{IsGood}
 use Rattle.moo_world.specs.Outcomes.{Outcome, Done, Failed, Full}
 use Rattle.moo_world.specs.Step.{step}
 use Rattle.moo_world.specs.Judge.{Ran, Through, FailedAt, FullAt, after_one, run_calls}
 use Rattle.moo_rights.specs.Outcomes.{world_in}
 use Rattle.moo_world.specs.Keeps.{Keeps}
+use Rattle.moo_batch.specs.Judge.{HaveKept}
 
 -- answers, and then what the later calls come to
 abbrev pub after_all : List Value → Ran → Ran
 after_all [] ran = ran
 after_all (v ∷ vs) ran = after_one v (after_all vs ran)
 
+-- the rows are good ones, what no world shows is as it was, and where the calls that are left lead, all of them do
+pub record HaveRunKeeping (before : Held) (p : ObjNo) (all : List Call) (now : Held) (left : List Call) : Type 0 where
+  pub good : IsGood now.maps
+  pub seq : now.maps.head.seq ≡ before.maps.head.seq
+  pub base : now.base ≡ before.base
+  pub numbers : (last : Maps) → CallsLead p left now.maps last → CallsLead p all before.maps last
+
 -- all calls come to these answers and then what the calls that are left come to
 pub record HaveRunSoFar (before : Held) (p : ObjNo) (all : List Call) (answers : List Value) (now : Held) (left : List Call) : Type 0 where
   pub run : run_calls (world_in before) p all ≡ after_all answers (run_calls (world_in now) p left)
-  pub kept : Keeps before now
+  pub kept : HaveRunKeeping before p all now left
 
 after_all-append : (vs : List Value) (v : Value) (ran : Ran) → after_all (vs ++ v ∷ []) ran ≡ after_all vs (after_one v ran)
 after_all-append [] v ran = refl
@@ -41,7 +50,7 @@ after_all-full (v ∷ vs) = ap (after_one v) (after_all-full vs) ∙ ap FullAt (
 
 -- before the first call
 pub run-started : (before : Held) (p : ObjNo) (all : List Call) → IsGood before.maps → HaveRunSoFar before p all [] before all
-run-started before p all good = record { run = refl; kept = record { good = good; seq = refl; base = refl } }
+run-started before p all good = record { run = refl; kept = record { good = good; seq = refl; base = refl; numbers = λ last lead. lead } }
 
 -- what the first of some calls makes of them
 first_of : World → ObjNo → List Call → Outcome → Ran
@@ -58,8 +67,16 @@ module _ {before : Held} {p : ObjNo} {all : List Call} {answers : List Value} {n
   run-one_more call left v more next e h done kept = record {
     run = h.run ∙ ap (after_all answers) (first_is (world_in now) p call left (Done v (world_in next)) done)
         ∙ sym (ap (λ vs. after_all vs (run_calls (world_in next) p left)) e ∙ after_all-append answers v (run_calls (world_in next) p left));
-    kept = record { good = kept.good; seq = kept.seq ∙ h.kept.seq; base = kept.base ∙ h.kept.base };
+    kept = record {
+      good = kept.good;
+      seq = kept.seq ∙ h.kept.seq;
+      base = kept.base ∙ h.kept.base;
+      numbers = λ last lead. h.kept.numbers last (v, next.maps, done, kept.good, kept.numbers, lead);
+    };
   }
+
+  pub run-kept : HaveRunSoFar before p all answers now [] → HaveKept p all before now
+  run-kept h = record { good = h.kept.good; seq = h.kept.seq; base = h.kept.base; numbers = h.kept.numbers now.maps refl }
 
   pub run-ended : HaveRunSoFar before p all answers now [] → run_calls (world_in before) p all ≡ Through answers (world_in now)
   run-ended h = h.run ∙ after_all-through answers (world_in now)

@@ -1,8 +1,11 @@
 -- What the calls of a batch and a batch come to on rows.
 use Rattle.std.specs.Prelude.{◌≡◌, ◌<◌, true, List, Result, Ok, Err, ⊤}
 use Rattle.moo_value.specs.declared.value.Value.{Value}
-use Rattle.moo_rows.specs.Maps.{Maps}
+use Rattle.moo_value.specs.declared.value.ObjNo.{ObjNo}
+use Rattle.moo_rows.specs.Maps.{Maps, Held}
 use Rattle.moo_world.specs.declared.call.Batch.{Batch}
+use Rattle.moo_world.specs.declared.call.Call.{Call}
+use Rattle.moo_world.specs.Between.{CallsLead, BatchLeads}
 use Rattle.moo_world.specs.World.{World}
 use Rattle.moo_world.specs.Rows.{IsGood}
 use Rattle.moo_world.specs.Judge as model
@@ -20,11 +23,18 @@ ComeTo ran after (Err (refused_at call code)) = ran ≡ model.FailedAt call code
 ComeTo ran after (Err (full_at call)) = ran ≡ model.FullAt call
 ComeTo ran after (Err no_memory) = ⊤
 
--- what a batch comes to on rows, and where it is accepted the changes that make them into the next ones.
--- Want of memory is answered only where calls are run
+-- what done calls keep: the rows are good ones, what no world shows is as it was, and each call kept numbers
+pub record HaveKept (p : ObjNo) (calls : List Call) (old new : Held) : Type 0 where
+  pub good : IsGood new.maps
+  pub seq : new.maps.head.seq ≡ old.maps.head.seq
+  pub base : new.base ≡ old.base
+  pub numbers : CallsLead p calls old.maps new.maps
+
+-- what a batch comes to on rows, and where it is accepted the changes that make them into the next ones, which its calls lead to
+-- one after another, each keeping numbers. Want of memory is answered only where calls are run
 abbrev pub IsVerdict : Maps → Batch → Verdict → Type 0
 IsVerdict base batch (Accepted answers changes) =
-    (next : Maps) × AreChanges base next changes × IsGood next × (model.judge (state_of base) batch ≡ model.Accepted answers (state_of next))
+    (next : Maps) × AreChanges base next changes × IsGood next × (model.judge (state_of base) batch ≡ model.Accepted answers (state_of next)) × BatchLeads batch base next
 IsVerdict base batch (Refused call code) = model.judge (state_of base) batch ≡ model.Refused call code
 IsVerdict base batch (Full call) = model.judge (state_of base) batch ≡ model.NoRoom call
 IsVerdict base batch (Stale seq) = model.judge (state_of base) batch ≡ model.Stale seq

@@ -4,8 +4,7 @@ ghost use Rattle.std.specs.Prelude.{◌≡◌, ◌≤◌, length, OnOk};
 ghost use Rattle.moo_world.specs.Rows.{IsGood};
 ghost use Rattle.moo_world.specs.Judge.{is_due, run_calls};
 ghost use Rattle.moo_rights.specs.Outcomes.{world_in};
-ghost use Rattle.moo_world.specs.Keeps.{Keeps};
-ghost use Rattle.moo_batch.specs.Judge.{ComeTo, IsVerdict};
+ghost use Rattle.moo_batch.specs.Judge.{ComeTo, HaveKept, IsVerdict};
 
 use crate::changes::Changes;
 use crate::draft::Draft;
@@ -54,7 +53,7 @@ fn run_calls<R: Rows>(
     requires good { IsGood (R.held rows.old).maps }
     requires few { length calls.now ≤ 1000 }
     ensures comes { ComeTo (run_calls (world_in (R.held rows.old)) programmer calls.now) (world_in (R.held rows.new)) result }
-    ensures kept { OnOk result (Keeps (R.held rows.old) (R.held rows.new)) }
+    ensures kept { OnOk result (HaveKept programmer calls.now (R.held rows.old) (R.held rows.new)) }
 {
     let mut answers = Vec::new(alloc);
     for call in calls {
@@ -85,7 +84,8 @@ fn is_due(at: Option<u64>, seq: u64) -> bool
 
 /// What a batch comes to on these rows, which stay as they are: stale where it names another number than the present
 /// one, else full where [`LAST_SEQ`] batches were accepted, else refused or full at the first call that isn't done, else
-/// accepted. Want of memory comes only where calls are run.
+/// accepted. Want of memory comes only where calls are run. Where it is accepted, what stays keeps its number, and what is new
+/// has one that was never given.
 pub fn judge<R: Rows>(alloc: Global, rows: &R, batch: &Batch) -> Verdict
     requires good { IsGood (R.held rows.now).maps }
     ensures { IsVerdict (R.held rows.now).maps batch.now result }

@@ -7,6 +7,7 @@ ghost use Rattle.moo_world.specs.Quota.{may_afford, charged};
 ghost use Rattle.moo_world.specs.Calls.{create};
 ghost use Rattle.moo_rights.specs.Outcomes.{world_in, ComesTo};
 ghost use Rattle.moo_world.specs.Keeps.{Keeps};
+ghost use Rattle.moo_world.specs.Numbers.{IsSameButSlots};
 
 use moo_props::birth::make;
 use moo_props::quota::{quota_of, take_quota};
@@ -57,6 +58,7 @@ fn charge<R: Rows>(rows: &mut R, owner: ObjNo) -> Result<(), AllocError>
     requires left { may_afford (world_in (R.held rows.old)) owner ≡ true }
     ensures world { OnOk result (world_in (R.held rows.new) ≡ charged (world_in (R.held rows.old)) owner) }
     ensures kept { OnOk result (Keeps (R.held rows.old) (R.held rows.new)) }
+    ensures rest { OnOk result (IsSameButSlots (R.held rows.old).maps (R.held rows.new).maps) }
 {
     if !is_nothing(owner) {
         take_quota(rows, owner)?;

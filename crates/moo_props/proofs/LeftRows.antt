@@ -8,11 +8,13 @@ use Rattle.std.proofs.lemmas.Option.{same_Some}
 use Rattle.moo_value.specs.declared.value.ObjNo.{ObjNo}
 use Rattle.moo_rows.specs.declared.row.ObjRow.{ObjRow}
 use Rattle.moo_rows.specs.declared.row.PropId.{PropId}
+use Rattle.moo_rows.specs.declared.row.PropRow.{PropRow}
 use Rattle.moo_rows.specs.declared.row.SlotRow.{SlotRow}
 use Rattle.moo_rows.specs.declared.row.VerbId.{VerbId}
 use Rattle.moo_rows.specs.Exact.{object_exact, slot_exact}
 use Rattle.moo_rows.specs.Maps.{Maps, Held, wrote, object_cmp, slot_cmp}
 use Rattle.moo_rows.proofs.Orders.{object_total, slot_total}
+use Rattle.moo_world.specs.Numbers.{not_of}
 use Rattle.moo_world.specs.Objects.{nothing, same_object, is_among, same_object-Decides}
 use Rattle.moo_world.specs.World.{Record, Climbs, chain, is_object, parent_of, location_of}
 use Rattle.moo_world.specs.Rows.{IsGood, look_ups, world_of, record_of}
@@ -29,6 +31,14 @@ use Rattle.moo_props.proofs.LessRows.{held1, held2, held3, held5, only5, slots5,
 use Rattle.moo_world.proofs.Listed.{own_entries, all_made}
 use Rattle.moo_props.proofs.Moved.{writes-without, length-made}
 use Rattle.moo_props.proofs.Walked.{walk}
+
+-- a property is left unless x defines it
+pub left_is : (t : Maps) (x : ObjNo) (id : PropId) → prop_left t x id ≡ not_of x (get t.props id)
+left_is t x id = by (get t.props id)
+  where
+    by : (o : Option PropRow) → (if unwrap_or (option_map (λ (p : PropRow). same_object p.definer x) o) false then None else o) ≡ not_of x o
+    by None = refl
+    by (Some p) = refl
 
 -- ---- counts
 

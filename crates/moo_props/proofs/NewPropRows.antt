@@ -92,7 +92,8 @@ module _ (t : Maps) (tree : IsTree (world_of t)) (x : ObjNo) (xo : is_object (wo
       by false e false true h = refl
       by false e false false h = refl
 
-  only2 : held2.maps ≡ record t { head = record (t.head) { next_prop = t.head.next_prop + 1 }; props = insert t.props (prop_id t.head.next_prop) (record { definer = x; name = name }); slots = held2.maps.slots }
+  -- all but the slots
+  pub only2 : held2.maps ≡ record t { head = record (t.head) { next_prop = t.head.next_prop + 1 }; props = insert t.props (prop_id t.head.next_prop) (record { definer = x; name = name }); slots = held2.maps.slots }
   only2 = ap (λ (z : Maps). record z { slots = held2.maps.slots }) (only-over o (owners_under t x) (with_definition x name held)) ∙ ap (λ (z : Maps). record z { head = record (z.head) { next_prop = z.head.next_prop + 1 }; props = insert z.props (prop_id z.head.next_prop) (record { definer = x; name = name }); slots = held2.maps.slots }) same
 
   pub look_ups-with : look_ups held2.maps ≡ with_property m x name row

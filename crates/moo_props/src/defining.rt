@@ -1,9 +1,10 @@
 //! New properties.
 
 ghost use Rattle.std.specs.Prelude.{◌≡◌, ◌<◌, true, false, IfOk, OnOk};
+ghost use Rattle.std.specs.FinMap.{insert};
 ghost use Rattle.moo_world.specs.Arguments.{fits};
 ghost use Rattle.moo_world.specs.Changes.{clashes, defined};
-ghost use Rattle.moo_world.specs.Rows.{world_of, IsGood};
+ghost use Rattle.moo_world.specs.Rows.{world_of, prop_id, IsGood};
 ghost use Rattle.moo_world.specs.World.{is_object, is_property_name};
 ghost use Rattle.moo_props.specs.Defining.{fresh_over, with_definition};
 ghost use Rattle.moo_world.specs.Keeps.{Keeps};
@@ -45,7 +46,7 @@ fn put_definition<R: Rows>(rows: &mut R, x: ObjNo, name: MooStr) -> Result<PropI
 
 /// Defines a property on x, which no property of its name may stand in the way of: on x it has the value, owner and bits;
 /// each descendant of x gets a clear slot with the bits, and as owner its own where the bit c is set, else the owner. The
-/// answer is the number of the property, which is never given again.
+/// answer is the number of the property, which is never given again. No other property changes.
 ///
 /// The only error is want of memory, after which the rows may be half changed.
 ///
@@ -68,6 +69,7 @@ pub fn define<R: Rows>(
     ensures world { OnOk result (world_of (R.held rows.new).maps ≡ defined (world_of (R.held rows.old).maps) x name (record { definer = x; owner = owner; bits = bits; state = SlotState.Set value })) }
     ensures kept { OnOk result (Keeps (R.held rows.old) (R.held rows.new)) }
     ensures id { IfOk result (λ id. id.0 ≡ (R.held rows.old).maps.head.next_prop) }
+    ensures props { OnOk result ((R.held rows.new).maps.props ≡ insert (R.held rows.old).maps.props (prop_id (R.held rows.old).maps.head.next_prop) (record { definer = x; name = name })) }
 {
     let under = owners_under(alloc, rows, x)?;
     let id = put_definition(rows, x, name)?;

@@ -6,6 +6,7 @@ ghost use Rattle.std.specs.FinMap.{get};
 ghost use Rattle.moo_world.specs.Quota.{quota_name, quota_of, quota_moved, quota_returned, has_quota_left};
 ghost use Rattle.moo_world.specs.Rows.{world_of, IsGood};
 ghost use Rattle.moo_world.specs.Keeps.{Keeps};
+ghost use Rattle.moo_world.specs.Numbers.{IsSameButSlots};
 ghost use Rattle.moo_props.specs.Names.{name_of};
 ghost use Rattle.moo_props.specs.Quotas.{HasRoom};
 
@@ -61,6 +62,7 @@ pub fn move_quota<R: Rows>(rows: &mut R, o: ObjNo, by: i32) -> Result<(), AllocE
     requires room { HasRoom (quota_of (world_of (R.held rows.old).maps) o) by }
     ensures world { OnOk result (world_of (R.held rows.new).maps ≡ quota_moved (world_of (R.held rows.old).maps) o by) }
     ensures kept { OnOk result (Keeps (R.held rows.old) (R.held rows.new)) }
+    ensures rest { OnOk result (IsSameButSlots (R.held rows.old).maps (R.held rows.new).maps) }
 {
     let (id, quota) = match quota_here(rows, o) {
         None => return Ok(()),
@@ -76,6 +78,7 @@ pub fn take_quota<R: Rows>(rows: &mut R, o: ObjNo) -> Result<(), AllocError>
     requires left { has_quota_left (world_of (R.held rows.old).maps) o ≡ true }
     ensures world { OnOk result (world_of (R.held rows.new).maps ≡ quota_moved (world_of (R.held rows.old).maps) o (negsuc 0)) }
     ensures kept { OnOk result (Keeps (R.held rows.old) (R.held rows.new)) }
+    ensures rest { OnOk result (IsSameButSlots (R.held rows.old).maps (R.held rows.new).maps) }
 {
     move_quota(rows, o, -1)
 }
@@ -85,6 +88,7 @@ pub fn return_quota<R: Rows>(rows: &mut R, o: ObjNo) -> Result<(), AllocError>
     requires { IsGood (R.held rows.old).maps }
     ensures world { OnOk result (world_of (R.held rows.new).maps ≡ quota_returned (world_of (R.held rows.old).maps) o) }
     ensures kept { OnOk result (Keeps (R.held rows.old) (R.held rows.new)) }
+    ensures rest { OnOk result (IsSameButSlots (R.held rows.old).maps (R.held rows.new).maps) }
 {
     match quota_of(rows, o) {
         Some(quota) if quota < i32::MAX => move_quota(rows, o, 1),

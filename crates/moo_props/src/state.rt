@@ -7,6 +7,7 @@ ghost use Rattle.moo_world.specs.Rows.{world_of, IsGood};
 ghost use Rattle.moo_world.specs.Arguments.{fits};
 ghost use Rattle.moo_world.specs.World.{state_fits};
 ghost use Rattle.moo_world.specs.Keeps.{Keeps};
+ghost use Rattle.moo_world.specs.Numbers.{IsSameButSlots};
 ghost use Rattle.moo_props.specs.Names.{defines, spelling_of};
 
 use moo_rows::ordered::Row;
@@ -28,6 +29,7 @@ pub(crate) fn put_state<R: Rows>(
     requires fit { state_fits state ≡ true }
     ensures world { OnOk result (world_of (R.held rows.new).maps ≡ with_slot_of (world_of (R.held rows.old).maps) x (spelling_of (R.held rows.old).maps id) (λ s. record s { state = state })) }
     ensures kept { OnOk result (Keeps (R.held rows.old) (R.held rows.new)) }
+    ensures rest { OnOk result (IsSameButSlots (R.held rows.old).maps (R.held rows.new).maps) }
 {
     let (owner, bits) = match rows.slot((x, id)) {
         None => unreachable!(),
@@ -77,7 +79,7 @@ pub fn set_info<R: Rows>(
     requires has { is_some (get (R.held rows.old).maps.slots (x, id)) ≡ true }
     ensures world { OnOk result (world_of (R.held rows.new).maps ≡ info_set (world_of (R.held rows.old).maps) x (spelling_of (R.held rows.old).maps id) owner bits) }
     ensures kept { OnOk result (Keeps (R.held rows.old) (R.held rows.new)) }
-    ensures props { OnOk result ((R.held rows.new).maps.props ≡ (R.held rows.old).maps.props) }
+    ensures rest { OnOk result (IsSameButSlots (R.held rows.old).maps (R.held rows.new).maps) }
 {
     let mut row = match rows.slot((x, id)) {
         None => unreachable!(),

@@ -1,6 +1,7 @@
 //! The end of a property.
 
 ghost use Rattle.std.specs.Prelude.{◌≡◌, true, OnOk};
+ghost use Rattle.std.specs.FinMap.{remove};
 ghost use Rattle.moo_world.specs.Changes.{undefined};
 ghost use Rattle.moo_world.specs.Rows.{world_of, IsGood};
 ghost use Rattle.moo_world.specs.Keeps.{Keeps};
@@ -27,7 +28,7 @@ fn remove_over<R: Rows>(
     Ok(())
 }
 
-/// Removes a property that x defines, from x and all its descendants.
+/// Removes a property that x defines, from x and all its descendants. Each other one keeps its number.
 ///
 /// The only error is want of memory, after which the rows may be half changed.
 ///
@@ -42,6 +43,7 @@ pub fn undefine<R: Rows>(
     requires own { defines (R.held rows.old).maps x id ≡ true }
     ensures world { OnOk result (world_of (R.held rows.new).maps ≡ undefined (world_of (R.held rows.old).maps) x (spelling_of (R.held rows.old).maps id)) }
     ensures kept { OnOk result (Keeps (R.held rows.old) (R.held rows.new)) }
+    ensures props { OnOk result ((R.held rows.new).maps.props ≡ remove (R.held rows.old).maps.props id) }
 {
     let under = owners_under(alloc, rows, x)?;
     remove_over(rows, id, under.as_slice())?;

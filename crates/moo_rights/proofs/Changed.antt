@@ -13,6 +13,7 @@ use Rattle.moo_world.proofs.RowLaws.{world_shown-with_row}
 use Rattle.moo_world.proofs.MapLaws.{look_ups-put_object}
 use Rattle.moo_rights.specs.Outcomes.{world_in}
 use Rattle.moo_world.specs.Keeps.{Keeps}
+use Rattle.moo_world.proofs.NumbersKept.{numbers_same}
 
 AreSound-with_row : (m : LookUps) (x : ObjNo) (row : ObjRow) → AreSound m → AreSound (with_row_put m x row)
 AreSound-with_row m x row s = record {
@@ -50,4 +51,5 @@ module _ (old new : Held) (x : ObjNo) (row put : ObjRow) (change : ObjRow → Ob
     };
     seq = ap (λ (h : Held). h.maps.head.seq) is_put;
     base = ap (λ (h : Held). h.base) is_put;
+    numbers = numbers_same old.maps new.maps (ap (λ (h : Held). h.maps.props) is_put) (ap (λ (h : Held). h.maps.verbs) is_put) (ap (λ (h : Held). h.maps.head.next_prop) is_put) (ap (λ (h : Held). h.maps.head.next_verb) is_put);
   }

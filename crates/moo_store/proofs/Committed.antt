@@ -11,7 +11,7 @@ use Rattle.moo_tables.specs.declared.cells.CellChanges.{CellChanges}
 use Rattle.moo_tables.proofs.InsideLemmas.{clean_before}
 use Rattle.moo_batch.specs.declared.changes.Changes.{Changes}
 use Rattle.moo_batch.specs.Changes.{AreChanges}
-use Rattle.moo_store.specs.Shows.{ShowsRows}
+use Rattle.moo_cells.specs.Shows.{ShowsRows}
 use Rattle.moo_store.specs.Printed.{Prints}
 use Rattle.moo_store.specs.States.{KeepsRows, LeavesRows}
 use Rattle.moo_store.specs.Untouched.{KeepsCells}
@@ -54,6 +54,13 @@ in_doubt : (b : Bool) → (doubt b ≡ 0) ⊎ (doubt b ≡ 0 → ⊥)
 unfolding doubt
 in_doubt true = inl refl
 in_doubt false = inr (λ e. omega (arith, e))
+
+-- A disk that returns what was written did so before, whatever tables it had.
+pub clean_at_commit : (old new : Database) (P : Tables → Trees → Type 0) → ((t : Tables) → (HasCleanDisk old → Rests old t) → Survives old new (P t)) → HasCleanDisk new → HasCleanDisk old
+clean_at_commit old new P survives clean = elim (in_doubt old.is_clean) [
+  | inl was ↦ was
+  | inr failed ↦ clean_before old new (P no_tables) (survives no_tables (λ was. absurd (failed was))) clean
+]
 
 -- The tables are known only of a clean disk, so the clean and the failed disk are told apart.
 pub survives_next : (old new : Database) (cells : CellChanges) (changes : Changes) (base next : Maps) → Prints cells changes → AreChanges base next changes

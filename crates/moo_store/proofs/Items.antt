@@ -21,11 +21,11 @@ use Rattle.moo_store.specs.World.{store_of, IsAt, RunsOne, FailsAtStore}
 use Rattle.moo_store.specs.Kept.{World}
 use Rattle.moo_store.specs.declared.fault.StoreFault.{StoreFault}
 use Rattle.moo_store.specs.declared.fault.StoreFault.TheVariants.{Store, OutOfMemory, Closed}
-use Rattle.moo_store.specs.Text.{AnsweredItem, AnsweredItems, IsAtMostOneOf, LeftOrOneMore, IsAtOrFailed, RunsBatch, answer_to, accepted_at, accepted, IsNextOf, Answers, Applies, Stops}
+use Rattle.moo_store.specs.Text.{AnsweredItem, AnsweredItems, IsAtMostOneOf, LeftOrOneMore, IsAtOrFailed, RunsBatch, answer_to, accepted_at, accepted, IsNextOf, KeepsRest, Answers, Applies, Stops}
 use Rattle.moo_store.specs.Untouched.{taken_of}
 use Rattle.moo_store.specs.Turns.{Turn, Turns, Completes, Halts}
 use Rattle.moo_store.proofs.Crashes.{IsSettled, left_at_rest}
-use Rattle.moo_store.proofs.Untouched.{Written, written_none, written_on}
+use Rattle.moo_store.proofs.Untouched.{Written, is_over, written_none, written_on}
 
 -- ---- one item
 
@@ -158,6 +158,9 @@ next_taken items rest (Malformed number) a is = tt
 next_taken items rest Truncated a is = tt
 next_taken items rest End a is = tt
 
+keeps_rest : {S : Type 0} (g : Ghosts S) (old new : World S) (s : State) (batches : List Batch) → Written g old new batches → IsAt g old s → KeepsRest g old new batches
+keeps_rest g old new s batches it at clean known tables rests = it.written clean known tables (is_over g old s tables at (it.clean clean) rests)
+
 -- ---- a whole text
 
 applies : {S : Type 0} (g : Ghosts S) (settled : (w : World S) → IsSettled (store_of g w)) (old new : World S) (all : List Next) (before behind : Option (List ℕ)) (b l : ℕ) → Completes (RunsBatch g) old new all before behind b l
@@ -172,7 +175,7 @@ applies g settled old new all before behind b l c s at =
       batches_are = c.batches_are;
       lost_are = c.lost_are;
       is_at = done.2;
-      cells = (turns_written g old old new [] all c.answers (written_none g old) c.turns).written;
+      cells = keeps_rest g old new s (accepted all c.answers) (turns_written g old old new [] all c.answers (written_none g old) c.turns) at;
     }
 
 stops : {S : Type 0} (g : Ghosts S) (settled : (w : World S) → IsSettled (store_of g w)) (old new : World S) (all : List Next) (before behind : Option (List ℕ)) (fault : TextFault) → Halts (RunsBatch g) old new all before behind fault
@@ -197,7 +200,7 @@ stops g settled old new all before behind fault h s at =
             crash = left_at_item g new done.0 all (settled new) now;
             more = [];
             one_more = tt;
-            cells = (written_same g old h.mid new (accepted h.done h.answers) none.1 (turns_written g old old h.mid [] h.done h.answers (written_none g old) h.turns)).written;
+            cells = keeps_rest g old new s _ (written_same g old h.mid new (accepted h.done h.answers) none.1 (turns_written g old old h.mid [] h.done h.answers (written_none g old) h.turns)) at;
           })
       | inr next ↦ (let place : all ≡ h.done ++ next.0 ∷ next.1 = h.whole ∙ ap (λ (t : List Next). h.done ++ t) next.4 in
           let one = turn_answers g h.mid new done.0 next.0 next.2 all h.done next.1 place (settled new) next.5 done.2 in
@@ -217,7 +220,7 @@ stops g settled old new all before behind fault h s at =
             crash = one.crash;
             more = accepted_at next.0 next.2;
             one_more = next_taken h.left next.1 next.0 next.2 next.4;
-            cells = (turn_written g old h.mid new (accepted h.done h.answers) next.0 next.2 (turns_written g old old h.mid [] h.done h.answers (written_none g old) h.turns) next.5).written;
+            cells = keeps_rest g old new s _ (turn_written g old h.mid new (accepted h.done h.answers) next.0 next.2 (turns_written g old old h.mid [] h.done h.answers (written_none g old) h.turns) next.5) at;
           })
     ]
 

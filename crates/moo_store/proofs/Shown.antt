@@ -18,7 +18,7 @@ use Rattle.moo_tables.specs.Cells.{head_cells, object_cells, prop_cells, slot_ce
 use Rattle.moo_tables.specs.declared.cells.CellChanges.{CellChanges}
 use Rattle.moo_batch.specs.declared.changes.Changes.{Changes}
 use Rattle.moo_batch.specs.Changes.{AreChanges}
-use Rattle.moo_store.specs.Shows.{ShowsObject, ShowsProp, ShowsSlot, ShowsVerb, ShowsMaps, ShowsRows}
+use Rattle.moo_cells.specs.Shows.{ShowsObject, ShowsProp, ShowsSlot, ShowsVerb, ShowsMaps, ShowsRows}
 use Rattle.moo_store.specs.Printed.{Prints}
 use Rattle.moo_store.specs.Untouched.{KeepsCells}
 use Rattle.moo_store.proofs.Written.{written, stays, elsewhere}

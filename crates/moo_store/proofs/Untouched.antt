@@ -13,20 +13,31 @@ use Rattle.moo_text.specs.declared.reply.Reply.{Reply}
 use Rattle.moo_text.specs.declared.reply.Reply.TheVariants as reply
 use Rattle.moo_value.specs.declared.value.Value.{Value}
 use Rattle.moo_world.specs.Rows.{IsGood}
-use Rattle.moo_world.specs.Judge.{Accepted, state_of, judge, left_by}
+use Rattle.moo_world.specs.Judge.{State, Accepted, state_of, judge, left_by}
 use Rattle.moo_store.specs.Answered.{acknowledged, added}
-use Rattle.moo_store.specs.World.{store_of, MatchStore, FailsAtStore}
+use Rattle.moo_cells.specs.Shows.{ShowsRows}
+use Rattle.moo_store.specs.World.{store_of, IsAt, MatchStore, FailsAtStore}
 use Rattle.moo_store.specs.Kept.{World}
-use Rattle.moo_store.specs.Untouched.{KeepsCells, Writes, HasWritten, WritesOne, IsKnown, taken_of}
+use Rattle.moo_store.specs.Untouched.{KeepsCells, Writes, IsOver, HasWritten, WritesOne, IsKnown, taken_of}
+use Rattle.moo_store.proofs.Committed.{shown_by}
 use Rattle.moo_store.proofs.Running.{Progress}
 use Rattle.moo_store.specs.declared.fault.StoreFault.{StoreFault}
 use Rattle.moo_store.specs.declared.fault.StoreFault.TheVariants.{Store, OutOfMemory, Closed}
+
+-- tables that rest in the store of a World that is at a state
+pub is_over : {S : Type 0} (g : Ghosts S) (world : World S) (s : State) (tables : Tables) → IsAt g world s → HasCleanDisk (store_of g world) → Rests (store_of g world) tables → IsOver g world tables
+is_over g world s tables at clean rests = record { rests = rests; shows = λ works. shown_by (store_of g world) world.rows.maps tables (at.shown works clean) rests }
 
 -- what is written in turn is written by the joined list
 writes-append : (rows : Maps) (tables : Tables) (batches : List Batch) (mid : Maps) (between : Tables) (more : List Batch) (end : Maps) (after : Tables)
     → Writes rows tables batches mid between → Writes mid between more end after → Writes rows tables (batches ++ more) end after
 writes-append rows tables [] mid between more end after it on = subst (λ m. Writes m tables more end after) it.0 (subst (λ t. Writes mid t more end after) it.1 on)
 writes-append rows tables (b ∷ bs) mid between more end after it on = (it.0, it.1, it.2, it.3, it.4, writes-append it.0 it.1 bs mid between more end after it.5 on)
+
+-- what was written shows the rows at the end
+writes-show : (rows : Maps) (tables : Tables) (batches : List Batch) (end : Maps) (after : Tables) → Writes rows tables batches end after → ShowsRows tables rows → ShowsRows after end
+writes-show rows tables [] end after it shown = subst (ShowsRows after) (sym it.0) (subst (λ t. ShowsRows t rows) (sym it.1) shown)
+writes-show rows tables (b ∷ bs) end after it shown = writes-show it.0 it.1 bs end after it.5 it.4.shows
 
 none_without_replies : (batches : List Batch) → acknowledged batches [] ≡ []
 none_without_replies [] = refl
@@ -56,9 +67,10 @@ none_written g old tables rests = record { end = old.rows.maps; after = tables; 
 
 -- what a World has written, and then, while it works, what it writes on
 pub written_then : {S : Type 0} (g : Ghosts S) (old mid new : World S) (tables : Tables) (first second : List Batch) → mid.failed ≡ false
-    → HasWritten g old mid tables first → ((between : Tables) → Rests (store_of g mid) between → HasWritten g mid new between second) → HasWritten g old new tables (first ++ second)
-written_then g old mid new tables first second works was on =
-    let here = on was.after was.rests in
+    → ShowsRows tables old.rows.maps → HasWritten g old mid tables first → ((between : Tables) → IsOver g mid between → HasWritten g mid new between second) → HasWritten g old new tables (first ++ second)
+written_then g old mid new tables first second works shown was on =
+    let shows : ShowsRows was.after mid.rows.maps = subst (ShowsRows was.after) (sym (was.rows works)) (writes-show old.rows.maps tables first was.end was.after was.writes shown) in
+    let here = on was.after (record { rests = was.rests; shows = λ _. shows }) in
     record {
       end = here.end;
       after = here.after;
@@ -71,20 +83,20 @@ written_then g old mid new tables first second works was on =
 pub nothing_written : {S : Type 0} (g : Ghosts S) (old : World S) (batch : Batch) (r : Result Reply StoreFault) → taken_of batch r ≡ [] → WritesOne g old old batch r
 nothing_written g old batch r none = record {
   clean = λ c. c;
-  written = λ c known tables rests. subst (HasWritten g old old tables) (sym none) (none_written g old tables rests);
+  written = λ c known tables over. subst (HasWritten g old old tables) (sym none) (none_written g old tables over.rests);
 }
 
 -- an accepted batch writes its changes, or the store failed and nothing is written
-pub accepted_writes : {S : Type 0} (g : Ghosts S) (old new : World S) (batch : Batch) (answers : List Value) (seq : ℕ) (next : Maps) (r : Result Reply StoreFault) → IsGood next
+pub accepted_writes : {S : Type 0} (g : Ghosts S) (old new : World S) (batch : Batch) (answers : List Value) (seq : ℕ) (next : Maps) (r : Result Reply StoreFault) → old.failed ≡ false → IsGood next
     → judge (state_of old.rows.maps) batch ≡ Accepted answers (state_of next)
     → IfOk r (λ r. r ≡ reply.Accepted seq answers) → OnOk r (new.failed ≡ false → new.rows.maps ≡ next)
-    → OnOk r ((tables : Tables) → HasCleanDisk (store_of g new) → Rests (store_of g old) tables → (after : Tables) × Rests (store_of g new) after × KeepsCells old.rows.maps next tables after)
+    → OnOk r ((tables : Tables) → HasCleanDisk (store_of g new) → Rests (store_of g old) tables → ShowsRows tables old.rows.maps → (after : Tables) × Rests (store_of g new) after × KeepsCells old.rows.maps next tables after)
     → OnErr r (HasCleanDisk (store_of g new) → IsTrue (store_of g new).is_open → (tables : Tables) → Rests (store_of g old) tables → Rests (store_of g new) tables)
     → (HasCleanDisk (store_of g new) → HasCleanDisk (store_of g old)) → IfErr r (λ fault. (error : _) × (fault ≡ Store error)) → OnErr r (new.failed ≡ true) → WritesOne g old new batch r
-accepted_writes g old new batch answers seq next (Ok reply) good judged is rows cells undone clean fault failed = record {
+accepted_writes g old new batch answers seq next (Ok reply) works good judged is rows cells undone clean fault failed = record {
   clean = clean;
-  written = λ c known tables rests.
-      let it = cells tables c rests in
+  written = λ c known tables over.
+      let it = cells tables c over.rests (over.shows works) in
       record {
         end = next;
         after = it.0;
@@ -93,18 +105,18 @@ accepted_writes g old new batch answers seq next (Ok reply) good judged is rows 
         rows = rows;
       };
 }
-accepted_writes g old new batch answers seq next (Err (Store error)) good judged is rows cells undone clean fault failed = record {
+accepted_writes g old new batch answers seq next (Err (Store error)) works good judged is rows cells undone clean fault failed = record {
   clean = clean;
-  written = λ c opened tables rests. record {
+  written = λ c opened tables over. record {
     end = old.rows.maps;
     after = tables;
-    rests = undone c opened tables rests;
+    rests = undone c opened tables over.rests;
     writes = (refl, refl);
-    rows = λ works. let no : true ≡ false = sym failed ∙ works in absurd cc;
+    rows = λ on. let no : true ≡ false = sym failed ∙ on in absurd cc;
   };
 }
-accepted_writes g old new batch answers seq next (Err OutOfMemory) good judged is rows cells undone clean fault failed = let no : OutOfMemory ≡ Store fault.0 = fault.1 in absurd cc
-accepted_writes g old new batch answers seq next (Err Closed) good judged is rows cells undone clean fault failed = let no : Closed ≡ Store fault.0 = fault.1 in absurd cc
+accepted_writes g old new batch answers seq next (Err OutOfMemory) works good judged is rows cells undone clean fault failed = let no : OutOfMemory ≡ Store fault.0 = fault.1 in absurd cc
+accepted_writes g old new batch answers seq next (Err Closed) works good judged is rows cells undone clean fault failed = let no : Closed ≡ Store fault.0 = fault.1 in absurd cc
 
 -- an accepted batch is acknowledged, unless the store failed
 pub accepted_is_taken : {S : Type 0} (old new : World S) (batch : Batch) (answers : List Value) (seq : ℕ) (r : Result Reply StoreFault)
@@ -119,23 +131,26 @@ accepted_is_taken old new batch answers seq (Err Closed) is fault none = let no 
 -- these batches; where the World has failed, this is known while its connection is open
 pub record Written {S : Type 0} (g : Ghosts S) (old now : World S) (batches : List Batch) : Type 0 where
   pub clean : HasCleanDisk (store_of g now) → HasCleanDisk (store_of g old)
-  pub written : HasCleanDisk (store_of g now) → (now.failed ≡ false) ⊎ IsTrue (store_of g now).is_open → (tables : Tables) → Rests (store_of g old) tables → HasWritten g old now tables batches
+  pub works : now.failed ≡ false → old.failed ≡ false
+  pub written : HasCleanDisk (store_of g now) → (now.failed ≡ false) ⊎ IsTrue (store_of g now).is_open → (tables : Tables) → IsOver g old tables → HasWritten g old now tables batches
 
 pub written_none : {S : Type 0} (g : Ghosts S) (old : World S) → Written g old old []
-written_none g old = record { clean = λ c. c; written = λ c known. none_written g old }
+written_none g old = record { clean = λ c. c; works = λ works. works; written = λ c known tables over. none_written g old tables over.rests }
 
 -- one more batch was run
 pub written_on : {S : Type 0} (g : Ghosts S) (old now next : World S) (batches : List Batch) (batch : Batch) (r : Result Reply StoreFault)
     → Written g old now batches → FailsAtStore g now next r → WritesOne g now next batch r → Written g old next (batches ++ taken_of batch r)
 written_on g old now next batches batch (Ok reply) was works one = record {
   clean = λ c. was.clean (one.clean c);
-  written = λ c known tables rests. written_then g old now next tables batches (taken_of batch (Ok reply)) works (was.written (one.clean c) (inl works) tables rests) (one.written c tt);
+  works = λ _. was.works works;
+  written = λ c known tables over. written_then g old now next tables batches (taken_of batch (Ok reply)) works (over.shows (was.works works)) (was.written (one.clean c) (inl works) tables over) (one.written c tt);
 }
 written_on g old now next batches batch (Err (Store error)) was fails one = record {
   clean = λ c. was.clean (one.clean c);
-  written = λ c known tables rests. elim known [
+  works = λ _. was.works fails.0;
+  written = λ c known tables over. elim known [
     | inl works ↦ (let no : true ≡ false = sym fails.1 ∙ works in absurd cc)
-    | inr opened ↦ written_then g old now next tables batches [] fails.0 (was.written (one.clean c) (inl fails.0) tables rests) (one.written c opened)
+    | inr opened ↦ written_then g old now next tables batches [] fails.0 (over.shows (was.works fails.0)) (was.written (one.clean c) (inl fails.0) tables over) (one.written c opened)
   ];
 }
 written_on g old now next batches batch (Err OutOfMemory) was fails one = absurd fails
@@ -146,7 +161,8 @@ written_on g old now next batches batch (Err Closed) was fails one = subst (λ w
 -- these replies were given, and this was written
 pub record Wrote {S : Type 0} (g : Ghosts S) (old now : World S) (all : List Batch) (replies : List Reply) : Type 0 where
   pub clean : HasCleanDisk (store_of g now) → HasCleanDisk (store_of g old)
-  pub written : HasCleanDisk (store_of g now) → (tables : Tables) → Rests (store_of g old) tables → HasWritten g old now tables (acknowledged all replies)
+  pub works : now.failed ≡ false → old.failed ≡ false
+  pub written : HasCleanDisk (store_of g now) → (tables : Tables) → IsOver g old tables → HasWritten g old now tables (acknowledged all replies)
   pub same : acknowledged all replies ≡ [] → now ≡ old
 
 none_in : (first second : List Batch) → first ++ second ≡ [] → (first ≡ []) × (second ≡ [])
@@ -157,7 +173,8 @@ none_in (b ∷ bs) second none = let no : b ∷ (bs ++ second) ≡ [] = none in 
 pub wrote_none : {S : Type 0} (g : Ghosts S) (old : World S) (all : List Batch) → Wrote g old old all []
 wrote_none g old all = record {
   clean = λ c. c;
-  written = λ c tables rests. subst (HasWritten g old old tables) (sym (none_without_replies all)) (none_written g old tables rests);
+  works = λ works. works;
+  written = λ c tables over. subst (HasWritten g old old tables) (sym (none_without_replies all)) (none_written g old tables over.rests);
   same = λ none. refl;
 }
 
@@ -166,8 +183,9 @@ pub wrote_one : {S : Type 0} (g : Ghosts S) (old now next : World S) (all : List
     → (acknowledged (batch ∷ []) (r ∷ []) ≡ [] → next ≡ now) → Wrote g old next all (replies ++ r ∷ [])
 wrote_one g old now next all replies batch r low is was works one stays = record {
   clean = λ c. was.clean (one.clean c);
-  written = λ c tables rests. subst (HasWritten g old next tables) (sym (acknowledged-push all replies batch r low is))
-      (written_then g old now next tables (acknowledged all replies) (acknowledged (batch ∷ []) (r ∷ [])) works (was.written (one.clean c) tables rests) (one.written c tt));
+  works = λ _. was.works works;
+  written = λ c tables over. subst (HasWritten g old next tables) (sym (acknowledged-push all replies batch r low is))
+      (written_then g old now next tables (acknowledged all replies) (acknowledged (batch ∷ []) (r ∷ [])) works (over.shows (was.works works)) (was.written (one.clean c) tables over) (one.written c tt));
   same = λ none.
       let nones = none_in (acknowledged all replies) (acknowledged (batch ∷ []) (r ∷ [])) (sym (acknowledged-push all replies batch r low is) ∙ none) in
       stays nones.1 ∙ was.same nones.0;
@@ -176,14 +194,14 @@ wrote_one g old now next all replies batch r low is was works one stays = record
 -- the batch in hand met a fault, and wrote nothing
 pub wrote_stopped : (T : Type 0) {S : Type 0} (g : Ghosts S) (old now new : World S) (all : List Batch) (replies : List Reply) (batch : Batch) (fault : StoreFault) → Wrote g old now all replies
     → (let r : Result Reply StoreFault = Err fault in FailsAtStore g now new r) → WritesOne g now new batch (Err fault)
-    → HasCleanDisk (store_of g new) → (let r : Result T StoreFault = Err fault in IsKnown (store_of g new) r) → (tables : Tables) → Rests (store_of g old) tables → HasWritten g old new tables (acknowledged all replies)
-wrote_stopped T g old now new all replies batch (Store error) it fails one clean opened tables rests =
+    → HasCleanDisk (store_of g new) → (let r : Result T StoreFault = Err fault in IsKnown (store_of g new) r) → (tables : Tables) → IsOver g old tables → HasWritten g old new tables (acknowledged all replies)
+wrote_stopped T g old now new all replies batch (Store error) it fails one clean opened tables over =
     subst (HasWritten g old new tables) (append-nil (acknowledged all replies))
-    (written_then g old now new tables (acknowledged all replies) [] fails.0 (it.written (one.clean clean) tables rests) (one.written clean opened))
-wrote_stopped T g old now new all replies batch OutOfMemory it fails one clean known tables rests = absurd fails
-wrote_stopped T g old now new all replies batch Closed it fails one clean known tables rests =
+    (written_then g old now new tables (acknowledged all replies) [] fails.0 (over.shows (it.works fails.0)) (it.written (one.clean clean) tables over) (one.written clean opened))
+wrote_stopped T g old now new all replies batch OutOfMemory it fails one clean known tables over = absurd fails
+wrote_stopped T g old now new all replies batch Closed it fails one clean known tables over =
     let same : now ≡ new = sym fails.1 in
-    (subst (λ w. Wrote g old w all replies) same it).written clean tables rests
+    (subst (λ w. Wrote g old w all replies) same it).written clean tables over
 
 pub same_stopped : (T : Type 0) {S : Type 0} (g : Ghosts S) (old now new : World S) (all : List Batch) (replies : List Reply) (fault : StoreFault) → Wrote g old now all replies
     → (let r : Result Reply StoreFault = Err fault in FailsAtStore g now new r) → acknowledged all replies ≡ [] → MatchStore (let r : Result T StoreFault = Err fault in r) (new ≡ old) ⊤

@@ -1,4 +1,3 @@
-pub mod Shows
 pub mod Printed
 pub mod States
 pub mod Kept

@@ -7,7 +7,7 @@ use Rattle.moo_world.specs.Rows.{IsGood}
 use Rattle.moo_world.specs.Judge.{State, state_of}
 use Rattle.moo_tables.specs.Tables.{Tables}
 use Rattle.moo_tables.specs.Inside.{Rests, Leaves}
-use Rattle.moo_store.specs.Shows.{ShowsRows}
+use Rattle.moo_cells.specs.Shows.{ShowsRows}
 
 -- the connection is open and in no transaction, and its tables show these rows
 pub record KeepsRows (store : Database) (rows : Maps) : Type 0 where

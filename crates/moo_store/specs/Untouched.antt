@@ -14,7 +14,7 @@ use Rattle.moo_world.specs.Rows.{IsGood}
 use Rattle.moo_world.specs.Judge.{state_of}
 use Rattle.moo_text.specs.declared.reply.Reply.{Reply}
 use Rattle.moo_store.specs.Answered.{next_of, acknowledged}
-use Rattle.moo_store.specs.Shows.{ShowsRows}
+use Rattle.moo_cells.specs.Shows.{ShowsRows}
 use Rattle.moo_store.specs.World.{store_of, MatchStore}
 use Rattle.moo_store.specs.Kept.{World}
 use Rattle.moo_store.specs.declared.fault.StoreFault.{StoreFault}
@@ -48,6 +48,11 @@ abbrev pub taken_of : Batch → Result Reply StoreFault → List Batch
 taken_of batch (Ok reply) = acknowledged (batch ∷ []) (reply ∷ [])
 taken_of batch (Err fault) = []
 
+-- These tables rest in the store of a World, and show its rows while it works.
+pub record IsOver {S : Type 0} (g : Ghosts S) (world : World S) (tables : Tables) : Type 0 where
+  pub rests : Rests (store_of g world) tables
+  pub shows : world.failed ≡ false → ShowsRows tables world.rows.maps
+
 -- where the store failed, its connection is open still
 abbrev pub IsKnown : {T : Type 0} → Database → Result T StoreFault → Type 0
 IsKnown store r = MatchStore r ⊤ (IsTrue store.is_open)
@@ -55,4 +60,4 @@ IsKnown store r = MatchStore r ⊤ (IsTrue store.is_open)
 -- What one batch writes, where the disk returns what was written; it returned that before too. One that meets a fault writes nothing.
 pub record WritesOne {S : Type 0} (g : Ghosts S) (old new : World S) (batch : Batch) (r : Result Reply StoreFault) : Type 0 where
   pub clean : HasCleanDisk (store_of g new) → HasCleanDisk (store_of g old)
-  pub written : HasCleanDisk (store_of g new) → IsKnown (store_of g new) r → (tables : Tables) → Rests (store_of g old) tables → HasWritten g old new tables (taken_of batch r)
+  pub written : HasCleanDisk (store_of g new) → IsKnown (store_of g new) r → (tables : Tables) → IsOver g old tables → HasWritten g old new tables (taken_of batch r)

@@ -7,7 +7,7 @@ use Rattle.sqlite.specs.Held.{state}
 use Rattle.moo_world.specs.declared.call.Batch.{Batch}
 use Rattle.moo_text.specs.declared.reply.Reply.{Reply}
 use Rattle.moo_world.specs.Judge.{State, state_of, after}
-use Rattle.moo_store.specs.States.{Keeps, LeavesState}
+use Rattle.moo_store.specs.States.{KeepsRows, Keeps, LeavesState}
 use Rattle.moo_store.specs.Answered.{AnsweredOne}
 use Rattle.moo_store.specs.Kept.{World}
 use Rattle.moo_store.specs.declared.fault.StoreFault.{StoreFault}
@@ -17,10 +17,15 @@ use Rattle.moo_store.specs.declared.fault.StoreFault.TheVariants.{Store, OutOfMe
 abbrev pub store_of : {S : Type 0} (g : Ghosts S) → World S → Database
 store_of g world = state g world.connection
 
+-- where the disk returns what was written, the tables of the World show its rows
+abbrev pub ShowsItsRows : {S : Type 0} (g : Ghosts S) → World S → Type 0
+ShowsItsRows g world = HasCleanDisk (store_of g world) → KeepsRows (store_of g world) world.rows.maps
+
 -- The tables of the World show s, and so do its rows while it works. A failed World may be at a state too.
 pub record IsAt {S : Type 0} (g : Ghosts S) (world : World S) (s : State) : Type 0 where
   pub tables : HasCleanDisk (store_of g world) → Keeps (store_of g world) s
   pub rows : world.failed ≡ false → state_of world.rows.maps ≡ s
+  pub shown : world.failed ≡ false → ShowsItsRows g world
 
 -- the World works, and is at s
 pub record StandsFor {S : Type 0} (g : Ghosts S) (world : World S) (s : State) : Type 0 where

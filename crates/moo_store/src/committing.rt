@@ -6,7 +6,7 @@ ghost use Rattle.sqlite.specs.Held.{state};
 ghost use Rattle.moo_rows.specs.Maps.{Maps};
 ghost use Rattle.moo_batch.specs.declared.changes.Changes.{Changes};
 ghost use Rattle.moo_batch.specs.Changes.{AreChanges};
-ghost use Rattle.moo_store.specs.Shows.{ShowsRows};
+ghost use Rattle.moo_cells.specs.Shows.{ShowsRows};
 ghost use Rattle.moo_store.specs.Printed.{Prints};
 ghost use Rattle.moo_store.specs.States.{KeepsRows, LeavesRows};
 ghost use Rattle.moo_tables.specs.Tables.{Tables};
@@ -26,6 +26,7 @@ pub(crate) fn commit_cells<S: Alter>(
     ensures outside { (state S.Store conn.new).in_transaction ≡ false }
     ensures written { HasCleanDisk (state S.Store conn.new) → OnOk result ((changes : Changes) (base next : Maps) → Prints cells.now changes → AreChanges base next changes → KeepsRows (state S.Store conn.old) base → KeepsRows (state S.Store conn.new) next) }
     ensures cells { HasCleanDisk (state S.Store conn.new) → OnOk result ((changes : Changes) (base next : Maps) (tables : Tables) → Prints cells.now changes → AreChanges base next changes → Rests (state S.Store conn.old) tables → ShowsRows tables base → (after : Tables) × Rests (state S.Store conn.new) after × KeepsCells base next tables after) }
+    ensures clean { HasCleanDisk (state S.Store conn.new) → HasCleanDisk (state S.Store conn.old) }
     ensures undone { HasCleanDisk (state S.Store conn.new) → OnErr result (IsTrue (state S.Store conn.new).is_open → (tables : Tables) → Rests (state S.Store conn.old) tables → Rests (state S.Store conn.new) tables) }
     ensures crash { (changes : Changes) (base next : Maps) → Prints cells.now changes → AreChanges base next changes → (HasCleanDisk (state S.Store conn.old) → KeepsRows (state S.Store conn.old) base) → Survives (state S.Store conn.old) (state S.Store conn.new) (λ trees. LeavesRows trees next) }
 {

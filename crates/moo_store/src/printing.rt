@@ -2,7 +2,7 @@
 
 ghost use Rattle.std.specs.Prelude.{◌≡◌, IfOk, map};
 ghost use Rattle.moo_value.specs.Literal.{Spells};
-ghost use Rattle.moo_store.specs.Shows.{object_list, ShowsAccept, ShowsState, ShowsOrNone};
+ghost use Rattle.moo_cells.specs.Shows.{object_list, ShowsAccept, ShowsState, ShowsOrNone};
 ghost use Rattle.moo_store.specs.Printed.{PrintEach, Prints};
 
 use moo_batch::changes::{ChangeList, Changes};

@@ -21,19 +21,16 @@ use std::marker::Model;
 /// but `into_connection`; what was committed stands.
 #[derive(Drop)]
 pub struct World<S: Alter> {
-    alloc: Global,
-    connection: Connection<S>,
-    rows: Flat,
-    failed: bool,
+    pub(crate) alloc: Global,
+    pub(crate) connection: Connection<S>,
+    pub(crate) rows: Flat,
+    pub(crate) failed: bool,
 }
 
 impl<S: Alter> Model for World<S> {
     ghost use Rattle.std.specs.Prelude.{◌≡◌, false};
-    ghost use Rattle.sqlite.specs.State.{HasCleanDisk};
-    ghost use Rattle.sqlite.specs.Held.{state};
     ghost use Rattle.moo_world.specs.Rows.{IsGood};
     ghost use Rattle.moo_store.specs.Kept.{World as Kept, world_code};
-    ghost use Rattle.moo_store.specs.States.{KeepsRows};
 
     ghost Value = { Kept S };
 
@@ -41,7 +38,7 @@ impl<S: Alter> Model for World<S> {
 
     ghost view = { λ w. record { connection = w.connection; rows = w.rows; failed = w.failed } };
 
-    ghost invariant = { λ w. (w.connection.in_transaction ≡ false) × (w.failed ≡ false → IsGood w.rows.maps) × (w.failed ≡ false → HasCleanDisk (state S.Store w.connection) → KeepsRows (state S.Store w.connection) w.rows.maps) };
+    ghost invariant = { λ w. (w.connection.in_transaction ≡ false) × (w.failed ≡ false → IsGood w.rows.maps) };
 }
 
 impl<S: Alter + Drop> World<S> {
@@ -53,21 +50,23 @@ impl<S: Alter + Drop> World<S> {
     ghost use Rattle.moo_world.specs.Judge.{state_of, judge as verdict, after};
     ghost use Rattle.moo_batch.specs.Changes.{AreChanges};
     ghost use Rattle.moo_store.specs.Printed.{Prints};
-    ghost use Rattle.moo_store.specs.States.{KeepsRows, Keeps, LeavesState};
+    ghost use Rattle.moo_cells.specs.Shows.{ShowsRows};
+    ghost use Rattle.moo_store.specs.States.{LeavesState};
     ghost use Rattle.moo_store.specs.Answered.{answer_of, IsRun, AnsweredOne, Answered, acknowledged, added};
     ghost use Rattle.moo_tables.specs.Tables.{Tables};
     ghost use Rattle.moo_tables.specs.Inside.{Rests};
     ghost use Rattle.moo_store.specs.Untouched.{KeepsCells, WritesOne, HasWritten, IsKnown, taken_of};
-    ghost use Rattle.moo_store.specs.World.{store_of, IsAt, StandsFor, Left, LeftOrNext, RunsOne, MatchStore, FailsAtStore};
+    ghost use Rattle.moo_store.specs.World.{store_of, ShowsItsRows, IsAt, StandsFor, Left, LeftOrNext, RunsOne, MatchStore, FailsAtStore};
     ghost use Rattle.moo_store.specs.declared.fault.StoreFault.TheVariants.{Store, OutOfMemory, Closed};
 
-    /// The World of good rows that the tables of a connection show.
+    /// The World of good rows. It stands for them where the tables of the connection show them.
     pub(crate) fn over(alloc: Global, connection: Connection<S>, rows: Flat) -> World<S>
         requires outside { connection.in_transaction ≡ false }
         requires good { IsGood rows.maps }
-        requires shown { HasCleanDisk (state S.Store connection) → KeepsRows (state S.Store connection) rows.maps }
         ensures connection { result.connection ≡ connection }
-        ensures stands { StandsFor S.Store result (state_of rows.maps) }
+        ensures rows { result.rows.maps ≡ rows.maps }
+        ensures works { result.failed ≡ false }
+        ensures stands { ShowsItsRows S.Store result → StandsFor S.Store result (state_of rows.maps) }
     {
         World {
             alloc,
@@ -89,14 +88,14 @@ impl<S: Alter + Drop> World<S> {
         requires limit { cells.now.head.seq < 2 ^ 63 }
         requires changes { (next : Maps) × AreChanges self.old.rows.maps next changes × IsGood next }
         ensures reply { IfOk result (λ reply. reply ≡ Reply.Accepted changes.head.seq answers) }
-        ensures is_at { OnOk result ((next : Maps) → AreChanges self.old.rows.maps next changes → IsGood next → IsAt S.Store self.new (state_of next)) }
+        ensures is_at { OnOk result ((next : Maps) → ShowsItsRows S.Store self.old → AreChanges self.old.rows.maps next changes → IsGood next → IsAt S.Store self.new (state_of next)) }
         ensures rows { OnOk result ((next : Maps) → AreChanges self.old.rows.maps next changes → self.new.failed ≡ false → self.new.rows.maps ≡ next) }
-        ensures cells { OnOk result ((next : Maps) (tables : Tables) → AreChanges self.old.rows.maps next changes → HasCleanDisk (store_of S.Store self.new) → Rests (store_of S.Store self.old) tables → (after : Tables) × Rests (store_of S.Store self.new) after × KeepsCells self.old.rows.maps next tables after) }
+        ensures cells { OnOk result ((next : Maps) (tables : Tables) → AreChanges self.old.rows.maps next changes → HasCleanDisk (store_of S.Store self.new) → Rests (store_of S.Store self.old) tables → ShowsRows tables self.old.rows.maps → (after : Tables) × Rests (store_of S.Store self.new) after × KeepsCells self.old.rows.maps next tables after) }
         ensures undone { OnErr result (HasCleanDisk (store_of S.Store self.new) → IsTrue (store_of S.Store self.new).is_open → (tables : Tables) → Rests (store_of S.Store self.old) tables → Rests (store_of S.Store self.new) tables) }
         ensures clean { HasCleanDisk (store_of S.Store self.new) → HasCleanDisk (store_of S.Store self.old) }
         ensures fault { IfErr result (λ fault. (error : _) × (fault ≡ Store error)) }
         ensures failed { OnErr result (self.new.failed ≡ true) }
-        ensures crash { OnErr result ((next : Maps) → AreChanges self.old.rows.maps next changes → IsGood next → HasCleanDisk (store_of S.Store self.new) → (trees : _) → (store_of S.Store self.new).may_leave trees → LeavesState trees (state_of self.old.rows.maps) ⊎ LeavesState trees (state_of next)) }
+        ensures crash { OnErr result ((next : Maps) → ShowsItsRows S.Store self.old → AreChanges self.old.rows.maps next changes → IsGood next → HasCleanDisk (store_of S.Store self.new) → (trees : _) → (store_of S.Store self.new).may_leave trees → LeavesState trees (state_of self.old.rows.maps) ⊎ LeavesState trees (state_of next)) }
     {
         if let Err(error) = commit_cells(&mut self.connection, cells) {
             self.failed = true;
@@ -158,7 +157,7 @@ impl<S: Alter + Drop> World<S> {
 
         // In the tables, each acknowledged batch leads from rows that they show to rows that they show, and a row that is the
         // same in both keeps its cells, byte for byte. Where the store failed, the batch in hand wrote nothing.
-        ensures cells { HasCleanDisk (store_of S.Store self.new) → IsKnown (store_of S.Store self.new) result → (tables : Tables) → Rests (store_of S.Store self.old) tables →
+        ensures cells { (s : _) → IsAt S.Store self.old s → HasCleanDisk (store_of S.Store self.new) → IsKnown (store_of S.Store self.new) result → (tables : Tables) → Rests (store_of S.Store self.old) tables →
             HasWritten S.Store self.old self.new tables (acknowledged batches.now (added replies.old.items replies.new.items)) }
 
         // Batches of which none is acknowledged change nothing.
@@ -208,9 +207,9 @@ impl<S: Alter + Drop> World<S> {
         })
     }
 
-    /// A World that works stands for the world of its rows. The call does nothing; its contract is what it is for.
+    /// A World that works and whose tables show its rows stands for their world. The call does nothing; its contract is what it is for.
     pub fn stands(&self)
-        ensures { self.now.failed ≡ false → StandsFor S.Store self.now (state_of self.now.rows.maps) }
+        ensures { self.now.failed ≡ false → ShowsItsRows S.Store self.now → StandsFor S.Store self.now (state_of self.now.rows.maps) }
     {
         let _failed = self.failed;
     }
@@ -228,7 +227,8 @@ impl<S: Alter + Drop> World<S> {
 
     /// The connection, with its tables.
     pub fn into_connection(self) -> Connection<S>
-        ensures { result ≡ self.connection }
+        ensures is { result ≡ self.connection }
+        ensures outside { (state S.Store result).in_transaction ≡ false }
     {
         let World { connection, .. } = self;
         connection

@@ -1,5 +1,5 @@
 -- What the queries of the tables answer.
-use Rattle.std.proofs.Common.{◌≡◌, ℕ, ℤ, List, [], ◌∷◌, map, drop, codes, option_map, true, false, not, Vec, inl, inr, Result, Ok, Err, IfOk, IfErr, OnOk, OnErr, IsTrue, refl, sym, ap, subst, subst₂, ◌∙◌, Ordering, Less, Equal}
+use Rattle.std.proofs.Common.{◌≡◌, ◌⊎◌, ℕ, ℤ, List, [], ◌∷◌, map, drop, codes, option_map, true, false, not, Vec, inl, inr, Result, Ok, Err, IfOk, IfErr, OnOk, OnErr, IsTrue, refl, sym, ap, subst, subst₂, ◌∙◌, Ordering, Less, Equal}
 use Rattle.std.specs.Ordering.{is_eq, ordering_then}
 use Rattle.std.specs.Cmp.{on_total}
 use Rattle.std.specs.List.Sorted.{IsPermutation}
@@ -12,6 +12,7 @@ use Rattle.sqlite.specs.Order.{Row, column, value_cmp}
 use Rattle.sqlite.specs.Term.{Term, eval_all}
 use Rattle.sqlite.specs.Query.{Query, Output, output, output_cmp}
 use Rattle.sqlite.specs.Program.{overlay}
+use Rattle.sqlite.specs.Schema.{Schema}
 use Rattle.sqlite.specs.Effect.{Database}
 use Rattle.sqlite.specs.Listing.{understood}
 use Rattle.sqlite.specs.State.{State, HasCleanDisk, Shown, ShowsRows, Survives, CommitsShowing, IsUnchanged, IsRolledBack, FailsToQuery, FailsToShow, IsNotRun}
@@ -32,7 +33,7 @@ use Rattle.sqlite_keyed.specs.Lists.{sort_by}
 use Rattle.sqlite_keyed.proofs.SortLemmas.{sorted_is-sort_by, IsPermutation-sort_by, sort_by-map}
 use Rattle.sqlite_keyed.proofs.ListLemmas.{ascending-map, ascending_from_map, ascending_weaker, all_map}
 use Rattle.moo_tables.specs.Tables.{Tables, moo_schema, slot_table, verb_table, has_pair, cells_at, found_in, head_places, object_places, prop_places, slot_places, verb_places}
-use Rattle.moo_tables.specs.Inside.{AreKeyed, Holds, Rests, Reads, FailsToRead}
+use Rattle.moo_tables.specs.Inside.{AreKeyed, Holds, Rests, HasTables, Reads, FailsToRead}
 use Rattle.moo_tables.specs.Listing.{ListsNumbers, ListsPairs, IsBelow, begins_with}
 use Rattle.moo_tables.proofs.TextLemmas.{plain_query, number_order, pair_order, select_head_text, select_head_is, select_head_plain, head_columns, select_object_text, select_object_is, select_object_plain, object_columns, select_prop_text, select_prop_is, select_prop_plain, prop_columns, select_slot_text, select_slot_is, select_slot_plain, slot_columns, select_verb_text, select_verb_is, select_verb_plain, verb_columns}
 use Rattle.moo_tables.proofs.InsideLemmas.{clean_before}
@@ -120,68 +121,87 @@ rests_on old new tables same it = record {
   holds = subst (λ db. Holds db tables) (sym same.0.now_is) it.holds;
 }
 
-rests_undone : (old new : State) (tables : Tables) → IsRolledBack old new → IsTrue new.is_open → Rests old tables → Rests new tables
-rests_undone old new tables back opened it =
-    let both = back.undone opened in
-    record { is_open = opened; outside = back.autocommit; committed = both.0 ∙ sym both.1; holds = subst (λ db. Holds db tables) (it.committed ∙ sym both.0) it.holds }
-
-pub rests_failed : (sql : List ℕ) (old new : State) (e : Error) (tables : Tables) → IsPlain (understood moo_schema sql) → FailsToQuery sql [] old new e → IsTrue new.is_open → Rests old tables → Rests new tables
+-- why the reading failed, what the database then is
+pub query_failed : (schema : Schema) (sql : List ℕ) (old new : State) (e : Error) → IsPlain (understood schema sql) → FailsToQuery sql [] old new e → HasTables schema old → IsUnchanged old new ⊎ IsRolledBack old new
 unfolding FailsToQuery IsNotRun
-rests_failed sql old new e tables known (inl (inl refused)) opened it = rests_on old new tables refused.1 it
-rests_failed sql old new e tables known (inl (inr failed)) opened it = rests_undone old new tables failed.3 opened it
-rests_failed sql old new e tables plain (inr h) opened it =
-    let known = subst (λ s. IsPlain (understood s sql)) (sym it.holds.schema) plain in
+query_failed schema sql old new e known (inl (inl refused)) has = inl refused.1
+query_failed schema sql old new e known (inl (inr failed)) has = inr failed.3
+query_failed schema sql old new e plain (inr h) has =
+    let known = subst (λ s. IsPlain (understood s sql)) (sym has) plain in
     let none = (subst IsPlain h.1.is known).0 in
-    rests_on old new tables (subst (FailsToShow old new sql h.0 (timed [] h.0.formats h.1.now) e) none h.2).3 it
+    inl (subst (FailsToShow old new sql h.0 (timed [] h.0.formats h.1.now) e) none h.2).3
 
-pub commits_nothing : (sql : List ℕ) (old new : State) → IsPlain (understood moo_schema sql) → (HasCleanDisk old → old.now.schema ≡ moo_schema) → Survives old new (CommitsShowing sql [] old) → Survives old new (λ _. ⊥)
-commits_nothing sql old new plain has survives =
+pub commits_nothing : (schema : Schema) (sql : List ℕ) (old new : State) → IsPlain (understood schema sql) → (HasCleanDisk old → HasTables schema old) → Survives old new (CommitsShowing sql [] old) → Survives old new (λ _. ⊥)
+commits_nothing schema sql old new plain has survives =
     survives_weaker old new _ _ (λ clean db. never_commits sql [] old db (subst (λ s. IsPlain (understood s sql)) (sym (has (clean_before old new _ survives clean))) plain)) survives
 
 -- one query after another
 
-pub reads_then : {a b c : State} → Reads a b → Reads b c → Reads a c
-reads_then {a} {b} {c} p q = record {
-  clean = λ late. p.clean (q.clean late);
-  rests = λ late tables was. q.rests late tables (p.rests (q.clean late) tables was);
-  crash = λ tables was. survives_then a b c _ _ (λ _. ⊥) (λ _ db none. none) (λ _ db none. none) (p.crash tables was) (q.crash tables (λ clean. p.rests clean tables (was (p.clean clean))));
+has_then : (schema : Schema) (a b : State) → IsUnchanged a b → HasTables schema a → HasTables schema b
+has_then schema a b same has = ap (λ (d : Database). d.schema) same.0.now_is ∙ has
+
+unchanged_then : (a b c : State) → IsUnchanged a b → IsUnchanged b c → IsUnchanged a c
+unchanged_then a b c p q = (
+  record { was_open = p.0.was_open; is_open = q.0.is_open; now_is = q.0.now_is ∙ p.0.now_is; committed_is = q.0.committed_is ∙ p.0.committed_is; mode = q.0.mode ∙ p.0.mode },
+  record { changes = q.1.changes ∙ p.1.changes; last_rowid = q.1.last_rowid ∙ p.1.last_rowid },
+  q.2 ∙ p.2,
+)
+
+undone_then : (a b c : State) → IsUnchanged a b → IsRolledBack b c → IsRolledBack a c
+undone_then a b c p q = record {
+  was_open = λ opened. p.0.was_open;
+  undone = λ opened. let it = q.undone opened in (it.0 ∙ p.0.committed_is, it.1 ∙ p.0.committed_is);
+  autocommit = q.autocommit;
+  unmarked = q.unmarked;
+  counts = record { changes = q.counts.changes ∙ p.1.changes; last_rowid = q.counts.last_rowid ∙ p.1.last_rowid };
 }
 
-pub fails_then : {a b c : State} → Reads a b → FailsToRead b c → FailsToRead a c
-fails_then {a} {b} {c} p q = record {
+failed_then : (a b c : State) → IsUnchanged a b → IsUnchanged b c ⊎ IsRolledBack b c → IsUnchanged a c ⊎ IsRolledBack a c
+failed_then a b c p (inl same) = inl (unchanged_then a b c p same)
+failed_then a b c p (inr back) = inr (undone_then a b c p back)
+
+pub reads_then : {schema : Schema} {a b c : State} → Reads schema a b → Reads schema b c → Reads schema a c
+reads_then {schema} {a} {b} {c} p q = record {
   clean = λ late. p.clean (q.clean late);
-  kept = λ late opened tables was. q.kept late opened tables (p.rests (q.clean late) tables was);
-  crash = λ tables was. survives_then a b c _ _ (λ _. ⊥) (λ _ db none. none) (λ _ db none. none) (p.crash tables was) (q.crash tables (λ clean. p.rests clean tables (was (p.clean clean))));
+  same = λ late has. let early = p.same (q.clean late) has in unchanged_then a b c early (q.same late (has_then schema a b early has));
+  crash = λ has. survives_then a b c _ _ (λ _. ⊥) (λ _ db none. none) (λ _ db none. none) (p.crash has) (q.crash (λ clean. let was = has (p.clean clean) in has_then schema a b (p.same clean was) was));
+}
+
+pub fails_then : {schema : Schema} {a b c : State} → Reads schema a b → FailsToRead schema b c → FailsToRead schema a c
+fails_then {schema} {a} {b} {c} p q = record {
+  clean = λ late. p.clean (q.clean late);
+  kept = λ late has. let early = p.same (q.clean late) has in failed_then a b c early (q.kept late (has_then schema a b early has));
+  crash = λ has. survives_then a b c _ _ (λ _. ⊥) (λ _ db none. none) (λ _ db none. none) (p.crash has) (q.crash (λ clean. let was = has (p.clean clean) in has_then schema a b (p.same clean was) was));
 }
 
 -- ---- a query with no parameters, whose text is known
 
-module _ (sql : List ℕ) (known : IsPlain (understood moo_schema sql)) (old new : State) (r : Result (Vec Row Global) Error) (survives : Survives old new (CommitsShowing sql [] old)) where
-  plain_in : old.now.schema ≡ moo_schema → IsPlain (understood old.now.schema sql)
+module _ (schema : Schema) (sql : List ℕ) (known : IsPlain (understood schema sql)) (old new : State) (r : Result (Vec Row Global) Error) (survives : Survives old new (CommitsShowing sql [] old)) where
+  plain_in : HasTables schema old → IsPlain (understood old.now.schema sql)
   plain_in is = subst (λ s. IsPlain (understood s sql)) (sym is) known
 
-  quiet : (tables : Tables) → (HasCleanDisk old → Rests old tables) → Survives old new (λ _. ⊥)
-  quiet tables was = commits_nothing sql old new known (λ clean. (was clean).holds.schema) survives
+  quiet : (HasCleanDisk old → HasTables schema old) → Survives old new (λ _. ⊥)
+  quiet has = commits_nothing schema sql old new known has survives
 
-  pub reads : (HasCleanDisk new → IfOk r (λ rows. Shown sql [] old new rows.items)) → OnOk r (Reads old new)
+  pub reads : (HasCleanDisk new → IfOk r (λ rows. Shown sql [] old new rows.items)) → OnOk r (Reads schema old new)
   reads ok = go r ok
     where
-      go : (r : Result (Vec Row Global) Error) → (HasCleanDisk new → IfOk r (λ rows. Shown sql [] old new rows.items)) → OnOk r (Reads old new)
+      go : (r : Result (Vec Row Global) Error) → (HasCleanDisk new → IfOk r (λ rows. Shown sql [] old new rows.items)) → OnOk r (Reads schema old new)
       go (Err e) ok = tt
       go (Ok rows) ok = record {
         clean = clean_before old new _ survives;
-        rests = λ clean tables it. rests_on old new tables (unchanged_as sql [] old new rows.items (plain_in it.holds.schema) (ok clean)) it;
+        same = λ clean has. unchanged_as sql [] old new rows.items (plain_in has) (ok clean);
         crash = quiet;
       }
 
-  pub fails : (HasCleanDisk new → IfErr r (FailsToQuery sql [] old new)) → OnErr r (FailsToRead old new)
+  pub fails : (HasCleanDisk new → IfErr r (FailsToQuery sql [] old new)) → OnErr r (FailsToRead schema old new)
   fails err = go r err
     where
-      go : (r : Result (Vec Row Global) Error) → (HasCleanDisk new → IfErr r (FailsToQuery sql [] old new)) → OnErr r (FailsToRead old new)
+      go : (r : Result (Vec Row Global) Error) → (HasCleanDisk new → IfErr r (FailsToQuery sql [] old new)) → OnErr r (FailsToRead schema old new)
       go (Ok rows) err = tt
       go (Err e) err = record {
         clean = clean_before old new _ survives;
-        kept = λ clean opened tables it. rests_failed sql old new e tables known (err clean) opened it;
+        kept = λ clean has. query_failed schema sql old new e known (err clean) has;
         crash = quiet;
       }
 

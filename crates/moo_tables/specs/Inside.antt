@@ -1,5 +1,5 @@
 -- What the calls of one transaction leave of a connection, and what a whole one leaves.
-use Rattle.std.specs.Prelude.{◌≡◌, ℕ, false, IsTrue, List, [], None}
+use Rattle.std.specs.Prelude.{◌≡◌, ◌⊎◌, ℕ, false, IsTrue, List, [], None}
 use Rattle.std.specs.List.{AllByRecursion}
 use Rattle.sqlite.specs.Schema.{Schema}
 use Rattle.sqlite.specs.Order.{Row}
@@ -7,7 +7,7 @@ use Rattle.sqlite.specs.Tree.{Trees}
 use Rattle.sqlite_trees.specs.View.{IsShaped}
 use Rattle.sqlite_trees.specs.declared.store.Shape.TheVariants.{Table}
 use Rattle.sqlite.specs.Effect.{Database, IsDatabase}
-use Rattle.sqlite.specs.State.{State, HasCleanDisk, KeepsCommit, Survives, Opens}
+use Rattle.sqlite.specs.State.{State, HasCleanDisk, IsUnchanged, IsRolledBack, KeepsCommit, Survives, Opens}
 use Rattle.moo_tables.specs.Tables.{Tables, tables_in, no_schema, moo_schema}
 
 -- the rows rise by their numbers, which are whole
@@ -47,17 +47,21 @@ pub record StaysInside (old new : State) : Type 0 where
 abbrev pub Changes : (Tables → Tables) → State → State → Type 0
 Changes change old new = HasCleanDisk new → (tables : Tables) → Sees old tables → Sees new (change tables)
 
--- Outside a transaction the tables were read, and are as they were.
-pub record Reads (old new : State) : Type 0 where
-  pub clean : HasCleanDisk new → HasCleanDisk old
-  pub rests : HasCleanDisk new → (tables : Tables) → Rests old tables → Rests new tables
-  pub crash : (tables : Tables) → (HasCleanDisk old → Rests old tables) → Survives old new (λ _. ⊥)
+-- a statement means the tables of this schema
+abbrev pub HasTables : Schema → State → Type 0
+HasTables schema s = s.now.schema ≡ schema
 
--- The reading failed, and the tables are as they were, unless the connection was shut.
-pub record FailsToRead (old new : State) : Type 0 where
+-- Tables of this schema were read, and nothing changed.
+pub record Reads (schema : Schema) (old new : State) : Type 0 where
   pub clean : HasCleanDisk new → HasCleanDisk old
-  pub kept : HasCleanDisk new → IsTrue new.is_open → (tables : Tables) → Rests old tables → Rests new tables
-  pub crash : (tables : Tables) → (HasCleanDisk old → Rests old tables) → Survives old new (λ _. ⊥)
+  pub same : HasCleanDisk new → HasTables schema old → IsUnchanged old new
+  pub crash : (HasCleanDisk old → HasTables schema old) → Survives old new (λ _. ⊥)
+
+-- The reading failed: nothing changed, or the transaction was rolled back.
+pub record FailsToRead (schema : Schema) (old new : State) : Type 0 where
+  pub clean : HasCleanDisk new → HasCleanDisk old
+  pub kept : HasCleanDisk new → HasTables schema old → IsUnchanged old new ⊎ IsRolledBack old new
+  pub crash : (HasCleanDisk old → HasTables schema old) → Survives old new (λ _. ⊥)
 
 -- trees of exactly these tables, with these rows
 abbrev pub Leaves : Trees → Tables → Type 0

@@ -1,8 +1,9 @@
 //! The rows of the tables, each table's in the order of its keys.
 
-ghost use Rattle.std.specs.Prelude.{◌≡◌, false, IsTrue, IfOk, OnOk, OnErr};
-ghost use Rattle.sqlite.specs.State.{HasCleanDisk, Survives};
+ghost use Rattle.std.specs.Prelude.{◌≡◌, false, IfOk, OnOk, OnErr};
+ghost use Rattle.sqlite.specs.State.{HasCleanDisk};
 ghost use Rattle.sqlite.specs.Held.{state};
+ghost use Rattle.moo_tables.specs.Tables.{moo_schema};
 ghost use Rattle.moo_tables.specs.Inside.{Rests, Reads, FailsToRead};
 ghost use Rattle.moo_tables.specs.Listing.{ListsNumbers, ListsPairs, ListsTables};
 
@@ -21,9 +22,9 @@ pub struct CellLists {
 /// The row of the head.
 fn head_cells_of<S: Alter>(conn: &mut Connection<S>) -> Result<Vec<Row>, Error>
     ensures outside { (state S.Store conn.old).in_transaction ≡ false → (state S.Store conn.new).in_transaction ≡ false }
-    ensures read { OnOk result (Reads (state S.Store conn.old) (state S.Store conn.new)) }
+    ensures read { OnOk result (Reads moo_schema (state S.Store conn.old) (state S.Store conn.new)) }
     ensures listed { HasCleanDisk (state S.Store conn.new) → IfOk result (λ rows. (tables : _) → Rests (state S.Store conn.old) tables → ListsNumbers rows.items tables.head) }
-    ensures failed { OnErr result (FailsToRead (state S.Store conn.old) (state S.Store conn.new)) }
+    ensures failed { OnErr result (FailsToRead moo_schema (state S.Store conn.old) (state S.Store conn.new)) }
 {
     conn.query_all(
         "SELECT id, version, seq, top, next_prop, next_verb FROM head ORDER BY id",
@@ -34,9 +35,9 @@ fn head_cells_of<S: Alter>(conn: &mut Connection<S>) -> Result<Vec<Row>, Error>
 /// The rows of `object`, in the order of their numbers.
 fn object_cells_of<S: Alter>(conn: &mut Connection<S>) -> Result<Vec<Row>, Error>
     ensures outside { (state S.Store conn.old).in_transaction ≡ false → (state S.Store conn.new).in_transaction ≡ false }
-    ensures read { OnOk result (Reads (state S.Store conn.old) (state S.Store conn.new)) }
+    ensures read { OnOk result (Reads moo_schema (state S.Store conn.old) (state S.Store conn.new)) }
     ensures listed { HasCleanDisk (state S.Store conn.new) → IfOk result (λ rows. (tables : _) → Rests (state S.Store conn.old) tables → ListsNumbers rows.items tables.object) }
-    ensures failed { OnErr result (FailsToRead (state S.Store conn.old) (state S.Store conn.new)) }
+    ensures failed { OnErr result (FailsToRead moo_schema (state S.Store conn.old) (state S.Store conn.new)) }
 {
     conn.query_all(
         "SELECT n, name, owner, parent, location, player, programmer, wizard, r, w, f, accept FROM object ORDER BY n",
@@ -47,9 +48,9 @@ fn object_cells_of<S: Alter>(conn: &mut Connection<S>) -> Result<Vec<Row>, Error
 /// The rows of `prop`, in the order of their numbers.
 fn prop_cells_of<S: Alter>(conn: &mut Connection<S>) -> Result<Vec<Row>, Error>
     ensures outside { (state S.Store conn.old).in_transaction ≡ false → (state S.Store conn.new).in_transaction ≡ false }
-    ensures read { OnOk result (Reads (state S.Store conn.old) (state S.Store conn.new)) }
+    ensures read { OnOk result (Reads moo_schema (state S.Store conn.old) (state S.Store conn.new)) }
     ensures listed { HasCleanDisk (state S.Store conn.new) → IfOk result (λ rows. (tables : _) → Rests (state S.Store conn.old) tables → ListsNumbers rows.items tables.prop) }
-    ensures failed { OnErr result (FailsToRead (state S.Store conn.old) (state S.Store conn.new)) }
+    ensures failed { OnErr result (FailsToRead moo_schema (state S.Store conn.old) (state S.Store conn.new)) }
 {
     conn.query_all("SELECT id, definer, name FROM prop ORDER BY id", &[])
 }
@@ -57,9 +58,9 @@ fn prop_cells_of<S: Alter>(conn: &mut Connection<S>) -> Result<Vec<Row>, Error>
 /// The rows of `slot`, in the order of their objects, then of their properties.
 fn slot_cells_of<S: Alter>(conn: &mut Connection<S>) -> Result<Vec<Row>, Error>
     ensures outside { (state S.Store conn.old).in_transaction ≡ false → (state S.Store conn.new).in_transaction ≡ false }
-    ensures read { OnOk result (Reads (state S.Store conn.old) (state S.Store conn.new)) }
+    ensures read { OnOk result (Reads moo_schema (state S.Store conn.old) (state S.Store conn.new)) }
     ensures listed { HasCleanDisk (state S.Store conn.new) → IfOk result (λ rows. (tables : _) → Rests (state S.Store conn.old) tables → ListsPairs rows.items tables.slot) }
-    ensures failed { OnErr result (FailsToRead (state S.Store conn.old) (state S.Store conn.new)) }
+    ensures failed { OnErr result (FailsToRead moo_schema (state S.Store conn.old) (state S.Store conn.new)) }
 {
     conn.query_all(
         "SELECT object, prop, owner, bits, value FROM slot ORDER BY object, prop",
@@ -70,9 +71,9 @@ fn slot_cells_of<S: Alter>(conn: &mut Connection<S>) -> Result<Vec<Row>, Error>
 /// The rows of `verb`, in the order of their objects, then of their numbers.
 fn verb_cells_of<S: Alter>(conn: &mut Connection<S>) -> Result<Vec<Row>, Error>
     ensures outside { (state S.Store conn.old).in_transaction ≡ false → (state S.Store conn.new).in_transaction ≡ false }
-    ensures read { OnOk result (Reads (state S.Store conn.old) (state S.Store conn.new)) }
+    ensures read { OnOk result (Reads moo_schema (state S.Store conn.old) (state S.Store conn.new)) }
     ensures listed { HasCleanDisk (state S.Store conn.new) → IfOk result (λ rows. (tables : _) → Rests (state S.Store conn.old) tables → ListsPairs rows.items tables.verb) }
-    ensures failed { OnErr result (FailsToRead (state S.Store conn.old) (state S.Store conn.new)) }
+    ensures failed { OnErr result (FailsToRead moo_schema (state S.Store conn.old) (state S.Store conn.new)) }
 {
     conn.query_all(
         "SELECT object, id, names, owner, bits, dobj, prep, iobj FROM verb ORDER BY object, id",
@@ -85,9 +86,9 @@ fn verb_cells_of<S: Alter>(conn: &mut Connection<S>) -> Result<Vec<Row>, Error>
 /// Nothing is written. After a fault of the store the tables are as they were, unless the fault shut the connection.
 pub fn read_tables<S: Alter>(conn: &mut Connection<S>) -> Result<CellLists, Error>
     ensures outside { (state S.Store conn.old).in_transaction ≡ false → (state S.Store conn.new).in_transaction ≡ false }
-    ensures read { HasCleanDisk (state S.Store conn.new) → IfOk result (λ lists. (tables : _) → Rests (state S.Store conn.old) tables → Rests (state S.Store conn.new) tables × ListsTables lists tables) }
-    ensures kept { HasCleanDisk (state S.Store conn.new) → OnErr result (IsTrue (state S.Store conn.new).is_open → (tables : _) → Rests (state S.Store conn.old) tables → Rests (state S.Store conn.new) tables) }
-    ensures crash { (tables : _) → (HasCleanDisk (state S.Store conn.old) → Rests (state S.Store conn.old) tables) → Survives (state S.Store conn.old) (state S.Store conn.new) (λ _. ⊥) }
+    ensures read { OnOk result (Reads moo_schema (state S.Store conn.old) (state S.Store conn.new)) }
+    ensures listed { HasCleanDisk (state S.Store conn.new) → IfOk result (λ lists. (tables : _) → Rests (state S.Store conn.old) tables → ListsTables lists tables) }
+    ensures failed { OnErr result (FailsToRead moo_schema (state S.Store conn.old) (state S.Store conn.new)) }
 {
     let head = head_cells_of(conn)?;
     let object = object_cells_of(conn)?;

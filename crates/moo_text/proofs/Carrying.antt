@@ -1,5 +1,5 @@
 -- What the lines that are left of a text say, from one line to the next.
-use Rattle.std.proofs.Common.{◌≡◌, ℕ, ◌+◌, ◌<◌, ◌≤◌, true, false, inl, inr, List, [], ◌∷◌, ◌++◌, length, Option, Some, None, Result, Ok, Err, IfOk, refl, sym, ap, subst, ◌∙◌, arith}
+use Rattle.std.proofs.Common.{◌≡◌, ℕ, ◌+◌, ◌<◌, ◌≤◌, true, false, inl, inr, List, [], ◌∷◌, ◌++◌, length, Option, Some, None, Result, Ok, Err, IfOk, IfErr, refl, sym, ap, subst, ◌∙◌, arith}
 use Rattle.std.specs.Prelude.{nat_lt}
 use Rattle.std.specs.Str.Lines.{lines}
 use Rattle.std.proofs.lemmas.List.{length-append}
@@ -8,7 +8,11 @@ use Rattle.moo_text.specs.Line.{is_short, is_blank_line, is_end_line}
 use Rattle.moo_text.specs.LineReading.{header_of, call_of}
 use Rattle.moo_text.specs.Items.{between, within, skipping}
 use Rattle.moo_text.specs.Feed.{StandsFor, TakesLine, Carries, TakesFirst, TakesNext}
+use Rattle.moo_text.specs.Side.{Side}
+use Rattle.moo_text.specs.Given.{ReadsLine, ReadsAlong, ReadsFirst, ReadsNext, BreaksOff}
+use Rattle.moo_text.proofs.Giving.{Reads-none, Reads-then, Reads-map, Reads-breaks, out_of_memory}
 use Rattle.moo_text.specs.declared.fault.TextFault.{TextFault}
+use Rattle.moo_text.specs.declared.fault.TextFault.TheVariants.{OutOfMemory}
 use Rattle.moo_text.specs.declared.header.Header.{Header}
 use Rattle.moo_text.specs.declared.next.Next.{Next}
 use Rattle.moo_text.specs.declared.next.Next.TheVariants.{Batch as Whole, Malformed, Truncated, End}
@@ -43,31 +47,26 @@ within_alike header calls n read line rest a = rw (a.blank, a.end, a.call) refl
 pub skipping_alike : (n : ℕ) → SeesAlike (skipping n)
 skipping_alike n read line rest a = rw a.end refl
 
--- at the start
-pub Carries-same : (f : List (List ℕ) → List Next) (a b : Option (List ℕ)) → a ≡ b → Carries f f a b
-Carries-same f None b e = tt
-Carries-same f (Some a) None e = absurd cc
-Carries-same f (Some a) (Some b) e = let h : a ≡ b = cc in ap (λ (t : List ℕ). f (lines t)) h
-
-pub Carries-then : (f g h : List (List ℕ) → List Next) (a b c : Option (List ℕ)) → Carries f g a b → Carries g h b c → Carries f h a c
-Carries-then f g h None b c p q = tt
-Carries-then f g h (Some x) None c p q = absurd p
-Carries-then f g h (Some x) (Some y) None p q = absurd q
-Carries-then f g h (Some x) (Some y) (Some z) p q = p ∙ q
+-- nothing is read yet
+pub along_none : (f : List (List ℕ) → List Next) (a : Side) → ReadsAlong f f a a
+along_none f a = Reads-none a (λ x y. Carries f f x y) (λ x. refl)
 
 -- one line on
-pub Carries-line : (f g h : List (List ℕ) → List Next) (start old new : Option (List ℕ)) (read : List ℕ) → SeesAlike g → Carries f g start old → TakesLine old new (Some read) → ((rest : List (List ℕ)) → g (read ∷ rest) ≡ h rest) → Carries f h start new
-Carries-line f g h None old new read sees c t step = tt
-Carries-line f g h (Some s) None new read sees c t step = absurd c
-Carries-line f g h (Some s) (Some o) None read sees c t step = absurd t
-Carries-line f g h (Some s) (Some o) (Some n) read sees c t step = c ∙ ap g t.2 ∙ sym (sees read t.0 (lines n) (alike read t.0 t.1)) ∙ step (lines n)
+pub along_line : (f g h : List (List ℕ) → List Next) (a b c : Side) (read : List ℕ) → SeesAlike g → ReadsAlong f g a b → ReadsLine b c (Some read) → ((rest : List (List ℕ)) → g (read ∷ rest) ≡ h rest) → ReadsAlong f h a c
+along_line f g h a b c read sees p q step =
+    Reads-then a b c (λ x y. Carries f g x y) (λ x y. TakesLine x y (Some read)) (λ x y. Carries f h x y) p q (λ x y z carries took. carries ∙ ap g took.2 ∙ sym (sees read took.0 (lines z) (alike read took.0 took.1)) ∙ step (lines z))
 
 -- at the end of the text
-pub Carries-end : (f g h : List (List ℕ) → List Next) (start old new : Option (List ℕ)) → Carries f g start old → TakesLine old new None → g [] ≡ h [] → Carries f h start new
-Carries-end f g h None old new c t step = tt
-Carries-end f g h (Some s) None new c t step = absurd c
-Carries-end f g h (Some s) (Some o) None c t step = absurd t
-Carries-end f g h (Some s) (Some o) (Some n) c t step = c ∙ ap (λ (x : List ℕ). g (lines x)) t.0 ∙ step ∙ sym (ap (λ (x : List ℕ). h (lines x)) t.1)
+pub along_end : (f g h : List (List ℕ) → List Next) (a b c : Side) → ReadsAlong f g a b → ReadsLine b c None → g [] ≡ h [] → ReadsAlong f h a c
+along_end f g h a b c p q step =
+    Reads-then a b c (λ x y. Carries f g x y) (λ x y. TakesLine x y None) (λ x y. Carries f h x y) p q (λ x y z carries took. carries ∙ ap (λ (t : List ℕ). g (lines t)) took.0 ∙ step ∙ sym (ap (λ (t : List ℕ). h (lines t)) took.1))
+
+-- reading stops
+pub along_breaks : (f g : List (List ℕ) → List Next) (a b c : Side) (fault : TextFault) → ReadsAlong f g a b → BreaksOff b c fault → BreaksOff a c fault
+along_breaks f g a b c fault p q = Reads-breaks a b c (λ x y. Carries f g x y) fault p q
+
+pub along_refused : (f g : List (List ℕ) → List Next) (a b c : Side) (line : Option (List ℕ)) → ReadsAlong f g a b → ReadsLine b c line → BreaksOff a c OutOfMemory
+along_refused f g a b c line p q = Reads-breaks a b c (λ x y. Carries f g x y) OutOfMemory p (out_of_memory b c q.given q.gives q.room)
 
 -- ---- what a line says inside a batch
 
@@ -76,6 +75,31 @@ no_room n h = grind (arith, h)
 
 has_room : (n : ℕ) → n < 1000 → nat_lt n 1000 ≡ true
 has_room n h = grind (arith, h)
+
+pub between_blank : (line : List ℕ) (rest : List (List ℕ)) → is_blank_line line ≡ true → between (line ∷ rest) ≡ between rest
+between_blank line rest blank = rw blank refl
+
+pub between_end : (line : List ℕ) (rest : List (List ℕ)) → is_blank_line line ≡ false → is_end_line line ≡ true → between (line ∷ rest) ≡ Malformed 1 ∷ between rest
+between_end line rest not_blank end = rw (not_blank, end) refl
+
+pub between_header : (line : List ℕ) (rest : List (List ℕ)) (header : Header) → is_blank_line line ≡ false → is_end_line line ≡ false → header_of line ≡ Some header → between (line ∷ rest) ≡ within header [] 1 rest
+between_header line rest header not_blank not_end is = rw (not_blank, not_end, is) refl
+
+pub between_none : (line : List ℕ) (rest : List (List ℕ)) → is_blank_line line ≡ false → is_end_line line ≡ false → header_of line ≡ None → between (line ∷ rest) ≡ skipping 1 rest
+between_none line rest not_blank not_end none = rw (not_blank, not_end, none) refl
+
+pub skipping_end : (n : ℕ) (line : List ℕ) (rest : List (List ℕ)) → is_end_line line ≡ true → skipping n (line ∷ rest) ≡ Malformed n ∷ between rest
+skipping_end n line rest end = rw end refl
+
+pub skipping_on : (n : ℕ) (line : List ℕ) (rest : List (List ℕ)) → is_end_line line ≡ false → skipping n (line ∷ rest) ≡ skipping n rest
+skipping_on n line rest not_end = rw not_end refl
+
+pub within_blank : (header : Header) (calls : List Call) (n : ℕ) (line : List ℕ) (rest : List (List ℕ)) → is_blank_line line ≡ true → within header calls n (line ∷ rest) ≡ within header calls (n + 1) rest
+within_blank header calls n line rest blank = rw blank refl
+
+pub within_end : (header : Header) (calls : List Call) (n : ℕ) (all : List Call) (line : List ℕ) (rest : List (List ℕ)) → is_blank_line line ≡ false → is_end_line line ≡ true → calls ≡ all
+    → within header calls n (line ∷ rest) ≡ Whole (record { programmer = header.programmer; at = header.at; calls = all }) ∷ between rest
+within_end header calls n all line rest not_blank end is = subst (λ (cs : List Call). within header calls n (line ∷ rest) ≡ Whole (record { programmer = header.programmer; at = header.at; calls = cs }) ∷ between rest) is (rw (not_blank, end) refl)
 
 pub bad_line : (header : Header) (calls : List Call) (n : ℕ) (line : List ℕ) (rest : List (List ℕ)) → is_blank_line line ≡ false → is_end_line line ≡ false → call_of line ≡ None
     → within header calls n (line ∷ rest) ≡ skipping (n + 1) rest
@@ -91,30 +115,35 @@ one_call header calls n line rest call not_blank not_end is few = let room = has
 
 -- ---- the first item
 
-pub first_after : (f g : List (List ℕ) → List Next) (start old new : Option (List ℕ)) (r : Result Next TextFault) → Carries f g start old → IfOk r (λ item. TakesFirst g old new item) → IfOk r (λ item. TakesFirst f start new item)
-first_after f g start old new (Err e) c t = tt
-first_after f g start old new (Ok item) c t = by_item item t
+pub first_after : (f g : List (List ℕ) → List Next) (a b c : Side) (r : Result Next TextFault) → ReadsAlong f g a b → IfOk r (λ item. ReadsFirst g b c item) → IfOk r (λ item. ReadsFirst f a c item)
+first_after f g a b c (Err e) p q = tt
+first_after f g a b c (Ok item) p q = Reads-then a b c (λ x y. Carries f g x y) (λ x y. TakesFirst g x y item) (λ x y. TakesFirst f x y item) p q (λ x y z carries took. by_item item x y z carries took)
   where
-    joined : (h : List (List ℕ) → List Next) → Carries g h old new → Carries f h start new
-    joined h d = Carries-then f g h start old new c d
+    by_item : (item : Next) (x y z : List ℕ) → Carries f g x y → TakesFirst g y z item → TakesFirst f x z item
+    by_item End x y z carries took = took
+    by_item (Whole batch) x y z carries took = carries ∙ took
+    by_item (Malformed n) x y z carries took = carries ∙ took
+    by_item Truncated x y z carries took = carries ∙ took
 
-    by_item : (item : Next) → TakesFirst g old new item → TakesFirst f start new item
-    by_item End d = d
-    by_item (Whole batch) d = joined (λ rest. Whole batch ∷ between rest) d
-    by_item (Malformed n) d = joined (λ rest. Malformed n ∷ between rest) d
-    by_item Truncated d = joined (λ rest. Truncated ∷ between rest) d
+pub first_is_next : (a b : Side) (r : Result Next TextFault) → IfOk r (λ item. ReadsFirst between a b item) → IfOk r (λ item. ReadsNext a b item)
+first_is_next a b (Err e) p = tt
+first_is_next a b (Ok item) p = Reads-map a b (λ x y. TakesFirst between x y item) (λ x y. TakesNext x y item) p (λ x y took. by_item item x y took)
+  where
+    by_item : (item : Next) (x y : List ℕ) → TakesFirst between x y item → TakesNext x y item
+    by_item End x y took = absurd took
+    by_item (Whole batch) x y took = took
+    by_item (Malformed n) x y took = took
+    by_item Truncated x y took = took
 
-pub first_is_next : (old new : Option (List ℕ)) (r : Result Next TextFault) → IfOk r (λ item. TakesFirst between old new item) → IfOk r (λ item. TakesNext old new item)
-first_is_next old new (Err e) t = tt
-first_is_next old new (Ok End) t = absurd t
-first_is_next old new (Ok (Whole batch)) t = t
-first_is_next old new (Ok (Malformed n)) t = t
-first_is_next old new (Ok Truncated) t = t
+-- a call that is stopped behind others
+pub breaks_after : {T : Type 0} (r : Result T TextFault) (f g : List (List ℕ) → List Next) (a b c : Side) → ReadsAlong f g a b → IfErr r (λ fault. BreaksOff b c fault) → IfErr r (λ fault. BreaksOff a c fault)
+breaks_after (Ok t) f g a b c p q = tt
+breaks_after (Err fault) f g a b c p q = along_breaks f g a b c fault p q
 
 -- ---- one call more
 
 pub room_for_one : (calls : List Call) (call : Call) (pushed : List Call) → pushed ≡ calls ++ call ∷ [] → length calls < 1000 → length pushed ≤ 1000
 room_for_one calls call pushed is few = omega (arith, ap length is ∙ length-append calls (call ∷ []))
 
-pub pushed_carries : (header : Header) (n : ℕ) (start new : Option (List ℕ)) (calls pushed : List Call) → pushed ≡ calls → Carries (within header [] 1) (within header calls n) start new → Carries (within header [] 1) (within header pushed n) start new
-pushed_carries header n start new calls pushed is c = subst (λ (cs : List Call). Carries (within header [] 1) (within header cs n) start new) (sym is) c
+pub pushed_along : (header : Header) (n : ℕ) (a b : Side) (calls pushed : List Call) → pushed ≡ calls → ReadsAlong (within header [] 1) (within header calls n) a b → ReadsAlong (within header [] 1) (within header pushed n) a b
+pushed_along header n a b calls pushed is c = subst (λ (cs : List Call). ReadsAlong (within header [] 1) (within header cs n) a b) (sym is) c

@@ -1,5 +1,5 @@
--- What reading in pieces does to the bytes that are left of a text, where those are known.
-use Rattle.std.specs.Prelude.{◌≡◌, ◌<◌, ℕ, List, [], ◌∷◌, length, Option, Some, None, ⊤, ◌⊎◌}
+-- What reading in pieces does to the bytes of a text that are not used yet.
+use Rattle.std.specs.Prelude.{◌≡◌, ◌<◌, ℕ, List, [], ◌∷◌, length, Option, Some, None, ◌⊎◌}
 use Rattle.std.specs.Str.Lines.{lines}
 use Rattle.moo_text.specs.Items.{between}
 use Rattle.moo_text.specs.declared.next.Next.{Next}
@@ -10,24 +10,20 @@ abbrev pub StandsFor : List ℕ → List ℕ → Type 0
 StandsFor read line = (read ≡ line) ⊎ ((262144 < length read) × (262144 < length line))
 
 -- the text has lost its first line; none at its end
-abbrev pub TakesLine : Option (List ℕ) → Option (List ℕ) → Option (List ℕ) → Type 0
-TakesLine None new read = ⊤
-TakesLine (Some old) None read = ⊥
-TakesLine (Some old) (Some new) None = (old ≡ []) × (new ≡ [])
-TakesLine (Some old) (Some new) (Some read) = (line : List ℕ) × StandsFor read line × (lines old ≡ line ∷ lines new)
+abbrev pub TakesLine : List ℕ → List ℕ → Option (List ℕ) → Type 0
+TakesLine old new None = (old ≡ []) × (new ≡ [])
+TakesLine old new (Some read) = (line : List ℕ) × StandsFor read line × (lines old ≡ line ∷ lines new)
 
--- what f says of the lines that were left is what g says of those left now
-abbrev pub Carries : (List (List ℕ) → List Next) → (List (List ℕ) → List Next) → Option (List ℕ) → Option (List ℕ) → Type 0
-Carries f g None new = ⊤
-Carries f g (Some old) None = ⊥
-Carries f g (Some old) (Some new) = f (lines old) ≡ g (lines new)
+-- what f says of the lines before is what g says of those behind
+abbrev pub Carries : (List (List ℕ) → List Next) → (List (List ℕ) → List Next) → List ℕ → List ℕ → Type 0
+Carries f g old new = f (lines old) ≡ g (lines new)
 
 -- f's first item is taken, and what follows it lies between two batches
-abbrev pub TakesFirst : (List (List ℕ) → List Next) → Option (List ℕ) → Option (List ℕ) → Next → Type 0
+abbrev pub TakesFirst : (List (List ℕ) → List Next) → List ℕ → List ℕ → Next → Type 0
 TakesFirst f old new End = ⊥
 TakesFirst f old new item = Carries f (λ rest. item ∷ between rest) old new
 
 -- the text has lost its first item; at its end it has none
-abbrev pub TakesNext : Option (List ℕ) → Option (List ℕ) → Next → Type 0
+abbrev pub TakesNext : List ℕ → List ℕ → Next → Type 0
 TakesNext old new End = Carries between (λ rest. []) old new
 TakesNext old new item = TakesFirst between old new item

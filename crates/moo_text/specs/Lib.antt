@@ -5,5 +5,5 @@ pub mod LineReading
 pub mod Cut
 pub mod Items
 pub mod Feed
-pub mod Left
-pub mod Room
+pub mod Side
+pub mod Given

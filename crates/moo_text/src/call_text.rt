@@ -69,8 +69,8 @@ fn call_named(word: &[u8]) -> Option<CallName>
     CallName::read(word)
 }
 
-/// The call that a line is; none where it is no call.
-pub(crate) fn call_in(alloc: Global, line: &[u8]) -> Result<Option<Call>, AllocError>
+/// The call that a line of at most 262,144 bytes spells; none for any other line. AllocError where memory runs out.
+pub fn call_in(alloc: Global, line: &[u8]) -> Result<Option<Call>, AllocError>
     ensures { IfOk result (λ call. call ≡ call_of line.now) }
 {
     if !is_short(line) {

@@ -1,10 +1,9 @@
 //! The batches of a text, read in pieces.
 
 ghost use Rattle.std.specs.Prelude.{◌≤◌, ◌<◌, ◌≢◌, [], IfOk, IfErr, OnOk};
-ghost use Rattle.moo_text.specs.Feed.{TakesFirst, TakesNext};
+ghost use Rattle.moo_text.specs.Given.{ReadsFirst, ReadsNext, BreaksOff};
 ghost use Rattle.moo_text.specs.Items.{within, skipping};
-ghost use Rattle.moo_text.specs.Left.{lines_left, lines_room};
-ghost use Rattle.moo_text.specs.Room.{TakesRoom, Explains, EndsAt};
+ghost use Rattle.moo_text.specs.Side.{lines_side, lines_room, EndsAt};
 
 use crate::call_text::call_in;
 use crate::fault::TextFault;
@@ -19,11 +18,10 @@ use std::io::Read;
 
 /// Reads on behind the first bad line of a batch, to its end.
 fn skip_batch<R: Read>(number: u32, lines: &mut LineReader<R>) -> Result<Next, TextFault>
-    ensures item { IfOk result (λ item. TakesFirst (skipping number) (lines_left R.remaining lines.old) (lines_left R.remaining lines.new) item) }
-    ensures room { OnOk result (TakesRoom (lines_left R.remaining lines.old) (lines_room lines.old) (lines_left R.remaining lines.new) (lines_room lines.new)) }
+    ensures item { IfOk result (λ item. ReadsFirst (skipping number) (lines_side R.remaining lines.old) (lines_side R.remaining lines.new) item) }
     ensures falls { OnOk result (lines_room lines.new ≤ lines_room lines.old) }
-    ensures ends { IfOk result (λ item. EndsAt item (lines_left R.remaining lines.new)) }
-    ensures cause { IfErr result (λ fault. Explains (lines_left R.remaining lines.old) (lines_room lines.old) fault) }
+    ensures ends { IfOk result (λ item. EndsAt item (lines_side R.remaining lines.new)) }
+    ensures cause { IfErr result (λ fault. BreaksOff (lines_side R.remaining lines.old) (lines_side R.remaining lines.new) fault) }
 {
     loop {
         match lines.next_line()? {
@@ -43,11 +41,10 @@ fn rest_of_batch<R: Read>(
     header: Header,
     lines: &mut LineReader<R>,
 ) -> Result<Next, TextFault>
-    ensures item { IfOk result (λ item. TakesFirst (within header [] 1) (lines_left R.remaining lines.old) (lines_left R.remaining lines.new) item) }
-    ensures room { OnOk result (TakesRoom (lines_left R.remaining lines.old) (lines_room lines.old) (lines_left R.remaining lines.new) (lines_room lines.new)) }
+    ensures item { IfOk result (λ item. ReadsFirst (within header [] 1) (lines_side R.remaining lines.old) (lines_side R.remaining lines.new) item) }
     ensures falls { OnOk result (lines_room lines.new ≤ lines_room lines.old) }
-    ensures ends { IfOk result (λ item. EndsAt item (lines_left R.remaining lines.new)) }
-    ensures cause { IfErr result (λ fault. Explains (lines_left R.remaining lines.old) (lines_room lines.old) fault) }
+    ensures ends { IfOk result (λ item. EndsAt item (lines_side R.remaining lines.new)) }
+    ensures cause { IfErr result (λ fault. BreaksOff (lines_side R.remaining lines.old) (lines_side R.remaining lines.new) fault) }
 {
     let mut calls = Vec::new(alloc);
     let mut number = 1;
@@ -80,11 +77,10 @@ fn rest_of_batch<R: Read>(
 
 /// The next item of the text.
 fn next_item<R: Read>(alloc: Global, lines: &mut LineReader<R>) -> Result<Next, TextFault>
-    ensures item { IfOk result (λ item. TakesNext (lines_left R.remaining lines.old) (lines_left R.remaining lines.new) item) }
-    ensures room { OnOk result (TakesRoom (lines_left R.remaining lines.old) (lines_room lines.old) (lines_left R.remaining lines.new) (lines_room lines.new)) }
+    ensures item { IfOk result (λ item. ReadsNext (lines_side R.remaining lines.old) (lines_side R.remaining lines.new) item) }
     ensures falls { IfOk result (λ item. item ≢ Next.End → lines_room lines.new < lines_room lines.old) }
-    ensures ends { IfOk result (λ item. EndsAt item (lines_left R.remaining lines.new)) }
-    ensures cause { IfErr result (λ fault. Explains (lines_left R.remaining lines.old) (lines_room lines.old) fault) }
+    ensures ends { IfOk result (λ item. EndsAt item (lines_side R.remaining lines.new)) }
+    ensures cause { IfErr result (λ fault. BreaksOff (lines_side R.remaining lines.old) (lines_side R.remaining lines.new) fault) }
 {
     loop {
         let Some(line) = lines.next_line()? else {
@@ -113,14 +109,12 @@ pub struct Feed<R> {
 
 impl<R: Read> Feed<R> {
     ghost use Rattle.std.specs.Prelude.{◌≡◌, ◌≢◌, ◌<◌, min, Some, None, Err, IfOk, IfErr, IfSome, IfNone, OnOk};
-    ghost use Rattle.moo_text.specs.Feed.{TakesNext};
-    ghost use Rattle.moo_text.specs.Left.{feed_left, feed_room};
-    ghost use Rattle.moo_text.specs.Room.{TakesRoom, Explains, EndsAt};
+    ghost use Rattle.moo_text.specs.Side.{untouched, feed_side, feed_room, EndsAt};
+    ghost use Rattle.moo_text.specs.Given.{ReadsNext, BreaksOff};
 
     /// Reads nothing yet, and no more than 1,073,741,824 bytes later.
     pub fn new(alloc: Global, reader: R) -> Self
-        ensures left { feed_left R.remaining result ≡ R.remaining reader }
-        ensures limit { result.lines.room ≡ 1073741824 }
+        ensures side { feed_side R.remaining result ≡ untouched (R.remaining reader) 1073741824 }
         ensures room { feed_room result ≡ 1073741824 }
         ensures fresh { result.fault ≡ None }
     {
@@ -129,8 +123,7 @@ impl<R: Read> Feed<R> {
 
     /// Reads nothing yet, and no more than so many bytes later, nor than [`LONGEST_TEXT`].
     pub(crate) fn with_room(alloc: Global, reader: R, room: usize) -> Self
-        ensures left { feed_left R.remaining result ≡ R.remaining reader }
-        ensures limit { result.lines.room ≡ min room 1073741824 }
+        ensures side { feed_side R.remaining result ≡ untouched (R.remaining reader) (min room 1073741824) }
         ensures room { feed_room result ≡ min room 1073741824 }
         ensures fresh { result.fault ≡ None }
     {
@@ -143,18 +136,19 @@ impl<R: Read> Feed<R> {
 
     /// What comes next in the text: a batch, the number of the first bad line of one, that the text ends inside one, or its end.
     /// A line of spaces and tabs is skipped. Read where the reader fails, Long where the text goes on behind 1,073,741,824 bytes, OutOfMemory where memory
-    /// runs out. After a fault each call gives that fault again.
+    /// runs out. After a fault each call gives that fault again, and reads nothing. A reader that has given no bytes isn't read again.
     pub fn next_batch(&mut self) -> Result<Next, TextFault>
-        ensures next { IfOk result (TakesNext (feed_left R.remaining self.old) (feed_left R.remaining self.new)) }
+        // As many bytes were given as were taken of the room, and these lead from the text before to its next item and the text behind.
+        ensures next { IfOk result (λ item. ReadsNext (feed_side R.remaining self.old) (feed_side R.remaining self.new) item) }
         ensures fault { IfErr result (λ fault. self.new.fault ≡ Some fault) }
         ensures works { OnOk result (self.new.fault ≡ None) }
         ensures repeats { IfSome self.old.fault (λ fault. result ≡ Err fault) }
-        // As many bytes are taken of the room as of the text; each item but the end takes some, and behind the end none are left.
-        ensures room { OnOk result (TakesRoom (feed_left R.remaining self.old) (feed_room self.old) (feed_left R.remaining self.new) (feed_room self.new)) }
+        ensures rests { IfSome self.old.fault (λ _. self.new ≡ self.old) }
+        // Each item but the end takes some of the room, and behind the end nothing is left.
         ensures falls { IfOk result (λ item. item ≢ Next.End → feed_room self.new < feed_room self.old) }
-        ensures ends { IfOk result (λ item. EndsAt item (feed_left R.remaining self.new)) }
-        // A first fault is Long only where the text goes on behind the room, and never Write.
-        ensures cause { IfNone self.old.fault (IfErr result (λ fault. Explains (feed_left R.remaining self.old) (feed_room self.old) fault)) }
+        ensures ends { IfOk result (λ item. EndsAt item (feed_side R.remaining self.new)) }
+        // A first fault is Long only where one byte more was given than there was room for, and never Write.
+        ensures cause { IfNone self.old.fault (IfErr result (λ fault. BreaksOff (feed_side R.remaining self.old) (feed_side R.remaining self.new) fault)) }
     {
         if let Some(fault) = self.fault {
             return Err(fault);

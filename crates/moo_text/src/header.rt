@@ -47,8 +47,8 @@ fn object_value(value: &Value) -> Option<ObjNo>
     }
 }
 
-/// The object that a word spells.
-fn object_of(alloc: Global, word: &[u8]) -> Result<Option<ObjNo>, AllocError>
+/// The object that a word spells, as `#3`; none for any other word. AllocError where memory runs out.
+pub fn object_of(alloc: Global, word: &[u8]) -> Result<Option<ObjNo>, AllocError>
     ensures { IfOk result (λ object. object ≡ object_spelled word.now) }
 {
     if !begins_with(b'#', word) {

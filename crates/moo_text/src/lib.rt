@@ -5,7 +5,9 @@ mod ahead;
 pub mod call_text;
 pub mod fault;
 pub mod feed;
-mod header;
+#[cfg(test)]
+mod feed_tests;
+pub mod header;
 mod line;
 mod lines;
 mod literal;

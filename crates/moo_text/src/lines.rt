@@ -43,58 +43,66 @@ fn drop_return(line: &mut Vec<u8>)
     }
 }
 
-/// What reads the lines of a text from a reader, in pieces.
+/// What reads the lines of a text from a reader, in pieces. Once the reader has given no bytes it isn't read again.
 #[derive(Drop)]
 pub struct LineReader<R> {
     alloc: Global,
     pub(crate) reader: R,
     pub(crate) ahead: Ahead,
     room: usize,
+    ended: bool,
     ghost limited: { length ahead + room ≤ 1073741824 },
 }
 
 impl<R: Read> LineReader<R> {
     ghost use Rattle.std.specs.Prelude.{◌≡◌, ◌<◌, Ok, true, false, ◌≤◌, [], min, MatchOption, OnOk, IfOk, IfErr, IfNone};
     ghost use Rattle.std.specs.Option.{option_map};
-    ghost use Rattle.std.specs.Io.KnownBytes.{Keeps, IsAtEnd};
-    ghost use Rattle.moo_text.specs.Feed.{TakesLine};
-    ghost use Rattle.moo_text.specs.Left.{lines_left, lines_room};
-    ghost use Rattle.moo_text.specs.Room.{TakesRoom, Explains};
+    ghost use Rattle.moo_text.specs.Side.{untouched, lines_side, lines_room, IsOver};
+    ghost use Rattle.moo_text.specs.Given.{Gives, ReadsLine, BreaksOff};
 
     /// Reads nothing yet. Of the reader at most so many bytes are read, and never more than [`LONGEST_TEXT`].
     pub fn new(alloc: Global, reader: R, room: usize) -> Self
-        ensures left { lines_left R.remaining result ≡ R.remaining reader }
-        ensures ahead { result.ahead ≡ [] }
-        ensures room { result.room ≡ min room 1073741824 }
+        ensures { lines_side R.remaining result ≡ untouched (R.remaining reader) (min room 1073741824) }
     {
         LineReader {
             alloc,
             reader,
             ahead: Ahead::new(alloc),
             room: room.min(LONGEST_TEXT),
+            ended: false,
         }
     }
 
     /// Reads one more piece, where none is left. False at the end of the text.
     fn read_piece(&mut self) -> Result<bool, TextFault>
         requires { self.old.ahead ≡ [] }
-        ensures kept { OnOk result (Keeps (lines_left R.remaining self.old) (lines_left R.remaining self.new)) }
+        ensures gives { OnOk result (Gives (lines_side R.remaining self.old) (lines_side R.remaining self.new) self.new.ahead) }
+        ensures room { OnOk result (self.old.room ≡ length self.new.ahead + self.new.room) }
         ensures falls { result ≡ Ok true → self.new.room < self.old.room }
-        ensures end { result ≡ Ok false → IsAtEnd (R.remaining self.new.reader) × (self.new.ahead ≡ []) }
-        ensures room { OnOk result (lines_room self.new ≡ lines_room self.old) }
-        ensures cause { IfErr result (λ fault. Explains (lines_left R.remaining self.old) (lines_room self.old) fault) }
+        ensures more { result ≡ Ok true → self.new.ended ≡ false }
+        ensures end { result ≡ Ok false → IsOver (lines_side R.remaining self.new) }
+        ensures cause { IfErr result (λ fault. BreaksOff (lines_side R.remaining self.old) (lines_side R.remaining self.new) fault) }
     {
+        if self.ended {
+            return Ok(false);
+        }
         let mut piece = [0u8; 4096];
         if self.room == 0 {
             return match self.reader.read(&mut piece[..1]) {
-                Ok(0) => Ok(false),
+                Ok(0) => {
+                    self.ended = true;
+                    Ok(false)
+                }
                 Ok(_) => Err(TextFault::Long),
                 Err(_) => Err(TextFault::Read),
             };
         }
         let most = self.room.min(piece.len());
         match self.reader.read(&mut piece[..most]) {
-            Ok(0) => Ok(false),
+            Ok(0) => {
+                self.ended = true;
+                Ok(false)
+            }
             Ok(count) => {
                 self.ahead.fill(&piece[..count])?;
                 self.room -= count;
@@ -106,11 +114,10 @@ impl<R: Read> LineReader<R> {
 
     /// The next line, and none at the end of the text. Of a line over the limit so much is given that it is seen to be over it.
     pub fn next_line(&mut self) -> Result<Option<Vec<u8>>, TextFault>
-        ensures line { IfOk result (λ line. TakesLine (lines_left R.remaining self.old) (lines_left R.remaining self.new) (option_map (λ l. l.items) line)) }
-        ensures room { OnOk result (TakesRoom (lines_left R.remaining self.old) (lines_room self.old) (lines_left R.remaining self.new) (lines_room self.new)) }
+        ensures line { IfOk result (λ line. ReadsLine (lines_side R.remaining self.old) (lines_side R.remaining self.new) (option_map (λ l. l.items) line)) }
         ensures falls { IfOk result (λ line. MatchOption line (lines_room self.new ≤ lines_room self.old) (λ _. lines_room self.new < lines_room self.old)) }
-        ensures ends { IfOk result (λ line. IfNone line (IsAtEnd (lines_left R.remaining self.new))) }
-        ensures cause { IfErr result (λ fault. Explains (lines_left R.remaining self.old) (lines_room self.old) fault) }
+        ensures ends { IfOk result (λ line. IfNone line (IsOver (lines_side R.remaining self.new))) }
+        ensures cause { IfErr result (λ fault. BreaksOff (lines_side R.remaining self.old) (lines_side R.remaining self.new) fault) }
     {
         let mut line = Vec::new(self.alloc);
         loop {

@@ -1,18 +1,29 @@
 //! What holds of batch texts as wholes.
 
-ghost use Rattle.std.specs.Prelude.{◌≡◌, ◌↔◌, ℕ, List, Some};
+ghost use Rattle.std.specs.Prelude.{◌≡◌, ◌≢◌, ◌↔◌, ◌++◌, ◌∷◌, [], ℕ, true, List, Option, Some};
 ghost use Rattle.std.specs.Str.Lines.{lines};
+ghost use Rattle.moo_value.specs.declared.value.ObjNo.{ObjNo};
+ghost use Rattle.moo_value.specs.Literal.{SpellsObject, InRange};
 ghost use Rattle.moo_world.specs.declared.call.Call.{Call};
 ghost use Rattle.moo_text.specs.Grammar.{SpellsHeader, SpellsCall};
-ghost use Rattle.moo_text.specs.LineReading.{header_of, call_of};
+ghost use Rattle.moo_text.specs.LineReading.{header_of, object_of, call_of};
 ghost use Rattle.moo_text.specs.Items.{items};
 ghost use Rattle.moo_text.specs.Cut.{Cuts};
+ghost use Rattle.moo_text.specs.Side.{Side, untouched};
+ghost use Rattle.moo_text.specs.Given.{Gives, BreaksOff, ReadsNext, ReadsItems, ReadsAll, StopsBehind, GivesAll};
+ghost use Rattle.moo_text.specs.declared.fault.TextFault.{TextFault};
 ghost use Rattle.moo_text.specs.declared.header.Header.{Header};
 ghost use Rattle.moo_text.specs.declared.next.Next.{Next};
+ghost use Rattle.moo_text.specs.declared.next.Next.TheVariants.{End};
 
 /// A line is read as the header that it spells, and as no other.
 pub fn headers_are_spelled()
     ensures { (line : List ℕ) (header : Header) → (header_of line ≡ Some header) ↔ SpellsHeader header line }
+{}
+
+/// A word is read as the object that it spells, and as no other.
+pub fn objects_are_spelled()
+    ensures { (word : List ℕ) (object : ObjNo) → (object_of word ≡ Some object) ↔ (SpellsObject object.0 word × InRange object.0) }
 {}
 
 /// A line is read as the call that it spells, and as no other.
@@ -24,4 +35,15 @@ pub fn calls_are_spelled()
 pub fn one_cut()
     ensures cut { (text : List ℕ) → Cuts (lines text) (items text) }
     ensures only { (text : List ℕ) (others : List Next) → Cuts (lines text) others → items text ≡ others }
+{}
+
+/// The items that are read one after another are those of all bytes that were given meanwhile; where the reader tells its bytes, these are
+/// all of them once it has ended. Behind a fault the items that were read stay the first ones.
+pub fn items_are_joined()
+    ensures none { (a : Side) → ReadsItems a a [] }
+    ensures more { (a b c : Side) (done : List Next) (item : Next) → ReadsItems a b done → ReadsNext b c item → item ≢ End → ReadsItems a c (done ++ item ∷ []) }
+    ensures end { (a b c : Side) (done : List Next) → ReadsItems a b done → ReadsNext b c End → ReadsAll a c done }
+    ensures stop { (left : Option (List ℕ)) (room : ℕ) (b c : Side) (done : List Next) (fault : TextFault) → ReadsItems (untouched left room) b done → BreaksOff b c fault → StopsBehind left room c done fault }
+    ensures whole { (left : Option (List ℕ)) (room : ℕ) (c : Side) (all : List Next) (read : ReadsAll (untouched left room) c all) → items read.given ≡ all }
+    ensures all { (left : Option (List ℕ)) (room : ℕ) (c : Side) (given : List ℕ) → Gives (untouched left room) c given → c.ended ≡ true → GivesAll left given }
 {}

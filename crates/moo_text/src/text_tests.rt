@@ -1,17 +1,18 @@
 use crate::call_text::read_call;
-use crate::fault::{CallFault, TextFault};
+use crate::fault::CallFault;
 use crate::feed::Feed;
+use crate::header::object_of;
 use crate::next::Next;
 use crate::reply::{Answer, Reply, print_answer, print_reply};
 use moo_value::code::Code;
 use moo_value::reading::read_literal;
+use moo_value::value::ObjNo;
 use moo_world::answers::Answers;
-use std::io;
 use std::io::Read;
 use std::test::*;
 
 /// One line for each item: a batch by its programmer, its number and how many calls it has.
-fn items_of<R: Read + Drop>(rt: &HostRuntime, reader: R) -> Result<Vec<u8>, Fail> {
+pub(crate) fn items_of<R: Read + Drop>(rt: &HostRuntime, reader: R) -> Result<Vec<u8>, Fail> {
     let mut out = Vec::new(rt.alloc());
     let mut feed = Feed::new(rt.alloc(), reader);
     for _ in 0..100 {
@@ -186,128 +187,6 @@ fn lines_and_calls_have_limits(rt: HostRuntime) -> Result<(), Fail> {
     Ok(())
 }
 
-/// Gives one byte a call, and fails behind the last one, where it is told to.
-#[derive(Drop)]
-struct ByteByByte<'a> {
-    bytes: &'a [u8],
-    fails: bool,
-}
-
-impl<'a> Read for ByteByByte<'a> {
-    fn read(&mut self, buf: &mut [u8]) -> io::Result<usize> {
-        if self.bytes.is_empty() && self.fails {
-            return Err(io::Error::from(io::ErrorKind::WouldBlock));
-        }
-        let count = buf.len().min(self.bytes.len()).min(1);
-        buf[..count].copy_from_slice(&self.bytes[..count]);
-        self.bytes = &self.bytes[count..];
-        Ok(count)
-    }
-}
-
-#[test]
-fn a_text_is_read_in_whatever_pieces_it_comes(rt: HostRuntime) -> Result<(), Fail> {
-    let text = b"\nbatch as #3\r\nmax_object()\r\nend\nx\nend\nbatch as #2 at 1\nend".as_slice();
-    let bytes = ByteByByte {
-        bytes: text,
-        fails: false,
-    };
-    assert!(rt; items_of(&rt, bytes)?.as_slice() == b"#3: 1\nmalformed 1\n#2 at 1: 0\n".as_slice());
-    Ok(())
-}
-
-/// What a text has that is cut off behind so many bytes: its first batch ends with byte 15, its second with byte 53.
-fn told_of_front(count: usize) -> &'static [u8] {
-    match count {
-        0 => b"",
-        1..=14 => b"truncated\n",
-        15..=17 => b"#3: 0\n",
-        18..=52 => b"#3: 0\ntruncated\n",
-        _ => b"#3: 0\n#2 at 1: 1\n",
-    }
-}
-
-#[test]
-fn a_text_that_is_cut_off_is_truncated(rt: HostRuntime) -> Result<(), Fail> {
-    let text = b"batch as #3\nend\n\nbatch as #2 at 1\nget(#1, \"name\")\nend\n".as_slice();
-    assert_eq!(rt; text.len(), 54);
-    for count in 0..55 {
-        let told = told_of_front(count);
-        assert!(rt; items_of(&rt, &text[..count])?.as_slice() == told);
-        let bytes = ByteByByte {
-            bytes: &text[..count],
-            fails: false,
-        };
-        assert!(rt; items_of(&rt, bytes)?.as_slice() == told);
-    }
-    Ok(())
-}
-
-#[test]
-fn a_feed_repeats_its_fault(rt: HostRuntime) -> Result<(), Fail> {
-    let text = b"batch as #3\nend\nbatch as".as_slice();
-    let mut feed = Feed::new(
-        rt.alloc(),
-        ByteByByte {
-            bytes: text,
-            fails: true,
-        },
-    );
-    assert!(rt; matches!(feed.next_batch(), Ok(Next::Batch(_))));
-    assert!(rt; matches!(feed.next_batch(), Err(TextFault::Read)));
-    assert!(rt; matches!(feed.next_batch(), Err(TextFault::Read)));
-    Ok(())
-}
-
-/// A text of the same byte without an end.
-#[derive(Drop)]
-struct Endless {
-    byte: u8,
-}
-
-impl Read for Endless {
-    fn read(&mut self, buf: &mut [u8]) -> io::Result<usize> {
-        buf.fill(self.byte);
-        Ok(buf.len())
-    }
-}
-
-#[test]
-fn a_text_without_an_end_is_long(rt: HostRuntime) -> Result<(), Fail> {
-    for byte in *b"\n x" {
-        for room in [0, 1, 4095, 4096, 4097, 10000] {
-            let mut feed = Feed::with_room(rt.alloc(), Endless { byte }, room);
-            assert!(rt; matches!(feed.next_batch(), Err(TextFault::Long)));
-            assert!(rt; matches!(feed.next_batch(), Err(TextFault::Long)));
-        }
-    }
-    Ok(())
-}
-
-#[test]
-fn a_text_over_the_limit_is_long_behind_it(rt: HostRuntime) -> Result<(), Fail> {
-    // A text, how many of its bytes may be read, and whether it is long behind its first item.
-    let cases: [(&[u8], usize, bool); 5] = [
-        (b"end\n", 4, false),
-        (b"end\n", 5, false),
-        (b"end\n\n", 4, true),
-        (b"end\nbatch as #3\n", 4, true),
-        (b"end\n \n", 6, false),
-    ];
-    for (text, room, is_long) in cases {
-        let mut feed = Feed::with_room(rt.alloc(), text, room);
-        assert!(rt; matches!(feed.next_batch(), Ok(Next::Malformed(1))));
-        for _ in 0..2 {
-            match feed.next_batch() {
-                Ok(Next::End) => assert!(rt; !is_long),
-                Err(TextFault::Long) => assert!(rt; is_long),
-                _ => assert!(rt; false),
-            }
-        }
-    }
-    Ok(())
-}
-
 #[test]
 fn calls_are_read(rt: HostRuntime) -> Result<(), Fail> {
     let cases: [(&[u8], usize); 4] = [
@@ -333,6 +212,16 @@ fn calls_are_read(rt: HostRuntime) -> Result<(), Fail> {
     ];
     for line in malformed {
         assert!(rt; matches!(read_call(rt.alloc(), line), Err(CallFault::Malformed)));
+    }
+    Ok(())
+}
+
+#[test]
+fn objects_are_read(rt: HostRuntime) -> Result<(), Fail> {
+    assert!(rt; object_of(rt.alloc(), b"#-7")? == Some(ObjNo(-7)));
+    let others: [&[u8]; 5] = [b"", b"7", b"# 7", b"#7 ", b"#2147483648"];
+    for word in others {
+        assert!(rt; object_of(rt.alloc(), word)?.is_none());
     }
     Ok(())
 }

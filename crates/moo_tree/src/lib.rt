@@ -6,8 +6,6 @@ mod known;
 mod lists;
 mod numbers;
 mod places;
-#[cfg(test)]
-mod tests;
 
 pub use ancestors::{chain, common, is_under};
 pub use known::Known;

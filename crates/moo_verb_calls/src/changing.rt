@@ -1,10 +1,14 @@
 //! Changing and deleting verbs.
 
-ghost use Rattle.std.specs.Prelude.{◌≡◌, OnOk};
+ghost use Rattle.std.specs.Prelude.{◌≡◌, Some, option_map, OnOk};
+ghost use Rattle.std.specs.FinMap.{remove};
+ghost use Rattle.moo_rows.specs.declared.row.VerbId.{VerbId};
+ghost use Rattle.moo_world.specs.Descriptors.{found_verb};
 ghost use Rattle.moo_world.specs.Rows.{IsGood};
 ghost use Rattle.moo_world.specs.VerbCalls.{delete_verb, set_verb_info, set_verb_args};
 ghost use Rattle.moo_world.specs.Keeps.{Keeps};
 ghost use Rattle.moo_rights.specs.Outcomes.{world_in, ComesTo};
+ghost use Rattle.moo_verbs.specs.Places.{verb_place};
 
 use crate::adding::{args_of, bits_taken};
 use moo_rights::answers::ZERO;
@@ -20,7 +24,8 @@ use moo_verbs::find::found_verb;
 use moo_world::descriptor::Desc;
 use std::alloc::Global;
 
-/// `delete_verb(x, desc)`: takes a verb out of the directory of an object and answers 0.
+/// `delete_verb(x, desc)`: takes a verb out of the directory of an object and answers 0. The others keep their numbers, also where
+/// two verbs are alike.
 /// E_INVARG where x is no object; E_PERM where the programmer may not write x; E_VERBNF where no verb of x itself is meant.
 /// LambdaMOO Programmer's Manual, 'Operations on Verbs'.
 pub fn delete_verb<R: Rows>(
@@ -32,6 +37,9 @@ pub fn delete_verb<R: Rows>(
     requires { IsGood (R.held rows.old).maps }
     ensures comes { ComesTo (delete_verb (world_in (R.held rows.old)) programmer x desc.now) (R.held rows.old) (R.held rows.new) result }
     ensures kept { OnOk result (Keeps (R.held rows.old) (R.held rows.new)) }
+    ensures gone { OnOk result
+        ((id : VerbId) × (option_map (λ f. f.0) (found_verb (world_in (R.held rows.old)) x desc.now) ≡ Some (verb_place (R.held rows.old).maps x id))
+        × ((R.held rows.new).maps.verbs ≡ remove (R.held rows.old).maps.verbs (x, id))) }
 {
     if !valid(rows, x) {
         return Err(Fault::Moo(Code::InvalidArgument));

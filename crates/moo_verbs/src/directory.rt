@@ -1,7 +1,8 @@
 //! The verbs of an object: listed, added, removed and changed.
 
 ghost use Rattle.std.specs.Prelude.{◌≡◌, ◌<◌, true, map, IfOk, OnOk};
-ghost use Rattle.moo_world.specs.Rows.{world_of, IsSound, IsGood};
+ghost use Rattle.std.specs.FinMap.{insert, remove};
+ghost use Rattle.moo_world.specs.Rows.{world_of, verb_id, IsSound, IsGood};
 ghost use Rattle.moo_world.specs.World.{is_object, has_word, verbs_of};
 ghost use Rattle.moo_world.specs.Directories.{verb_added, verb_removed, verb_info_set, verb_args_set};
 ghost use Rattle.moo_verbs.specs.Places.{has_verb, verb_place};
@@ -29,8 +30,8 @@ pub fn list<R: Rows>(alloc: Global, rows: &R, x: ObjNo) -> Result<Vec<MooStr>, A
     Ok(found)
 }
 
-/// Adds a verb to x, the last of its directory, and answers its number. The only error is want of memory, after which the
-/// rows may be half changed.
+/// Adds a verb to x, the last of its directory, and answers its number, which is never given again. No other verb changes. The
+/// only error is want of memory, after which the rows may be half changed.
 ///
 /// LambdaMOO Programmer's Manual, 'Operations on Verbs': `add_verb`.
 pub fn add<R: Rows>(rows: &mut R, x: ObjNo, verb: VerbRow) -> Result<VerbId, AllocError>
@@ -39,6 +40,8 @@ pub fn add<R: Rows>(rows: &mut R, x: ObjNo, verb: VerbRow) -> Result<VerbId, All
     requires left { (R.held rows.old).maps.head.next_verb < 4294967295 }
     requires names { has_word verb.names ≡ true }
     ensures id { IfOk result (λ id. id.0 ≡ (R.held rows.old).maps.head.next_verb) }
+    ensures verbs { OnOk result
+        ((R.held rows.new).maps.verbs ≡ insert (R.held rows.old).maps.verbs (x, verb_id (R.held rows.old).maps.head.next_verb) verb) }
     ensures world { OnOk result
         (world_of (R.held rows.new).maps ≡ verb_added (world_of (R.held rows.old).maps) x verb) }
     ensures kept { OnOk result (Keeps (R.held rows.old) (R.held rows.new)) }
@@ -54,7 +57,7 @@ pub fn add<R: Rows>(rows: &mut R, x: ObjNo, verb: VerbRow) -> Result<VerbId, All
     Ok(id)
 }
 
-/// Removes a verb of x. The only error is want of memory.
+/// Removes a verb of x; each other one keeps its number. The only error is want of memory.
 ///
 /// LambdaMOO Programmer's Manual, 'Operations on Verbs': `delete_verb`.
 pub fn delete<R: Rows>(rows: &mut R, x: ObjNo, id: VerbId) -> Result<(), AllocError>
@@ -63,6 +66,7 @@ pub fn delete<R: Rows>(rows: &mut R, x: ObjNo, id: VerbId) -> Result<(), AllocEr
     ensures world { OnOk result
         (world_of (R.held rows.new).maps
         ≡ verb_removed (world_of (R.held rows.old).maps) x (verb_place (R.held rows.old).maps x id)) }
+    ensures verbs { OnOk result ((R.held rows.new).maps.verbs ≡ remove (R.held rows.old).maps.verbs (x, id)) }
     ensures kept { OnOk result (Keeps (R.held rows.old) (R.held rows.new)) }
 {
     rows.remove_verb((x, id))?;

@@ -55,7 +55,7 @@ pub fn bits_letters(bits: VerbBits) -> &'static str
 }
 
 /// Every set, in the order of their texts.
-const ALL_SETS: [PrepositionSet; 15] = [
+pub(crate) const ALL_SETS: [PrepositionSet; 15] = [
     PrepositionSet::With,
     PrepositionSet::At,
     PrepositionSet::InFrontOf,

@@ -33,6 +33,7 @@ pub mod Upward
 pub mod OneByOne
 pub mod Creating
 pub mod MapLaws
+pub mod NumbersKept
 pub mod Naming
 pub mod OpeningRows
 pub mod OwnershipPassing

@@ -1,6 +1,7 @@
-use Rattle.std.proofs.Common.{◌≡◌, ◌+◌, ◌<◌, true, false, sym, ap, ◌∙◌, subst, rules}
+use Rattle.std.proofs.Common.{◌≡◌, ◌+◌, ◌<◌, true, false, refl, sym, ap, ◌∙◌, subst, rules}
 use Rattle.moo_rows.specs.Maps.{Held}
 use Rattle.moo_rows.specs.declared.row.Head.{Head}
+use Rattle.moo_world.specs.Between.{CallsLead}
 use Rattle.moo_world.specs.Rows.{world_of}
 use Rattle.moo_world.specs.Judge.{is_due, last_seq, verdict_of, run_calls, Accepted}
 use Rattle.moo_batch.specs.Changes.{AreChanges}
@@ -56,4 +57,6 @@ returns-in-Ok-into_changes g c =
     let maps : c.set_head.new.self.maps ≡ next = ap (λ (h : Held). h.maps) c.set_head.ensures ∙ (λ i. record after { head = record (c.head-next.ensures i) { seq = (c.head-head.ensures i).seq + 1 } }) in
     let judged = judge-run (state_of t) batch due room ∙ ap (verdict_of t.head.seq) (same ∙ c.in-Ok.ensures.comes)
     ∙ ap (λ w. Accepted c.in-Ok.answers (record { world = w; seq = t.head.seq + 1 })) (sym (world_of-with_seq (t.head.seq + 1) after)) in
-    (next, subst (λ b. AreChanges b next c.in-Ok-into_changes.changes) base (subst (λ n. AreChanges c.set_head.new.self.base n c.in-Ok-into_changes.changes) maps c.in-Ok-into_changes.ensures), good-with_seq (t.head.seq + 1) after c.in-Ok.ensures.kept.good, judged)
+    let lead : CallsLead batch.programmer batch.calls t after =
+    subst (λ m. CallsLead batch.programmer batch.calls m after) c.new-draft.ensures.maps (subst (λ calls. CallsLead batch.programmer calls c.new-draft.result.maps after) c.items.ensures.value c.in-Ok.ensures.kept.numbers) in
+    (next, subst (λ b. AreChanges b next c.in-Ok-into_changes.changes) base (subst (λ n. AreChanges c.set_head.new.self.base n c.in-Ok-into_changes.changes) maps c.in-Ok-into_changes.ensures), good-with_seq (t.head.seq + 1) after c.in-Ok.ensures.kept.good, judged, (after, lead, refl))

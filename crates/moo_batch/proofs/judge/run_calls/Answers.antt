@@ -1,7 +1,7 @@
 use Rattle.std.proofs.Common.{◌≡◌, ◌+◌, [], ◌∷◌, ◌++◌, length, drop, sym, ap, ◌∙◌, subst, rules, arith}
 use Rattle.std.proofs.lemmas.Grind.{common_steps}
 use Rattle.moo_world.specs.Judge.{FailedAt, FullAt}
-use Rattle.moo_batch.proofs.Running.{HaveRunSoFar, run-started, run-one_more, run-ended, run-failed, run-full}
+use Rattle.moo_batch.proofs.Running.{HaveRunSoFar, run-started, run-one_more, run-ended, run-kept, run-failed, run-full}
 use Rattle.moo_batch.proofs.judge.run_calls.Goals as goal
 
 pub loop-call-init : goal.loop-call-init
@@ -45,3 +45,9 @@ returns-clause-comes g c =
     let calls = c.args.calls.now in
     let none : drop c.loop-call.call-index calls ≡ [] = grind (arith, common_steps) in
     rw c.from_vec.ensures (run-ended (subst (HaveRunSoFar (g.R.Rows.held c.args.rows.now) c.args.programmer calls c.loop-call.answers.items (g.R.Rows.held c.loop-call.rows)) none c.loop-call.invariant.0))
+
+pub returns-clause-kept : goal.returns-clause-kept
+returns-clause-kept g c =
+    let calls = c.args.calls.now in
+    let none : drop c.loop-call.call-index calls ≡ [] = grind (arith, common_steps) in
+    run-kept (subst (HaveRunSoFar (g.R.Rows.held c.args.rows.now) c.args.programmer calls c.loop-call.answers.items (g.R.Rows.held c.loop-call.rows)) none c.loop-call.invariant.0)

@@ -1,4 +1,5 @@
 use Rattle.std.proofs.Common.{sym, ◌∙◌}
+use Rattle.moo_world.proofs.NumbersKept.{then_slots}
 use Rattle.moo_rights.specs.Outcomes.{world_in}
 use Rattle.moo_calls.proofs.Created.{afford_still}
 use Rattle.moo_calls.proofs.creating.create.Goals as goal
@@ -7,3 +8,14 @@ pub charge-requires-clause-left : goal.charge-requires-clause-left
 charge-requires-clause-left g c =
     afford_still (world_in (g.R.Rows.held c.args.rows.now)) (world_in (g.R.Rows.held c.make.new.rows)) c.args.owner c.in_ok-make.ensures.reads (sym c.valid_or_nothing.ensures ∙ c.if-not-valid_or_nothing.false)
     (sym c.may_afford.ensures ∙ c.if-not-may_afford.false)
+
+pub returns-clause-kept : goal.returns-clause-kept
+returns-clause-kept g c =
+    let made = c.in_ok-make.ensures.kept in
+    let charged = c.in_ok-charge.ensures in
+    record {
+      good = charged.kept.good;
+      seq = charged.kept.seq ∙ made.seq;
+      base = charged.kept.base ∙ made.base;
+      numbers = then_slots (g.R.Rows.held c.args.rows.now).maps (g.R.Rows.held c.make.new.rows).maps (g.R.Rows.held c.charge.new.rows).maps made.numbers charged.rest;
+    }

@@ -3,9 +3,11 @@ use Rattle.std.specs.Prelude.{unwrap_or}
 use Rattle.std.specs.Option.{option_map}
 use Rattle.std.specs.FinMap.{get}
 use Rattle.moo_rows.specs.declared.row.PropRow.{PropRow}
+use Rattle.moo_rows.specs.Maps.{Maps}
 use Rattle.moo_world.specs.Changes.{clashes}
 use Rattle.moo_world.specs.Objects.{same_object}
 use Rattle.moo_world.specs.Rows.{world_of}
+use Rattle.moo_world.proofs.NumbersKept.{slots_then}
 use Rattle.moo_props.specs.Names.{spelling_of}
 use Rattle.moo_property_calls.proofs.Renamed.{may_parts, own_of_name, clashes_still}
 use Rattle.moo_property_calls.proofs.info.change_info.Goals as goal
@@ -14,7 +16,7 @@ pub rename-requires-clause-own : goal.rename-requires-clause-own
 rename-requires-clause-own g c =
     let m = (g.R.Rows.held c.args.rows.now).maps in
     let may = may_parts (world_of m) c.args.x (spelling_of m c.args.id) c.in-Some.new c.args.new c.in-Some.is c.requires.may in
-    ap (λ props. unwrap_or (option_map (λ (p : PropRow). same_object p.definer c.args.x) (get props c.args.id)) false) c.in_ok-set_info.ensures.props
+    ap (λ (maps : Maps). unwrap_or (option_map (λ (p : PropRow). same_object p.definer c.args.x) (get maps.props c.args.id)) false) c.in_ok-set_info.ensures.rest
     ∙ own_of_name m c.requires.good c.args.x c.args.id c.requires.has may.0
 
 pub rename-requires-clause-name : goal.rename-requires-clause-name
@@ -29,3 +31,14 @@ rename-requires-clause-free g c =
     ap (λ w. clashes w c.args.x c.in-Some.new) c.in_ok-set_info.ensures.world
     ∙ clashes_still (world_of m) c.args.x (spelling_of m c.args.id) c.in-Some.new (λ s. record s { owner = c.args.owner; bits = c.args.bits })
     ∙ may.2
+
+pub returns-in_ok-rename-clause-kept : goal.returns-in_ok-rename-clause-kept
+returns-in_ok-rename-clause-kept g c =
+    let info = c.in_ok-set_info.ensures in
+    let name = c.in_ok-rename.ensures.kept in
+    record {
+      good = name.good;
+      seq = name.seq ∙ info.kept.seq;
+      base = name.base ∙ info.kept.base;
+      numbers = slots_then (g.R.Rows.held c.args.rows.now).maps (g.R.Rows.held c.set_info.new.rows).maps (g.R.Rows.held c.rename.new.rows).maps info.rest name.numbers;
+    }

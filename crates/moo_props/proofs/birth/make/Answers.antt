@@ -8,9 +8,10 @@ use Rattle.moo_world.proofs.Limits.{number_within}
 use Rattle.moo_props.specs.Birth.{objects_with, origins_among}
 use Rattle.moo_props.specs.Reparent.{with_fresh}
 use Rattle.moo_props.proofs.NewSlots.{with_new, look_ups-new, head-fresh}
-use Rattle.moo_props.proofs.Moved.{base-fresh}
+use Rattle.moo_props.proofs.Moved.{base-fresh, only-fresh}
 use Rattle.moo_props.proofs.NewObject.{world_new, formed_new, sound_new, reads_new, no_row}
 use Rattle.moo_props.proofs.Walked.{walk}
+use Rattle.moo_world.proofs.NumbersKept.{numbers_same}
 use Rattle.moo_props.proofs.birth.make.Goals as goal
 
 abbrev t : (g : _) → goal.After-drop-inherited-2 g → Maps
@@ -36,6 +37,7 @@ returns-clause-kept g c =
     let owner : FitsSigned w32 c.args.owner.0 = search rules in
     let os = origins_among (walk (t g c) c.args.parent) in
     let held1 = objects_with c.args.x c.args.parent c.args.owner (g.R.Rows.held c.args.rows.now) in
+    let rest = ap (λ (h : Held). h.maps) (ends g c) ∙ only-fresh c.args.x c.args.owner os held1 in
     record {
       good = record {
         sound = subst AreSound (sym (shown g c)) (sound_new m c.requires.good.sound c.requires.good.formed c.args.x c.args.parent c.args.owner c.requires.next c.requires.parent);
@@ -43,6 +45,7 @@ returns-clause-kept g c =
       };
       seq = ap (λ (h : Held). h.maps.head.seq) (ends g c) ∙ ap (λ (h : Head). h.seq) (head-fresh c.args.x c.args.owner os held1);
       base = ap (λ (h : Held). h.base) (ends g c) ∙ base-fresh c.args.x c.args.owner os held1;
+      numbers = numbers_same (t g c) (g.R.Rows.held c.put_fresh.new.rows).maps (ap (λ (m : Maps). m.props) rest) (ap (λ (m : Maps). m.verbs) rest) (ap (λ (m : Maps). m.head.next_prop) rest) (ap (λ (m : Maps). m.head.next_verb) rest);
     }
 
 pub returns-clause-reads : goal.returns-clause-reads

@@ -1,4 +1,4 @@
-use Rattle.std.proofs.Common.{FitsSigned, w32, rules, ◌≡◌, refl, sym, ap, ◌∙◌, subst}
+use Rattle.std.proofs.Common.{FitsSigned, w32, rules, ◌≡◌, ◌+◌, refl, sym, ap, ◌∙◌, subst}
 use Rattle.moo_rows.specs.Maps.{Maps, Held, wrote}
 use Rattle.moo_rows.specs.declared.row.Head.{Head}
 use Rattle.moo_rows.specs.declared.row.PropId.{PropId}
@@ -13,7 +13,9 @@ use Rattle.moo_props.specs.declared.reparent.Origin.{Origin}
 use Rattle.moo_props.specs.Defining.{fresh_over, with_definition}
 use Rattle.moo_props.specs.Reparent.{owners_under}
 use Rattle.moo_props.proofs.NewProp.{sound_with, world_with, formed_with, with_property}
-use Rattle.moo_props.proofs.NewPropRows.{base-over, head-over, look_ups-with, held2}
+use Rattle.moo_props.proofs.NewPropRows.{base-over, head-over, look_ups-with, held2, only2}
+use Rattle.moo_world.specs.Numbers.{prop_added, verbs_stay}
+use Rattle.moo_world.proofs.NumbersKept.{as_high, one_higher}
 use Rattle.moo_props.proofs.defining.define.Goals as goal
 
 abbrev t : (g : _) → goal.After-drop-under-2 g → Maps
@@ -39,8 +41,15 @@ shown g c = ap (λ (h : Held). look_ups h.maps) (ends g c) ∙ look_ups-with (t 
 world : (g : _) (c : goal.After-drop-under-2 g) → world_of (g.R.Rows.held c.put_slot.new.self).maps ≡ defined (world_of (t g c)) c.args.x c.args.name (record { definer = c.args.x; owner = c.args.owner; bits = c.args.bits; state = Set c.args.value })
 world g c = ap world_shown (shown g c) ∙ world_with (look_ups (t g c)) c.requires.good.sound c.requires.good.formed c.args.x c.args.name c.args.owner c.args.bits c.args.value c.requires.object c.requires.free
 
+-- all but the slots
+rest : (g : _) (c : goal.After-drop-under-2 g) → (g.R.Rows.held c.put_slot.new.self).maps ≡ record (t g c) { head = record ((t g c).head) { next_prop = (t g c).head.next_prop + 1 }; props = insert (t g c).props (prop_id (t g c).head.next_prop) (record { definer = c.args.x; name = c.args.name }); slots = (held2 (t g c) c.requires.good.formed.tree c.args.x c.requires.object c.args.name (row g c) (prop_id (t g c).head.next_prop) refl (g.R.Rows.held c.args.rows.now) refl).maps.slots }
+rest g c = ap (λ (h : Held). h.maps) (ends g c) ∙ only2 (t g c) c.requires.good.formed.tree c.args.x c.requires.object c.args.name (row g c) (prop_id (t g c).head.next_prop) refl (g.R.Rows.held c.args.rows.now) refl
+
 pub returns-clause-world : goal.returns-clause-world
 returns-clause-world g c = world g c
+
+pub returns-clause-props : goal.returns-clause-props
+returns-clause-props g c = ap (λ (m : Maps). m.props) (rest g c)
 
 pub returns-clause-kept : goal.returns-clause-kept
 returns-clause-kept g c =
@@ -56,4 +65,10 @@ returns-clause-kept g c =
       };
       seq = ap (λ (h : Held). h.maps.head.seq) (ends g c) ∙ ap (λ (h : Head). h.seq) (head-over o under first);
       base = ap (λ (h : Held). h.base) (ends g c) ∙ base-over o under first;
+      numbers = record {
+        props = prop_added (record { definer = c.args.x; name = c.args.name }) (ap (λ (m : Maps). m.props) (rest g c));
+        verbs = verbs_stay (ap (λ (m : Maps). m.verbs) (rest g c));
+        next_prop = one_higher (t g c).head.next_prop (g.R.Rows.held c.put_slot.new.self).maps.head.next_prop (ap (λ (m : Maps). m.head.next_prop) (rest g c));
+        next_verb = as_high (t g c).head.next_verb (g.R.Rows.held c.put_slot.new.self).maps.head.next_verb (ap (λ (m : Maps). m.head.next_verb) (rest g c));
+      };
     }

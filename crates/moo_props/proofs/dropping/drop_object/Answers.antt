@@ -19,7 +19,10 @@ use Rattle.moo_props.proofs.Lessened.{world_less, sound_less, formed_less, less_
 use Rattle.moo_props.proofs.LessRows.{look_ups-less, held1, held2, held3, held4, held5, only5, base5}
 use Rattle.moo_props.proofs.Ascending.{ascend, props_rise, verbs_ascend, linked_ascend}
 use Rattle.moo_props.proofs.DroppedKeys.{dropped_list, dropped_ascend, dropped_had}
-use Rattle.moo_props.proofs.LeftRows.{writes5, slots_left, props_left, verbs_left, objects_left, head5, dropped_gone, relinked_there}
+use Rattle.moo_props.proofs.LeftRows.{writes5, slots_left, props_left, verbs_left, objects_left, head5, left_is, dropped_gone, relinked_there}
+use Rattle.moo_rows.specs.declared.row.Head.{Head}
+use Rattle.moo_world.specs.Numbers.{props_dropped, verbs_dropped}
+use Rattle.moo_world.proofs.NumbersKept.{as_high}
 use Rattle.moo_props.proofs.dropping.drop_object.Goals as goal
 
 abbrev before : (g : _) → goal.After-drop-under-2 g → Held
@@ -64,6 +67,9 @@ unreachable-requires g c =
 pub returns-clause-world : goal.returns-clause-world
 returns-clause-world g c = world g c
 
+head_is : (g : _) (c : goal.After-drop-under-2 g) → (g.R.Rows.held c.remove_object.new.self).maps.head ≡ (before g c).maps.head
+head_is g c = ap (λ (h : Held). h.maps.head) (ends g c) ∙ head5 (before g c).maps c.requires.good c.args.x c.in-Some.row.now (here g c) (before g c) refl
+
 pub returns-clause-kept : goal.returns-clause-kept
 returns-clause-kept g c = record {
   good = record {
@@ -72,6 +78,12 @@ returns-clause-kept g c = record {
   };
   seq = ap (λ (h : Held). h.maps.head.seq) (ends g c) ∙ ap (λ (k : Maps). k.head.seq) (only5 (before g c).maps c.requires.good c.args.x c.in-Some.row.now (here g c) (before g c) refl);
   base = ap (λ (h : Held). h.base) (ends g c) ∙ base5 (before g c).maps c.requires.good c.args.x c.in-Some.row.now (here g c) (before g c) refl;
+  numbers = record {
+    props = props_dropped c.args.x (λ id. ap (λ (h : Held). get h.maps.props id) (ends g c) ∙ props_left (before g c).maps c.requires.good c.args.x c.in-Some.row.now (here g c) (before g c) refl id ∙ left_is (before g c).maps c.args.x id);
+    verbs = verbs_dropped c.args.x (λ key. ap (λ (h : Held). get h.maps.verbs key) (ends g c) ∙ verbs_left (before g c).maps c.requires.good c.args.x c.in-Some.row.now (here g c) (before g c) refl key);
+    next_prop = as_high (before g c).maps.head.next_prop (g.R.Rows.held c.remove_object.new.self).maps.head.next_prop (ap (λ (h : Head). h.next_prop) (head_is g c));
+    next_verb = as_high (before g c).maps.head.next_verb (g.R.Rows.held c.remove_object.new.self).maps.head.next_verb (ap (λ (h : Head). h.next_verb) (head_is g c));
+  };
 }
 
 -- ---- what is listed
@@ -125,7 +137,7 @@ pub returns-clause-objects_left : goal.returns-clause-objects_left
 returns-clause-objects_left g c y = ap (λ (h : Held). get h.maps.objects y) (ends g c) ∙ objects_left (before g c).maps c.requires.good c.args.x c.in-Some.row.now (here g c) (before g c) refl y
 
 pub returns-clause-head : goal.returns-clause-head
-returns-clause-head g c = ap (λ (h : Held). h.maps.head) (ends g c) ∙ head5 (before g c).maps c.requires.good c.args.x c.in-Some.row.now (here g c) (before g c) refl
+returns-clause-head g c = head_is g c
 
 pub returns-clause-writes : goal.returns-clause-writes
 returns-clause-writes g c =

@@ -1,5 +1,5 @@
 use Rattle.std.proofs.Common.{◌≡◌, Some, sym, ap, ◌∙◌, subst}
-use Rattle.std.specs.FinMap.{get}
+use Rattle.std.specs.FinMap.{get, insert}
 use Rattle.moo_rows.specs.declared.row.PropRow.{PropRow}
 use Rattle.moo_rows.specs.Maps.{Maps, Held}
 use Rattle.moo_world.specs.Changes.{renamed}
@@ -7,6 +7,8 @@ use Rattle.moo_world.specs.Rows.{AreSound, look_ups, world_of, world_shown}
 use Rattle.moo_world.specs.World.{IsWellFormed}
 use Rattle.moo_props.proofs.RenamedRows.{with_new_name, look_ups-renamed, world_renamed, sound_renamed, formed_renamed}
 use Rattle.moo_props.proofs.ShorterRows.{own_row, spelled}
+use Rattle.moo_world.specs.Numbers.{prop_renamed, verbs_stay}
+use Rattle.moo_world.proofs.NumbersKept.{as_high}
 use Rattle.moo_props.proofs.renaming.rename.Goals as goal
 
 abbrev t : (g : _) → goal.In_ok-put_prop g → Maps
@@ -32,4 +34,10 @@ returns-clause-kept g c = record {
   };
   seq = ap (λ (h : Held). h.maps.head.seq) c.in_ok-put_prop.ensures.ok;
   base = ap (λ (h : Held). h.base) c.in_ok-put_prop.ensures.ok;
+  numbers = record {
+    props = prop_renamed c.args.id (prop g c).0 c.args.name (prop g c).1 (ap (λ (h : Held). h.maps.props) c.in_ok-put_prop.ensures.ok ∙ ap (λ d. insert (t g c).props c.args.id (record { definer = d; name = c.args.name })) (sym (prop g c).2));
+    verbs = verbs_stay (ap (λ (h : Held). h.maps.verbs) c.in_ok-put_prop.ensures.ok);
+    next_prop = as_high (t g c).head.next_prop (g.R.Rows.held c.put_prop.new.self).maps.head.next_prop (ap (λ (h : Held). h.maps.head.next_prop) c.in_ok-put_prop.ensures.ok);
+    next_verb = as_high (t g c).head.next_verb (g.R.Rows.held c.put_prop.new.self).maps.head.next_verb (ap (λ (h : Held). h.maps.head.next_verb) c.in_ok-put_prop.ensures.ok);
+  };
 }

@@ -17,6 +17,7 @@ use Rattle.moo_props.proofs.Moved.{lost_list, gained_list, all_on_new, slots2, o
 use Rattle.moo_props.specs.Present.{AreAscending}
 use Rattle.moo_props.proofs.Ascending.{removed_ascend, added_ascend}
 use Rattle.moo_props.proofs.Presence.{removed_had, added_had, removed_gone, added_there}
+use Rattle.moo_world.proofs.NumbersKept.{numbers_same}
 use Rattle.moo_props.proofs.reparent.reparent.Goals as goal
 
 abbrev before : (g : _) → goal.After-drop-above-2 g → Held
@@ -107,6 +108,7 @@ pub returns-clause-kept : goal.returns-clause-kept
 returns-clause-kept g c =
     let w = world_of (before g c).maps in
     let world = ap (λ (h : Held). world_of h.maps) (ends g c) ∙ world2 (before g c).maps c.requires.good.sound c.args.x c.args.new c.requires.may c.in_ok-row-in-Some.row (here g c) (before g c) (λ i. (before g c).maps) in
+    let rest = returns-clause-rest g c in
     record {
       good = record {
         sound = subst (λ (h : Held). IsSound h.maps) (sym (ends g c)) (sound2 (before g c).maps c.requires.good.sound c.args.x c.args.new c.requires.may c.in_ok-row-in-Some.row (here g c) (before g c) (λ i. (before g c).maps));
@@ -114,6 +116,7 @@ returns-clause-kept g c =
       };
       seq = ap (λ (h : Held). h.maps.head.seq) (ends g c) ∙ ap (λ (m : Maps). m.head.seq) (rest2 (before g c).maps c.requires.good.sound c.args.x c.args.new c.requires.may c.in_ok-row-in-Some.row (here g c) (before g c) (λ i. (before g c).maps));
       base = ap (λ (h : Held). h.base) (ends g c) ∙ base2 (before g c).maps c.requires.good.sound c.args.x c.args.new c.requires.may c.in_ok-row-in-Some.row (here g c) (before g c) (λ i. (before g c).maps);
+      numbers = numbers_same (before g c).maps (g.R.Rows.held c.relink.new.rows).maps (ap (λ (m : Maps). m.props) rest) (ap (λ (m : Maps). m.verbs) rest) (ap (λ (m : Maps). m.head.next_prop) rest) (ap (λ (m : Maps). m.head.next_verb) rest);
     }
 
 pub returns-clause-writes : goal.returns-clause-writes

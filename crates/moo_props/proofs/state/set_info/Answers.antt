@@ -8,6 +8,8 @@ use Rattle.moo_world.specs.World.{Slot}
 use Rattle.moo_world.proofs.Limits.{number_within, slot_state, slot_within}
 use Rattle.moo_props.specs.Names.{defines}
 use Rattle.moo_props.proofs.States.{put_slot_world, put_slot_good, clear_inherited}
+use Rattle.moo_world.specs.Numbers.{IsSameButSlots}
+use Rattle.moo_world.proofs.NumbersKept.{slots_only}
 use Rattle.moo_props.proofs.state.set_info.Goals as goal
 
 abbrev next : (g : _) → goal.In_ok-put_slot g → SlotRow
@@ -22,6 +24,12 @@ agrees g c d = ap (λ (row : SlotRow). slot_seen d (record row { owner = c.args.
 stays_set : (g : _) (c : goal.In_ok-put_slot g) → c.in_ok-row-in-Some.row.state ≡ Clear → defines (g.R.Rows.held c.args.rows.now).maps c.args.x c.args.id ≡ false
 stays_set g c e = clear_inherited (g.R.Rows.held c.args.rows.now).maps c.requires.good c.args.x c.args.id c.in-Some.row.now (sym c.in-Some.ensures) (sym (ap (λ (row : SlotRow). row.state) c.in_ok-row-in-Some.ensures) ∙ e)
 
+rest : (g : _) (c : goal.In_ok-put_slot g) → IsSameButSlots (g.R.Rows.held c.args.rows.now).maps (g.R.Rows.held c.put_slot.new.self).maps
+rest g c = subst (λ (h : Held). IsSameButSlots (g.R.Rows.held c.args.rows.now).maps h.maps) (sym c.in_ok-put_slot.ensures.ok) refl
+
+pub returns-clause-rest : goal.returns-clause-rest
+returns-clause-rest g c = rest g c
+
 pub returns-clause-world : goal.returns-clause-world
 returns-clause-world g c =
     ap (λ (h : Held). world_of h.maps) c.in_ok-put_slot.ensures.ok
@@ -33,4 +41,5 @@ returns-clause-kept g c = let owner : FitsSigned w32 c.args.owner.0 = search rul
       (put_slot_good (g.R.Rows.held c.args.rows.now).maps c.requires.good.sound c.args.x c.args.id c.in-Some.row.now (sym c.in-Some.ensures) (next g c) (change g c) (agrees g c) c.requires.good.formed (λ s. refl) (stays_set g c) (λ s h. slot_within (change g c s) (number_within c.args.owner owner) (slot_state s h)));
   seq = ap (λ (h : Held). h.maps.head.seq) c.in_ok-put_slot.ensures.ok;
   base = ap (λ (h : Held). h.base) c.in_ok-put_slot.ensures.ok;
+  numbers = slots_only (g.R.Rows.held c.args.rows.now).maps (g.R.Rows.held c.put_slot.new.self).maps (rest g c);
 }

@@ -8,8 +8,10 @@ use Rattle.moo_world.specs.Rows.{AreSound, look_ups, world_of, world_shown}
 use Rattle.moo_world.specs.World.{IsWellFormed}
 use Rattle.moo_props.specs.Undefining.{less_over}
 use Rattle.moo_world.proofs.PairLists.{some_of}
-use Rattle.moo_props.proofs.ShorterRows.{own_row, spelled, world_shorter, sound_shorter, formed_shorter, less_property, look_ups-shorter, only2, held2, base-over}
+use Rattle.moo_props.proofs.ShorterRows.{own_row, spelled, world_shorter, sound_shorter, formed_shorter, less_property, look_ups-shorter, only2, held1, held2, base-over}
 use Rattle.moo_props.specs.Reparent.{owners_under}
+use Rattle.moo_world.specs.Numbers.{prop_removed, verbs_stay}
+use Rattle.moo_world.proofs.NumbersKept.{as_high}
 use Rattle.moo_props.proofs.undefining.undefine.Goals as goal
 
 abbrev t : (g : _) → goal.After-drop-under-2 g → Maps
@@ -35,6 +37,13 @@ shown g c = ap (λ (h : Held). look_ups h.maps) (ends g c) ∙ look_ups-shorter 
 world : (g : _) (c : goal.After-drop-under-2 g) → world_of (g.R.Rows.held c.remove_prop.new.self).maps ≡ undefined (world_of (t g c)) c.args.x (prop g c).0.name
 world g c = ap world_shown (shown g c) ∙ world_shorter (t g c) c.requires.good c.args.x c.args.id.0 (prop g c).0 (prop g c).1 (prop g c).2
 
+-- all but the slots
+rest : (g : _) (c : goal.After-drop-under-2 g) → (g.R.Rows.held c.remove_prop.new.self).maps ≡ record (t g c) { slots = (held1 (t g c) c.requires.good c.args.x c.args.id.0 (prop g c).0 (prop g c).1 (prop g c).2 (row g c).0 (row g c).1 (g.R.Rows.held c.args.rows.now) refl).maps.slots; props = remove (t g c).props c.args.id }
+rest g c = ap (λ (h : Held). h.maps) (ends g c) ∙ only2 (t g c) c.requires.good c.args.x c.args.id.0 (prop g c).0 (prop g c).1 (prop g c).2 (row g c).0 (row g c).1 (g.R.Rows.held c.args.rows.now) refl
+
+pub returns-clause-props : goal.returns-clause-props
+returns-clause-props g c = ap (λ (k : Maps). k.props) (rest g c)
+
 pub returns-clause-world : goal.returns-clause-world
 returns-clause-world g c = world g c ∙ ap (undefined (world_of (t g c)) c.args.x) (sym (spelled (t g c) c.args.id (prop g c).0 (prop g c).1))
 
@@ -46,4 +55,10 @@ returns-clause-kept g c = record {
   };
   seq = ap (λ (h : Held). h.maps.head.seq) (ends g c) ∙ ap (λ (k : Maps). k.head.seq) (only2 (t g c) c.requires.good c.args.x c.args.id.0 (prop g c).0 (prop g c).1 (prop g c).2 (row g c).0 (row g c).1 (g.R.Rows.held c.args.rows.now) refl);
   base = ap (λ (h : Held). h.base) (ends g c) ∙ base-over (t g c) c.requires.good c.args.x c.args.id.0 (prop g c).0 (prop g c).1 (prop g c).2 (row g c).0 (row g c).1 (g.R.Rows.held c.args.rows.now) refl (owners_under (t g c) c.args.x) (g.R.Rows.held c.args.rows.now);
+  numbers = record {
+    props = prop_removed c.args.id (ap (λ (k : Maps). k.props) (rest g c));
+    verbs = verbs_stay (ap (λ (k : Maps). k.verbs) (rest g c));
+    next_prop = as_high (t g c).head.next_prop (g.R.Rows.held c.remove_prop.new.self).maps.head.next_prop (ap (λ (k : Maps). k.head.next_prop) (rest g c));
+    next_verb = as_high (t g c).head.next_verb (g.R.Rows.held c.remove_prop.new.self).maps.head.next_verb (ap (λ (k : Maps). k.head.next_verb) (rest g c));
+  };
 }

@@ -1,5 +1,7 @@
 use Rattle.sqlite.specs.Held.{state}
-use Rattle.moo_store.proofs.Committed.{at_written, at_kept, survives_next}
+use Rattle.moo_tables.specs.Cells.{tables_with}
+use Rattle.moo_tables.specs.Inside.{Leaves}
+use Rattle.moo_store.proofs.Committed.{at_written, at_kept, clean_at_commit, survives_next}
 use Rattle.moo_store.proofs.committing.commit_cells.Goals as goal
 
 pub returns-clause-written : goal.returns-clause-written
@@ -10,3 +12,7 @@ returns-clause-crash g c changes base next printed exact keeps = survives_next (
 
 pub returns-clause-cells : goal.returns-clause-cells
 returns-clause-cells g c clean = at_kept (state g.S.Store c.args.conn.now) (state g.S.Store c.commit_changes.new.conn) c.args.cells.now c.commit_changes.result (c.commit_changes.ensures.written clean)
+
+pub returns-clause-clean : goal.returns-clause-clean
+returns-clause-clean g c =
+    clean_at_commit (state g.S.Store c.args.conn.now) (state g.S.Store c.commit_changes.new.conn) (λ tables trees. Leaves trees (tables_with c.args.cells.now tables)) c.commit_changes.ensures.crash

@@ -1,18 +1,25 @@
 use Rattle.std.proofs.Common.{IsTrue, inr, sym, subst, rules}
-use Rattle.sqlite.specs.State.{Survives}
+use Rattle.sqlite.specs.State.{HasCleanDisk, Survives}
 use Rattle.sqlite.specs.Held.{state}
 use Rattle.moo_world.specs.Rows.{IsGood}
 use Rattle.moo_world.specs.Judge.{state_of}
 use Rattle.moo_rows.specs.Opening.{opening_maps}
-use Rattle.moo_store.specs.States.{LeavesState}
+use Rattle.moo_store.specs.States.{KeepsRows, LeavesState}
+use Rattle.moo_store.specs.World.{ShowsItsRows, StandsFor}
 use Rattle.moo_store.proofs.Opened.{has_no_tables, keeps_opening, survives_opening}
 use Rattle.moo_store.proofs.creating.create_in.Goals as goal
 
-pub over-requires-clause-shown : goal.over-requires-clause-shown
-over-requires-clause-shown g c clean =
+pub returns-in-Ok-create_tables-clause-stands : goal.returns-in-Ok-create_tables-clause-stands
+returns-in-Ok-create_tables-clause-stands g c =
     let new : IsTrue c.is_new.result = search rules in
-    keeps_opening (state g.S.Store c.in-Ok-create_tables.connection) c.in-Ok.opening.0 c.in-Ok.opening.1.maps c.in-Ok.ensures.cells c.in-Ok.ensures.rows
-    (c.in-Ok-create_tables.ensures.made clean (has_no_tables (state g.S.Store c.args.conn).now (c.is_new.ensures.0 new)))
+    let rows = c.in-Ok.opening.1.maps in
+    let keeps : HasCleanDisk (state g.S.Store c.in-Ok-create_tables.connection) → KeepsRows (state g.S.Store c.in-Ok-create_tables.connection) rows = λ clean.
+    keeps_opening (state g.S.Store c.in-Ok-create_tables.connection) c.in-Ok.opening.0 rows c.in-Ok.ensures.cells c.in-Ok.ensures.rows
+    (c.in-Ok-create_tables.ensures.made clean (has_no_tables (state g.S.Store c.args.conn).now (c.is_new.ensures.0 new))) in
+    let shown : ShowsItsRows g.S.Store c.over.result = λ clean.
+    subst (KeepsRows (state g.S.Store c.over.result.connection)) (sym c.over.ensures.rows)
+    (subst (λ conn. HasCleanDisk (state g.S.Store conn) → KeepsRows (state g.S.Store conn) rows) (sym c.over.ensures.connection) keeps clean) in
+    subst (λ m. StandsFor g.S.Store c.over.result (state_of m)) c.in-Ok.ensures.rows (c.over.ensures.stands shown)
 
 pub returns-in-Ok-create_tables-clause-crash : goal.returns-in-Ok-create_tables-clause-crash
 returns-in-Ok-create_tables-clause-crash g c =

@@ -1,15 +1,13 @@
 use Rattle.std.proofs.Common.{[], ◌≤◌, ◌+◌, length}
 use Rattle.moo_text.specs.Items.{within}
-use Rattle.moo_text.specs.Feed.{Carries}
-use Rattle.moo_text.specs.Left.{lines_left, lines_room}
-use Rattle.moo_text.specs.Room.{TakesRoom}
+use Rattle.moo_text.specs.Side.{lines_side, lines_room}
+use Rattle.moo_text.specs.Given.{ReadsAlong}
 use Rattle.moo_text.proofs.feed.rest_of_batch.Given as goal
 
 abbrev pub invariant-loop-calls : goal.invariant-loop-calls
 invariant-loop-calls g l = record {
   few : length l.calls.items ≤ 1000;
-  carries : Carries (within l.header [] 1) (within l.header l.calls.items l.number) (lines_left g.R.Read.remaining l.fn.lines) (lines_left g.R.Read.remaining l.lines);
-  room : TakesRoom (lines_left g.R.Read.remaining l.fn.lines) (lines_room l.fn.lines) (lines_left g.R.Read.remaining l.lines) (lines_room l.lines);
+  along : ReadsAlong (within l.header [] 1) (within l.header l.calls.items l.number) (lines_side g.R.Read.remaining l.fn.lines) (lines_side g.R.Read.remaining l.lines);
   some : 1 ≤ l.number;
   falls : l.number + lines_room l.lines ≤ 1 + lines_room l.fn.lines;
 }

@@ -1,14 +1,12 @@
 use Rattle.std.proofs.Common.{◌≤◌}
 use Rattle.moo_text.specs.Items.{skipping}
-use Rattle.moo_text.specs.Feed.{Carries}
-use Rattle.moo_text.specs.Left.{lines_left, lines_room}
-use Rattle.moo_text.specs.Room.{TakesRoom}
+use Rattle.moo_text.specs.Side.{lines_side, lines_room}
+use Rattle.moo_text.specs.Given.{ReadsAlong}
 use Rattle.moo_text.proofs.feed.skip_batch.Given as goal
 
 abbrev pub invariant-loop-line : goal.invariant-loop-line
 invariant-loop-line g l = record {
-  carries : Carries (skipping l.number) (skipping l.number) (lines_left g.R.Read.remaining l.fn.lines) (lines_left g.R.Read.remaining l.lines);
-  room : TakesRoom (lines_left g.R.Read.remaining l.fn.lines) (lines_room l.fn.lines) (lines_left g.R.Read.remaining l.lines) (lines_room l.lines);
+  along : ReadsAlong (skipping l.number) (skipping l.number) (lines_side g.R.Read.remaining l.fn.lines) (lines_side g.R.Read.remaining l.lines);
   falls : lines_room l.lines ≤ lines_room l.fn.lines;
 }
 

@@ -1,4 +1,4 @@
-use Rattle.std.proofs.Common.{FitsSigned, w32, rules, ◌≡◌, ◌+◌, refl, sym, ap, ◌∙◌, subst}
+use Rattle.std.proofs.Common.{FitsSigned, w32, rules, ◌≡◌, ◌+◌, refl, sym, ap, ◌∙◌, subst, arith}
 use Rattle.std.specs.FinMap.{insert}
 use Rattle.moo_value.specs.declared.value.ObjNo.{ObjNo}
 use Rattle.moo_rows.specs.declared.row.Head.{Head}
@@ -7,6 +7,7 @@ use Rattle.moo_rows.specs.declared.row.VerbRow.{VerbRow}
 use Rattle.moo_rows.specs.Maps.{Held, wrote}
 use Rattle.moo_world.specs.Rows.{world_of}
 use Rattle.moo_world.specs.Keeps.{Keeps}
+use Rattle.moo_world.specs.Numbers.{props_stay, verb_added}
 use Rattle.moo_world.proofs.Limits.{verb_within}
 use Rattle.moo_verbs.proofs.Changes.{added_world, added_good}
 use Rattle.moo_verbs.proofs.directory.add.Goals as goal
@@ -37,4 +38,8 @@ returns-clause-kept g c =
       good = added_good old.maps c.requires.good c.args.x c.args.verb (record { 0 = old.maps.head.next_verb }) refl c.requires.object c.requires.left (verb_within c.args.verb c.requires.names c.bytes-names.ensures.text owner);
       seq = refl;
       base = refl;
+      numbers = record { props = props_stay refl; verbs = verb_added c.args.x c.args.verb refl; next_prop = omega arith; next_verb = omega arith };
     })
+
+pub returns-clause-verbs : goal.returns-clause-verbs
+returns-clause-verbs g c = ap (λ (h : Held). h.maps.verbs) (whole g c)

@@ -1,9 +1,10 @@
-use Rattle.std.proofs.Common.{◌≡◌, refl, sym, ap, ◌∙◌, subst}
+use Rattle.std.proofs.Common.{◌≡◌, refl, sym, ap, ◌∙◌, subst, arith}
 use Rattle.std.specs.FinMap.{insert}
 use Rattle.moo_rows.specs.declared.row.VerbRow.{VerbRow}
 use Rattle.moo_rows.specs.Maps.{Held, wrote}
 use Rattle.moo_world.specs.Rows.{world_of}
 use Rattle.moo_world.specs.Keeps.{Keeps}
+use Rattle.moo_world.specs.Numbers.{props_stay, verb_changed}
 use Rattle.moo_verbs.proofs.Changes.{changed_world, changed_good}
 use Rattle.moo_verbs.proofs.directory.set_args.Goals as goal
 
@@ -29,4 +30,5 @@ returns-clause-kept g c =
       good = changed_good old.maps c.requires.good c.args.x c.args.id c.requires.held c.in-Some.row.now (sym c.in-Some.ensures) (λ v. record v { args = c.args.args }) (λ u named. named);
       seq = refl;
       base = refl;
+      numbers = record { props = props_stay refl; verbs = verb_changed (c.args.x, c.args.id) (record (c.in-Some.row.now) { args = c.args.args }) c.requires.held refl; next_prop = omega arith; next_verb = omega arith };
     })

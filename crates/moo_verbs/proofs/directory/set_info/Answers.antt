@@ -1,8 +1,9 @@
-use Rattle.std.proofs.Common.{FitsSigned, w32, rules, refl, sym, ap, ◌∙◌, subst}
+use Rattle.std.proofs.Common.{FitsSigned, w32, rules, refl, sym, ap, ◌∙◌, subst, arith}
 use Rattle.moo_rows.specs.declared.row.VerbRow.{VerbRow}
 use Rattle.moo_rows.specs.Maps.{Held}
 use Rattle.moo_world.specs.Rows.{world_of}
 use Rattle.moo_world.specs.Keeps.{Keeps}
+use Rattle.moo_world.specs.Numbers.{props_stay, verb_changed}
 use Rattle.moo_world.proofs.Limits.{verb_within}
 use Rattle.moo_verbs.proofs.Changes.{changed_world, changed_good}
 use Rattle.moo_verbs.proofs.directory.set_info.Goals as goal
@@ -23,4 +24,5 @@ returns-clause-kept g c =
       good = changed_good old.maps c.requires.good c.args.x c.args.id c.requires.held c.in-Some.row.now (sym c.in-Some.ensures) change (λ u fit. verb_within (change u) c.requires.names c.bytes-names.ensures.text owner);
       seq = refl;
       base = refl;
+      numbers = record { props = props_stay refl; verbs = verb_changed (c.args.x, c.args.id) (change c.in-Some.row.now) c.requires.held refl; next_prop = omega arith; next_verb = omega arith };
     })

@@ -5,79 +5,56 @@ use Rattle.moo_world.specs.Rows.{IsGood}
 use Rattle.moo_world.specs.Judge.{state_of}
 use Rattle.moo_batch.specs.Changes.{AreChanges}
 use Rattle.moo_store.specs.Kept.{World}
-use Rattle.moo_store.specs.World.{store_of, IsAt}
+use Rattle.moo_store.specs.World.{store_of, ShowsItsRows, IsAt}
 use Rattle.moo_store.specs.States.{KeepsRows}
 use Rattle.moo_tables.specs.Tables.{Tables}
 use Rattle.moo_tables.specs.Inside.{Rests}
-use Rattle.moo_tables.proofs.InsideLemmas.{clean_before}
-use Rattle.moo_store.specs.States.{LeavesRows}
 use Rattle.moo_store.specs.Untouched.{KeepsCells}
-use Rattle.moo_store.specs.Shows.{ShowsRows}
-use Rattle.moo_store.proofs.Committed.{shown_by}
+use Rattle.moo_cells.specs.Shows.{ShowsRows}
 use Rattle.moo_store.proofs.Crashes.{left_by_write, keeps_state, rows_written}
 use Rattle.moo_store.proofs.Running.{when_ok}
 use Rattle.moo_store.proofs.world.World.commit.Goals as goal
 use Rattle.moo_store.proofs.world.World.commit.Goals.{then-is_err, else-is_err}
 
 pub returns-in-Err-clause-crash : goal.returns-in-Err-clause-crash
-returns-in-Err-clause-crash g c next exact good clean =
+returns-in-Err-clause-crash g c next shown exact good clean =
     let rows = c.self.inside.rows.maps in
     let works : c.self.inside.failed ≡ false = subst (λ (w : World _). w.failed ≡ false) (sym c.self.view_is) c.requires.works in
+    let shows = subst (ShowsItsRows g.S.Store) (sym c.self.view_is) shown in
     let here : AreChanges rows next c.args.changes = subst (λ (w : World _). AreChanges w.rows.maps next c.args.changes) (sym c.self.view_is) exact in
     left_by_write (state g.S.Store c.self.inside.connection) (state g.S.Store c.commit_cells.new.conn) rows next (state_of c.args.self.now.rows.maps) (state_of next)
-    (c.self.invariant.1 works) good (ap (λ (w : World _). state_of w.rows.maps) c.self.view_is) refl (g.met.S.Store.settled c.self.inside.connection.store) (c.self.invariant.2 works)
-    (c.commit_cells.ensures.crash c.args.changes rows next c.requires.printed here (c.self.invariant.2 works)) clean
+    (c.self.invariant.1 works) good (ap (λ (w : World _). state_of w.rows.maps) c.self.view_is) refl (g.met.S.Store.settled c.self.inside.connection.store) shows
+    (c.commit_cells.ensures.crash c.args.changes rows next c.requires.printed here shows) clean
 
 pub returns-clause-is_at : goal.returns-clause-is_at
-returns-clause-is_at g c next exact good =
+returns-clause-is_at g c next shown exact good =
     let rows = c.self.inside.rows.maps in
     let old = state g.S.Store c.self.inside.connection in
     let new = state g.S.Store c.commit_cells.new.conn in
-    let works : c.self.inside.failed ≡ false = subst (λ (w : World _). w.failed ≡ false) (sym c.self.view_is) c.requires.works in
+    let shows = subst (ShowsItsRows g.S.Store) (sym c.self.view_is) shown in
     let here : AreChanges rows next c.args.changes = subst (λ (w : World _). AreChanges w.rows.maps next c.args.changes) (sym c.self.view_is) exact in
-    let written : HasCleanDisk new → KeepsRows new next = rows_written old new rows next (c.self.invariant.2 works)
-    (c.commit_cells.ensures.crash c.args.changes rows next c.requires.printed here (c.self.invariant.2 works))
+    let written : HasCleanDisk new → KeepsRows new next = rows_written old new rows next shows
+    (c.commit_cells.ensures.crash c.args.changes rows next c.requires.printed here shows)
     (λ clean. c.in_default.ensures.written clean c.args.changes rows next c.requires.printed here) in
     elim c.if-is_err.branch [
-      | then-is_err w ↦ subst (λ v. IsAt g.S.Store v (state_of next)) (sym w.self-is) (record { tables = λ clean. keeps_state new next (state_of next) good refl (written clean); rows = λ e. cc })
+      | then-is_err w ↦ subst (λ v. IsAt g.S.Store v (state_of next)) (sym w.self-is) (record { tables = λ clean. keeps_state new next (state_of next) good refl (written clean); rows = λ e. cc; shown = λ e. cc })
       | else-is_err w ↦ subst (λ v. IsAt g.S.Store v (state_of next)) (sym w.self-is)
-          (record { tables = λ clean. keeps_state new next (state_of next) good refl (written clean); rows = λ e. ap state_of (when_ok c.apply_changes.result w.if-is_err.ensures.value c.apply_changes.ensures next here) })
+          (let applied = when_ok c.apply_changes.result w.if-is_err.ensures.value c.apply_changes.ensures next here in
+          record { tables = λ clean. keeps_state new next (state_of next) good refl (written clean); rows = λ e. ap state_of applied; shown = λ e clean. subst (KeepsRows new) (sym applied) (written clean) })
     ]
 
 pub invariant_of-self-else-is_err : goal.invariant_of-self-else-is_err
 invariant_of-self-else-is_err g c =
-    let rows = c.self.inside.rows.maps in
-    let old = state g.S.Store c.self.inside.connection in
-    let new = state g.S.Store c.commit_cells.new.conn in
     let next = c.requires.changes.0 in
-    let works : c.self.inside.failed ≡ false = subst (λ (w : World _). w.failed ≡ false) (sym c.self.view_is) c.requires.works in
-    let here : AreChanges rows next c.args.changes = subst (λ (w : World _). AreChanges w.rows.maps next c.args.changes) (sym c.self.view_is) c.requires.changes.1 in
-    let applied : c.apply_changes.new.rows.maps ≡ next = when_ok c.apply_changes.result c.if-is_err.ensures.value c.apply_changes.ensures next here in
-    let written : HasCleanDisk new → KeepsRows new next = rows_written old new rows next (c.self.invariant.2 works)
-    (c.commit_cells.ensures.crash c.args.changes rows next c.requires.printed here (c.self.invariant.2 works))
-    (λ clean. c.in_default.ensures.written clean c.args.changes rows next c.requires.printed here) in
-    (c.commit_cells.ensures.outside, λ e. subst IsGood (sym applied) c.requires.changes.2, λ e clean. subst (KeepsRows new) (sym applied) (written clean))
+    let here : AreChanges c.self.inside.rows.maps next c.args.changes = subst (λ (w : World _). AreChanges w.rows.maps next c.args.changes) (sym c.self.view_is) c.requires.changes.1 in
+    (c.commit_cells.ensures.outside, λ e. subst IsGood (sym (when_ok c.apply_changes.result c.if-is_err.ensures.value c.apply_changes.ensures next here)) c.requires.changes.2)
 
 pub returns-in-Err-clause-clean : goal.returns-in-Err-clause-clean
-returns-in-Err-clause-clean g c clean =
-    let rows = c.self.inside.rows.maps in
-    let next = c.requires.changes.0 in
-    let works : c.self.inside.failed ≡ false = subst (λ (w : World _). w.failed ≡ false) (sym c.self.view_is) c.requires.works in
-    let here : AreChanges rows next c.args.changes = subst (λ (w : World _). AreChanges w.rows.maps next c.args.changes) (sym c.self.view_is) c.requires.changes.1 in
-    subst (λ w. HasCleanDisk (store_of g.S.Store w)) c.self.view_is
-    (clean_before (state g.S.Store c.self.inside.connection) (state g.S.Store c.commit_cells.new.conn) (λ x. LeavesRows x next)
-    (c.commit_cells.ensures.crash c.args.changes rows next c.requires.printed here (c.self.invariant.2 works)) clean)
+returns-in-Err-clause-clean g c clean = subst (λ w. HasCleanDisk (store_of g.S.Store w)) c.self.view_is (c.commit_cells.ensures.clean clean)
 
 pub returns-clause-clean : goal.returns-clause-clean
 returns-clause-clean g c =
-    let rows = c.self.inside.rows.maps in
-    let next = c.requires.changes.0 in
-    let works : c.self.inside.failed ≡ false = subst (λ (w : World _). w.failed ≡ false) (sym c.self.view_is) c.requires.works in
-    let here : AreChanges rows next c.args.changes = subst (λ (w : World _). AreChanges w.rows.maps next c.args.changes) (sym c.self.view_is) c.requires.changes.1 in
-    let was : HasCleanDisk (state g.S.Store c.commit_cells.new.conn) → HasCleanDisk (store_of g.S.Store c.args.self.now) = λ clean.
-    subst (λ w. HasCleanDisk (store_of g.S.Store w)) c.self.view_is
-    (clean_before (state g.S.Store c.self.inside.connection) (state g.S.Store c.commit_cells.new.conn) (λ x. LeavesRows x next)
-    (c.commit_cells.ensures.crash c.args.changes rows next c.requires.printed here (c.self.invariant.2 works)) clean) in
+    let was : HasCleanDisk (state g.S.Store c.commit_cells.new.conn) → HasCleanDisk (store_of g.S.Store c.args.self.now) = λ clean. subst (λ w. HasCleanDisk (store_of g.S.Store w)) c.self.view_is (c.commit_cells.ensures.clean clean) in
     elim c.if-is_err.branch [
       | then-is_err w ↦ subst (λ v. HasCleanDisk (store_of g.S.Store v) → HasCleanDisk (store_of g.S.Store c.args.self.now)) (sym w.self-is) was
       | else-is_err w ↦ subst (λ v. HasCleanDisk (store_of g.S.Store v) → HasCleanDisk (store_of g.S.Store c.args.self.now)) (sym w.self-is) was
@@ -92,18 +69,15 @@ returns-clause-rows g c next exact =
     ]
 
 pub returns-clause-cells : goal.returns-clause-cells
-returns-clause-cells g c next tables exact clean rests =
+returns-clause-cells g c next tables exact clean rests shown =
     let rows = c.self.inside.rows.maps in
-    let works : c.self.inside.failed ≡ false = subst (λ (w : World _). w.failed ≡ false) (sym c.self.view_is) c.requires.works in
     let here : AreChanges rows next c.args.changes = subst (λ (w : World _). AreChanges w.rows.maps next c.args.changes) (sym c.self.view_is) exact in
     let rest : Rests (state g.S.Store c.self.inside.connection) tables = subst (λ w. Rests (store_of g.S.Store w) tables) (sym c.self.view_is) rests in
     let new = state g.S.Store c.commit_cells.new.conn in
     let old_rows = c.args.self.now.rows.maps in
-    let shown : HasCleanDisk new → ShowsRows tables rows = λ clean.
-    shown_by (state g.S.Store c.self.inside.connection) rows tables
-    (c.self.invariant.2 works (clean_before (state g.S.Store c.self.inside.connection) new (λ x. LeavesRows x next) (c.commit_cells.ensures.crash c.args.changes rows next c.requires.printed here (c.self.invariant.2 works)) clean)) rest in
+    let shows : ShowsRows tables rows = subst (λ (w : World _). ShowsRows tables w.rows.maps) (sym c.self.view_is) shown in
     let wrote : HasCleanDisk new → (after : Tables) × Rests new after × KeepsCells old_rows next tables after = λ clean.
-    let it = c.in_default.ensures.cells clean c.args.changes rows next tables c.requires.printed here rest (shown clean) in
+    let it = c.in_default.ensures.cells clean c.args.changes rows next tables c.requires.printed here rest shows in
     (it.0, it.1, subst (λ (w : World _). KeepsCells w.rows.maps next tables it.0) c.self.view_is it.2) in
     elim c.if-is_err.branch [
       | then-is_err w ↦ subst (λ v. HasCleanDisk (store_of g.S.Store v) → (after : Tables) × Rests (store_of g.S.Store v) after × KeepsCells old_rows next tables after) (sym w.self-is) wrote clean

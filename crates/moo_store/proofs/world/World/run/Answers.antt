@@ -2,7 +2,7 @@ use Rattle.std.proofs.Common.{◌≡◌, ◌+◌, vec_len, refl, arith, Ok, Err}
 use Rattle.std.specs.Prelude.{⊤}
 use Rattle.moo_store.specs.declared.fault.StoreFault.TheVariants.{OutOfMemory, Closed}
 use Rattle.moo_store.proofs.Running.{when_ok, starts, goes_on, answers, is_at_end, stops, left_at}
-use Rattle.moo_store.proofs.Untouched.{wrote_at_start, wrote_on, wrote_stopped, same_stopped}
+use Rattle.moo_store.proofs.Untouched.{is_over, wrote_at_start, wrote_on, wrote_stopped, same_stopped}
 use Rattle.moo_store.specs.Answered.{added}
 use Rattle.moo_store.proofs.world.World.run.Goals as goal
 
@@ -88,17 +88,20 @@ returns-clause-left g c s it =
 -- what was written
 
 pub returns-then-self-clause-cells : goal.returns-then-self-clause-cells
-returns-then-self-clause-cells g c clean known = (wrote_at_start g.S.Store c.args.self.now c.args.batches.now c.args.replies.now.items c.args.replies.now.items refl).written clean
+returns-then-self-clause-cells g c s it clean known tables rests =
+    (wrote_at_start g.S.Store c.args.self.now c.args.batches.now c.args.replies.now.items c.args.replies.now.items refl).written clean tables (is_over g.S.Store c.args.self.now s tables it clean rests)
 
 pub returns-then-is_err-clause-cells : goal.returns-then-is_err-clause-cells
-returns-then-is_err-clause-cells g c clean known = (wrote_at_start g.S.Store c.args.self.now c.args.batches.now c.args.replies.now.items c.reserve.new.self.items c.reserve.ensures.items).written clean
+returns-then-is_err-clause-cells g c s it clean known tables rests =
+    (wrote_at_start g.S.Store c.args.self.now c.args.batches.now c.args.replies.now.items c.reserve.new.self.items c.reserve.ensures.items).written clean tables (is_over g.S.Store c.args.self.now s tables it clean rests)
 
 pub returns-in-Err-clause-cells : goal.returns-in-Err-clause-cells
-returns-in-Err-clause-cells g c =
+returns-in-Err-clause-cells g c s it clean known tables rests =
     wrote_stopped (Unit {0}) g.S.Store c.args.self.now c.loop-batch.self c.run_one.new.self c.args.batches.now (added c.args.replies.now.items c.loop-batch.replies.items) c.batch-item.result c.in-Err.fault c.loop-batch.invariant.cells c.in-Err.ensures.fails c.in-Err.ensures.cells
+    clean known tables (is_over g.S.Store c.args.self.now s tables it (c.loop-batch.invariant.cells.clean (c.in-Err.ensures.cells.clean clean)) rests)
 
 pub returns-clause-cells : goal.returns-clause-cells
-returns-clause-cells g c clean known = c.loop-batch.invariant.cells.written clean
+returns-clause-cells g c s it clean known tables rests = c.loop-batch.invariant.cells.written clean tables (is_over g.S.Store c.args.self.now s tables it (c.loop-batch.invariant.cells.clean clean) rests)
 
 -- where none was acknowledged
 

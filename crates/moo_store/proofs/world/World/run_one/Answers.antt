@@ -33,8 +33,8 @@ returns-in-Ok-clause-runs g c s it =
     let judged = subst (λ t. judge t c.args.batch.now ≡ Accepted answers (state_of next)) (here.rows c.if-self.false) found.3 in
     accepted_one g.S.Store c.commit.new.self s c.args.batch.now answers (state_of next) c.commit.result judged
     (subst (λ n. IfOk c.commit.result (λ r. r ≡ reply.Accepted n answers)) (ap (λ (h : Head). h.seq) found.1.head) c.commit.ensures.reply)
-    (at_changed c.commit.result (λ at. at next exact found.2) c.commit.ensures.is_at) c.commit.ensures.fault
-    (at_error c.commit.result (λ crash clean trees left. subst (λ t. LeavesState trees t ⊎ LeavesState trees (state_of next)) (it.rows works) (crash next exact found.2 clean trees left)) c.commit.ensures.crash)
+    (at_changed c.commit.result (λ at. at next (it.shown works) exact found.2) c.commit.ensures.is_at) c.commit.ensures.fault
+    (at_error c.commit.result (λ crash clean trees left. subst (λ t. LeavesState trees t ⊎ LeavesState trees (state_of next)) (it.rows works) (crash next (it.shown works) exact found.2 clean trees left)) c.commit.ensures.crash)
 
 pub returns-in-Err-clause-runs : goal.returns-in-Err-clause-runs
 returns-in-Err-clause-runs g c s it =
@@ -54,10 +54,11 @@ returns-in-Ok-clause-cells g c =
     let next = found.0 in
     let answers = c.in-Accepted.answers in
     let exact = subst (λ (w : World _). AreChanges w.rows.maps next c.in-Accepted.changes) c.self.view_is found.1 in
+    let works = subst (λ (w : World _). w.failed ≡ false) c.self.view_is c.if-self.false in
     let judged = subst (λ (w : World _). judge (state_of w.rows.maps) c.args.batch.now ≡ Accepted answers (state_of next)) c.self.view_is found.3 in
-    accepted_writes g.S.Store c.args.self.now c.commit.new.self c.args.batch.now answers c.in-Accepted.changes.head.seq next c.commit.result found.2 judged c.commit.ensures.reply
+    accepted_writes g.S.Store c.args.self.now c.commit.new.self c.args.batch.now answers c.in-Accepted.changes.head.seq next c.commit.result works found.2 judged c.commit.ensures.reply
     (at_changed c.commit.result (λ rows. rows next exact) c.commit.ensures.rows)
-    (at_changed c.commit.result (λ cells tables clean rests. cells next tables exact clean rests) c.commit.ensures.cells) c.commit.ensures.undone c.commit.ensures.clean c.commit.ensures.fault c.commit.ensures.failed
+    (at_changed c.commit.result (λ cells tables clean rests shown. cells next tables exact clean rests shown) c.commit.ensures.cells) c.commit.ensures.undone c.commit.ensures.clean c.commit.ensures.fault c.commit.ensures.failed
 
 pub returns-then-self-clause-cells : goal.returns-then-self-clause-cells
 returns-then-self-clause-cells g c = nothing_written g.S.Store c.args.self.now c.args.batch.now _ refl

@@ -1,0 +1,14 @@
+use Rattle.std.proofs.Common.{◌∙◌}
+use Rattle.moo_world.proofs.NumbersKept.{then_slots}
+use Rattle.moo_calls.proofs.recycling.recycle.Goals as goal
+
+pub returns-clause-kept : goal.returns-clause-kept
+returns-clause-kept g c =
+    let dropped = c.in_ok-_dropped.ensures.kept in
+    let quota = c.in_ok-return_quota.ensures in
+    record {
+      good = quota.kept.good;
+      seq = quota.kept.seq ∙ dropped.seq;
+      base = quota.kept.base ∙ dropped.base;
+      numbers = then_slots (g.R.Rows.held c.args.rows.now).maps (g.R.Rows.held c.drop_object.new.rows).maps (g.R.Rows.held c.return_quota.new.rows).maps dropped.numbers quota.rest;
+    }

@@ -1,0 +1,104 @@
+-- A table read row by row, whatever its keys are.
+use Rattle.std.proofs.Common.{◌≡◌, inl, inr, ℕ, List, [], ◌∷◌, ◌++◌, Bool, true, false, cond, find, Option, None, Some, refl, sym, ap, subst, ◌∙◌, true≢false}
+use Rattle.std.specs.List.{AllByRecursion}
+use Rattle.std.specs.Option.{option_or}
+use Rattle.std.specs.Ordering.{is_eq, eq_by_cmp}
+use Rattle.std.specs.Cmp.{IsTotalOrder}
+use Rattle.std.specs.declared.cmp.Ordering.{Ordering}
+use Rattle.std.specs.declared.cmp.Ordering.TheVariants.{Less, Equal, Greater}
+use Rattle.std.specs.FinMap.{FinMap, get, insert, get-insert, IsAntisymmetric}
+use Rattle.std.proofs.lemmas.List.Folds.{find-append}
+use Rattle.sqlite.specs.Order.{Row}
+use Rattle.sqlite_rules.specs.Lists.{Has}
+use Rattle.sqlite_rules.proofs.ListLemmas.{all_has, has_found}
+use Rattle.sqlite_trees.specs.Tree.{IsAscending}
+use Rattle.moo_cells.specs.Reading.{IsRead}
+use Rattle.moo_cells.specs.Shows.{ShowsOrNone}
+use Rattle.moo_cells.specs.Damage.{IsUnread, FirstUnread}
+
+-- how rows in ascending order bear the keys of a table
+pub record Bears {J K X : Type 0} (has : J → Row → Bool) (number : K → J) (reads : K → Row → X → Type 0) (up : Row → Row → Type 0) (below : J → J → Type 0) : Type 0 where
+  pub mine : (k : K) (r : Row) (x : X) → reads k r x → has (number k) r ≡ true
+  pub only : (j : J) (k : K) (r : Row) (x : X) → reads k r x → has j r ≡ true → j ≡ number k
+  pub one : (k l : K) → number k ≡ number l → k ≡ l
+  pub apart : (j : J) (r s : Row) → up r s → has j r ≡ true → has j s ≡ true → ⊥
+  pub above : (j k : J) (r s : Row) → up r s → has k r ≡ true → has j s ≡ true → below j k → ⊥
+  pub same : (j k : J) (r : Row) → has j r ≡ true → has k r ≡ true → below j k → ⊥
+
+has_between : {X : Type 0} (xs : List X) (x : X) (ys : List X) → Has (xs ++ x ∷ ys) x
+has_between [] x ys = inl refl
+has_between (y ∷ xs) x ys = inr (has_between xs x ys)
+
+or_none : {X : Type 0} (o : Option X) → option_or o None ≡ o
+or_none None = refl
+or_none (Some x) = refl
+
+tied : (o : Ordering) → is_eq o ≡ true → o ≡ Equal
+tied Less h = cc
+tied Equal h = refl
+tied Greater h = cc
+
+module _ {J K X : Type 0} {has : J → Row → Bool} {number : K → J} {reads : K → Row → X → Type 0} {up : Row → Row → Type 0} {below : J → J → Type 0} (bears : Bears has number reads up below) where
+  -- no row in front has the key of a later one
+  pub fresh : (j : J) (front : List Row) (r : Row) (rest : List Row) → IsAscending up (front ++ r ∷ rest) → has j r ≡ true → find (has j) front ≡ None
+  fresh j [] r rest rise h = refl
+  fresh j (y ∷ ys) r rest rise h = go (has j y) refl (fresh j ys r rest rise.1 h)
+    where
+      go : (b : Bool) → has j y ≡ b → find (has j) ys ≡ None → find (has j) (y ∷ ys) ≡ None
+      go true e later = absurd (bears.apart j y r (all_has (up y) (ys ++ r ∷ rest) r rise.0 (has_between ys r rest)) e h)
+      go false e later = rw e later
+
+  -- one row more
+  pub step : {cmp : K → K → Ordering} → IsTotalOrder cmp → IsAntisymmetric cmp → (front : List Row) (r : Row) (rest : List Row) → IsAscending up (front ++ r ∷ rest)
+      → (k : K) (x : X) → reads k r x → (m : FinMap cmp X) → ((q : K) → ShowsOrNone (reads q) (find (has (number q)) front) (get m q))
+      → (q : K) → ShowsOrNone (reads q) (find (has (number q)) (front ++ r ∷ [])) (get (insert m k x) q)
+  step {cmp} total exact front r rest rise k x read m shown q =
+      let found = find-append (has (number q)) front (r ∷ []) in
+      let put = get-insert total m k x q in
+      rw (found, put) (go (eq_by_cmp cmp q k) refl)
+    where
+      go : (b : Bool) → eq_by_cmp cmp q k ≡ b → ShowsOrNone (reads q) (option_or (find (has (number q)) front) (cond (has (number q) r) (Some r) None)) (cond b (Some x) (get m q))
+      go true e =
+          let is : q ≡ k = exact q k (tied (cmp q k) e) in
+          let mine : has (number q) r ≡ true = ap (λ k. has (number k) r) is ∙ bears.mine k r x read in
+          rw (fresh (number q) front r rest rise mine, mine) (subst (λ k. reads k r x) (sym is) read)
+      go false e = other (has (number q) r) refl
+        where
+          other : (c : Bool) → has (number q) r ≡ c → ShowsOrNone (reads q) (option_or (find (has (number q)) front) (cond c (Some r) None)) (get m q)
+          other true h = absurd (true≢false (sym (ap (λ k. eq_by_cmp cmp q k) (bears.one q k (bears.only (number q) k r x read h)) ∙ e)))
+          other false h = rw (or_none (find (has (number q)) front)) (shown q)
+
+  -- a row that can't be read, where those in front can
+  pub first_unread : (front : List Row) (r : Row) (rest : List Row) → IsAscending up (front ++ r ∷ rest) → AllByRecursion (IsRead reads) front → ¬ (IsRead reads r) → (k : J) → has k r ≡ true
+      → FirstUnread reads below (λ j. find (has j) (front ++ r ∷ rest)) k
+  first_unread front r rest rise read bad k h = record {
+    bad = (r, here, bad);
+    least = λ j under unread. go j under unread.0 unread.2 (has_found (has j) (front ++ r ∷ rest) unread.0 unread.1);
+  }
+    where
+      here : find (has k) (front ++ r ∷ rest) ≡ Some r
+      here = rw (find-append (has k) front (r ∷ rest), fresh k front r rest rise h, h) refl
+
+      among : (xs : List Row) → AllByRecursion (IsRead reads) xs → IsAscending up (xs ++ r ∷ rest) → (j : J) → below j k → (c : Row) → ¬ (IsRead reads c) → Has (xs ++ r ∷ rest) c → has j c ≡ true → ⊥
+      among [] all rise j under c not (inl same) mine = bears.same j k r (ap (has j) (sym same) ∙ mine) h under
+      among [] all rise j under c not (inr later) mine = bears.above j k r c (all_has (up r) rest c rise.0 later) h mine under
+      among (y ∷ xs) all rise j under c not (inl same) mine = not (subst (IsRead reads) (sym same) all.0)
+      among (y ∷ xs) all rise j under c not (inr later) mine = among xs all.1 rise.1 j under c not later mine
+
+      go : (j : J) → below j k → (c : Row) → ¬ (IsRead reads c) → Has (front ++ r ∷ rest) c × (has j c ≡ true) → ⊥
+      go j under c not found = among front read rise j under c not found.0 found.1
+
+  -- where each row can be read, no key is of one that can't
+  pub none_unread : (rows : List Row) → AllByRecursion (IsRead reads) rows → (j : J) → ¬ (IsUnread reads (λ j. find (has j) rows) j)
+  none_unread rows all j unread = unread.2 (all_has (IsRead reads) rows unread.0 all (has_found (has j) rows unread.0 unread.1).0)
+
+  -- and each key of a row is one of the map's
+  pub no_other : (rows : List Row) → AllByRecursion (IsRead reads) rows → (j : J) → ((k : K) → j ≡ number k → ⊥) → find (has j) rows ≡ None
+  no_other rows all j none = go (find (has j) rows) refl
+    where
+      go : (o : Option Row) → find (has j) rows ≡ o → o ≡ None
+      go None e = refl
+      go (Some c) e =
+          let found = has_found (has j) rows c e in
+          let read = all_has (IsRead reads) rows c all found.0 in
+          absurd (none read.0 (bears.only j read.0 c read.1 read.2 found.1))

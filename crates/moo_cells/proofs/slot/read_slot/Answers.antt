@@ -1,0 +1,31 @@
+use Rattle.std.proofs.Common.{◌≡◌, true, ◌&&◌, refl, ap, sym, ◌∙◌}
+use Rattle.std.proofs.lemmas.Bool.{and_parts}
+use Rattle.std.proofs.lemmas.Result.{err_from_is_err_and}
+use Rattle.sqlite.specs.Order.{Row, column}
+use Rattle.moo_cells.proofs.slot.read_slot.Goals as goal
+
+pub returns-in_err-object-clause-err : goal.returns-in_err-object-clause-err
+returns-in_err-object-clause-err c =
+    let p = err_from_is_err_and c.from_residual.result c.from_residual.ensures.1 in
+    rw p.1 (λ fault read. c.in_err-object.ensures.err read.0.0 read.2.1.object (ap (λ (r : Row). column r 0) read.2.0.4))
+
+pub returns-in_err-prop-clause-err : goal.returns-in_err-prop-clause-err
+returns-in_err-prop-clause-err c =
+    let p = err_from_is_err_and c.from_residual-in_err-prop.result c.from_residual-in_err-prop.ensures.1 in
+    rw p.1 (λ fault read. c.in_err-prop.ensures.err read.0.1.0 read.2.1.number (ap (λ (r : Row). column r 1) read.2.0.4))
+
+pub returns-in_err-owner-clause-err : goal.returns-in_err-owner-clause-err
+returns-in_err-owner-clause-err c =
+    let p = err_from_is_err_and c.from_residual-in_err-owner.result c.from_residual-in_err-owner.ensures.1 in
+    rw p.1 (λ fault read. c.in_err-owner.ensures.err read.1.owner read.2.1.owner (ap (λ (r : Row). column r 2) read.2.0.4))
+
+pub returns-in_err-bits-clause-err : goal.returns-in_err-bits-clause-err
+returns-in_err-bits-clause-err c =
+    let p = err_from_is_err_and c.from_residual-in_err-bits.result c.from_residual-in_err-bits.ensures.1 in
+    rw p.1 (λ fault read. c.in_err-bits.ensures.err read.2.0.0 read.1.bits read.2.0.2 (ap (λ (r : Row). column r 3) read.2.0.4))
+
+pub returns-in_err-state-clause-err : goal.returns-in_err-state-clause-err
+returns-in_err-state-clause-err c =
+    let p = err_from_is_err_and c.from_residual-in_err-state.result c.from_residual-in_err-state.ensures.1 in
+    rw p.1 (λ fault read. c.in_err-state.ensures.err (sym p.2 ∙ fault) read.2.0.1 read.1.state read.2.0.3 read.2.1.state (ap (λ (r : Row). column r 4) read.2.0.4))
+

@@ -1,0 +1,36 @@
+use Rattle.std.proofs.Common.{◌≡◌, true, ◌&&◌, refl, ap, sym, ◌∙◌}
+use Rattle.std.proofs.lemmas.Bool.{and_parts}
+use Rattle.std.proofs.lemmas.Result.{err_from_is_err_and}
+use Rattle.sqlite.specs.Order.{Row, column}
+use Rattle.moo_cells.proofs.verb.read_verb.Goals as goal
+
+pub returns-in_err-object-clause-err : goal.returns-in_err-object-clause-err
+returns-in_err-object-clause-err c =
+    let p = err_from_is_err_and c.from_residual.result c.from_residual.ensures.1 in
+    rw p.1 (λ fault read. c.in_err-object.ensures.err read.0.0 read.2.1.object (ap (λ (r : Row). column r 0) read.2.0.2))
+
+pub returns-in_err-id-clause-err : goal.returns-in_err-id-clause-err
+returns-in_err-id-clause-err c =
+    let p = err_from_is_err_and c.from_residual-in_err-id.result c.from_residual-in_err-id.ensures.1 in
+    rw p.1 (λ fault read. c.in_err-id.ensures.err read.0.1.0 read.2.1.number (ap (λ (r : Row). column r 1) read.2.0.2))
+
+pub returns-in_err-names-clause-err : goal.returns-in_err-names-clause-err
+returns-in_err-names-clause-err c =
+    let p = err_from_is_err_and c.from_residual-in_err-names.result c.from_residual-in_err-names.ensures.1 in
+    rw p.1 (λ fault read. c.in_err-names.ensures.err (sym p.2 ∙ fault) read.1.names (and_parts _ _ (and_parts _ _ read.2.1.fits).1).0 (ap (λ (r : Row). column r 2) read.2.0.2))
+
+pub returns-in_err-owner-clause-err : goal.returns-in_err-owner-clause-err
+returns-in_err-owner-clause-err c =
+    let p = err_from_is_err_and c.from_residual-in_err-owner.result c.from_residual-in_err-owner.ensures.1 in
+    rw p.1 (λ fault read. c.in_err-owner.ensures.err read.1.owner (and_parts _ _ (and_parts _ _ read.2.1.fits).1).1 (ap (λ (r : Row). column r 3) read.2.0.2))
+
+pub returns-in_err-bits-clause-err : goal.returns-in_err-bits-clause-err
+returns-in_err-bits-clause-err c =
+    let p = err_from_is_err_and c.from_residual-in_err-bits.result c.from_residual-in_err-bits.ensures.1 in
+    rw p.1 (λ fault read. c.in_err-bits.ensures.err read.2.0.0 read.1.bits read.2.0.1 (ap (λ (r : Row). column r 4) read.2.0.2))
+
+pub returns-in_err-args-clause-err : goal.returns-in_err-args-clause-err
+returns-in_err-args-clause-err c =
+    let p = err_from_is_err_and c.from_residual-in_err-args.result c.from_residual-in_err-args.ensures.1 in
+    rw p.1 (λ fault read. c.in_err-args.ensures.err read.1.args (record { dobj = (ap (λ (r : Row). column r 5) read.2.0.2); prep = (ap (λ (r : Row). column r 6) read.2.0.2); iobj = (ap (λ (r : Row). column r 7) read.2.0.2) }))
+

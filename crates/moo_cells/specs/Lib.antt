@@ -1,0 +1,4 @@
+pub mod Shows
+pub mod Reading
+pub mod Columns
+pub mod Damage

@@ -1,0 +1,57 @@
+-- Cells that can be read: those that show a row within its limits.
+use Rattle.std.specs.Prelude.{◌≡◌, ℕ, ℤ, pos, ◌<◌, true, ◌&&◌, Option, Some}
+use Rattle.sqlite.specs.Order.{Row}
+use Rattle.moo_value.specs.declared.value.ObjNo.{ObjNo}
+use Rattle.moo_rows.specs.declared.row.ObjRow.{ObjRow}
+use Rattle.moo_rows.specs.declared.row.PropId.{PropId}
+use Rattle.moo_rows.specs.declared.row.PropRow.{PropRow}
+use Rattle.moo_rows.specs.declared.row.SlotRow.{SlotRow}
+use Rattle.moo_rows.specs.declared.row.VerbId.{VerbId}
+use Rattle.moo_rows.specs.declared.row.VerbRow.{VerbRow}
+use Rattle.moo_world.specs.Arguments.{is_number}
+use Rattle.moo_world.specs.World.{row_fits, is_property_name, state_fits, verb_fits}
+use Rattle.moo_cells.specs.Shows.{ShowsObject, ShowsProp, ShowsSlot, ShowsVerb}
+
+-- a number that a property or a verb may have: it lies below the greatest counter
+abbrev pub IsId : ℕ → Type 0
+IsId n = (0 < n) × (n < 4294967295)
+
+-- the limits of a row and of its key
+pub record ObjectFits (n : ObjNo) (row : ObjRow) : Type 0 where
+  pub number : is_number n ≡ true
+  pub parent : is_number row.parent ≡ true
+  pub location : is_number row.location ≡ true
+  pub fits : row_fits row ≡ true
+
+pub record PropFits (id : PropId) (row : PropRow) : Type 0 where
+  pub number : IsId id.0
+  pub definer : is_number row.definer ≡ true
+  pub name : is_property_name row.name ≡ true
+
+pub record SlotFits (key : ObjNo × PropId) (row : SlotRow) : Type 0 where
+  pub object : is_number key.0 ≡ true
+  pub number : IsId key.1.0
+  pub owner : is_number row.owner ≡ true
+  pub state : state_fits row.state ≡ true
+
+pub record VerbFits (key : ObjNo × VerbId) (row : VerbRow) : Type 0 where
+  pub object : is_number key.0 ≡ true
+  pub number : IsId key.1.0
+  pub fits : verb_fits row ≡ true
+
+-- the cells show this row of this key, and it is within its limits
+abbrev pub ReadsObject : ObjNo → Row → ObjRow → Type 0
+ReadsObject n cells row = ShowsObject n cells row × ObjectFits n row
+
+abbrev pub ReadsProp : PropId → Row → PropRow → Type 0
+ReadsProp id cells row = ShowsProp id cells row × PropFits id row
+
+abbrev pub ReadsSlot : ObjNo × PropId → Row → SlotRow → Type 0
+ReadsSlot key cells row = ShowsSlot key cells row × SlotFits key row
+
+abbrev pub ReadsVerb : ObjNo × VerbId → Row → VerbRow → Type 0
+ReadsVerb key cells row = ShowsVerb key cells row × VerbFits key row
+
+-- the cells show such a row
+abbrev pub IsRead : {K X : Type 0} → (K → Row → X → Type 0) → Row → Type 0
+IsRead {K} {X} reads cells = (key : K) × (row : X) × reads key cells row

@@ -1,0 +1,39 @@
+//! Why cells give no rows.
+
+ghost use Rattle.std.specs.Prelude.{◌≡◌, ◌≢◌};
+ghost use Rattle.moo_value.specs.declared.fault.LiteralFault.TheVariants.{OutOfMemory as no_memory};
+ghost use Rattle.moo_cells.specs.declared.fault.RowFault.TheVariants.{Unreadable, OutOfMemory};
+
+use moo_value::fault::LiteralFault;
+use std::alloc::AllocError;
+use thiserror::Error;
+
+/// Why the cells of one row can't be read.
+#[derive(Clone, Copy, Debug, PartialEq, Eq, Drop, Error)]
+pub enum RowFault {
+    /// They show no row within its limits.
+    #[error("the cells show no row")]
+    Unreadable,
+    /// There is no memory for the row.
+    #[error("out of memory")]
+    OutOfMemory,
+}
+
+impl From<AllocError> for RowFault {
+    ghost from_gives = { λ _ e. e ≡ OutOfMemory };
+
+    fn from(_e: AllocError) -> RowFault {
+        RowFault::OutOfMemory
+    }
+}
+
+impl From<LiteralFault> for RowFault {
+    ghost from_gives = { λ fault e. e ≡ Unreadable → fault ≢ no_memory };
+
+    fn from(fault: LiteralFault) -> RowFault {
+        match fault {
+            LiteralFault::OutOfMemory => RowFault::OutOfMemory,
+            _ => RowFault::Unreadable,
+        }
+    }
+}

@@ -1,0 +1,82 @@
+//! Cells that hold literals.
+
+ghost use Rattle.std.specs.Prelude.{◌≡◌, ◌≢◌, ◌≤◌, ℕ, true, List, Option, Some, map, length, IfOk, IfErr};
+ghost use Rattle.sqlite.specs.Order.{column};
+ghost use Rattle.sqlite.specs.declared.types.Value.TheVariants.{Text};
+ghost use Rattle.moo_value.specs.declared.value.ObjNo.{ObjNo};
+ghost use Rattle.moo_value.specs.declared.value.Value.TheVariants.{Obj};
+ghost use Rattle.moo_value.specs.Literal.{Spells};
+ghost use Rattle.moo_rows.specs.declared.row.SlotState.{SlotState};
+ghost use Rattle.moo_world.specs.World.{accept_fits, state_fits};
+ghost use Rattle.moo_cells.specs.Shows.{ShowsAccept, ShowsState, object_list};
+ghost use Rattle.moo_cells.specs.declared.fault.RowFault.TheVariants.{Unreadable};
+
+use crate::cell::text_at;
+use crate::fault::RowFault;
+use moo_rows::row::{ObjList, SlotState};
+use moo_value::value::{ObjNo, Value};
+use moo_value::whole::read_whole_literal;
+use sqlite::Row;
+use std::alloc::Global;
+
+/// The most objects in an accept list.
+const MAX_ACCEPTED: usize = 1000;
+
+/// The objects of a list that has only objects, and not too many.
+fn objects_in(alloc: Global, values: &[Value]) -> Result<ObjList, RowFault>
+    ensures ok { IfOk result (λ objects. values.now ≡ map Obj objects) }
+    ensures fits { IfOk result (λ objects. length objects ≤ 1000) }
+    ensures err { IfErr result (λ fault. fault ≡ Unreadable → (objects : List ObjNo) → length objects ≤ 1000 → values.now ≢ map Obj objects) }
+{
+    if values.len() > MAX_ACCEPTED {
+        return Err(RowFault::Unreadable);
+    }
+    let mut objects = Vec::new(alloc);
+    for value in values {
+        match value {
+            Value::Obj(object) => objects.push(*object).map_err(|_| RowFault::OutOfMemory)?,
+            _ => return Err(RowFault::Unreadable),
+        }
+    }
+    Ok(ObjList::from_vec(objects))
+}
+
+/// The list of objects that a literal spells.
+fn list_spelled(alloc: Global, bytes: &[u8]) -> Result<ObjList, RowFault>
+    ensures ok { IfOk result (λ objects. Spells (object_list objects) bytes.now) }
+    ensures fits { IfOk result (λ objects. accept_fits (Some objects) ≡ true) }
+    ensures err { IfErr result (λ fault. fault ≡ Unreadable → (objects : List ObjNo) → accept_fits (Some objects) ≡ true → ¬ (Spells (object_list objects) bytes.now)) }
+{
+    match read_whole_literal(alloc, bytes)? {
+        Value::List(list) => objects_in(alloc, list.items()),
+        _ => Err(RowFault::Unreadable),
+    }
+}
+
+/// The accept list in a column.
+pub(crate) fn accept_at(alloc: Global, cells: &Row, at: usize) -> Result<Option<ObjList>, RowFault>
+    ensures ok { IfOk result (λ accept. (text : List ℕ) × ShowsAccept text accept × (column cells.now at ≡ Text text)) }
+    ensures fits { IfOk result (λ accept. accept_fits accept ≡ true) }
+    ensures err { IfErr result (λ fault. fault ≡ Unreadable → (text : List ℕ) (accept : Option (List ObjNo)) → ShowsAccept text accept → accept_fits accept ≡ true → column cells.now at ≢ Text text) }
+{
+    let text = text_at(cells, at)?;
+    if text.is_empty() {
+        return Ok(None);
+    }
+    let objects = list_spelled(alloc, text)?;
+    Ok(Some(objects))
+}
+
+/// What a slot holds, in a column.
+pub(crate) fn state_at(alloc: Global, cells: &Row, at: usize) -> Result<SlotState, RowFault>
+    ensures ok { IfOk result (λ state. (text : List ℕ) × ShowsState text state × (column cells.now at ≡ Text text)) }
+    ensures fits { IfOk result (λ state. state_fits state ≡ true) }
+    ensures err { IfErr result (λ fault. fault ≡ Unreadable → (text : List ℕ) (state : SlotState) → ShowsState text state → state_fits state ≡ true → column cells.now at ≢ Text text) }
+{
+    let text = text_at(cells, at)?;
+    if text.is_empty() {
+        return Ok(SlotState::Clear);
+    }
+    let value = read_whole_literal(alloc, text)?;
+    Ok(SlotState::Set(value))
+}

@@ -1,0 +1,83 @@
+//! Rows of the table of objects.
+
+ghost use Rattle.std.specs.Prelude.{◌≡◌, IfOk, IfErr};
+ghost use Rattle.moo_cells.specs.Columns.{HasFlags};
+ghost use Rattle.moo_cells.specs.Reading.{ReadsObject, IsRead};
+ghost use Rattle.moo_cells.specs.declared.fault.RowFault.TheVariants.{Unreadable};
+ghost use Rattle.moo_cells.specs.declared.object.Flags.{Flags};
+
+use crate::cell::{flag_at, object_at, string_at};
+use crate::fault::RowFault;
+use crate::literal::accept_at;
+use moo_rows::row::ObjRow;
+use moo_value::value::ObjNo;
+use sqlite::Row;
+use std::alloc::Global;
+
+/// How many columns the table of objects has.
+const COLUMNS: usize = 12;
+
+/// The flags of an object.
+#[derive(Clone, Copy)]
+struct Flags {
+    player: bool,
+    programmer: bool,
+    wizard: bool,
+    r: bool,
+    w: bool,
+    f: bool,
+}
+
+/// The flags in the cells of an object.
+fn flags_of(cells: &Row) -> Result<Flags, RowFault>
+    ensures ok { IfOk result (λ flags. HasFlags cells.now flags) }
+    ensures err { IfErr result (λ _. (flags : Flags) → ¬ (HasFlags cells.now flags)) }
+{
+    let player = flag_at(cells, 5)?;
+    let programmer = flag_at(cells, 6)?;
+    let wizard = flag_at(cells, 7)?;
+    let r = flag_at(cells, 8)?;
+    let w = flag_at(cells, 9)?;
+    let f = flag_at(cells, 10)?;
+    Ok(Flags {
+        player,
+        programmer,
+        wizard,
+        r,
+        w,
+        f,
+    })
+}
+
+/// The object that these cells show.
+///
+/// Errors: `Unreadable` where they show no row within its limits, and `OutOfMemory`.
+pub fn read_object(alloc: Global, cells: &Row) -> Result<(ObjNo, ObjRow), RowFault>
+    ensures ok { IfOk result (λ r. ReadsObject r.0 cells.now r.1) }
+    ensures err { IfErr result (λ fault. fault ≡ Unreadable → ¬ (IsRead ReadsObject cells.now)) }
+{
+    if cells.column_count() != COLUMNS {
+        return Err(RowFault::Unreadable);
+    }
+    let number = object_at(cells, 0)?;
+    let name = string_at(alloc, cells, 1)?;
+    let owner = object_at(cells, 2)?;
+    let parent = object_at(cells, 3)?;
+    let location = object_at(cells, 4)?;
+    let flags = flags_of(cells)?;
+    let accept = accept_at(alloc, cells, 11)?;
+    let row = ObjRow {
+        name,
+        owner,
+        parent,
+        location,
+        player: flags.player,
+        programmer: flags.programmer,
+        wizard: flags.wizard,
+        r: flags.r,
+        w: flags.w,
+        f: flags.f,
+        accept,
+    };
+    Ok((number, row))
+}

@@ -1,0 +1,145 @@
+-- With good rows nothing is wrong.
+use Rattle.std.proofs.Common.{◌≡◌, ℕ, ◌<◌, ℤ, pos, Bool, true, false, ◌||◌, ◌&&◌, Option, None, Some, List, [], ◌∷◌, refl, sym, ap, ◌∙◌, subst, inl, inr, arith}
+use Rattle.std.specs.Prelude.{◌≤ℤ◌, int_lt, nat_lt, nat_le, not, is_some, unwrap_or}
+use Rattle.std.specs.Option.{option_map}
+use Rattle.std.specs.FinMap.{get, entries}
+use Rattle.std.proofs.lemmas.Bool.{false≢true, and_parts, or_cases}
+use Rattle.std.proofs.lemmas.Bool.Decides.{nat_tests}
+use Rattle.std.proofs.lemmas.Int.{ints}
+use Rattle.std.proofs.lemmas.Option.{none-some, same_Some}
+use Rattle.moo_value.specs.declared.value.ObjNo.{ObjNo}
+use Rattle.moo_rows.specs.declared.row.ObjRow.{ObjRow}
+use Rattle.moo_rows.specs.declared.row.PropId.{PropId}
+use Rattle.moo_rows.specs.declared.row.PropRow.{PropRow}
+use Rattle.moo_rows.specs.declared.row.SlotRow.{SlotRow}
+use Rattle.moo_rows.specs.declared.row.SlotState.{SlotState}
+use Rattle.moo_rows.specs.declared.row.SlotState.TheVariants.{Clear, Set}
+use Rattle.moo_rows.specs.Maps.{Maps}
+use Rattle.moo_world.specs.Objects.{Pair, same_object, same_text, folded, is_among, same_object-Decides, same_text-Decides}
+use Rattle.moo_world.specs.Rows.{IsGood, look_ups, world_of, world_shown, prop_id, slot_seen}
+use Rattle.moo_world.specs.World.{World, Slot, Climbs, Chain, is_object, chain, owed_by, pair_named}
+use Rattle.moo_world.proofs.Owed.{named_owed, definer_among}
+use Rattle.moo_world.proofs.PairLists.{some_of}
+use Rattle.moo_world.proofs.RowLaws.{slot_shown}
+use Rattle.moo_world.proofs.Seen.{is_object_seen}
+use Rattle.moo_world.proofs.Trees.{Chain-chain, chain_of_none, nothing_is_no_object}
+use Rattle.moo_props.proofs.Gains.{slot_on_heir}
+use Rattle.moo_props.proofs.Owing.{entries_held}
+use Rattle.moo_damage.specs.Damage.{share_name, is_double, is_owed, is_clear, IsClean}
+use Rattle.moo_props.specs.Names.{defines}
+use Rattle.moo_damage.proofs.Apart.{one_passing}
+use Rattle.moo_damage.proofs.Good.{parents_seen, places_seen}
+
+not_past : (x top : ℤ) → (pos 0 ≤ℤ x) × (x ≤ℤ top) → (int_lt x (pos 0) || int_lt top x) ≡ false
+not_past x top h = by (int_lt x (pos 0)) refl (int_lt top x) refl
+  where
+    by : (a : Bool) → int_lt x (pos 0) ≡ a → (b : Bool) → int_lt top x ≡ b → (a || b) ≡ false
+    by true e b k = absurd (omega (arith, ints, h.0, e))
+    by false e true k = absurd (omega (arith, ints, h.1, k))
+    by false e false k = refl
+
+below : (n next : ℕ) → n < next → nat_le next n ≡ false
+below n next l = grind (arith, nat_tests)
+
+numbers_seen : (m : Maps) (x : ObjNo) → (pos 0 ≤ℤ x.0) × (x.0 ≤ℤ (world_of m).top) → (pos 0 ≤ℤ x.0) × (x.0 ≤ℤ m.head.top)
+unfolding world_shown
+numbers_seen m x h = h
+
+module _ (m : Maps) (g : IsGood m) where
+  abbrev w : World
+  w = world_of m
+
+  object_there : (x : ObjNo) (row : ObjRow) → get m.objects x ≡ Some row → is_object w x ≡ true
+  object_there x row e = is_object_seen (look_ups m) x ∙ ap is_some e
+
+  chain_object : (x d : ObjNo) → is_among d (chain w x) ≡ true → is_object w x ≡ true
+  chain_object x d a = by (is_object w x) refl
+    where
+      by : (b : Bool) → is_object w x ≡ b → b ≡ true
+      by true e = refl
+      by false e = absurd (false≢true (sym (ap (is_among d) (chain_of_none w x e)) ∙ a))
+
+  -- a slot's property is owed
+  among_chain : (x : ObjNo) (id : ℕ) (s : SlotRow) → get m.slots (x, prop_id id) ≡ Some s → (p : PropRow) × (get m.props (prop_id id) ≡ Some p) × (is_among p.definer (chain w x) ≡ true)
+  among_chain x id s e =
+      let k = g.sound.slots x id (ap is_some e) in
+      let p = some_of (get m.props (prop_id id)) k.1 in
+      let o : is_object w x ≡ true = is_object_seen (look_ups m) x ∙ k.0 in
+      let r = some_of (get m.objects x) k.0 in
+      let shown = slot_shown (look_ups m) g.sound x r.0 r.1 id p.0 s p.1 e in
+      let is : Some p.0.definer ≡ option_map (λ q. q.0) (pair_named (owed_by w (chain w x)) (folded p.0.name)) = sym (ap (option_map (λ (z : Slot). z.definer)) shown) ∙ g.formed.slots x (chain w x) (folded p.0.name) o (Chain-chain w g.formed.tree x o) in
+      (p.0, p.1, found p.0 (pair_named (owed_by w (chain w x)) (folded p.0.name)) refl is)
+    where
+      found : (p : PropRow) (o : Option Pair) → pair_named (owed_by w (chain w x)) (folded p.name) ≡ o → Some p.definer ≡ option_map (λ q. q.0) o → is_among p.definer (chain w x) ≡ true
+      found p None h k = absurd (none-some p.definer (sym k))
+      found p (Some q) h k =
+          let among = (definer_among w q (chain w x) (named_owed w (chain w x) (folded p.name) q h)).0 in
+          ap (λ z. is_among z (chain w x)) (same_Some p.definer q.0 k) ∙ among
+
+  -- two properties of one name that are owed to one object are one
+  one_owed : (x : ObjNo) (i j : ℕ) (p q : PropRow) → get m.props (prop_id i) ≡ Some p → get m.props (prop_id j) ≡ Some q → is_among p.definer (chain w x) ≡ true → is_among q.definer (chain w x) ≡ true → folded p.name ≡ folded q.name → i ≡ j
+  one_owed x i j p q e f a b n =
+      let o = chain_object x p.definer a in
+      g.sound.one_name x i j p q (slot_on_heir m g.sound g.formed x o i p e a) (slot_on_heir m g.sound g.formed x o j q f b) e f n
+
+  own : (d : ObjNo) → is_object w d ≡ true → is_among d (chain w d) ≡ true
+  own d o = by (chain w d) (Chain-chain w g.formed.tree d o)
+    where
+      by : (l : List ObjNo) → Chain w d l → is_among d l ≡ true
+      by [] c = absurd (false≢true (sym (nothing_is_no_object w g.formed.tree) ∙ sym (ap (is_object w) c) ∙ o))
+      by (y ∷ l) c = ap (λ b. b || is_among d l) ((same_object-Decides d y).1 c.0)
+
+  not_double : (id : PropId) (p : PropRow) → get m.props id ≡ Some p → (b : Bool) → is_double m id p ≡ b → b ≡ false
+  not_double id p e false h = refl
+  not_double id p e true h =
+      let k = one_passing (λ e. get m.props e.0 ≡ Some e.1) (λ e. nat_lt e.0.0 id.0 && share_name w p e.1) (entries m.props) (entries_held m g.sound) h in
+      let parts = and_parts (nat_lt k.0.0.0 id.0) (share_name w p k.0.1) k.2 in
+      let more = and_parts (same_text (folded p.name) (folded k.0.1.name)) (is_among k.0.1.definer (chain w p.definer) || is_among p.definer (chain w k.0.1.definer)) parts.1 in
+      let names = (same_text-Decides (folded p.name) (folded k.0.1.name)).0 more.0 in
+      let here : is_object w p.definer ≡ true = is_object_seen (look_ups m) p.definer ∙ g.sound.definers id.0 p e in
+      let there : is_object w k.0.1.definer ≡ true = is_object_seen (look_ups m) k.0.1.definer ∙ g.sound.definers k.0.0.0 k.0.1 k.1 in
+      let one : id.0 ≡ k.0.0.0 = elim (or_cases (is_among k.0.1.definer (chain w p.definer)) (is_among p.definer (chain w k.0.1.definer)) more.1) [
+        | inl a ↦ one_owed p.definer id.0 k.0.0.0 p k.0.1 e k.1 (own p.definer here) a names
+        | inr a ↦ one_owed k.0.1.definer id.0 k.0.0.0 p k.0.1 e k.1 a (own k.0.1.definer there) names
+      ] in
+      let less : k.0.0.0 < id.0 = grind (arith, nat_tests, parts.0) in
+      absurd (omega (arith, one, less))
+
+  owed_true : (key : ObjNo × PropId) (s : SlotRow) → get m.slots key ≡ Some s → is_owed m key ≡ true
+  owed_true key s e = let k = among_chain key.0 key.1.0 s e in ap (λ o. unwrap_or (option_map (λ (p : PropRow). is_among p.definer (chain w key.0)) o) false) k.1 ∙ k.2
+
+  not_missing : (x : ObjNo) (id : PropId) (p : PropRow) → get m.props id ≡ Some p → (b : Bool) → is_among p.definer (chain w x) ≡ b → (b && not (is_some (get m.slots (x, id)))) ≡ false
+  not_missing x id p e false h = refl
+  not_missing x id p e true h = ap not (slot_on_heir m g.sound g.formed x (chain_object x p.definer h) id.0 p e h)
+
+  not_clear : (x : ObjNo) (id : ℕ) (s : SlotRow) → get m.slots (x, prop_id id) ≡ Some s → (st : SlotState) → s.state ≡ st → (b : Bool) → defines m x (prop_id id) ≡ b → (is_clear st && b) ≡ false
+  not_clear x id s e (Set v) h b k = refl
+  not_clear x id s e Clear h false k = refl
+  not_clear x id s e Clear h true k =
+      let t = g.sound.slots x id (ap is_some e) in
+      let p = some_of (get m.props (prop_id id)) t.1 in
+      let r = some_of (get m.objects x) t.0 in
+      let shown = slot_shown (look_ups m) g.sound x r.0 r.1 id p.0 s p.1 e in
+      let own : same_object p.0.definer x ≡ true = sym (ap (λ o. unwrap_or (option_map (λ (p : PropRow). same_object p.definer x) o) false) p.1) ∙ k in
+      absurd (g.formed.set x (folded p.0.name) (slot_seen p.0.definer s) shown ((same_object-Decides p.0.definer x).0 own) h)
+
+  pub clean : IsClean m
+  clean = record {
+    numbers = record {
+      objects = λ x row e. not_past x.0 m.head.top (numbers_seen m x (g.formed.tree.numbers x (object_there x row e)));
+      props = λ id p e. below id.0 m.head.next_prop (g.sound.props_below id.0 (ap is_some e)).1;
+      verbs = λ key v e. below key.1.0 m.head.next_verb (g.sound.verbs key.0 key.1.0 (ap is_some e)).2;
+    };
+    chains = λ x row e. let c = g.formed.tree.chains x (object_there x row e) in (c.0, subst (λ link. Climbs link x c.0) (parents_seen m) c.1);
+    places = λ x row e. let c = g.formed.tree.places x (object_there x row e) in (c.0, subst (λ link. Climbs link x c.0) (places_seen m) c.1);
+    props = record {
+      definers = λ id p e. ap not (is_object_seen (look_ups m) p.definer ∙ g.sound.definers id.0 p e);
+      names = λ id p e. not_double id p e (is_double m id p) refl;
+    };
+    slots = record {
+      owed = λ key s e. ap not (owed_true key s e);
+      there = λ x row o id p e. ap (λ b. unwrap_or (option_map (λ (q : PropRow). is_among q.definer (chain w x)) b) false && not (is_some (get m.slots (x, id)))) e ∙ not_missing x id p e (is_among p.definer (chain w x)) refl;
+      set = λ key s e. not_clear key.0 key.1.0 s e s.state refl (defines m key.0 key.1) refl;
+      verbs = λ key v e. ap not (is_object_seen (look_ups m) key.0 ∙ (g.sound.verbs key.0 key.1.0 (ap is_some e)).0);
+    };
+  }

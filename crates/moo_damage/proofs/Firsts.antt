@@ -1,0 +1,92 @@
+-- The first bad row of a map, found by going through its entries in order.
+use Rattle.std.proofs.Common.{◌≡◌, Bool, true, false, cond, T, Option, None, Some, List, [], ◌∷◌, Ordering, Less, refl, sym, ap, ◌∙◌, subst, ◌⊎◌, inl, inr}
+use Rattle.std.specs.Cmp.{IsTotalOrder, tied_itself}
+use Rattle.std.specs.Ordering.{eq_by_cmp, is_eq, ordering_reverse}
+use Rattle.std.specs.List.{AllByRecursion}
+use Rattle.std.specs.FinMap.{FinMap, get, find, is_sorted, entries, entries_sorted, get-entries}
+use Rattle.std.specs.FinMap.Entries.{below_all}
+use Rattle.std.proofs.lemmas.Map.Lookups.{CmpEqualImpliesEq}
+use Rattle.std.proofs.lemmas.Option.{none-some, same_Some}
+use Rattle.moo_rows.proofs.Walking.{first_of, second_of, less_of, elsewhere, here}
+use Rattle.moo_world.proofs.EntriesInOrder.{own_entries}
+use Rattle.moo_world.proofs.MapLaws.{key-Decides}
+use Rattle.moo_damage.specs.First.{IsFirst}
+
+module _ {K X : Type 0} (right bad : K → X → Type 0) where
+  -- the first bad one of a list of entries, or none
+  abbrev pub FirstIn : List (K × X) → Option K → Type 0
+  FirstIn [] o = o ≡ None
+  FirstIn (e ∷ es) o = (right e.0 e.1 × FirstIn es o) ⊎ (bad e.0 e.1 × (o ≡ Some e.0))
+
+  -- the first of what is left is the first of all
+  abbrev pub FirstLeft : List (K × X) → List (K × X) → Type 0
+  FirstLeft left all = (o : Option K) → FirstIn left o → FirstIn all o
+
+  pub went_on : (left es all : List (K × X)) (e : K × X) → left ≡ e ∷ es → FirstLeft left all → right e.0 e.1 → FirstLeft es all
+  went_on left es all e is f r o h = f o (subst (λ l. FirstIn l o) (sym is) (inl (r, h)))
+
+  module _ (cmp : K → K → Ordering) (total : IsTotalOrder cmp) (exact : CmpEqualImpliesEq cmp) where
+    each_right : (es : List (K × X)) → FirstIn es None → (k : K) (r : X) → find cmp k es ≡ Some r → right k r
+    each_right [] f k r e = absurd (none-some r e)
+    each_right (x ∷ es) (inr f) k r e = absurd (none-some x.0 f.1)
+    each_right (x ∷ es) (inl f) k r e = by (eq_by_cmp cmp k x.0) refl e (each_right es f.1 k r)
+      where
+        by : (b : Bool) → eq_by_cmp cmp k x.0 ≡ b → cond b (Some x.1) (find cmp k es) ≡ Some r → (find cmp k es ≡ Some r → right k r) → right k r
+        by true h g rec = subst (λ v. right k v) (same_Some x.1 r g) (subst (λ j. right j x.1) (sym ((key-Decides cmp total exact k x.0).0 h)) f.0)
+        by false h g rec = rec g
+
+    none_below : (k x : K) (es : List (K × X)) → cmp k x ≡ Less → T (below_all cmp x es) → find cmp k es ≡ None
+    none_below k x [] l h = refl
+    none_below k x (e ∷ es) l h = elsewhere cmp k e es (ap is_eq (total.trans k x e.0 l (less_of _ (first_of _ _ h)))) ∙ none_below k x es l (second_of _ _ h)
+
+    above_first : (x k : K) (r : X) (es : List (K × X)) → T (below_all cmp x es) → find cmp k es ≡ Some r → cmp x k ≡ Less
+    above_first x k r [] h e = absurd (none-some r e)
+    above_first x k r (y ∷ es) h e = by (eq_by_cmp cmp k y.0) refl e (above_first x k r es (second_of _ _ h))
+      where
+        by : (b : Bool) → eq_by_cmp cmp k y.0 ≡ b → cond b (Some y.1) (find cmp k es) ≡ Some r → (find cmp k es ≡ Some r → cmp x k ≡ Less) → cmp x k ≡ Less
+        by true t g rec = subst (λ j. cmp x j ≡ Less) (sym ((key-Decides cmp total exact k y.0).0 t)) (less_of _ (first_of _ _ h))
+        by false t g rec = rec g
+
+    abbrev Found : List (K × X) → K → Type 0
+    Found es key = (row : X) × (find cmp key es ≡ Some row) × bad key row × ((k : K) (r : X) → cmp k key ≡ Less → find cmp k es ≡ Some r → right k r)
+
+    found_at : (es : List (K × X)) → T (is_sorted cmp es) → (key : K) → FirstIn es (Some key) → Found es key
+    found_at [] s key f = absurd (none-some key (sym f))
+    found_at (x ∷ es) s key (inr f) =
+        let is : key ≡ x.0 = same_Some key x.0 f.1 in
+        subst (Found (x ∷ es)) (sym is) (
+          x.1,
+          here cmp x.0 x es (ap is_eq (tied_itself total x.0)),
+          f.0,
+          λ k r l e. absurd (none-some r (sym (elsewhere cmp k x es (ap is_eq l) ∙ none_below k x.0 es l (first_of _ _ s)) ∙ e)),
+        )
+    found_at (x ∷ es) s key (inl f) = more (found_at es (second_of _ _ s) key f.1)
+      where
+        more : Found es key → Found (x ∷ es) key
+        more g =
+            let less : cmp x.0 key ≡ Less = above_first x.0 key g.0 es (first_of _ _ s) g.1 in (
+              g.0,
+              elsewhere cmp key x es (ap is_eq (total.antisymm key x.0 ∙ ap ordering_reverse less)) ∙ g.1,
+              g.2,
+              λ k r l e. by k r l (eq_by_cmp cmp k x.0) refl e,
+            )
+          where
+            by : (k : K) (r : X) → cmp k key ≡ Less → (b : Bool) → eq_by_cmp cmp k x.0 ≡ b → cond b (Some x.1) (find cmp k es) ≡ Some r → right k r
+            by k r l true h e = subst (λ v. right k v) (same_Some x.1 r e) (subst (λ j. right j x.1) (sym ((key-Decides cmp total exact k x.0).0 h)) f.0)
+            by k r l false h e = g.3 k r l e
+
+module _ {K X : Type 0} {cmp : K → K → Ordering} (right bad : K → X → Type 0) (total : IsTotalOrder cmp) (exact : CmpEqualImpliesEq cmp) (m : FinMap cmp X) where
+  pub held_entries : AllByRecursion (λ e. get m e.0 ≡ Some e.1) (entries m)
+  held_entries = held (entries m) (own_entries cmp total (entries m) (entries_sorted m))
+    where
+      held : (es : List (K × X)) → AllByRecursion (λ e. find cmp e.0 (entries m) ≡ Some e.1) es → AllByRecursion (λ e. get m e.0 ≡ Some e.1) es
+      held [] a = tt
+      held (e ∷ es) a = (get-entries m e.0 ∙ a.0, held es a.1)
+
+  pub ended : (left : List (K × X)) → left ≡ [] → FirstLeft right bad left (entries m) → IsFirst m right bad None
+  ended left is f k r e = each_right right bad cmp total exact (entries m) (f None (subst (λ l. FirstIn right bad l None) (sym is) refl)) k r (sym (get-entries m k) ∙ e)
+
+  pub stopped : (left es : List (K × X)) (e : K × X) → left ≡ e ∷ es → FirstLeft right bad left (entries m) → bad e.0 e.1 → IsFirst m right bad (Some e.0)
+  stopped left es e is f b =
+      let g = found_at right bad cmp total exact (entries m) (entries_sorted m) e.0 (f (Some e.0) (subst (λ l. FirstIn right bad l (Some e.0)) (sym is) (inr (b, refl)))) in
+      (g.0, get-entries m e.0 ∙ g.1, g.2, λ k r l h. g.3 k r l (sym (get-entries m k) ∙ h))

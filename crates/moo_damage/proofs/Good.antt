@@ -1,0 +1,365 @@
+-- Rows within the limits that nothing is wrong with are sound, and their world is well formed.
+use Rattle.std.proofs.Common.{◌≡◌, ◌≢◌, ℕ, ◌<◌, ◌≤◌, ℤ, pos, negsuc, Bool, true, false, ◌||◌, ◌&&◌, Option, None, Some, List, [], ◌∷◌, refl, sym, ap, ◌∙◌, subst, ◌⊎◌, inl, inr, arith}
+use Rattle.std.specs.Prelude.{◌≤ℤ◌, int_lt, nat_lt, nat_le, not, is_some, unwrap_or, if◌then◌else◌}
+use Rattle.std.specs.Option.{option_map, option_and_then}
+use Rattle.std.specs.List.{filter_map, list_any, list_all, IsDistinct, AllByRecursion}
+use Rattle.std.specs.FinMap.{get, entries, get-entries}
+use Rattle.std.proofs.lemmas.Bool.{false≢true, both_ways, and_parts, or_parts, or_cases, or_left, or_right, cases_lt}
+use Rattle.std.proofs.lemmas.Bool.Decides.{nat_tests}
+use Rattle.std.proofs.lemmas.Int.{ints}
+use Rattle.std.proofs.lemmas.Option.{none-some, same_Some}
+use Rattle.moo_value.specs.declared.value.ObjNo.{ObjNo}
+use Rattle.moo_rows.specs.declared.row.ObjRow.{ObjRow}
+use Rattle.moo_rows.specs.declared.row.PropRow.{PropRow}
+use Rattle.moo_rows.specs.declared.row.SlotRow.{SlotRow}
+use Rattle.moo_rows.specs.declared.row.SlotState.TheVariants.{Clear}
+use Rattle.moo_rows.specs.Exact.{prop_exact}
+use Rattle.moo_rows.specs.Maps.{Maps, prop_cmp}
+use Rattle.moo_rows.proofs.Orders.{prop_total}
+use Rattle.moo_world.specs.Objects.{Name, Pair, nothing, same_object, same_text, folded, is_among, same_object-Decides, same_text-Decides}
+use Rattle.moo_world.specs.Rows.{LookUps, AreSound, IsGood, look_ups, world_of, world_shown, record_of, numbers_below, name_on, prop_id, verb_id}
+use Rattle.moo_world.specs.World.{World, Record, Slot, Climbs, IsTree, KeepsLimits, Chain, NamesDiffer, is_object, parent_of, location_of, chain, names_of, defined_by, owed_by, pair_named, slot_of, slot_fits, row_fits, verb_fits, is_property_name, without_slots}
+use Rattle.moo_world.proofs.Chains.{Climbs-once}
+use Rattle.moo_world.proofs.Keeping.{named_is}
+use Rattle.moo_world.proofs.Owed.{named_so, found_among}
+use Rattle.moo_world.proofs.PairLists.{some_of}
+use Rattle.moo_world.proofs.RowLaws.{names_shown}
+use Rattle.moo_world.proofs.Seen.{is_object_seen}
+use Rattle.moo_world.proofs.Shown.{SlotHere, slot_from, no_slot_from}
+use Rattle.moo_world.proofs.Subtrees.{owed_listed}
+use Rattle.moo_world.proofs.Trees.{chain_is, Chain-chain, chain_of_none, no_parent}
+use Rattle.moo_props.proofs.Gains.{defines_pair}
+use Rattle.moo_props.proofs.Owing.{any_owed, entries_held}
+use Rattle.moo_props.proofs.Walked.{any_held}
+use Rattle.moo_damage.specs.declared.trees.Link.{Link}
+use Rattle.moo_damage.specs.declared.trees.Link.TheVariants.{Parent, Place}
+use Rattle.moo_damage.specs.Damage.{next_of, link_of, share_name, is_double, is_clear, is_clear_definer, is_lost, NumbersGiven, LinksEnd, LinksHold, IsClean}
+use Rattle.moo_damage.specs.Limits.{AreWithin}
+use Rattle.moo_damage.proofs.Apart.{both_true, all_map, none_any, one_passing, all_made, distinct_append, all_numbers, distinct_numbers, distinct_mapped}
+
+not_false : (b : Bool) → not b ≡ false → b ≡ true
+not_false true e = refl
+not_false false e = absurd (false≢true (sym e))
+
+or_swap : (a b : Bool) → (a || b) ≡ true → (b || a) ≡ true
+or_swap a b e = elim (or_cases a b e) [ inl k ↦ or_right b a k | inr k ↦ or_left b a k ]
+
+not_less : (x y : ℤ) → int_lt y x ≡ false → x ≤ℤ y
+not_less (pos n) (pos k) e = let l : n ≤ k = grind (arith, nat_tests) in omega (arith, ints)
+not_less (pos n) (negsuc k) e = absurd (false≢true (sym e))
+not_less (negsuc n) (pos k) e = omega (arith, ints)
+not_less (negsuc n) (negsuc k) e = let l : k ≤ n = grind (arith, nat_tests) in omega (arith, ints)
+
+given : (x top : ℤ) → (int_lt x (pos 0) || int_lt top x) ≡ false → (pos 0 ≤ℤ x) × (x ≤ℤ top)
+given x top e = let parts = or_parts (int_lt x (pos 0)) (int_lt top x) e in (not_less (pos 0) x parts.0, not_less x top parts.1)
+
+below : (n next : ℕ) → nat_le next n ≡ false → n < next
+below n next e = grind (arith, nat_tests)
+
+pub parents_seen : (m : Maps) → parent_of (world_of m) ≡ next_of Parent m
+unfolding world_shown
+parents_seen m = λ i x. by x (get m.objects x) i
+  where
+    by : (x : ObjNo) (o : Option ObjRow) → option_map (λ (r : Record). r.row.parent) (option_map (record_of (look_ups m) x) o) ≡ option_map (link_of Parent) o
+    by x None = refl
+    by x (Some row) = refl
+
+pub places_seen : (m : Maps) → location_of (world_of m) ≡ next_of Place m
+unfolding world_shown
+places_seen m = λ i x. by x (get m.objects x) i
+  where
+    by : (x : ObjNo) (o : Option ObjRow) → option_map (λ (r : Record). r.row.location) (option_map (record_of (look_ups m) x) o) ≡ option_map (link_of Place) o
+    by x None = refl
+    by x (Some row) = refl
+
+limits_seen : (m : Maps) → AreWithin m → KeepsLimits (without_slots (world_of m))
+unfolding world_shown
+limits_seen m fit = record {
+  top = fit.top;
+  props = fit.next_prop;
+  verbs = fit.next_verb;
+  names = λ x. names x (get m.objects x);
+  directories = λ x. verbs x (get m.objects x);
+  rows = λ x. rows x (get m.objects x) refl;
+}
+  where
+    bare : ObjNo → Option ObjRow → Option Record
+    bare x o = option_map (λ (r : Record). record r { slot = λ n. None }) (option_map (record_of (look_ups m) x) o)
+
+    names : (x : ObjNo) (o : Option ObjRow) → list_all is_property_name (unwrap_or (option_map (λ (r : Record). r.defines) (option_map (λ (r : Record). record r { slot = λ n. None }) (option_map (record_of (look_ups m) x) o))) []) ≡ true
+    names x None = refl
+    names x (Some row) = all_made (name_on (look_ups m) x) is_property_name (numbers_below m.head.next_prop) (λ i u e. named i u (get m.props (prop_id i)) refl e)
+      where
+        named : (i : ℕ) (u : Name) (o : Option PropRow) → get m.props (prop_id i) ≡ o → option_and_then (λ (p : PropRow). if same_object p.definer x then Some p.name else None) o ≡ Some u → is_property_name u ≡ true
+        named i u None g e = absurd (none-some u e)
+        named i u (Some p) g e = tested (same_object p.definer x) e
+          where
+            tested : (b : Bool) → (if b then Some p.name else None) ≡ Some u → is_property_name u ≡ true
+            tested false k = absurd (none-some u k)
+            tested true k = subst (λ v. is_property_name v ≡ true) (same_Some p.name u k) (fit.props (prop_id i) p g).1
+
+    verbs : (x : ObjNo) (o : Option ObjRow) → list_all verb_fits (unwrap_or (option_map (λ (r : Record). r.verbs) (option_map (λ (r : Record). record r { slot = λ n. None }) (option_map (record_of (look_ups m) x) o))) []) ≡ true
+    verbs x None = refl
+    verbs x (Some row) = all_made ((look_ups m).verb x) verb_fits (numbers_below m.head.next_verb) (λ i u e. (fit.verbs (x, verb_id i) u e).1)
+
+    rows : (x : ObjNo) (o : Option ObjRow) → get m.objects x ≡ o → unwrap_or (option_map row_fits (option_map (λ (r : Record). r.row) (option_map (λ (r : Record). record r { slot = λ n. None }) (option_map (record_of (look_ups m) x) o)))) true ≡ true
+    rows x None e = refl
+    rows x (Some row) e = fit.objects x row e
+
+numbers_seen : (m : Maps) (x : ObjNo) → (pos 0 ≤ℤ x.0) × (x.0 ≤ℤ m.head.top) → (pos 0 ≤ℤ x.0) × (x.0 ≤ℤ (world_of m).top)
+unfolding world_shown
+numbers_seen m x h = h
+
+row_in : (m : Maps) (x : ObjNo) → is_object (world_of m) x ≡ true → (row : ObjRow) × (get m.objects x ≡ Some row)
+row_in m x o = some_of (get m.objects x) (sym (is_object_seen (look_ups m) x) ∙ o)
+
+-- given numbers, and chains that end, are trees
+pub tree_of : (m : Maps) → NumbersGiven m → LinksEnd Parent m → LinksEnd Place m → IsTree (world_of m)
+tree_of m numbers chains places = record {
+  numbers = λ x o. let k = row_in m x o in numbers_seen m x (given x.0 m.head.top (numbers.objects x k.0 k.1));
+  chains = λ x o. let k = row_in m x o in let c = chains x k.0 k.1 in (c.0, subst (λ link. Climbs link x c.0) (sym (parents_seen m)) c.1);
+  places = λ x o. let k = row_in m x o in let c = places x k.0 k.1 in (c.0, subst (λ link. Climbs link x c.0) (sym (places_seen m)) c.1);
+}
+
+-- what has been given its number is not nothing
+pub nothing_there : (m : Maps) → NumbersGiven m → get m.objects nothing ≡ None
+nothing_there m numbers = by (get m.objects nothing) refl
+  where
+    by : (o : Option ObjRow) → get m.objects nothing ≡ o → o ≡ None
+    by None e = refl
+    by (Some row) e = absurd (false≢true (sym (numbers.objects nothing row e)))
+
+-- links that are not lost hold
+pub links_hold : (link : Link) (m : Maps) → NumbersGiven m → ((x : ObjNo) (row : ObjRow) → get m.objects x ≡ Some row → is_lost link m row ≡ false) → LinksHold link m
+links_hold link m numbers found = record { links = λ x row e. by (link_of link row) (found x row e); nothing = nothing_there m numbers }
+  where
+    by : (y : ObjNo) → (not (same_object nothing y) && not (is_object (world_of m) y)) ≡ false → (y ≡ nothing) ⊎ (is_some (get m.objects y) ≡ true)
+    by y e = tested (same_object nothing y) refl (is_object (world_of m) y) refl e
+      where
+        tested : (a : Bool) → same_object nothing y ≡ a → (b : Bool) → is_object (world_of m) y ≡ b → (not a && not b) ≡ false → (y ≡ nothing) ⊎ (is_some (get m.objects y) ≡ true)
+        tested true h b k q = inl (sym ((same_object-Decides nothing y).0 h))
+        tested false h true k q = inr (sym (is_object_seen (look_ups m) y) ∙ k)
+        tested false h false k q = absurd (false≢true (sym q))
+
+module _ (m : Maps) (fit : AreWithin m) (clean : IsClean m) where
+  abbrev r : LookUps
+  r = look_ups m
+
+  abbrev w : World
+  w = world_of m
+
+  row_there : (x : ObjNo) → is_object w x ≡ true → (row : ObjRow) × (get m.objects x ≡ Some row)
+  row_there x o = row_in m x o
+
+  pub tree : IsTree w
+  tree = tree_of m clean.numbers clean.chains clean.places
+
+  -- a slot is of a property that is owed
+  owed_row : (x : ObjNo) (id : ℕ) (s : SlotRow) → get m.slots (x, prop_id id) ≡ Some s → (p : PropRow) × (get m.props (prop_id id) ≡ Some p) × (is_among p.definer (chain w x) ≡ true)
+  owed_row x id s e = by (get m.props (prop_id id)) refl (not_false _ (clean.slots.owed (x, prop_id id) s e))
+    where
+      by : (o : Option PropRow) → get m.props (prop_id id) ≡ o → unwrap_or (option_map (λ (p : PropRow). is_among p.definer (chain w x)) o) false ≡ true → (p : PropRow) × (get m.props (prop_id id) ≡ Some p) × (is_among p.definer (chain w x) ≡ true)
+      by None g k = absurd (false≢true k)
+      by (Some p) g k = (p, g, k)
+
+  chain_object : (x d : ObjNo) → is_among d (chain w x) ≡ true → is_object w x ≡ true
+  chain_object x d a = by (is_object w x) refl
+    where
+      by : (b : Bool) → is_object w x ≡ b → b ≡ true
+      by true e = refl
+      by false e = absurd (false≢true (sym (ap (is_among d) (chain_of_none w x e)) ∙ a))
+
+  -- of two objects of one chain one stands in the other's
+  comparable : (l : List ObjNo) (x d e : ObjNo) → Chain w x l → is_among d l ≡ true → is_among e l ≡ true → (is_among e (chain w d) || is_among d (chain w e)) ≡ true
+  comparable [] x d e p f g = absurd (false≢true f)
+  comparable (y ∷ l) x d e p f g = by (or_cases (same_object d y) (is_among d l) f) (or_cases (same_object e y) (is_among e l) g) (comparable l p.1 d e p.3)
+    where
+      own : (z : ObjNo) → same_object z y ≡ true → chain w z ≡ y ∷ l
+      own z k = chain_is w tree z (y ∷ l) (subst (λ v. Chain w v (y ∷ l)) (p.0 ∙ sym ((same_object-Decides z y).0 k)) p)
+
+      by : (same_object d y ≡ true) ⊎ (is_among d l ≡ true) → (same_object e y ≡ true) ⊎ (is_among e l ≡ true) → (is_among d l ≡ true → is_among e l ≡ true → (is_among e (chain w d) || is_among d (chain w e)) ≡ true) → (is_among e (chain w d) || is_among d (chain w e)) ≡ true
+      by (inl k) h rec = or_left (is_among e (chain w d)) (is_among d (chain w e)) (ap (is_among e) (own d k) ∙ g)
+      by (inr k) (inl h) rec = or_right (is_among e (chain w d)) (is_among d (chain w e)) (ap (is_among d) (own e h) ∙ f)
+      by (inr k) (inr h) rec = rec k h
+
+  double_at : (i j : ℕ) (p q : PropRow) → get m.props (prop_id i) ≡ Some p → get m.props (prop_id j) ≡ Some q → i < j → share_name w q p ≡ true → ⊥
+  double_at i j p q f g l s =
+      let less : nat_lt i j ≡ true = grind (arith, nat_tests) in
+      both_ways (is_double m (prop_id j) q) (clean.props.names (prop_id j) q g)
+      (any_held prop_cmp prop_total prop_exact (λ e. nat_lt e.0.0 j && share_name w q e.1) (prop_id i) p (entries m.props) (sym (get-entries m.props (prop_id i)) ∙ f) (both_true (nat_lt i j) (share_name w q p) less s))
+
+  -- properties of one name, on one object or on an object and its ancestor, are one
+  one_property : (i j : ℕ) (p q : PropRow) → get m.props (prop_id i) ≡ Some p → get m.props (prop_id j) ≡ Some q → folded p.name ≡ folded q.name → (is_among q.definer (chain w p.definer) || is_among p.definer (chain w q.definer)) ≡ true → i ≡ j
+  one_property i j p q f g n c = by (cases_lt i j) (cases_lt j i)
+    where
+      by : (i < j) ⊎ (j ≤ i) → (j < i) ⊎ (i ≤ j) → i ≡ j
+      by (inl l) h = absurd (double_at i j p q f g l (both_true (same_text (folded q.name) (folded p.name)) (is_among p.definer (chain w q.definer) || is_among q.definer (chain w p.definer)) ((same_text-Decides (folded q.name) (folded p.name)).1 (sym n)) (or_swap (is_among q.definer (chain w p.definer)) (is_among p.definer (chain w q.definer)) c)))
+      by (inr l) (inl h) = absurd (double_at j i q p g f h (both_true (same_text (folded p.name) (folded q.name)) (is_among q.definer (chain w p.definer) || is_among p.definer (chain w q.definer)) ((same_text-Decides (folded p.name) (folded q.name)).1 n) c))
+      by (inr l) (inr h) = omega arith
+
+  pub sound : AreSound r
+  sound = record {
+    props_below = λ id e. let k = some_of (get m.props (prop_id id)) e in ((fit.props (prop_id id) k.0 k.1).0, below id m.head.next_prop (clean.numbers.props (prop_id id) k.0 k.1));
+    definers = λ id p e. sym (is_object_seen r p.definer) ∙ not_false _ (clean.props.definers (prop_id id) p e);
+    slots = λ x id e.
+        let k = some_of (get m.slots (x, prop_id id)) e in
+        let o = owed_row x id k.0 k.1 in
+        (sym (is_object_seen r x) ∙ chain_object x o.0.definer o.2, ap is_some o.1);
+    one_name = λ x i j p q a b f g n.
+        let s = some_of (get m.slots (x, prop_id i)) a in
+        let t = some_of (get m.slots (x, prop_id j)) b in
+        let o = owed_row x i s.0 s.1 in
+        let u = owed_row x j t.0 t.1 in
+        let here = subst (λ k. is_among k.definer (chain w x) ≡ true) (same_Some o.0 p (sym o.1 ∙ f)) o.2 in
+        let there = subst (λ k. is_among k.definer (chain w x) ≡ true) (same_Some u.0 q (sym u.1 ∙ g)) u.2 in
+        one_property i j p q f g n (comparable (chain w x) x p.definer q.definer (Chain-chain w tree x (chain_object x p.definer here)) here there);
+    verbs = λ x id e.
+        let k = some_of (get m.verbs (x, verb_id id)) e in
+        (sym (is_object_seen r x) ∙ not_false _ (clean.slots.verbs (x, verb_id id) k.0 k.1), (fit.verbs (x, verb_id id) k.0 k.1).0, below id m.head.next_verb (clean.numbers.verbs (x, verb_id id) k.0 k.1));
+  }
+
+  -- ---- names
+
+  name_row : (d : ObjNo) (i : ℕ) (n : Name) → name_on r d i ≡ Some n → (p : PropRow) × (get m.props (prop_id i) ≡ Some p) × (p.definer ≡ d) × (p.name ≡ n)
+  name_row d i n e = by (get m.props (prop_id i)) refl e
+    where
+      Found : Type 0
+      Found = (p : PropRow) × (get m.props (prop_id i) ≡ Some p) × (p.definer ≡ d) × (p.name ≡ n)
+
+      tested : (p : PropRow) → get m.props (prop_id i) ≡ Some p → (b : Bool) → same_object p.definer d ≡ b → (if b then Some p.name else None) ≡ Some n → (p : PropRow) × (get m.props (prop_id i) ≡ Some p) × (p.definer ≡ d) × (p.name ≡ n)
+      tested p g false h k = absurd (none-some n k)
+      tested p g true h k = (p, g, (same_object-Decides p.definer d).0 h, same_Some p.name n k)
+
+      by : (o : Option PropRow) → get m.props (prop_id i) ≡ o → option_and_then (λ (p : PropRow). if same_object p.definer d then Some p.name else None) o ≡ Some n → (p : PropRow) × (get m.props (prop_id i) ≡ Some p) × (p.definer ≡ d) × (p.name ≡ n)
+      by None g k = absurd (none-some n k)
+      by (Some p) g k = tested p g (same_object p.definer d) refl k
+
+  alike : Name → Name → Bool
+  alike a b = same_text (folded a) (folded b)
+
+  module _ (d : ObjNo) (l : List ObjNo) (c : Chain w d (d ∷ l)) where
+    chain_d : chain w d ≡ d ∷ l
+    chain_d = chain_is w tree d (d ∷ l) c
+
+    not_again : is_among d l ≡ false
+    not_again = Climbs-once (parent_of w) (no_parent w tree) l d d c
+
+    there : is_object w d ≡ true
+    there = chain_object d d (ap (is_among d) chain_d ∙ or_left (same_object d d) (is_among d l) ((same_object-Decides d d).1 refl))
+
+    listed : names_of w d ≡ filter_map (name_on r d) (numbers_below m.head.next_prop)
+    listed = let k = row_there d there in names_shown r d k.0 k.1
+
+    own_names : IsDistinct (λ a b. same_text (folded a) (folded b)) (names_of w d)
+    own_names =
+        subst (IsDistinct (λ a b. same_text (folded a) (folded b))) (sym listed)
+        (distinct_numbers (λ a b. same_text (folded a) (folded b)) (name_on r d) m.head.next_prop (λ i j u v l e k. differ i j u v l (name_row d i u e) (name_row d j v k) (same_text (folded u) (folded v)) refl))
+      where
+        differ : (i j : ℕ) (u v : Name) → i < j → (p : PropRow) × (get m.props (prop_id i) ≡ Some p) × (p.definer ≡ d) × (p.name ≡ u) → (q : PropRow) × (get m.props (prop_id j) ≡ Some q) × (q.definer ≡ d) × (q.name ≡ v) → (b : Bool) → same_text (folded u) (folded v) ≡ b → b ≡ false
+        differ i j u v less p q false e = refl
+        differ i j u v less p q true e =
+            let names : folded p.0.name ≡ folded q.0.name = ap folded p.3 ∙ (same_text-Decides (folded u) (folded v)).0 e ∙ sym (ap folded q.3) in
+            let same : p.0.definer ≡ q.0.definer = p.2 ∙ sym q.2 in
+            let here : is_among q.0.definer (chain w p.0.definer) ≡ true =
+            (λ k. is_among (q.2 k) (chain w (p.2 k))) ∙ ap (is_among d) chain_d ∙ or_left (same_object d d) (is_among d l) ((same_object-Decides d d).1 refl) in
+            let one : i ≡ j = one_property i j p.0 q.0 p.1 q.1 names (or_left _ _ here) in
+            absurd (omega arith)
+
+    -- a name of d is none of those that its ancestors define
+    none_above : (i : ℕ) (n : Name) → name_on r d i ≡ Some n → list_any (λ k. same_text (folded n) (folded k.1)) (owed_by w l) ≡ false
+    none_above i n e = by (list_any (λ k. same_text (folded n) (folded k.1)) (owed_by w l)) refl
+      where
+        test : Pair → Bool
+        test k = same_text (folded n) (folded k.1)
+
+        by : (b : Bool) → list_any (λ k. same_text (folded n) (folded k.1)) (owed_by w l) ≡ b → b ≡ false
+        by false h = refl
+        by true h =
+            let p = name_row d i n e in
+            let k = one_passing (λ e. get m.props e.0 ≡ Some e.1) (λ e. is_among e.1.definer l && same_text (folded n) (folded e.1.name)) (entries m.props) (entries_held m sound)
+            (sym (any_owed m sound (λ k. same_text (folded n) (folded k.1)) l) ∙ h) in
+            let parts = and_parts (is_among k.0.1.definer l) (same_text (folded n) (folded k.0.1.name)) k.2 in
+            let names : folded p.0.name ≡ folded k.0.1.name = ap folded p.3 ∙ (same_text-Decides (folded n) (folded k.0.1.name)).0 parts.1 in
+            let here : is_among k.0.1.definer (chain w p.0.definer) ≡ true = ap (λ z. is_among k.0.1.definer (chain w z)) p.2 ∙ ap (is_among k.0.1.definer) chain_d ∙ or_right (same_object k.0.1.definer d) (is_among k.0.1.definer l) parts.0 in
+            let one : i ≡ k.0.0.0 = one_property i k.0.0.0 p.0 k.0.1 p.1 k.1 names (or_left _ _ here) in
+            let row : p.0 ≡ k.0.1 = same_Some p.0 k.0.1 (sym p.1 ∙ ap (λ z. get m.props (prop_id z)) one ∙ k.1) in
+            absurd (both_ways (is_among d l) not_again (ap (λ z. is_among z l) (sym p.2 ∙ ap (λ (z : PropRow). z.definer) row) ∙ parts.0))
+
+    apart : AllByRecursion (λ p. AllByRecursion (λ q. same_text (folded p.1) (folded q.1) ≡ false) (owed_by w l)) (defined_by w d)
+    apart =
+        all_map (λ p. AllByRecursion (λ q. same_text (folded p.1) (folded q.1) ≡ false) (owed_by w l)) (λ n. (d, n)) (names_of w d)
+        (subst (AllByRecursion (λ n. AllByRecursion (λ q. same_text (folded n) (folded q.1) ≡ false) (owed_by w l))) (sym listed)
+        (all_numbers (λ a b. same_text (folded a) (folded b)) (name_on r d) (λ n. AllByRecursion (λ q. same_text (folded n) (folded q.1) ≡ false) (owed_by w l)) m.head.next_prop
+        (λ i n k e. none_any (λ q. same_text (folded n) (folded q.1)) (owed_by w l) (none_above i n e))))
+
+  names : (l : List ObjNo) (x : ObjNo) → Chain w x l → NamesDiffer (owed_by w l)
+  unfolding IsDistinct
+  names [] x c = tt
+  names (d ∷ l) x c =
+      let own : Chain w d (d ∷ l) = subst (λ z. Chain w z (d ∷ l)) c.0 c in
+      distinct_append (λ p q. same_text (folded p.1) (folded q.1)) (defined_by w d) (owed_by w l)
+      (distinct_mapped (λ p q. same_text (folded p.1) (folded q.1)) (λ n. (d, n)) (names_of w d) (own_names d l own)) (names l c.1 c.3) (apart d l own)
+
+  -- ---- slots
+
+  slots : (x : ObjNo) (l : List ObjNo) (n : Name) → is_object w x ≡ true → Chain w x l → option_map (λ s. s.definer) (slot_of w x n) ≡ option_map (λ p. p.0) (pair_named (owed_by w l) n)
+  slots x l n o c = by (slot_of w x n) refl (pair_named (owed_by w l) n) refl
+    where
+      row : (row : ObjRow) × (get m.objects x ≡ Some row)
+      row = row_there x o
+
+      by : (a : Option Slot) → slot_of w x n ≡ a → (b : Option Pair) → pair_named (owed_by w l) n ≡ b → option_map (λ s. s.definer) a ≡ option_map (λ p. p.0) b
+      by (Some s) e b f =
+          let k = slot_from r x n (row_there x o).0 (row_there x o).1 s e in
+          let h = k.1 in
+          let u = owed_row x k.0 h.row h.held in
+          let same : u.0 ≡ h.prop = same_Some u.0 h.prop (sym u.1 ∙ h.there) in
+          let among : is_among h.prop.definer l ≡ true = ap (is_among h.prop.definer) (sym (chain_is w tree x l c)) ∙ subst (λ p. is_among p.definer (chain w x) ≡ true) same u.2 in
+          let owed = owed_listed w l h.prop.definer (h.prop.definer, h.prop.name) among (defines_pair m sound k.0 h.prop h.there) in
+          let found : pair_named (owed_by w l) n ≡ Some (h.prop.definer, h.prop.name) = ap (pair_named (owed_by w l)) (sym h.name) ∙ named_is (owed_by w l) (h.prop.definer, h.prop.name) (names l x c) owed in
+          ap (λ z. Some z.definer) k.2 ∙ ap (option_map (λ (p : Pair). p.0)) (sym found ∙ f)
+      by None e None f = refl
+      by None e (Some q) f =
+          let named : folded q.1 ≡ n = named_so (owed_by w l) n q f in
+          let any = found_among (λ k. same_text (folded k.1) n) (λ k. same_text (folded k.1) n) (owed_by w l) q ((same_text-Decides (folded q.1) n).1 named) f in
+          let k = one_passing (λ e. get m.props e.0 ≡ Some e.1) (λ e. is_among e.1.definer l && same_text (folded e.1.name) n) (entries m.props) (entries_held m sound)
+          (sym (any_owed m sound (λ k. same_text (folded k.1) n) l) ∙ any) in
+          let parts = and_parts (is_among k.0.1.definer l) (same_text (folded k.0.1.name) n) k.2 in
+          let among : is_among k.0.1.definer (chain w x) ≡ true = ap (is_among k.0.1.definer) (chain_is w tree x l c) ∙ parts.0 in
+          let owed : unwrap_or (option_map (λ p. is_among p.definer (chain w x)) (get m.props k.0.0)) false ≡ true = ap (λ o. unwrap_or (option_map (λ (p : PropRow). is_among p.definer (chain w x)) o) false) k.1 ∙ among in
+          let s = there (unwrap_or (option_map (λ p. is_among p.definer (chain w x)) (get m.props k.0.0)) false) (get m.slots (x, k.0.0)) (get m.slots (x, k.0.0)) refl owed (clean.slots.there x (row_there x o).0 (row_there x o).1 k.0.0 k.0.1 k.1) in
+          let h : SlotHere r x n k.0.0.0 = record { prop = k.0.1; row = s.0; there = k.1; held = s.1; name = (same_text-Decides (folded k.0.1.name) n).0 parts.1 } in
+          absurd (no_slot_from r x n (row_there x o).0 (row_there x o).1 e k.0.0.0 (below k.0.0.0 m.head.next_prop (clean.numbers.props k.0.0 k.0.1 k.1)) h)
+        where
+          there : {S : Type 0} (a : Bool) (o p : Option S) → p ≡ o → a ≡ true → (a && not (is_some o)) ≡ false → (s : S) × (p ≡ Some s)
+          there true None p g h k = absurd (false≢true (sym k))
+          there true (Some s) p g h k = (s, g)
+          there false o p g h k = absurd (false≢true h)
+
+  slot_object : (x : ObjNo) (n : Name) (s : Slot) → slot_of w x n ≡ Some s → is_object w x ≡ true
+  slot_object x n s e = by (w.object x) e
+    where
+      by : (o : Option Record) → option_and_then (λ (k : Record). k.slot n) o ≡ Some s → is_some o ≡ true
+      by None k = absurd (none-some s k)
+      by (Some k) h = refl
+
+  set : (x : ObjNo) (n : Name) (s : Slot) → slot_of w x n ≡ Some s → s.definer ≡ x → s.state ≢ Clear
+  set x n s e d h =
+      let row = row_there x (slot_object x n s e) in
+      let k = slot_from r x n row.0 row.1 s e in
+      let clear : is_clear k.1.row.state ≡ true = ap is_clear (sym (ap (λ (z : Slot). z.state) k.2) ∙ h) in
+      let own : k.1.prop.definer ≡ x = sym (ap (λ (z : Slot). z.definer) k.2) ∙ d in
+      let defined : unwrap_or (option_map (λ (p : PropRow). same_object p.definer x) (get m.props (prop_id k.0))) false ≡ true = ap (λ o. unwrap_or (option_map (λ (p : PropRow). same_object p.definer x) o) false) k.1.there ∙ (same_object-Decides k.1.prop.definer x).1 own in
+      both_ways (is_clear_definer m (x, prop_id k.0) k.1.row) (clean.slots.set (x, prop_id k.0) k.1.row k.1.held) (both_true _ _ clear defined)
+
+  fits : (x : ObjNo) (n : Name) (s : Slot) → slot_of w x n ≡ Some s → slot_fits s ≡ true
+  fits x n s e =
+      let row = row_there x (slot_object x n s e) in
+      let k = slot_from r x n row.0 row.1 s e in
+      ap slot_fits k.2 ∙ fit.slots (x, prop_id k.0) k.1.row k.1.held
+
+  pub good : IsGood m
+  good = record {
+    sound = sound;
+    formed = record { tree = tree; names = λ x l c. names l x c; slots = slots; set = set; fit = fits; limits = limits_seen m fit };
+  }

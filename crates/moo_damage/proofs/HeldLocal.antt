@@ -1,0 +1,125 @@
+-- Slots that are just those that are owed, with names apart, hold locally.
+use Rattle.std.proofs.Common.{◌≡◌, ◌<◌, ◌≤◌, Bool, true, false, ◌||◌, ◌&&◌, Option, None, Some, List, [], ◌∷◌, refl, sym, ap, ◌∙◌, subst, ◌⊎◌, inl, inr, arith}
+use Rattle.std.specs.Prelude.{nat_lt, not, is_some, unwrap_or}
+use Rattle.std.specs.Option.{option_map}
+use Rattle.std.specs.FinMap.{get, entries, get-entries}
+use Rattle.std.proofs.lemmas.Bool.{false≢true, both_ways, or_cases, or_left, or_right, cases_lt}
+use Rattle.std.proofs.lemmas.Bool.Decides.{nat_tests}
+use Rattle.std.proofs.lemmas.Option.{none-some, same_Some}
+use Rattle.moo_value.specs.declared.value.ObjNo.{ObjNo}
+use Rattle.moo_rows.specs.declared.row.ObjRow.{ObjRow}
+use Rattle.moo_rows.specs.declared.row.PropId.{PropId}
+use Rattle.moo_rows.specs.declared.row.PropRow.{PropRow}
+use Rattle.moo_rows.specs.Exact.{prop_exact}
+use Rattle.moo_rows.specs.Maps.{Maps, prop_cmp}
+use Rattle.moo_rows.proofs.Orders.{prop_total}
+use Rattle.moo_world.specs.Objects.{same_object, folded, is_among, same_object-Decides, same_text-Decides}
+use Rattle.moo_world.specs.Rows.{look_ups, world_of}
+use Rattle.moo_world.specs.World.{World, IsTree, Chain, is_object, parent_of, chain}
+use Rattle.moo_world.proofs.PairLists.{some_of}
+use Rattle.moo_world.proofs.Seen.{is_object_seen}
+use Rattle.moo_world.proofs.Trees.{Chain-chain, chain_is, chain_of_none, no_parent}
+use Rattle.moo_props.specs.Names.{defines}
+use Rattle.moo_props.proofs.Walked.{any_held}
+use Rattle.moo_damage.specs.declared.trees.Link.TheVariants.{Parent}
+use Rattle.moo_damage.specs.Damage.{link_of, lacks_definer, share_name, is_double}
+use Rattle.moo_damage.specs.Local.{has_slot, comes_down, AreLocal, SlotsHold}
+use Rattle.moo_damage.proofs.Apart.{both_true}
+use Rattle.moo_damage.proofs.Good.{parents_seen}
+
+not_false : (b : Bool) → not b ≡ false → b ≡ true
+not_false true e = refl
+not_false false e = absurd (false≢true (sym e))
+
+module _ (m : Maps) (t : IsTree (world_of m)) (ids : (id : PropId) (p : PropRow) → get m.props id ≡ Some p → 0 < id.0) (definers : (id : PropId) (p : PropRow) → get m.props id ≡ Some p → lacks_definer m p ≡ false) (h : SlotsHold m) where
+  abbrev w : World
+  w = world_of m
+
+  row_at : (x : ObjNo) → is_object w x ≡ true → (row : ObjRow) × (get m.objects x ≡ Some row)
+  row_at x o = some_of (get m.objects x) (sym (is_object_seen (look_ups m) x) ∙ o)
+
+  chain_object : (x d : ObjNo) → is_among d (chain w x) ≡ true → is_object w x ≡ true
+  chain_object x d a = by (is_object w x) refl
+    where
+      by : (b : Bool) → is_object w x ≡ b → b ≡ true
+      by true e = refl
+      by false e = absurd (false≢true (sym (ap (is_among d) (chain_of_none w x e)) ∙ a))
+
+  -- what is owed is there
+  owed_there : (x : ObjNo) (id : PropId) (p : PropRow) → get m.props id ≡ Some p → is_among p.definer (chain w x) ≡ true → has_slot m x id ≡ true
+  owed_there x id p e a =
+      let row = row_at x (chain_object x p.definer a) in
+      let owed : unwrap_or (option_map (λ (p : PropRow). is_among p.definer (chain w x)) (get m.props id)) false ≡ true = ap (λ o. unwrap_or (option_map (λ (p : PropRow). is_among p.definer (chain w x)) o) false) e ∙ a in
+      not_false (has_slot m x id) (ap (λ b. b && not (has_slot m x id)) (sym owed) ∙ h.there x row.0 row.1 id p e)
+
+  -- what is there is owed
+  there_owed : (x : ObjNo) (id : PropId) → has_slot m x id ≡ true → (p : PropRow) × (get m.props id ≡ Some p) × (is_among p.definer (chain w x) ≡ true)
+  there_owed x id e =
+      let s = some_of (get m.slots (x, id)) e in
+      by (get m.props id) refl (not_false _ (h.owed (x, id) s.0 s.1))
+    where
+      by : (o : Option PropRow) → get m.props id ≡ o → unwrap_or (option_map (λ (p : PropRow). is_among p.definer (chain w x)) o) false ≡ true → (p : PropRow) × (get m.props id ≡ Some p) × (is_among p.definer (chain w x) ≡ true)
+      by None g k = absurd (false≢true k)
+      by (Some p) g k = (p, g, k)
+
+  -- one step up
+  step : (x : ObjNo) (row : ObjRow) → get m.objects x ≡ Some row → chain w x ≡ x ∷ chain w row.parent
+  step x row e = first (chain w x) (Chain-chain w t x (is_object_seen (look_ups m) x ∙ ap is_some e))
+    where
+      up : parent_of w x ≡ Some row.parent
+      up = ap (λ (f : ObjNo → Option ObjNo). f x) (parents_seen m) ∙ ap (option_map (link_of Parent)) e
+
+      first : (l : List ObjNo) → Chain w x l → l ≡ x ∷ chain w row.parent
+      first [] p = absurd (none-some row.parent (sym (no_parent w t) ∙ sym (ap (parent_of w) p) ∙ up))
+      first (y ∷ l) p =
+          let same : p.1 ≡ row.parent = same_Some p.1 row.parent (sym p.2 ∙ up) in
+          let rest : l ≡ chain w row.parent = sym (chain_is w t row.parent l (subst (λ n. Chain w n l) same p.3)) in
+          λ i. sym p.0 i ∷ rest i
+
+  own_chain : (x : ObjNo) (row : ObjRow) → get m.objects x ≡ Some row → is_among x (chain w x) ≡ true
+  own_chain x row e = ap (is_among x) (step x row e) ∙ or_left (same_object x x) (is_among x (chain w row.parent)) ((same_object-Decides x x).1 refl)
+
+  from_slot : (x : ObjNo) (id : PropId) → has_slot m x id ≡ true → comes_down m (x, id) ≡ true
+  from_slot x id e =
+      let k = there_owed x id e in
+      let r = row_at x (chain_object x k.0.definer k.2) in
+      ap (λ o. unwrap_or (option_map (λ (row : ObjRow). defines m x id || has_slot m row.parent id) o) false) r.1
+      ∙ by k.0 k.1 r.0 (or_cases (same_object k.0.definer x) (is_among k.0.definer (chain w r.0.parent)) (sym (ap (is_among k.0.definer) (step x r.0 r.1)) ∙ k.2))
+    where
+      by : (p : PropRow) → get m.props id ≡ Some p → (row : ObjRow) → (same_object p.definer x ≡ true) ⊎ (is_among p.definer (chain w row.parent) ≡ true) → (defines m x id || has_slot m row.parent id) ≡ true
+      by p f row (inl s) = or_left (defines m x id) (has_slot m row.parent id) (ap (λ o. unwrap_or (option_map (λ (p : PropRow). same_object p.definer x) o) false) f ∙ s)
+      by p f row (inr a) = or_right (defines m x id) (has_slot m row.parent id) (owed_there row.parent id p f a)
+
+  down_slot : (x : ObjNo) (row : ObjRow) → get m.objects x ≡ Some row → (id : PropId) → has_slot m row.parent id ≡ true → has_slot m x id ≡ true
+  down_slot x row e id u =
+      let k = there_owed row.parent id u in
+      owed_there x id k.0 k.1 (ap (is_among k.0.definer) (step x row e) ∙ or_right (same_object k.0.definer x) (is_among k.0.definer (chain w row.parent)) k.2)
+
+  double_at : (i j : PropId) (p q : PropRow) → get m.props i ≡ Some p → get m.props j ≡ Some q → i.0 < j.0 → share_name w q p ≡ true → ⊥
+  double_at i j p q f g l s =
+      let less : nat_lt i.0 j.0 ≡ true = grind (arith, nat_tests) in
+      both_ways (is_double m j q) (h.names j q g)
+      (any_held prop_cmp prop_total prop_exact (λ e. nat_lt e.0.0 j.0 && share_name w q e.1) i p (entries m.props) (sym (get-entries m.props i) ∙ f) (both_true (nat_lt i.0 j.0) (share_name w q p) less s))
+
+  apart : (i j : PropId) (p q : PropRow) → get m.props i ≡ Some p → get m.props j ≡ Some q → has_slot m p.definer j ≡ true → folded p.name ≡ folded q.name → i ≡ j
+  apart i j p q f g u n =
+      let k = there_owed p.definer j u in
+      let a : is_among q.definer (chain w p.definer) ≡ true = subst (λ (z : PropRow). is_among z.definer (chain w p.definer) ≡ true) (same_Some k.0 q (sym k.1 ∙ g)) k.2 in
+      let number : i.0 ≡ j.0 = by a (cases_lt i.0 j.0) (cases_lt j.0 i.0) in
+      λ z. record { 0 = number z }
+    where
+      by : is_among q.definer (chain w p.definer) ≡ true → (i.0 < j.0) ⊎ (j.0 ≤ i.0) → (j.0 < i.0) ⊎ (i.0 ≤ j.0) → i.0 ≡ j.0
+      by a (inl l) r = absurd (double_at i j p q f g l (both_true _ _ ((same_text-Decides (folded q.name) (folded p.name)).1 (sym n)) (or_right (is_among p.definer (chain w q.definer)) (is_among q.definer (chain w p.definer)) a)))
+      by a (inr l) (inl r) = absurd (double_at j i q p g f r (both_true _ _ ((same_text-Decides (folded p.name) (folded q.name)).1 n) (or_left (is_among q.definer (chain w p.definer)) (is_among p.definer (chain w q.definer)) a)))
+      by a (inr l) (inr r) = omega arith
+
+  pub are_local : AreLocal m
+  are_local = record {
+    numbered = ids;
+    own = λ id p e.
+        let r = row_at p.definer (not_false _ (definers id p e)) in
+        owed_there p.definer id p e (own_chain p.definer r.0 r.1);
+    from = λ key s e. from_slot key.0 key.1 (ap is_some e);
+    down = λ x row e id low u. down_slot x row e id u;
+    apart = apart;
+  }

@@ -1,0 +1,48 @@
+-- The first slot that is missing, as the least key at which one is.
+use Rattle.std.proofs.Common.{◌≡◌, Bool, true, false, Option, None, Some, Less, sym, ap, subst, inl, inr}
+use Rattle.std.specs.Prelude.{◌<ℤ◌, not, pos, is_some, unwrap_or, ◌⊎◌}
+use Rattle.std.specs.Cmp.{int_cmp_is}
+use Rattle.std.specs.Option.{option_map}
+use Rattle.std.specs.FinMap.{get}
+use Rattle.std.proofs.lemmas.Bool.{false≢true, and_parts, both_ways}
+use Rattle.moo_value.specs.declared.value.ObjNo.{ObjNo}
+use Rattle.moo_rows.specs.declared.row.PropId.{PropId}
+use Rattle.moo_rows.specs.declared.row.PropRow.{PropRow}
+use Rattle.moo_rows.specs.Maps.{Maps}
+use Rattle.moo_world.specs.Objects.{is_among}
+use Rattle.moo_world.specs.Rows.{world_of}
+use Rattle.moo_world.specs.World.{chain}
+use Rattle.moo_world.proofs.PairLists.{some_of}
+use Rattle.moo_damage.specs.declared.kind.Key.TheVariants.{Slot}
+use Rattle.moo_damage.specs.declared.kind.Kind.TheVariants.{MissingSlot}
+use Rattle.moo_damage.specs.Damage.{is_owed, is_missing}
+use Rattle.moo_damage.specs.Kinds.{AtSlot, InRows, IsLeast}
+use Rattle.moo_damage.specs.Missing.{IsFirstMissing, Misses}
+use Rattle.moo_damage.proofs.Least.{least_slot, number_less}
+
+mapped_some : {A : Type 0} (o : Option A) (f : A → Bool) → unwrap_or (option_map f o) false ≡ true → is_some o ≡ true
+mapped_some None f e = absurd (false≢true e)
+mapped_some (Some a) f e = λ i. true
+
+module _ (m : Maps) where
+  -- the property of a missing slot is there
+  pub owed_prop : (key : ObjNo × PropId) → is_missing m key ≡ true → is_some (get m.props key.1) ≡ true
+  owed_prop key e = mapped_some (get m.props key.1) (λ (p : PropRow). is_among p.definer (chain (world_of m) key.0)) (and_parts (is_owed m key) (not (is_some (get m.slots key))) e).0
+
+  none_of : (x : ObjNo) → Misses m x None → (id : PropId) → ¬ (is_missing m (x, id) ≡ true)
+  none_of x f id e = let p = some_of (get m.props id) (owed_prop (x, id) e) in both_ways (is_missing m (x, id)) (f id p.0 p.1) e
+
+  pub none_missing : IsFirstMissing m None → (key : ObjNo × PropId) → ¬ (AtSlot m MissingSlot key)
+  none_missing f key h = let row = some_of (get m.objects key.0) h.0 in none_of key.0 (f key.0 row.0 row.1) key.1 h.1
+
+  pub missing_first : (key : ObjNo × PropId) → IsFirstMissing m (Some key) → IsLeast (InRows m MissingSlot) (Some (Slot key.0.0 (pos key.1.0)))
+  missing_first key f = least_slot m MissingSlot key (λ x h. h) (λ id h. h) (ap is_some f.1, f.2.2) by
+    where
+      by : (k : ObjNo × PropId) → (k.0.0 <ℤ key.0.0) ⊎ ((k.0.0 ≡ key.0.0) × (pos k.1.0 <ℤ pos key.1.0)) → ¬ (AtSlot m MissingSlot k)
+      by k (inl l) h =
+          let row = some_of (get m.objects k.0) h.0 in
+          none_of k.0 (f.3 k.0 row.0 (sym (int_cmp_is k.0.0 key.0.0 Less l)) row.1) k.1 h.1
+      by k (inr l) h =
+          let p = some_of (get m.props k.1) (owed_prop k h.1) in
+          let same : k.0 ≡ key.0 = λ i. record { 0 = l.0 i } in
+          both_ways (is_missing m (key.0, k.1)) (f.2.3 k.1 p.0 (number_less k.1.0 key.1.0 l.1) p.1) (subst (λ z. is_missing m (z, k.1) ≡ true) same h.1)

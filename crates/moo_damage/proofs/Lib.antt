@@ -1,0 +1,17 @@
+pub mod Firsts
+pub mod Ending
+pub mod Apart
+pub mod Naming
+pub mod Good
+pub mod Clean
+pub mod Locally
+pub mod Nearby
+pub mod HeldLocal
+pub mod InTurn
+pub mod Least
+pub mod Unlike
+pub mod Told
+pub mod Lacking
+pub mod Differing
+pub mod Soundly
+pub mod Searched

@@ -1,0 +1,137 @@
+-- Slots that hold locally are just those that are owed, and their names are apart.
+use Rattle.std.proofs.Common.{◌≡◌, ◌<◌, Bool, true, false, ◌||◌, ◌&&◌, Option, None, Some, List, [], ◌∷◌, refl, sym, ap, ◌∙◌, subst, ◌⊎◌, inl, inr, arith}
+use Rattle.std.specs.Prelude.{nat_lt, not, is_some, unwrap_or}
+use Rattle.std.specs.Option.{option_map}
+use Rattle.std.specs.FinMap.{get, entries}
+use Rattle.std.proofs.lemmas.Bool.{false≢true, and_parts, or_cases, or_left, or_right}
+use Rattle.std.proofs.lemmas.Bool.Decides.{nat_tests}
+use Rattle.std.proofs.lemmas.Option.{none-some, same_Some}
+use Rattle.moo_value.specs.declared.value.ObjNo.{ObjNo}
+use Rattle.moo_rows.specs.declared.row.ObjRow.{ObjRow}
+use Rattle.moo_rows.specs.declared.row.PropId.{PropId}
+use Rattle.moo_rows.specs.declared.row.PropRow.{PropRow}
+use Rattle.moo_rows.specs.Exact.{prop_exact}
+use Rattle.moo_rows.specs.Maps.{Maps}
+use Rattle.moo_rows.proofs.Orders.{prop_total}
+use Rattle.moo_world.specs.Objects.{same_object, same_text, folded, is_among, same_object-Decides, same_text-Decides}
+use Rattle.moo_world.specs.Rows.{look_ups, world_of}
+use Rattle.moo_world.specs.World.{World, IsTree, Chain, is_object, parent_of, chain}
+use Rattle.moo_world.proofs.PairLists.{some_of}
+use Rattle.moo_world.proofs.Seen.{is_object_seen}
+use Rattle.moo_world.proofs.Trees.{Chain-chain, chain_of_none, nothing_is_no_object}
+use Rattle.moo_props.specs.Names.{defines}
+use Rattle.moo_damage.specs.declared.trees.Link.TheVariants.{Parent}
+use Rattle.moo_damage.specs.Damage.{link_of, share_name, is_double}
+use Rattle.moo_damage.specs.Local.{has_slot, AreLocal, SlotsHold}
+use Rattle.moo_damage.proofs.Apart.{one_passing}
+use Rattle.moo_damage.proofs.Firsts.{held_entries}
+use Rattle.moo_damage.proofs.Good.{parents_seen}
+
+module _ (m : Maps) (t : IsTree (world_of m)) (h : AreLocal m) where
+  abbrev w : World
+  w = world_of m
+
+  object_there : (x : ObjNo) (row : ObjRow) → get m.objects x ≡ Some row → is_object w x ≡ true
+  object_there x row e = is_object_seen (look_ups m) x ∙ ap is_some e
+
+  parent_there : (x : ObjNo) (row : ObjRow) → get m.objects x ≡ Some row → parent_of w x ≡ Some row.parent
+  parent_there x row e = ap (λ (f : ObjNo → Option ObjNo). f x) (parents_seen m) ∙ ap (option_map (link_of Parent)) e
+
+  -- the row of an object whose parent is known
+  row_with : (x p : ObjNo) → parent_of w x ≡ Some p → (row : ObjRow) × (get m.objects x ≡ Some row) × (row.parent ≡ p)
+  row_with x p e = by (get m.objects x) refl (sym (ap (λ (f : ObjNo → Option ObjNo). f x) (parents_seen m)) ∙ e)
+    where
+      by : (o : Option ObjRow) → get m.objects x ≡ o → option_map (link_of Parent) o ≡ Some p → (row : ObjRow) × (get m.objects x ≡ Some row) × (row.parent ≡ p)
+      by None g k = absurd (none-some p k)
+      by (Some row) g k = (row, g, same_Some row.parent p k)
+
+  chain_object : (x d : ObjNo) → is_among d (chain w x) ≡ true → is_object w x ≡ true
+  chain_object x d a = by (is_object w x) refl
+    where
+      by : (b : Bool) → is_object w x ≡ b → b ≡ true
+      by true e = refl
+      by false e = absurd (false≢true (sym (ap (is_among d) (chain_of_none w x e)) ∙ a))
+
+  abbrev Owed : List ObjNo → PropId → Type 0
+  Owed l id = (p : PropRow) × (get m.props id ≡ Some p) × (is_among p.definer l ≡ true)
+
+  -- a slot's object is there, and defines the property, or the parent has a slot of it
+  at_slot : (x : ObjNo) (id : PropId) → has_slot m x id ≡ true → (row : ObjRow) × (get m.objects x ≡ Some row) × ((defines m x id || has_slot m row.parent id) ≡ true)
+  at_slot x id e =
+      let s = some_of (get m.slots (x, id)) e in
+      by (get m.objects x) refl (h.from (x, id) s.0 s.1)
+    where
+      by : (o : Option ObjRow) → get m.objects x ≡ o → unwrap_or (option_map (λ (row : ObjRow). defines m x id || has_slot m row.parent id) o) false ≡ true → (row : ObjRow) × (get m.objects x ≡ Some row) × ((defines m x id || has_slot m row.parent id) ≡ true)
+      by None g k = absurd (false≢true k)
+      by (Some row) g k = (row, g, k)
+
+  defined : (x : ObjNo) (id : PropId) → defines m x id ≡ true → (p : PropRow) × (get m.props id ≡ Some p) × (p.definer ≡ x)
+  defined x id e = by (get m.props id) refl e
+    where
+      by : (o : Option PropRow) → get m.props id ≡ o → unwrap_or (option_map (λ (p : PropRow). same_object p.definer x) o) false ≡ true → (p : PropRow) × (get m.props id ≡ Some p) × (p.definer ≡ x)
+      by None g k = absurd (false≢true k)
+      by (Some p) g k = (p, g, (same_object-Decides p.definer x).0 k)
+
+  -- climbing: the property of a slot is owed
+  slot_owed : (l : List ObjNo) (x : ObjNo) (id : PropId) → Chain w x l → has_slot m x id ≡ true → Owed l id
+  slot_owed [] x id c e =
+      let k = at_slot x id e in
+      absurd (false≢true (sym (nothing_is_no_object w t) ∙ sym (ap (is_object w) c) ∙ object_there x k.0 k.1))
+  slot_owed (y ∷ l) x id c e = by (at_slot x id e) (slot_owed l c.1 id c.3)
+    where
+      by : (row : ObjRow) × (get m.objects x ≡ Some row) × ((defines m x id || has_slot m row.parent id) ≡ true) → (has_slot m c.1 id ≡ true → Owed l id) → Owed (y ∷ l) id
+      by k rec = elim (or_cases (defines m x id) (has_slot m k.0.parent id) k.2) [
+        | inl d ↦
+            let p = defined x id d in
+            (p.0, p.1, or_left (same_object p.0.definer y) (is_among p.0.definer l) ((same_object-Decides p.0.definer y).1 (p.2 ∙ c.0)))
+        | inr u ↦
+            let same : k.0.parent ≡ c.1 = same_Some k.0.parent c.1 (sym (parent_there x k.0 k.1) ∙ c.2) in
+            let p = rec (subst (λ z. has_slot m z id ≡ true) same u) in
+            (p.0, p.1, or_right (same_object p.0.definer y) (is_among p.0.definer l) p.2)
+      ]
+
+  -- descending: of a property that is owed there is a slot
+  owed_slot : (l : List ObjNo) (x : ObjNo) (id : PropId) (p : PropRow) → get m.props id ≡ Some p → Chain w x l → is_among p.definer l ≡ true → has_slot m x id ≡ true
+  owed_slot [] x id p f c a = absurd (false≢true a)
+  owed_slot (y ∷ l) x id p f c a = by (or_cases (same_object p.definer y) (is_among p.definer l) a) (owed_slot l c.1 id p f c.3)
+    where
+      by : (same_object p.definer y ≡ true) ⊎ (is_among p.definer l ≡ true) → (is_among p.definer l ≡ true → has_slot m c.1 id ≡ true) → has_slot m x id ≡ true
+      by (inl k) rec = subst (λ z. has_slot m z id ≡ true) ((same_object-Decides p.definer y).0 k ∙ sym c.0) (h.own id p f)
+      by (inr k) rec =
+          let r = row_with x c.1 c.2 in
+          h.down x r.0 r.1 id (h.numbered id p f) (subst (λ z. has_slot m z id ≡ true) (sym r.2) (rec k))
+
+  in_chain : (x : ObjNo) (id : PropId) (p : PropRow) → get m.props id ≡ Some p → is_among p.definer (chain w x) ≡ true → has_slot m x id ≡ true
+  in_chain x id p f a = owed_slot (chain w x) x id p f (Chain-chain w t x (chain_object x p.definer a)) a
+
+  not_double : (id : PropId) (p : PropRow) → get m.props id ≡ Some p → (b : Bool) → is_double m id p ≡ b → b ≡ false
+  not_double id p e false g = refl
+  not_double id p e true g =
+      let k = one_passing (λ e. get m.props e.0 ≡ Some e.1) (λ e. nat_lt e.0.0 id.0 && share_name w p e.1) (entries m.props) (held_entries (λ (i : PropId) (r : PropRow). ⊥) (λ (i : PropId) (r : PropRow). ⊥) prop_total prop_exact m.props) g in
+      let parts = and_parts (nat_lt k.0.0.0 id.0) (share_name w p k.0.1) k.2 in
+      let more = and_parts (same_text (folded p.name) (folded k.0.1.name)) (is_among k.0.1.definer (chain w p.definer) || is_among p.definer (chain w k.0.1.definer)) parts.1 in
+      let names = (same_text-Decides (folded p.name) (folded k.0.1.name)).0 more.0 in
+      let one : id ≡ k.0.0 = elim (or_cases (is_among k.0.1.definer (chain w p.definer)) (is_among p.definer (chain w k.0.1.definer)) more.1) [
+        | inl a ↦ h.apart id k.0.0 p k.0.1 e k.1 (in_chain p.definer k.0.0 k.0.1 k.1 a) names
+        | inr a ↦ sym (h.apart k.0.0 id k.0.1 p k.1 e (in_chain k.0.1.definer id p e a) (sym names))
+      ] in
+      let same : id.0 ≡ k.0.0.0 = ap (λ (z : PropId). z.0) one in
+      let less : k.0.0.0 < id.0 = grind (arith, nat_tests, parts.0) in
+      absurd (omega (arith, same, less))
+
+  not_missing : (x : ObjNo) (id : PropId) (p : PropRow) → get m.props id ≡ Some p → (b : Bool) → is_among p.definer (chain w x) ≡ b → (b && not (has_slot m x id)) ≡ false
+  not_missing x id p e false g = refl
+  not_missing x id p e true g = ap not (in_chain x id p e g)
+
+  not_strange : (x : ObjNo) (id : PropId) → has_slot m x id ≡ true → not (unwrap_or (option_map (λ (p : PropRow). is_among p.definer (chain w x)) (get m.props id)) false) ≡ false
+  not_strange x id e =
+      let r = at_slot x id e in
+      let k = slot_owed (chain w x) x id (Chain-chain w t x (object_there x r.0 r.1)) e in
+      ap not (ap (λ o. unwrap_or (option_map (λ (p : PropRow). is_among p.definer (chain w x)) o) false) k.1 ∙ k.2)
+
+  pub slots_hold : SlotsHold m
+  slots_hold = record {
+    names = λ id p e. not_double id p e (is_double m id p) refl;
+    owed = λ key s e. not_strange key.0 key.1 (ap is_some e);
+    there = λ x row o id p e. ap (λ b. unwrap_or (option_map (λ (q : PropRow). is_among q.definer (chain w x)) b) false && not (is_some (get m.slots (x, id)))) e ∙ not_missing x id p e (is_among p.definer (chain w x)) refl;
+  }

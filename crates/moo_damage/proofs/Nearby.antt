@@ -1,0 +1,93 @@
+-- What the tests of all rows say of each.
+use Rattle.std.proofs.Common.{◌≡◌, ℕ, ◌<◌, Bool, true, false, ◌&&◌, ◌||◌, cond, Some, List, [], ◌∷◌, Ordering, Less, refl, sym, ap, ◌∙◌, arith}
+use Rattle.std.specs.Prelude.{not, unwrap_or, nat_eq}
+use Rattle.std.specs.Cmp.{IsTotalOrder, tied_itself, nat_cmp_is}
+use Rattle.std.specs.Option.{option_map}
+use Rattle.std.specs.Ordering.{is_lt, int_eq, ordering_then}
+use Rattle.std.specs.List.{list_any, filter}
+use Rattle.std.specs.FinMap.{FinMap, get, entries, get-entries}
+use Rattle.std.proofs.lemmas.Bool.{false≢true, both_ways}
+use Rattle.std.proofs.lemmas.Bool.Decides.{Decides-int_eq, nat_tests}
+use Rattle.std.proofs.lemmas.Map.Lookups.{CmpEqualImpliesEq}
+use Rattle.moo_value.specs.declared.value.ObjNo.{ObjNo}
+use Rattle.moo_rows.specs.declared.row.PropId.{PropId}
+use Rattle.moo_rows.specs.declared.row.PropRow.{PropRow}
+use Rattle.moo_rows.specs.declared.row.SlotRow.{SlotRow}
+use Rattle.moo_rows.specs.Exact.{object_exact, prop_exact, slot_exact}
+use Rattle.moo_rows.specs.Maps.{Maps, prop_cmp, slot_cmp}
+use Rattle.moo_rows.specs.Walk.{slots_of_left, is_past}
+use Rattle.moo_rows.proofs.Orders.{object_total, prop_total, slot_total}
+use Rattle.moo_world.specs.Objects.{same_text, folded, same_text-Decides}
+use Rattle.moo_world.proofs.PairLists.{some_of}
+use Rattle.moo_props.proofs.Walked.{any_held}
+use Rattle.moo_damage.specs.Local.{has_slot, comes_down, is_named_as, is_named_again, lacks_one_of, AreLocal}
+
+not_false : (b : Bool) → not b ≡ false → b ≡ true
+not_false true e = refl
+not_false false e = absurd (false≢true (sym e))
+
+-- where none passes, no row does
+none_held : {K X : Type 0} (cmp : K → K → Ordering) (total : IsTotalOrder cmp) (exact : CmpEqualImpliesEq cmp) (rows : FinMap cmp X) (test : K × X → Bool) (k : K) (v : X) → get rows k ≡ Some v → list_any test (entries rows) ≡ false → test (k, v) ≡ false
+none_held cmp total exact rows test k v e h = by (test (k, v)) refl
+  where
+    by : (b : Bool) → test (k, v) ≡ b → b ≡ false
+    by false g = refl
+    by true g = absurd (both_ways (list_any test (entries rows)) h (any_held cmp total exact test k v (entries rows) (sym (get-entries rows k) ∙ e) g))
+
+pub any_filtered : {A : Type 0} (p test : A → Bool) (l : List A) → list_any p (filter test l) ≡ list_any (λ a. test a && p a) l
+any_filtered p test [] = refl
+any_filtered p test (x ∷ l) = by (test x) (any_filtered p test l)
+  where
+    by : (b : Bool) → list_any p (filter test l) ≡ list_any (λ a. test a && p a) l → list_any p (cond b (x ∷ filter test l) (filter test l)) ≡ ((b && p x) || list_any (λ a. test a && p a) l)
+    by true r = ap (λ b. p x || b) r
+    by false r = r
+
+module _ (m : Maps) where
+  -- where none of the slots of x passes, no slot of x does
+  none_walked : (x : ObjNo) (test : (ObjNo × PropId) × SlotRow → Bool) (id : PropId) (s : SlotRow) → 0 < id.0 → get m.slots (x, id) ≡ Some s → list_any test (slots_of_left x (record { 0 = 0 }) m) ≡ false → test ((x, id), s) ≡ false
+  none_walked x test id s low e h =
+      sym (λ i. past i && (own i && test ((x, id), s)))
+      ∙ none_held slot_cmp slot_total slot_exact m.slots (λ e. is_past slot_cmp (Some (x, record { 0 = 0 })) e.0 && (int_eq e.0.0.0 x.0 && test e)) (x, id) s e
+      (sym (any_filtered test (λ e. int_eq e.0.0.0 x.0) _
+      ∙ any_filtered (λ e. int_eq e.0.0.0 x.0 && test e) (λ e. is_past slot_cmp (Some (x, record { 0 = 0 })) e.0) (entries m.slots)) ∙ h)
+    where
+      own : int_eq x.0 x.0 ≡ true
+      own = (Decides-int_eq x.0 x.0).1 refl
+
+      past : is_past slot_cmp (Some (x, record { 0 = 0 })) (x, id) ≡ true
+      past =
+          ap (λ o. is_lt (ordering_then o (prop_cmp (record { 0 = 0 }) id))) (tied_itself object_total x)
+          ∙ ap is_lt (sym (nat_cmp_is 0 id.0 Less low))
+
+  pub local : ((id : PropId) (p : PropRow) → get m.props id ≡ Some p → 0 < id.0)
+      → list_any (λ e. not (has_slot m e.1.definer e.0)) (entries m.props) ≡ false
+      → list_any (λ e. not (comes_down m e.0)) (entries m.slots) ≡ false
+      → list_any (λ e. lacks_one_of m e.0 e.1.parent) (entries m.objects) ≡ false
+      → list_any (λ e. is_named_again m e.0 e.1) (entries m.props) ≡ false
+      → AreLocal m
+  local ids a b c d = record {
+    numbered = ids;
+    own = λ id p e. not_false (has_slot m p.definer id) (none_held prop_cmp prop_total prop_exact m.props (λ e. not (has_slot m e.1.definer e.0)) id p e a);
+    from = λ key s e. not_false (comes_down m key) (none_held slot_cmp slot_total slot_exact m.slots (λ e. not (comes_down m e.0)) key s e b);
+    down = λ x row e id low u.
+        let s = some_of (get m.slots (row.parent, id)) u in
+        not_false (has_slot m x id)
+        (none_walked row.parent (λ e. not (has_slot m x e.0.1)) id s.0 low s.1
+        (none_held _ object_total object_exact m.objects (λ e. lacks_one_of m e.0 e.1.parent) x row e c));
+    apart = λ i j p q e f u n.
+        let s = some_of (get m.slots (p.definer, j)) u in
+        by i j (nat_eq j.0 i.0) refl
+        (none_walked p.definer (λ e. not (nat_eq e.0.1.0 i.0) && is_named_as m p e.0.1) j s.0 (ids j q f) s.1
+        (none_held prop_cmp prop_total prop_exact m.props (λ e. is_named_again m e.0 e.1) i p e d))
+        (named p q j f n);
+  }
+    where
+      named : (p q : PropRow) (j : PropId) → get m.props j ≡ Some q → folded p.name ≡ folded q.name → is_named_as m p j ≡ true
+      named p q j f n = ap (λ o. unwrap_or (option_map (λ (r : PropRow). same_text (folded p.name) (folded r.name)) o) false) f ∙ (same_text-Decides (folded p.name) (folded q.name)).1 n
+
+      number : (a b : ℕ) → nat_eq a b ≡ true → b ≡ a
+      number a b e = grind (arith, nat_tests)
+
+      by : {c : Bool} (i j : PropId) (b : Bool) → nat_eq j.0 i.0 ≡ b → (not b && c) ≡ false → c ≡ true → i ≡ j
+      by i j true e h k = λ t. record { 0 = number j.0 i.0 e t }
+      by {c = c} i j false e h k = absurd (both_ways c h k)

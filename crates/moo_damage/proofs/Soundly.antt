@@ -1,0 +1,95 @@
+-- Of good rows the tests of each row and its neighbours find nothing.
+use Rattle.std.proofs.Common.{◌≡◌, Bool, true, false, ◌&&◌, Some, Ordering, refl, sym, ap, ◌∙◌, subst, arith}
+use Rattle.std.specs.Prelude.{not, is_some, unwrap_or, nat_eq}
+use Rattle.std.specs.Cmp.{IsTotalOrder}
+use Rattle.std.specs.Option.{option_map}
+use Rattle.std.specs.Ordering.{int_eq}
+use Rattle.std.specs.List.{list_any}
+use Rattle.std.specs.FinMap.{FinMap, get, entries}
+use Rattle.std.proofs.lemmas.Bool.{both_ways}
+use Rattle.std.proofs.lemmas.Bool.Decides.{Decides-int_eq, nat_tests}
+use Rattle.std.proofs.lemmas.Map.Lookups.{CmpEqualImpliesEq}
+use Rattle.moo_value.specs.declared.value.ObjNo.{ObjNo}
+use Rattle.moo_rows.specs.declared.row.PropId.{PropId}
+use Rattle.moo_rows.specs.declared.row.PropRow.{PropRow}
+use Rattle.moo_rows.specs.declared.row.SlotRow.{SlotRow}
+use Rattle.moo_rows.specs.Exact.{object_exact, prop_exact, slot_exact}
+use Rattle.moo_rows.specs.Maps.{Maps, slot_cmp}
+use Rattle.moo_rows.specs.Walk.{slots_of_left, is_past}
+use Rattle.moo_rows.proofs.Orders.{object_total, prop_total, slot_total}
+use Rattle.moo_world.specs.Objects.{same_text, folded, same_text-Decides}
+use Rattle.moo_world.specs.Rows.{IsGood}
+use Rattle.moo_world.proofs.PairLists.{some_of}
+use Rattle.moo_damage.specs.Local.{has_slot, comes_down, is_named_as, is_named_again, lacks_one_of, AreLocal}
+use Rattle.moo_damage.proofs.Apart.{one_passing}
+use Rattle.moo_damage.proofs.Clean.{clean}
+use Rattle.moo_damage.proofs.Firsts.{held_entries}
+use Rattle.moo_damage.proofs.HeldLocal.{are_local as held_local}
+use Rattle.moo_damage.proofs.Nearby.{any_filtered}
+
+-- where no row passes, none of all does
+any_none : {K X : Type 0} {cmp : K → K → Ordering} (total : IsTotalOrder cmp) (exact : CmpEqualImpliesEq cmp) (rows : FinMap cmp X) (test : K × X → Bool) → ((k : K) (v : X) → get rows k ≡ Some v → test (k, v) ≡ false) → list_any test (entries rows) ≡ false
+any_none {K = K} {X = X} total exact rows test f = by (list_any test (entries rows)) refl
+  where
+    by : (b : Bool) → list_any test (entries rows) ≡ b → b ≡ false
+    by false e = refl
+    by true e =
+        let k = one_passing (λ e. get rows e.0 ≡ Some e.1) test (entries rows) (held_entries (λ (k : K) (r : X). ⊥) (λ (k : K) (r : X). ⊥) total exact rows) e in
+        absurd (both_ways (test k.0) (f k.0.0 k.0.1 k.1) k.2)
+
+-- none of the slots of x passes where none of them does
+walk_none : (m : Maps) (x : ObjNo) (test : (ObjNo × PropId) × SlotRow → Bool) → ((id : PropId) (s : SlotRow) → get m.slots (x, id) ≡ Some s → test ((x, id), s) ≡ false) → list_any test (slots_of_left x (record { 0 = 0 }) m) ≡ false
+walk_none m x test f =
+    any_filtered test (λ e. int_eq e.0.0.0 x.0) _
+    ∙ any_filtered (λ e. int_eq e.0.0.0 x.0 && test e) (λ e. is_past slot_cmp (Some (x, record { 0 = 0 })) e.0) (entries m.slots)
+    ∙ any_none slot_total slot_exact m.slots (λ e. is_past slot_cmp (Some (x, record { 0 = 0 })) e.0 && (int_eq e.0.0.0 x.0 && test e))
+    (λ k v e. by k v e (is_past slot_cmp (Some (x, record { 0 = 0 })) k) (int_eq k.0.0 x.0) refl)
+  where
+    by : (k : ObjNo × PropId) (v : SlotRow) → get m.slots k ≡ Some v → (a b : Bool) → int_eq k.0.0 x.0 ≡ b → (a && (b && test (k, v))) ≡ false
+    by k v e false b h = refl
+    by k v e true false h = refl
+    by k v e true true h =
+        let same : k.0 ≡ x = λ i. record { 0 = (Decides-int_eq k.0.0 x.0).0 h i } in
+        let there : get m.slots (x, k.1) ≡ Some v = subst (λ z. get m.slots (z, k.1) ≡ Some v) same e in
+        subst (λ z. test ((z, k.1), v) ≡ false) (sym same) (f k.1 v there)
+
+module _ (m : Maps) (g : IsGood m) where
+  are_local : AreLocal m
+  are_local =
+      let c = clean m g in
+      held_local m g.formed.tree (λ id p e. (g.sound.props_below id.0 (ap is_some e)).0) c.props.definers
+      (record { names = c.props.names; owed = c.slots.owed; there = c.slots.there })
+
+  pub each_has_own : list_any (λ e. not (has_slot m e.1.definer e.0)) (entries m.props) ≡ false
+  each_has_own = any_none prop_total prop_exact m.props _ (λ id p e. ap not (are_local.own id p e))
+
+  pub each_comes_down : list_any (λ e. not (comes_down m e.0)) (entries m.slots) ≡ false
+  each_comes_down = any_none slot_total slot_exact m.slots _ (λ key s e. ap not (are_local.from key s e))
+
+  pub none_lacks_one : list_any (λ e. lacks_one_of m e.0 e.1.parent) (entries m.objects) ≡ false
+  none_lacks_one =
+      any_none object_total object_exact m.objects _
+      (λ x row e. walk_none m row.parent (λ e. not (has_slot m x e.0.1))
+      (λ id s h.
+      let above = (g.sound.props_below id.0 (g.sound.slots row.parent id.0 (ap is_some h)).1).0 in
+      ap not (are_local.down x row e id above (ap is_some h))))
+
+  pub none_named_again : list_any (λ e. is_named_again m e.0 e.1) (entries m.props) ≡ false
+  none_named_again =
+      any_none prop_total prop_exact m.props _
+      (λ id p e. walk_none m p.definer (λ e. not (nat_eq e.0.1.0 id.0) && is_named_as m p e.0.1)
+      (λ j s h.
+      let q = some_of (get m.props j) (g.sound.slots p.definer j.0 (ap is_some h)).1 in
+      by id p e j s h q.0 q.1 (same_text (folded p.name) (folded q.0.name)) refl))
+    where
+      by : (id : PropId) (p : PropRow) → get m.props id ≡ Some p → (j : PropId) (s : SlotRow) → get m.slots (p.definer, j) ≡ Some s → (q : PropRow) → get m.props j ≡ Some q → (b : Bool) → same_text (folded p.name) (folded q.name) ≡ b → (not (nat_eq j.0 id.0) && is_named_as m p j) ≡ false
+      by id p e j s h q f false k = ap (λ b. not (nat_eq j.0 id.0) && b) (ap (λ o. unwrap_or (option_map (λ (r : PropRow). same_text (folded p.name) (folded r.name)) o) false) f ∙ k) ∙ last (not (nat_eq j.0 id.0))
+        where
+          last : (b : Bool) → (b && false) ≡ false
+          last true = refl
+          last false = refl
+      by id p e j s h q f true k =
+          let same : id ≡ j = are_local.apart id j p q e f (ap is_some h) ((same_text-Decides (folded p.name) (folded q.name)).0 k) in
+          let number : id.0 ≡ j.0 = ap (λ (z : PropId). z.0) same in
+          let equal : nat_eq j.0 id.0 ≡ true = grind (arith, nat_tests) in
+          ap (λ b. not b && is_named_as m p j) equal

@@ -1,0 +1,11 @@
+use Rattle.std.proofs.Common.{false, ap, ◌∙◌}
+use Rattle.std.specs.Prelude.{unwrap_or}
+use Rattle.std.specs.Option.{option_map}
+use Rattle.moo_rows.specs.declared.row.PropRow.{PropRow}
+use Rattle.moo_world.specs.Objects.{same_object, same_object-eq}
+use Rattle.moo_damage.proofs.checks.defines.Goals as goal
+
+pub returns-in-Some : goal.returns-in-Some
+returns-in-Some g c =
+    c.eq.ensures ∙ same_object-eq c.in-Some.row.now.definer c.args.key.0
+    ∙ ap (λ o. unwrap_or (option_map (λ (p : PropRow). same_object p.definer c.args.key.0) o) false) c.in-Some.ensures

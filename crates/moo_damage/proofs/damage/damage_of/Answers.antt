@@ -1,0 +1,48 @@
+use Rattle.std.proofs.Common.{Option, None, Some, subst}
+use Rattle.std.specs.Prelude.{IfNone}
+use Rattle.moo_damage.specs.declared.trees.Link.TheVariants.{Parent, Place}
+use Rattle.moo_damage.specs.Damage.{LinksEnd}
+use Rattle.moo_damage.specs.Kinds.{InRows}
+use Rattle.moo_damage.proofs.Good.{tree_of, good}
+use Rattle.moo_damage.proofs.InTurn.{first_told}
+use Rattle.moo_damage.proofs.damage.damage_of.Goals as goal
+
+weaker : {T : Type 0} (o : Option T) (A B : Type 0) → (A → B) → IfNone o A → IfNone o B
+weaker None A B f a = f a
+weaker (Some x) A B f a = a
+
+pub slots_hold-hold-requires-clause-tree : goal.slots_hold-hold-requires-clause-tree
+slots_hold-hold-requires-clause-tree g c =
+    let m = (g.R.Rows.held c.args.rows.now).maps in
+    tree_of m c.in_default.ensures.given (subst (λ o. IfNone o (LinksEnd Parent m)) c.in_default-2.is c.in_ok-damage.ensures.ends)
+    (subst (λ o. IfNone o (LinksEnd Place m)) c.in_default-3.is c.in_ok-damage-2.ensures.ends)
+
+pub wrong_prop-requires-clause-tree : goal.wrong_prop-requires-clause-tree
+wrong_prop-requires-clause-tree g c =
+    let m = (g.R.Rows.held c.args.rows.now).maps in
+    tree_of m c.in_default.ensures.given (subst (λ o. IfNone o (LinksEnd Parent m)) c.in_default-2.is c.in_ok-damage.ensures.ends)
+    (subst (λ o. IfNone o (LinksEnd Place m)) c.in_default-3.is c.in_ok-damage-2.ensures.ends)
+
+pub wrong_slot-requires-clause-tree : goal.wrong_slot-requires-clause-tree
+wrong_slot-requires-clause-tree g c =
+    let m = (g.R.Rows.held c.args.rows.now).maps in
+    tree_of m c.in_default.ensures.given (subst (λ o. IfNone o (LinksEnd Parent m)) c.in_default-2.is c.in_ok-damage.ensures.ends)
+    (subst (λ o. IfNone o (LinksEnd Place m)) c.in_default-3.is c.in_ok-damage-2.ensures.ends)
+
+pub slots_hold-hold-requires-clause-numbered : goal.slots_hold-hold-requires-clause-numbered
+slots_hold-hold-requires-clause-numbered g c id p e = (c.requires.props id p e).0
+
+pub returns-clause-good : goal.returns-clause-good
+returns-clause-good g c =
+    let m = (g.R.Rows.held c.args.rows.now).maps in
+    weaker c.wrong_slot.result _ _
+    (λ slots. good m c.requires (record {
+      numbers = c.in_default.ensures.given;
+      chains = subst (λ o. IfNone o (LinksEnd Parent m)) c.in_default-2.is c.in_ok-damage.ensures.ends;
+      places = subst (λ o. IfNone o (LinksEnd Place m)) c.in_default-3.is c.in_ok-damage-2.ensures.ends;
+      props = c.in_default-wrong_prop.ensures.right;
+      slots = slots;
+    })) c.wrong_slot.ensures.right
+
+pub returns-clause-first : goal.returns-clause-first
+returns-clause-first g c = first_told (InRows ((g.R.Rows.held c.args.rows.now).maps)) 14 c.wrong_slot.result c.wrong_slot.ensures.first

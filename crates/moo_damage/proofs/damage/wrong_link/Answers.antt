@@ -1,0 +1,30 @@
+use Rattle.std.proofs.Common.{None, subst}
+use Rattle.moo_damage.specs.Kinds.{lost_kind, loop_kind, InRows, IsLeast}
+use Rattle.moo_damage.proofs.Good.{links_hold}
+use Rattle.moo_damage.proofs.InTurn.{none_more}
+use Rattle.moo_damage.proofs.Searched.{of_object, lost_least, loops_least, told, after_lost}
+use Rattle.moo_damage.proofs.damage.wrong_link.Goals as goal
+
+pub first_loop-requires : goal.first_loop-requires
+first_loop-requires g c = links_hold c.args.link (g.R.Rows.held c.args.rows.now).maps c.requires.numbers c.in_default.ensures
+
+pub returns-in-Some-clause-first : goal.returns-in-Some-clause-first
+returns-in-Some-clause-first g c =
+    let m = (g.R.Rows.held c.args.rows.now).maps in
+    let link = c.args.link in
+    told m (lost_kind link) _ _ _ c.lost.ensures c.object_key.ensures c.requires.before
+    (subst (λ o. IsLeast (InRows m (lost_kind link)) (of_object o)) c.in-Some.is (lost_least m link c.first_lost.result c.first_lost.ensures))
+
+pub returns-in-Some-2-clause-first : goal.returns-in-Some-2-clause-first
+returns-in-Some-2-clause-first g c =
+    let m = (g.R.Rows.held c.args.rows.now).maps in
+    let link = c.args.link in
+    told m (loop_kind link) _ _ _ c.loops.ensures c.object_key-in-Some-2.ensures (after_lost m link c.requires.before (lost_least m link None c.in_default.ensures))
+    (subst (λ o. IsLeast (InRows m (loop_kind link)) (of_object o)) c.in-Some-2.is (loops_least m link c.in_ok-x.field-0 c.in_ok-x.ensures))
+
+pub returns-in-None-clause-first : goal.returns-in-None-clause-first
+returns-in-None-clause-first g c =
+    let m = (g.R.Rows.held c.args.rows.now).maps in
+    let link = c.args.link in
+    none_more (InRows m) (loop_kind link) (after_lost m link c.requires.before (lost_least m link None c.in_default.ensures))
+    (subst (λ o. IsLeast (InRows m (loop_kind link)) (of_object o)) c.in-None.is (loops_least m link c.in_ok-x.field-0 c.in_ok-x.ensures))

@@ -1,0 +1,12 @@
+use Rattle.std.proofs.Common.{sym, subst}
+use Rattle.moo_rows.specs.Exact.{object_exact}
+use Rattle.moo_rows.proofs.Orders.{object_total}
+use Rattle.moo_damage.specs.Differences.{IsFirstUnlike}
+use Rattle.moo_damage.proofs.Unlike.{first_unlike}
+use Rattle.moo_damage.proofs.differences.object_differing.Goals as goal
+
+pub returns : goal.returns
+returns g c =
+    let a = (g.R.Rows.held c.args.own.now).maps.objects in
+    let b = (g.R.Rows.held c.args.found.now).maps.objects in
+    subst (IsFirstUnlike a b) (sym c.least.ensures) (first_unlike object_total object_exact a b c.object_unlike.result c.object_unlike-2.result c.object_unlike.ensures c.object_unlike-2.ensures)

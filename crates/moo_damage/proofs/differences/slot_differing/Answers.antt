@@ -1,0 +1,12 @@
+use Rattle.std.proofs.Common.{sym, subst}
+use Rattle.moo_rows.specs.Exact.{slot_exact}
+use Rattle.moo_rows.proofs.Orders.{slot_total}
+use Rattle.moo_damage.specs.Differences.{IsFirstUnlike}
+use Rattle.moo_damage.proofs.Unlike.{first_unlike}
+use Rattle.moo_damage.proofs.differences.slot_differing.Goals as goal
+
+pub returns : goal.returns
+returns g c =
+    let a = (g.R.Rows.held c.args.own.now).maps.slots in
+    let b = (g.R.Rows.held c.args.found.now).maps.slots in
+    subst (IsFirstUnlike a b) (sym c.least.ensures) (first_unlike slot_total slot_exact a b c.slot_unlike.result c.slot_unlike-2.result c.slot_unlike.ensures c.slot_unlike-2.ensures)

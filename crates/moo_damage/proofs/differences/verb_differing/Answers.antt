@@ -1,0 +1,12 @@
+use Rattle.std.proofs.Common.{sym, subst}
+use Rattle.moo_rows.specs.Exact.{verb_exact}
+use Rattle.moo_rows.proofs.Orders.{verb_total}
+use Rattle.moo_damage.specs.Differences.{IsFirstUnlike}
+use Rattle.moo_damage.proofs.Unlike.{first_unlike}
+use Rattle.moo_damage.proofs.differences.verb_differing.Goals as goal
+
+pub returns : goal.returns
+returns g c =
+    let a = (g.R.Rows.held c.args.own.now).maps.verbs in
+    let b = (g.R.Rows.held c.args.found.now).maps.verbs in
+    subst (IsFirstUnlike a b) (sym c.least.ensures) (first_unlike verb_total verb_exact a b c.verb_unlike.result c.verb_unlike-2.result c.verb_unlike.ensures c.verb_unlike-2.ensures)

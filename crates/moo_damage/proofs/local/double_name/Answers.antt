@@ -1,0 +1,4 @@
+use Rattle.moo_damage.proofs.local.double_name.Goals as goal
+
+pub returns-then-hold : goal.returns-then-hold
+returns-then-hold g c = (c.requires.hold c.if-hold.true).names

@@ -1,0 +1,29 @@
+use Rattle.std.proofs.Common.{Bool, true, false, sym, ◌∙◌, ◌≡◌}
+use Rattle.std.proofs.lemmas.Bool.{both_ways}
+use Rattle.moo_damage.proofs.Locally.{slots_hold}
+use Rattle.moo_damage.proofs.Nearby.{local}
+use Rattle.moo_damage.proofs.Soundly.{each_has_own, each_comes_down, none_lacks_one, none_named_again}
+use Rattle.moo_damage.proofs.local.slots_hold.Goals as goal
+
+-- what a test found is not found of good rows
+never : {P : Type 0} (found any : Bool) → found ≡ any → found ≡ true → any ≡ false → P
+never found any e f g = absurd (both_ways found (e ∙ g) f)
+
+pub returns-then-any_lacks_own-clause-good : goal.returns-then-any_lacks_own-clause-good
+returns-then-any_lacks_own-clause-good g c sound = never _ _ c.any_lacks_own.ensures c.if-any_lacks_own.true (each_has_own ((g.R.Rows.held c.args.rows.now).maps) sound)
+
+pub returns-then-any_from_nowhere-clause-good : goal.returns-then-any_from_nowhere-clause-good
+returns-then-any_from_nowhere-clause-good g c sound = never _ _ c.any_from_nowhere.ensures c.if-any_from_nowhere.true (each_comes_down ((g.R.Rows.held c.args.rows.now).maps) sound)
+
+pub returns-then-any_lacks_one-clause-good : goal.returns-then-any_lacks_one-clause-good
+returns-then-any_lacks_one-clause-good g c sound = never _ _ c.any_lacks_one.ensures c.if-any_lacks_one.true (none_lacks_one ((g.R.Rows.held c.args.rows.now).maps) sound)
+
+pub returns-then-any_named_again-clause-good : goal.returns-then-any_named_again-clause-good
+returns-then-any_named_again-clause-good g c sound = never _ _ c.any_named_again.ensures c.if-any_named_again.true (none_named_again ((g.R.Rows.held c.args.rows.now).maps) sound)
+
+pub returns-clause-hold : goal.returns-clause-hold
+returns-clause-hold g c e =
+    let m = (g.R.Rows.held c.args.rows.now).maps in
+    slots_hold m c.requires.tree
+    (local m c.requires.numbered (sym c.any_lacks_own.ensures ∙ c.if-any_lacks_own.false) (sym c.any_from_nowhere.ensures ∙ c.if-any_from_nowhere.false)
+    (sym c.any_lacks_one.ensures ∙ c.if-any_lacks_one.false) (sym c.any_named_again.ensures ∙ c.if-any_named_again.false))

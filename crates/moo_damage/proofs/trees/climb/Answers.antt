@@ -1,0 +1,43 @@
+use Rattle.std.proofs.Common.{◌≡◌, true, Some, ◌⊎◌, sym, subst, arith}
+use Rattle.std.specs.Prelude.{is_some}
+use Rattle.std.specs.List.{AllByRecursion}
+use Rattle.std.specs.FinMap.{get}
+use Rattle.moo_world.specs.Objects.{nothing}
+use Rattle.moo_world.specs.World.{Climbs}
+use Rattle.moo_world.proofs.EntriesInOrder.{all_then}
+use Rattle.moo_damage.specs.Damage.{next_of, Ends}
+use Rattle.moo_damage.proofs.Ending.{ends_here, step_up, step_down, bound}
+use Rattle.moo_damage.proofs.trees.climb.Goals as goal
+
+pub returns-in-None-clause-ends : goal.returns-in-None-clause-ends
+returns-in-None-clause-ends g c =
+    c.loop.invariant.up (ends_here c.args.link (g.R.Rows.held c.args.rows.now).maps c.requires.links c.loop.at c.loop.invariant.here (sym c.in-None.ensures))
+
+pub loop-preserved : goal.loop-preserved
+loop-preserved g c =
+    let m = (g.R.Rows.held c.args.rows.now).maps in
+    let link = c.args.link in
+    let row = c.in-Some.row.now in
+    let there : get m.objects c.loop.at ≡ Some row = sym c.in-Some.ensures in
+    record {
+      here = subst (λ z. (z ≡ nothing) ⊎ (is_some (get m.objects z) ≡ true)) (sym c.of-at.ensures) (c.requires.links.links c.loop.at row there);
+      up = λ e.
+          let ends = step_up link m c.requires.links c.loop.at row there (subst (Ends link m) c.of-at.ensures e) in
+          let p = c.loop.invariant.up ends in
+          (subst (AllByRecursion (Ends link m)) (sym c.in_ok-push.ensures.items) (all_then (Ends link m) c.loop.path.items c.loop.at p.0 ends), p.1);
+      down = λ l p.
+          let d = c.loop.invariant.down l p in
+          let s = step_down link m c.requires.links c.loop.at row there d.0 d.1 in
+          (s.0, subst (λ z. Climbs (next_of link m) z s.0) (sym c.of-at.ensures) s.1, omega (arith, s.2, d.2));
+    }
+
+pub returns-in-None-object-clause-ends : goal.returns-in-None-object-clause-ends
+returns-in-None-object-clause-ends g c =
+    c.loop.invariant.up (ends_here c.args.link (g.R.Rows.held c.args.rows.now).maps c.requires.links c.loop.at c.loop.invariant.here (sym c.in-None-object.ensures))
+
+pub returns-in-Some-object-clause-loops : goal.returns-in-Some-object-clause-loops
+returns-in-Some-object-clause-loops g c l p =
+    let m = (g.R.Rows.held c.args.rows.now).maps in
+    let d = c.loop.invariant.down l p in
+    let s = step_down c.args.link m c.requires.links c.loop.at c.in-Some-object.field-0.now (sym c.in-Some-object.ensures) d.0 d.1 in
+    omega (arith, s.2, d.2, bound c.args.link m c.requires.links l c.args.x p, c.requires.count, c.loop-test.false)

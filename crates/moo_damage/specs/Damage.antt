@@ -1,0 +1,121 @@
+-- What can be wrong with rows. Each kind is a test of one row, or what a chain of links comes to.
+use Rattle.std.specs.Prelude.{◌≡◌, pos, nat_lt, nat_le, int_lt, Bool, true, false, not, ◌&&◌, ◌||◌, List, Option, None, Some, is_some, unwrap_or, ◌⊎◌}
+use Rattle.std.specs.Option.{option_map}
+use Rattle.std.specs.List.{list_any}
+use Rattle.std.specs.FinMap.{get, entries}
+use Rattle.moo_value.specs.declared.value.ObjNo.{ObjNo}
+use Rattle.moo_rows.specs.declared.row.Head.{Head}
+use Rattle.moo_rows.specs.declared.row.ObjRow.{ObjRow}
+use Rattle.moo_rows.specs.declared.row.PropId.{PropId}
+use Rattle.moo_rows.specs.declared.row.PropRow.{PropRow}
+use Rattle.moo_rows.specs.declared.row.SlotRow.{SlotRow}
+use Rattle.moo_rows.specs.declared.row.SlotState.{SlotState}
+use Rattle.moo_rows.specs.declared.row.SlotState.TheVariants.{Clear, Set}
+use Rattle.moo_rows.specs.declared.row.VerbId.{VerbId}
+use Rattle.moo_rows.specs.declared.row.VerbRow.{VerbRow}
+use Rattle.moo_rows.specs.Maps.{Maps}
+use Rattle.moo_world.specs.Objects.{nothing, same_object, same_text, folded, is_among}
+use Rattle.moo_world.specs.Rows.{world_of}
+use Rattle.moo_world.specs.World.{World, Climbs, is_object, chain}
+use Rattle.moo_props.specs.Names.{defines}
+use Rattle.moo_damage.specs.declared.trees.Link.{Link}
+use Rattle.moo_damage.specs.declared.trees.Link.TheVariants.{Parent, Place}
+
+-- past-head: a number that was never given
+abbrev pub is_object_past : Head → ObjNo → Bool
+is_object_past head x = int_lt x.0 (pos 0) || int_lt head.top x.0
+
+abbrev pub is_prop_past : Head → PropId → Bool
+is_prop_past head id = nat_le head.next_prop id.0
+
+abbrev pub is_verb_past : Head → ObjNo × VerbId → Bool
+is_verb_past head key = nat_le head.next_verb key.1.0
+
+-- what a row links its object to
+abbrev pub link_of : Link → ObjRow → ObjNo
+link_of Parent row = row.parent
+link_of Place row = row.location
+
+-- no-parent, no-place: the link names neither an object nor nothing
+abbrev pub is_lost : Link → Maps → ObjRow → Bool
+is_lost link m row = not (same_object nothing (link_of link row)) && not (is_object (world_of m) (link_of link row))
+
+-- what an object links to
+abbrev pub next_of : Link → Maps → ObjNo → Option ObjNo
+next_of link m x = option_map (link_of link) (get m.objects x)
+
+-- the chain of links from x ends
+abbrev pub Ends : Link → Maps → ObjNo → Type 0
+Ends link m x = (l : List ObjNo) × Climbs (next_of link m) x l
+
+-- parent-loop, place-loop: and it doesn't
+abbrev pub Loops : Link → Maps → ObjNo → Type 0
+Loops link m x = (l : List ObjNo) → ¬ (Climbs (next_of link m) x l)
+
+-- no-definer
+abbrev pub lacks_definer : Maps → PropRow → Bool
+lacks_definer m p = not (is_object (world_of m) p.definer)
+
+-- two properties have one name, on one object or on an object and its ancestor
+abbrev pub share_name : World → PropRow → PropRow → Bool
+share_name w p q = same_text (folded p.name) (folded q.name) && (is_among q.definer (chain w p.definer) || is_among p.definer (chain w q.definer))
+
+-- double-name: a property of lesser number has the name already
+abbrev pub is_double : Maps → PropId → PropRow → Bool
+is_double m id p = list_any (λ e. nat_lt e.0.0 id.0 && share_name (world_of m) p e.1) (entries m.props)
+
+-- the property is owed to the object: one of its chain defines it
+abbrev pub is_owed : Maps → ObjNo × PropId → Bool
+is_owed m key = unwrap_or (option_map (λ p. is_among p.definer (chain (world_of m) key.0)) (get m.props key.1)) false
+
+-- strange-slot
+abbrev pub is_strange : Maps → ObjNo × PropId → Bool
+is_strange m key = not (is_owed m key)
+
+-- missing-slot
+abbrev pub is_missing : Maps → ObjNo × PropId → Bool
+is_missing m key = is_owed m key && not (is_some (get m.slots key))
+
+abbrev pub is_clear : SlotState → Bool
+is_clear Clear = true
+is_clear (Set v) = false
+
+-- clear-definer
+abbrev pub is_clear_definer : Maps → ObjNo × PropId → SlotRow → Bool
+is_clear_definer m key row = is_clear row.state && defines m key.0 key.1
+
+-- strange-verb
+abbrev pub is_strange_verb : Maps → ObjNo × VerbId → Bool
+is_strange_verb m key = not (is_object (world_of m) key.0)
+
+-- each link names an object, or nothing, which is no object
+pub record LinksHold (link : Link) (m : Maps) : Type 0 where
+  pub links : (x : ObjNo) (row : ObjRow) → get m.objects x ≡ Some row → (link_of link row ≡ nothing) ⊎ (is_some (get m.objects (link_of link row)) ≡ true)
+  pub nothing : get m.objects nothing ≡ None
+
+-- ---- none of this is so
+
+pub record NumbersGiven (m : Maps) : Type 0 where
+  pub objects : (x : ObjNo) (row : ObjRow) → get m.objects x ≡ Some row → is_object_past m.head x ≡ false
+  pub props : (id : PropId) (p : PropRow) → get m.props id ≡ Some p → is_prop_past m.head id ≡ false
+  pub verbs : (key : ObjNo × VerbId) (v : VerbRow) → get m.verbs key ≡ Some v → is_verb_past m.head key ≡ false
+
+abbrev pub LinksEnd : Link → Maps → Type 0
+LinksEnd link m = (x : ObjNo) (row : ObjRow) → get m.objects x ≡ Some row → Ends link m x
+
+pub record PropsRight (m : Maps) : Type 0 where
+  pub definers : (id : PropId) (p : PropRow) → get m.props id ≡ Some p → lacks_definer m p ≡ false
+  pub names : (id : PropId) (p : PropRow) → get m.props id ≡ Some p → is_double m id p ≡ false
+
+pub record SlotsRight (m : Maps) : Type 0 where
+  pub owed : (key : ObjNo × PropId) (s : SlotRow) → get m.slots key ≡ Some s → is_strange m key ≡ false
+  pub there : (x : ObjNo) (row : ObjRow) → get m.objects x ≡ Some row → (id : PropId) (p : PropRow) → get m.props id ≡ Some p → is_missing m (x, id) ≡ false
+  pub set : (key : ObjNo × PropId) (s : SlotRow) → get m.slots key ≡ Some s → is_clear_definer m key s ≡ false
+  pub verbs : (key : ObjNo × VerbId) (v : VerbRow) → get m.verbs key ≡ Some v → is_strange_verb m key ≡ false
+
+pub record IsClean (m : Maps) : Type 0 where
+  pub numbers : NumbersGiven m
+  pub chains : LinksEnd Parent m
+  pub places : LinksEnd Place m
+  pub props : PropsRight m
+  pub slots : SlotsRight m

@@ -1,0 +1,38 @@
+-- The first row in which two lots of rows differ.
+use Rattle.std.specs.Prelude.{◌≡◌, ◌≢◌, pos, negsuc, Option, None, Some, ⊤}
+use Rattle.std.specs.declared.cmp.Ordering.{Ordering}
+use Rattle.std.specs.declared.cmp.Ordering.TheVariants.{Less}
+use Rattle.std.specs.Ordering.{match_ordering}
+use Rattle.std.specs.FinMap.{FinMap, get}
+use Rattle.moo_rows.specs.Maps.{Maps}
+use Rattle.moo_damage.specs.declared.kind.Key.{Key}
+use Rattle.moo_damage.specs.declared.kind.Key.TheVariants.{Head, Object, Prop, Slot, Verb}
+use Rattle.moo_damage.specs.Kinds.{IsBelow}
+
+-- both have one row at this key, or none
+abbrev pub AgreeAt : Maps → Maps → Key → Type 0
+AgreeAt a b Head = a.head ≡ b.head
+AgreeAt a b (Object n) = get a.objects (record { 0 = n }) ≡ get b.objects (record { 0 = n })
+AgreeAt a b (Prop (pos id)) = get a.props (record { 0 = id }) ≡ get b.props (record { 0 = id })
+AgreeAt a b (Prop (negsuc i)) = ⊤
+AgreeAt a b (Slot n (pos id)) = get a.slots (record { 0 = n }, record { 0 = id }) ≡ get b.slots (record { 0 = n }, record { 0 = id })
+AgreeAt a b (Slot n (negsuc i)) = ⊤
+AgreeAt a b (Verb n (pos id)) = get a.verbs (record { 0 = n }, record { 0 = id }) ≡ get b.verbs (record { 0 = n }, record { 0 = id })
+AgreeAt a b (Verb n (negsuc i)) = ⊤
+
+-- they differ at the key, and at each below it they agree
+abbrev pub IsFirstDifference : Maps → Maps → Key → Type 0
+IsFirstDifference a b key = ¬ (AgreeAt a b key) × ((other : Key) → IsBelow other key → AgreeAt a b other)
+
+-- ---- one map
+
+-- the least key whose rows differ, or none
+abbrev pub IsFirstUnlike : {K X : Type 0} {cmp : K → K → Ordering} → FinMap cmp X → FinMap cmp X → Option K → Type 0
+IsFirstUnlike {K = K} a b None = (k : K) → get a k ≡ get b k
+IsFirstUnlike {K = K} {cmp = cmp} a b (Some key) = (get a key ≢ get b key) × ((k : K) → cmp k key ≡ Less → get a k ≡ get b k)
+
+-- the first of two keys, but the second where that is less or the first is none
+abbrev pub lesser : {K : Type 0} → (K → K → Ordering) → Option K → Option K → Option K
+lesser cmp None b = b
+lesser cmp (Some x) None = Some x
+lesser cmp (Some x) (Some y) = match_ordering (cmp y x) (Some y) (Some x) (Some x)

@@ -1,0 +1,20 @@
+-- What is proved of the definitions.
+use Rattle.moo_rows.specs.Maps.{Maps}
+use Rattle.moo_world.specs.Rows.{IsGood}
+use Rattle.moo_damage.specs.declared.kind.Kind.{Kind}
+use Rattle.moo_damage.specs.declared.kind.Key.{Key}
+use Rattle.moo_damage.specs.Damage.{IsClean}
+use Rattle.moo_damage.specs.Kinds.{InRows}
+use Rattle.moo_damage.specs.Limits.{AreWithin}
+
+-- rows within the limits that nothing is wrong with are sound rows of a well formed world
+abbrev pub CleanRowsAreGood : Type 0
+CleanRowsAreGood = (m : Maps) → AreWithin m → IsClean m → IsGood m
+
+-- and good rows are rows that nothing is wrong with
+abbrev pub GoodRowsAreClean : Type 0
+GoodRowsAreClean = (m : Maps) → IsGood m → IsClean m
+
+-- no kind of damage is met in good rows
+abbrev pub GoodRowsHaveNoDamage : Type 0
+GoodRowsHaveNoDamage = (m : Maps) → IsGood m → (kind : Kind) (key : Key) → ¬ (InRows m kind key)

@@ -1,0 +1,9 @@
+pub mod Damage
+pub mod Differences
+pub mod First
+pub mod Kinds
+pub mod Laws
+pub mod Limits
+pub mod Local
+pub mod Missing
+pub mod Noted

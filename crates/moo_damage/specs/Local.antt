@@ -1,0 +1,60 @@
+-- What each slot and its neighbours must be so that the slots are just those that are owed.
+use Rattle.std.specs.Prelude.{◌≡◌, ◌<◌, Bool, true, false, not, ◌&&◌, ◌||◌, Some, is_some, unwrap_or, nat_eq}
+use Rattle.std.specs.Option.{option_map}
+use Rattle.std.specs.List.{list_any}
+use Rattle.std.specs.FinMap.{get}
+use Rattle.moo_value.specs.declared.value.ObjNo.{ObjNo}
+use Rattle.moo_rows.specs.declared.row.ObjRow.{ObjRow}
+use Rattle.moo_rows.specs.declared.row.PropId.{PropId}
+use Rattle.moo_rows.specs.declared.row.PropRow.{PropRow}
+use Rattle.moo_rows.specs.declared.row.SlotRow.{SlotRow}
+use Rattle.moo_rows.specs.Maps.{Maps}
+use Rattle.moo_rows.specs.Walk.{slots_of_left}
+use Rattle.moo_world.specs.Objects.{same_text, folded}
+use Rattle.moo_world.specs.Rows.{world_of}
+use Rattle.moo_world.specs.World.{IsTree}
+use Rattle.moo_props.specs.Names.{defines}
+use Rattle.moo_damage.specs.Damage.{lacks_definer, is_double, is_strange, is_missing}
+
+-- no double name, no strange slot, no missing one
+pub record SlotsHold (m : Maps) : Type 0 where
+  pub names : (id : PropId) (p : PropRow) → get m.props id ≡ Some p → is_double m id p ≡ false
+  pub owed : (key : ObjNo × PropId) (s : SlotRow) → get m.slots key ≡ Some s → is_strange m key ≡ false
+  pub there : (x : ObjNo) (row : ObjRow) → get m.objects x ≡ Some row → (id : PropId) (p : PropRow) → get m.props id ≡ Some p → is_missing m (x, id) ≡ false
+
+abbrev pub has_slot : Maps → ObjNo → PropId → Bool
+has_slot m x id = is_some (get m.slots (x, id))
+
+-- a slot is on an object that defines its property, or whose parent has a slot of it
+abbrev pub comes_down : Maps → ObjNo × PropId → Bool
+comes_down m key = unwrap_or (option_map (λ row. defines m key.0 key.1 || has_slot m row.parent key.1) (get m.objects key.0)) false
+
+-- the property of this number has this name
+abbrev pub is_named_as : Maps → PropRow → PropId → Bool
+is_named_as m p id = unwrap_or (option_map (λ q. same_text (folded p.name) (folded q.name)) (get m.props id)) false
+
+-- another slot of the definer is of a property of this name
+abbrev pub is_named_again : Maps → PropId → PropRow → Bool
+is_named_again m id p = list_any (λ e. not (nat_eq e.0.1.0 id.0) && is_named_as m p e.0.1) (slots_of_left p.definer (record { 0 = 0 }) m)
+
+-- a slot of y, of a property that x has no slot of
+abbrev pub lacks_one_of : Maps → ObjNo → ObjNo → Bool
+lacks_one_of m x y = list_any (λ e. not (has_slot m x e.0.1)) (slots_of_left y (record { 0 = 0 }) m)
+
+-- what holds of each row and its neighbours where the slots are just those that are owed
+pub record AreLocal (m : Maps) : Type 0 where
+  pub numbered : (id : PropId) (p : PropRow) → get m.props id ≡ Some p → 0 < id.0
+  pub own : (id : PropId) (p : PropRow) → get m.props id ≡ Some p → has_slot m p.definer id ≡ true
+  pub from : (key : ObjNo × PropId) (s : SlotRow) → get m.slots key ≡ Some s → comes_down m key ≡ true
+  pub down : (x : ObjNo) (row : ObjRow) → get m.objects x ≡ Some row → (id : PropId) → 0 < id.0 → has_slot m row.parent id ≡ true → has_slot m x id ≡ true
+  pub apart : (i j : PropId) (p q : PropRow) → get m.props i ≡ Some p → get m.props j ≡ Some q → has_slot m p.definer j ≡ true → folded p.name ≡ folded q.name → i ≡ j
+
+-- where it holds along chains that end, the slots are just those that are owed, and their names are apart
+abbrev pub LocalSlotsHold : Type 0
+LocalSlotsHold = (m : Maps) → IsTree (world_of m) → AreLocal m → SlotsHold m
+
+-- and the other way: where it holds of the slots, with definers that are there, it holds of each row and its neighbours
+abbrev pub HeldSlotsAreLocal : Type 0
+HeldSlotsAreLocal =
+    (m : Maps) → IsTree (world_of m) → ((id : PropId) (p : PropRow) → get m.props id ≡ Some p → 0 < id.0)
+    → ((id : PropId) (p : PropRow) → get m.props id ≡ Some p → lacks_definer m p ≡ false) → SlotsHold m → AreLocal m

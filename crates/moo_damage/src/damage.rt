@@ -1,0 +1,122 @@
+//! What is wrong with rows, if anything.
+
+ghost use Rattle.std.specs.Prelude.{◌≡◌, ◌<◌, suc, true, IfOk, IfSome, IfNone, Some};
+ghost use Rattle.std.specs.FinMap.{get};
+ghost use Rattle.moo_world.specs.Rows.{world_of, IsGood};
+ghost use Rattle.moo_world.specs.World.{IsTree};
+ghost use Rattle.moo_damage.specs.Damage.{NumbersGiven, LinksEnd, PropsRight, SlotsRight};
+ghost use Rattle.moo_damage.specs.Kinds.{place, lost_kind, loop_kind, InRows, NoneBefore, IsFirstBefore, IsFirstInRows};
+ghost use Rattle.moo_damage.specs.Limits.{AreWithin};
+ghost use Rattle.moo_damage.specs.Local.{SlotsHold};
+
+use crate::checks::{
+    first_clear, first_lost, first_object_past, first_prop_past, first_strange_verb,
+    first_undefined, first_verb_past,
+};
+use crate::kind::{Key, Kind, object_key, prop_key, slot_key, verb_key};
+use crate::local::{double_name, missing_slot, slots_hold, strange_slot};
+use crate::trees::{Link, first_loop};
+use moo_rows::rows::Rows;
+use std::alloc::{AllocError, Global};
+
+/// Numbers past those of the head.
+fn wrong_number<R: Rows>(rows: &R) -> Option<(Kind, Key)>
+    ensures first { IsFirstBefore (InRows (R.held rows.now).maps) 4 result }
+    ensures given { IfNone result (NumbersGiven (R.held rows.now).maps) }
+{
+    if let Some(x) = first_object_past(rows) {
+        return Some((Kind::PastHead, object_key(x)));
+    }
+    if let Some(id) = first_prop_past(rows) {
+        return Some((Kind::PastHead, prop_key(id)));
+    }
+    if let Some(key) = first_verb_past(rows) {
+        return Some((Kind::PastHead, verb_key(key)));
+    }
+    None
+}
+
+/// A link that names no object, or a chain of links without an end. An `Err` is want of memory.
+fn wrong_link<R: Rows>(
+    alloc: Global,
+    rows: &R,
+    link: Link,
+) -> Result<Option<(Kind, Key)>, AllocError>
+    requires numbers { NumbersGiven (R.held rows.now).maps }
+    requires before { NoneBefore (InRows (R.held rows.now).maps) (place (lost_kind link)) }
+    ensures first { IfOk result (IsFirstBefore (InRows (R.held rows.now).maps) (suc (place (loop_kind link)))) }
+    ensures ends { IfOk result (λ o. IfNone o (LinksEnd link (R.held rows.now).maps)) }
+{
+    if let Some(x) = first_lost(rows, link) {
+        return Ok(Some((link.lost(), object_key(x))));
+    }
+    match first_loop(alloc, rows, link)? {
+        Some(x) => Ok(Some((link.loops(), object_key(x)))),
+        None => Ok(None),
+    }
+}
+
+/// A property that is defined nowhere, or twice.
+fn wrong_prop<R: Rows>(rows: &R, hold: bool) -> Option<(Kind, Key)>
+    requires tree { IsTree (world_of (R.held rows.now).maps) }
+    requires hold { hold ≡ true → SlotsHold (R.held rows.now).maps }
+    requires before { NoneBefore (InRows (R.held rows.now).maps) 8 }
+    ensures first { IsFirstBefore (InRows (R.held rows.now).maps) 10 result }
+    ensures right { IfNone result (PropsRight (R.held rows.now).maps) }
+{
+    if let Some(id) = first_undefined(rows) {
+        return Some((Kind::NoDefiner, prop_key(id)));
+    }
+    if let Some(id) = double_name(rows, hold) {
+        return Some((Kind::DoubleName, prop_key(id)));
+    }
+    None
+}
+
+/// A slot too many, one too few, one that has to be set, or a verb of no object.
+fn wrong_slot<R: Rows>(rows: &R, hold: bool) -> Option<(Kind, Key)>
+    requires tree { IsTree (world_of (R.held rows.now).maps) }
+    requires hold { hold ≡ true → SlotsHold (R.held rows.now).maps }
+    requires before { NoneBefore (InRows (R.held rows.now).maps) 10 }
+    ensures first { IsFirstBefore (InRows (R.held rows.now).maps) 14 result }
+    ensures right { IfNone result (SlotsRight (R.held rows.now).maps) }
+{
+    if let Some(key) = strange_slot(rows, hold) {
+        return Some((Kind::StrangeSlot, slot_key(key)));
+    }
+    if let Some(key) = missing_slot(rows, hold) {
+        return Some((Kind::MissingSlot, slot_key(key)));
+    }
+    if let Some(key) = first_clear(rows) {
+        return Some((Kind::ClearDefiner, slot_key(key)));
+    }
+    if let Some(key) = first_strange_verb(rows) {
+        return Some((Kind::StrangeVerb, verb_key(key)));
+    }
+    None
+}
+
+/// What is wrong with rows: the first of the kinds of damage from `PastHead` to `StrangeVerb` that is met, with its least key, where objects come
+/// before properties before slots before verbs. None where nothing is: the rows then show a well formed world. An `Err` is want of memory.
+///
+/// Its time is that of going over the rows and of looking up each one's neighbours. Only rows of which a slot is wrong take longer.
+pub fn damage_of<R: Rows>(alloc: Global, rows: &R) -> Result<Option<(Kind, Key)>, AllocError>
+    requires { AreWithin (R.held rows.now).maps }
+    ensures good { IfOk result (λ o. IfNone o (IsGood (R.held rows.now).maps)) }
+    ensures first { IfOk result (λ o. IfSome o (λ d. IsFirstInRows (R.held rows.now).maps d.0 d.1)) }
+{
+    if let Some(damage) = wrong_number(rows) {
+        return Ok(Some(damage));
+    }
+    if let Some(damage) = wrong_link(alloc, rows, Link::Parent)? {
+        return Ok(Some(damage));
+    }
+    if let Some(damage) = wrong_link(alloc, rows, Link::Place)? {
+        return Ok(Some(damage));
+    }
+    let hold = slots_hold(rows);
+    if let Some(damage) = wrong_prop(rows, hold) {
+        return Ok(Some(damage));
+    }
+    Ok(wrong_slot(rows, hold))
+}

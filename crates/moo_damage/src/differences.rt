@@ -1,0 +1,136 @@
+//! The first row in which two lots of rows differ.
+
+ghost use Rattle.std.specs.Prelude.{◌≡◌, ◌≢◌, ◌↔◌, IsTrue, IfSome, IfNone, Some, option_map};
+ghost use Rattle.std.specs.FinMap.{get};
+ghost use Rattle.moo_damage.specs.Differences.{IsFirstDifference, IsFirstUnlike, lesser};
+ghost use Rattle.moo_damage.specs.First.{IsFirst};
+
+use crate::kind::{Key, object_key, prop_key, slot_key, verb_key};
+use moo_rows::flat::Flat;
+use moo_rows::ordered;
+use moo_rows::ordered::Row;
+use moo_rows::row::{PropId, VerbId};
+use moo_rows::rows::Rows;
+use moo_rows::walk::{each_object, each_prop, each_slot, each_verb};
+use moo_value::value::ObjNo;
+use std::cmp::Ordering;
+
+/// The lesser of two keys.
+fn least<K: ordered::Key>(a: Option<K>, b: Option<K>) -> Option<K>
+    ensures { result ≡ lesser K.cmp a b }
+{
+    match (a, b) {
+        (Some(x), Some(y)) => match y.cmp(&x) {
+            Ordering::Less => b,
+            _ => a,
+        },
+        (None, _) => b,
+        (_, None) => a,
+    }
+}
+
+/// Whether this row is held.
+fn is_held<V: Row>(held: Option<&V>, row: &V) -> bool
+    ensures { IsTrue result ↔ (option_map (λ held. held.now) held.entry ≡ Some row.now) }
+{
+    match held {
+        None => false,
+        Some(held) => held.equals(row),
+    }
+}
+
+/// The least object whose row isn't its row there, or none.
+fn object_unlike<R: Rows>(rows: &R, there: &R) -> Option<ObjNo>
+    ensures { IsFirst (R.held rows.now).maps.objects (λ k r. get (R.held there.now).maps.objects k ≡ Some r) (λ k r. get (R.held there.now).maps.objects k ≢ Some r) result }
+{
+    for (key, row) in each_object(rows) {
+        if !is_held(there.object(key), row) {
+            return Some(key);
+        }
+    }
+    None
+}
+
+/// The least property whose row isn't its row there, or none.
+fn prop_unlike<R: Rows>(rows: &R, there: &R) -> Option<PropId>
+    ensures { IsFirst (R.held rows.now).maps.props (λ k r. get (R.held there.now).maps.props k ≡ Some r) (λ k r. get (R.held there.now).maps.props k ≢ Some r) result }
+{
+    for (key, row) in each_prop(rows) {
+        if !is_held(there.prop(key), row) {
+            return Some(key);
+        }
+    }
+    None
+}
+
+/// The least slot whose row isn't its row there, or none.
+fn slot_unlike<R: Rows>(rows: &R, there: &R) -> Option<(ObjNo, PropId)>
+    ensures { IsFirst (R.held rows.now).maps.slots (λ k r. get (R.held there.now).maps.slots k ≡ Some r) (λ k r. get (R.held there.now).maps.slots k ≢ Some r) result }
+{
+    for (key, row) in each_slot(rows) {
+        if !is_held(there.slot(key), row) {
+            return Some(key);
+        }
+    }
+    None
+}
+
+/// The least verb whose row isn't its row there, or none.
+fn verb_unlike<R: Rows>(rows: &R, there: &R) -> Option<(ObjNo, VerbId)>
+    ensures { IsFirst (R.held rows.now).maps.verbs (λ k r. get (R.held there.now).maps.verbs k ≡ Some r) (λ k r. get (R.held there.now).maps.verbs k ≢ Some r) result }
+{
+    for (key, row) in each_verb(rows) {
+        if !is_held(there.verb(key), row) {
+            return Some(key);
+        }
+    }
+    None
+}
+
+fn object_differing<R: Rows>(own: &R, found: &R) -> Option<ObjNo>
+    ensures { IsFirstUnlike (R.held own.now).maps.objects (R.held found.now).maps.objects result }
+{
+    least(object_unlike(own, found), object_unlike(found, own))
+}
+
+fn prop_differing<R: Rows>(own: &R, found: &R) -> Option<PropId>
+    ensures { IsFirstUnlike (R.held own.now).maps.props (R.held found.now).maps.props result }
+{
+    least(prop_unlike(own, found), prop_unlike(found, own))
+}
+
+fn slot_differing<R: Rows>(own: &R, found: &R) -> Option<(ObjNo, PropId)>
+    ensures { IsFirstUnlike (R.held own.now).maps.slots (R.held found.now).maps.slots result }
+{
+    least(slot_unlike(own, found), slot_unlike(found, own))
+}
+
+fn verb_differing<R: Rows>(own: &R, found: &R) -> Option<(ObjNo, VerbId)>
+    ensures { IsFirstUnlike (R.held own.now).maps.verbs (R.held found.now).maps.verbs result }
+{
+    least(verb_unlike(own, found), verb_unlike(found, own))
+}
+
+/// The first row in which two lots of rows differ, in the order head, objects, properties, slots, verbs, and in each by number: that both have with
+/// other content, or one of them alone. None where they are equal. Takes no memory.
+pub fn first_difference(own: &Flat, found: &Flat) -> Option<Key>
+    ensures differs { IfSome result (λ key. IsFirstDifference own.now.maps found.now.maps key) }
+    ensures same { IfNone result (own.now.maps ≡ found.now.maps) }
+{
+    if own.head() != found.head() {
+        return Some(Key::Head);
+    }
+    if let Some(x) = object_differing(own, found) {
+        return Some(object_key(x));
+    }
+    if let Some(id) = prop_differing(own, found) {
+        return Some(prop_key(id));
+    }
+    if let Some(key) = slot_differing(own, found) {
+        return Some(slot_key(key));
+    }
+    if let Some(key) = verb_differing(own, found) {
+        return Some(verb_key(key));
+    }
+    None
+}

@@ -1,0 +1,184 @@
+//! Tests of each row and its neighbours, from which the slots are just those that are owed.
+
+ghost use Rattle.std.specs.Prelude.{◌≡◌, ◌<◌, true, false, not, Some};
+ghost use Rattle.std.specs.List.{list_any};
+ghost use Rattle.std.specs.FinMap.{entries, get};
+ghost use Rattle.moo_rows.specs.declared.row.PropRow.{PropRow};
+ghost use Rattle.moo_world.specs.Rows.{world_of, IsGood};
+ghost use Rattle.moo_world.specs.World.{IsTree};
+ghost use Rattle.moo_damage.specs.First.{IsFirst};
+ghost use Rattle.moo_damage.specs.Damage.{is_double, is_strange};
+ghost use Rattle.moo_damage.specs.Missing.{IsFirstMissing};
+ghost use Rattle.moo_damage.specs.Local.{SlotsHold, has_slot, comes_down, is_named_as, is_named_again, lacks_one_of};
+
+use crate::checks::{defines, first_double, first_missing, first_strange};
+use moo_rows::row::{PropId, PropRow};
+use moo_rows::rows::Rows;
+use moo_rows::walk::{each_object, each_prop, each_slot, each_slot_of};
+use moo_value::text::same_name;
+use moo_value::value::ObjNo;
+
+fn has_slot<R: Rows>(rows: &R, x: ObjNo, id: PropId) -> bool
+    ensures { result ≡ has_slot (R.held rows.now).maps x id }
+{
+    rows.slot((x, id)).is_some()
+}
+
+/// Whether a property has no slot on its definer.
+fn any_lacks_own<R: Rows>(rows: &R) -> bool
+    ensures { result ≡ list_any (λ e. not (has_slot (R.held rows.now).maps e.1.definer e.0)) (entries (R.held rows.now).maps.props) }
+{
+    for (id, row) in each_prop(rows) {
+        if !has_slot(rows, row.definer, id) {
+            return true;
+        }
+    }
+    false
+}
+
+/// Whether a slot is on an object that defines its property, or whose parent has a slot of it.
+fn comes_down<R: Rows>(rows: &R, key: (ObjNo, PropId)) -> bool
+    ensures { result ≡ comes_down (R.held rows.now).maps key }
+{
+    match rows.object(key.0) {
+        None => false,
+        Some(row) => {
+            if defines(rows, key) {
+                return true;
+            }
+            has_slot(rows, row.parent, key.1)
+        }
+    }
+}
+
+/// Whether a slot comes neither from its own object nor from the parent.
+fn any_from_nowhere<R: Rows>(rows: &R) -> bool
+    ensures { result ≡ list_any (λ e. not (comes_down (R.held rows.now).maps e.0)) (entries (R.held rows.now).maps.slots) }
+{
+    for (key, _row) in each_slot(rows) {
+        if !comes_down(rows, key) {
+            return true;
+        }
+    }
+    false
+}
+
+/// Whether x has no slot of a property that y has a slot of.
+fn lacks_one_of<R: Rows>(rows: &R, x: ObjNo, y: ObjNo) -> bool
+    ensures { result ≡ lacks_one_of (R.held rows.now).maps x y }
+{
+    for (key, _row) in each_slot_of(rows, y, PropId(0)) {
+        if !has_slot(rows, x, key.1) {
+            return true;
+        }
+    }
+    false
+}
+
+/// Whether an object has no slot of a property that its parent has a slot of.
+fn any_lacks_one<R: Rows>(rows: &R) -> bool
+    ensures { result ≡ list_any (λ e. lacks_one_of (R.held rows.now).maps e.0 e.1.parent) (entries (R.held rows.now).maps.objects) }
+{
+    for (x, row) in each_object(rows) {
+        if lacks_one_of(rows, x, row.parent) {
+            return true;
+        }
+    }
+    false
+}
+
+/// Whether a property has the name of this one.
+fn is_named_as<R: Rows>(rows: &R, row: &PropRow, id: PropId) -> bool
+    ensures { result ≡ is_named_as (R.held rows.now).maps row.now id }
+{
+    match rows.prop(id) {
+        None => false,
+        Some(other) => same_name(&row.name, &other.name),
+    }
+}
+
+/// Whether the definer has a slot of another property of this name.
+fn is_named_again<R: Rows>(rows: &R, id: PropId, row: &PropRow) -> bool
+    ensures { result ≡ is_named_again (R.held rows.now).maps id row.now }
+{
+    for (key, _slot) in each_slot_of(rows, row.definer, PropId(0)) {
+        if key.1.0 != id.0 {
+            if is_named_as(rows, row, key.1) {
+                return true;
+            }
+        }
+    }
+    false
+}
+
+/// Whether a definer has slots of two properties of one name, one of them its own.
+fn any_named_again<R: Rows>(rows: &R) -> bool
+    ensures { result ≡ list_any (λ e. is_named_again (R.held rows.now).maps e.0 e.1) (entries (R.held rows.now).maps.props) }
+{
+    for (id, row) in each_prop(rows) {
+        if is_named_again(rows, id, row) {
+            return true;
+        }
+    }
+    false
+}
+
+/// Whether the slots are seen to be just those that are owed, by a look at each slot, its object and the parent's slots. Those of good rows always are.
+///
+/// No chain is climbed: along chains that end, what each object has of its parent it has of all ancestors.
+pub(crate) fn slots_hold<R: Rows>(rows: &R) -> bool
+    requires tree { IsTree (world_of (R.held rows.now).maps) }
+    requires numbered { (id : PropId) (p : PropRow) → get (R.held rows.now).maps.props id ≡ Some p → 0 < id.0 }
+    ensures hold { result ≡ true → SlotsHold (R.held rows.now).maps }
+    ensures good { IsGood (R.held rows.now).maps → result ≡ true }
+{
+    if any_lacks_own(rows) {
+        return false;
+    }
+    if any_from_nowhere(rows) {
+        return false;
+    }
+    if any_lacks_one(rows) {
+        return false;
+    }
+    if any_named_again(rows) {
+        return false;
+    }
+    true
+}
+
+/// The least property whose name one of lesser number has, or none: not looked for where the slots are known to hold.
+pub(crate) fn double_name<R: Rows>(rows: &R, hold: bool) -> Option<PropId>
+    requires tree { IsTree (world_of (R.held rows.now).maps) }
+    requires hold { hold ≡ true → SlotsHold (R.held rows.now).maps }
+    ensures { IsFirst (R.held rows.now).maps.props (λ k r. is_double (R.held rows.now).maps k r ≡ false) (λ k r. is_double (R.held rows.now).maps k r ≡ true) result }
+{
+    if hold {
+        return None;
+    }
+    first_double(rows)
+}
+
+/// The least slot that its object is not owed, or none: not looked for where the slots are known to hold.
+pub(crate) fn strange_slot<R: Rows>(rows: &R, hold: bool) -> Option<(ObjNo, PropId)>
+    requires tree { IsTree (world_of (R.held rows.now).maps) }
+    requires hold { hold ≡ true → SlotsHold (R.held rows.now).maps }
+    ensures { IsFirst (R.held rows.now).maps.slots (λ k r. is_strange (R.held rows.now).maps k ≡ false) (λ k r. is_strange (R.held rows.now).maps k ≡ true) result }
+{
+    if hold {
+        return None;
+    }
+    first_strange(rows)
+}
+
+/// The least slot that is owed and isn't there, or none: not looked for where the slots are known to hold.
+pub(crate) fn missing_slot<R: Rows>(rows: &R, hold: bool) -> Option<(ObjNo, PropId)>
+    requires tree { IsTree (world_of (R.held rows.now).maps) }
+    requires hold { hold ≡ true → SlotsHold (R.held rows.now).maps }
+    ensures { IsFirstMissing (R.held rows.now).maps result }
+{
+    if hold {
+        return None;
+    }
+    first_missing(rows)
+}

@@ -1,0 +1,135 @@
+//! Chains of links that don't end.
+
+ghost use Rattle.std.specs.Prelude.{◌≡◌, ◌≤◌, IfOk, IfSome, IfNone, OnOk, IsSome, true, is_some, length, map};
+ghost use Rattle.std.specs.List.{AllByRecursion};
+ghost use Rattle.std.specs.FinMap.{entries, get};
+ghost use Rattle.moo_rows.specs.Ordered.{contents};
+ghost use Rattle.moo_rows.specs.Maps.{Maps, object_cmp};
+ghost use Rattle.moo_damage.specs.First.{IsFirst};
+ghost use Rattle.moo_damage.specs.Damage.{link_of, Ends, Loops, LinksHold};
+ghost use Rattle.moo_damage.specs.Kinds.{lost_kind, loop_kind};
+ghost use Rattle.moo_damage.specs.Noted.{AreEnding};
+ghost use Rattle.moo_damage.specs.declared.trees.Link.{Link};
+
+use crate::kind::Kind;
+use moo_rows::ordered;
+use moo_rows::row::ObjRow;
+use moo_rows::rows::Rows;
+use moo_rows::walk::each_object;
+use moo_value::value::ObjNo;
+use std::alloc::{AllocError, Global};
+use std::collections::BTreeMap;
+
+/// What an object's row links it to.
+#[derive(Clone, Copy, Debug, PartialEq, Eq)]
+pub enum Link {
+    Parent,
+    Place,
+}
+
+impl Link {
+    /// The object that the row links to, `#-1` for none.
+    pub(crate) fn of(self, row: &ObjRow) -> ObjNo
+        ensures { result ≡ link_of self row.now }
+    {
+        match self {
+            Link::Parent => row.parent,
+            Link::Place => row.location,
+        }
+    }
+
+    /// The kind of a link that names no object.
+    pub(crate) fn lost(self) -> Kind
+        ensures { result ≡ lost_kind self }
+    {
+        match self {
+            Link::Parent => Kind::NoParent,
+            Link::Place => Kind::NoPlace,
+        }
+    }
+
+    /// The kind of a chain of links without an end.
+    pub(crate) fn loops(self) -> Kind
+        ensures { result ≡ loop_kind self }
+    {
+        match self {
+            Link::Parent => Kind::ParentLoop,
+            Link::Place => Kind::PlaceLoop,
+        }
+    }
+}
+
+/// How many objects there are. An `Err` is want of memory.
+fn object_count<R: Rows>(alloc: Global, rows: &R) -> Result<usize, AllocError>
+    ensures { IfOk result (λ n. n ≡ length (entries (R.held rows.now).maps.objects)) }
+{
+    let mut objects = Vec::new(alloc);
+    for (x, _) in each_object(rows) {
+        objects.push(x)?;
+    }
+    Ok(objects.len())
+}
+
+/// The objects from x up to one that is known to end, or to the end itself; none where the chain doesn't end.
+fn climb<R: Rows>(
+    alloc: Global,
+    rows: &R,
+    link: Link,
+    known: &BTreeMap<ObjNo, ()>,
+    count: usize,
+    x: ObjNo,
+) -> Result<Option<Vec<ObjNo>>, AllocError>
+    requires links { LinksHold link (R.held rows.now).maps }
+    requires known { AreEnding link (R.held rows.now).maps (contents object_cmp known.now) }
+    requires object { is_some (get (R.held rows.now).maps.objects x) ≡ true }
+    requires count { length (entries (R.held rows.now).maps.objects) ≤ count }
+    ensures ends { IfOk result (λ o. IfSome o (λ path. AllByRecursion (Ends link (R.held rows.now).maps) path.items × Ends link (R.held rows.now).maps x)) }
+    ensures loops { IfOk result (λ o. IfNone o (Loops link (R.held rows.now).maps x)) }
+{
+    let mut path = Vec::new(alloc);
+    let mut at = x;
+    for _ in 0..count {
+        let row = match rows.object(at) {
+            None => return Ok(Some(path)),
+            Some(row) => row,
+        };
+        if ordered::get(known, at).is_some() {
+            return Ok(Some(path));
+        }
+        path.push(at)?;
+        at = link.of(row);
+    }
+    match rows.object(at) {
+        None => Ok(Some(path)),
+        Some(_) => Ok(None),
+    }
+}
+
+/// Notes that the chains of these objects end.
+fn note(known: &mut BTreeMap<ObjNo, ()>, path: &[ObjNo]) -> Result<(), AllocError>
+    ensures { OnOk result ((link : Link) (m : Maps) → AllByRecursion (Ends link m) path.now → AreEnding link m (contents object_cmp known.old) → AreEnding link m (contents object_cmp known.new)) }
+{
+    for x in path {
+        ordered::put(known, *x, ())?;
+    }
+    Ok(())
+}
+
+/// The least object whose chain of links doesn't end, or none. An `Err` is want of memory.
+///
+/// Each object is climbed over once: what is known to end is noted, and the first chain that is longer than there are
+/// objects is the answer.
+pub fn first_loop<R: Rows>(alloc: Global, rows: &R, link: Link) -> Result<Option<ObjNo>, AllocError>
+    requires { LinksHold link (R.held rows.now).maps }
+    ensures { IfOk result (IsFirst (R.held rows.now).maps.objects (λ x _. Ends link (R.held rows.now).maps x) (λ x _. Loops link (R.held rows.now).maps x)) }
+{
+    let count = object_count(alloc, rows)?;
+    let mut known = BTreeMap::new(alloc);
+    for (x, _row) in each_object(rows) {
+        match climb(alloc, rows, link, &known, count, x)? {
+            None => return Ok(Some(x)),
+            Some(path) => note(&mut known, &path)?,
+        }
+    }
+    Ok(None)
+}

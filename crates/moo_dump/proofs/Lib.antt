@@ -1,0 +1,4 @@
+pub mod FlatMaps
+pub mod Listing
+pub mod Writing
+pub mod ObjectLines

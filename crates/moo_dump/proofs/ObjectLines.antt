@@ -1,0 +1,111 @@
+-- The lines that are printed from the rows are those of the world.
+use Rattle.std.proofs.Common.{◌≡◌, ℕ, Bool, true, false, ◌||◌, Option, Some, None, List, [], ◌∷◌, ◌++◌, refl, sym, ap, ◌∙◌}
+use Rattle.std.specs.Prelude.{is_some, unwrap_or}
+use Rattle.std.specs.Option.{option_map}
+use Rattle.std.specs.List.{filter, flat_map, AllByRecursion}
+use Rattle.std.specs.FinMap.{get, entries, get-entries, entries_sorted, find}
+use Rattle.std.proofs.lemmas.Bool.{or_right, false≢true}
+use Rattle.moo_value.specs.declared.value.ObjNo.{ObjNo}
+use Rattle.moo_rows.specs.declared.row.ObjRow.{ObjRow}
+use Rattle.moo_rows.specs.declared.row.PropId.{PropId}
+use Rattle.moo_rows.specs.declared.row.PropRow.{PropRow}
+use Rattle.moo_rows.specs.declared.row.SlotRow.{SlotRow}
+use Rattle.moo_rows.specs.Maps.{Maps, prop_cmp}
+use Rattle.moo_rows.proofs.Orders.{prop_total}
+use Rattle.moo_world.specs.Objects.{Name, same_object, folded, is_among, same_object-Decides}
+use Rattle.moo_world.specs.World.{World, Record, Slot, is_object, chain, names_of, defined_by, owed_by, verbs_of, slot_of}
+use Rattle.moo_world.specs.Rows.{IsSound, IsGood, look_ups, world_of, world_shown, record_of, slot_seen}
+use Rattle.moo_world.proofs.EntriesInOrder.{own_entries, all_weaker}
+use Rattle.moo_world.proofs.ObjectEntries.{objects_listed}
+use Rattle.moo_world.proofs.PairLists.{some_of}
+use Rattle.moo_world.proofs.Seen.{object_seen}
+use Rattle.moo_props.proofs.DefinedNames.{names_listed}
+use Rattle.moo_props.proofs.Gains.{slot_on_heir}
+use Rattle.moo_props.proofs.Walked.{here_seen}
+use Rattle.moo_verbs.proofs.Entries.{Entry}
+use Rattle.moo_verbs.proofs.Found.{walk, walked_rows}
+use Rattle.moo_dump.specs.Dump.{object_line, property_line, slot_line, owed_line, verb_line, record_lines, object_lines}
+use Rattle.moo_dump.specs.Lines.{ids_defined, property_line_of, slot_line_by, slot_line_of, slot_lines_over, objects_text}
+use Rattle.moo_dump.proofs.FlatMaps.{flat_map-map, flat_map-flat_map, flat_map-alike, all_passing}
+
+-- each object of a list is among them
+each_among : (l : List ObjNo) → AllByRecursion (λ d. is_among d l ≡ true) l
+each_among [] = tt
+each_among (y ∷ l) = (first (same_object y y) ((same_object-Decides y y).1 refl), all_weaker (λ d. is_among d l ≡ true) (λ d. is_among d (y ∷ l) ≡ true) (λ d h. or_right (same_object d y) (is_among d l) h) l (each_among l))
+  where
+    first : (b : Bool) → b ≡ true → (b || is_among y l) ≡ true
+    first true e = refl
+    first false e = absurd (false≢true e)
+
+module _ (t : Maps) where
+  abbrev w : World
+  w = world_of t
+
+  -- each property's entry is what its number holds
+  abbrev IsHeld : PropId × PropRow → Type 0
+  IsHeld e = get t.props e.0 ≡ Some e.1
+
+  props_held : AllByRecursion IsHeld (entries t.props)
+  props_held = all_weaker (λ e. find prop_cmp e.0 (entries t.props) ≡ Some e.1) IsHeld (λ e h. get-entries t.props e.0 ∙ h) (entries t.props) (own_entries prop_cmp prop_total (entries t.props) (entries_sorted t.props))
+
+  abbrev defined_among : ObjNo → List (PropId × PropRow)
+  defined_among d = filter (λ e. same_object e.1.definer d) (entries t.props)
+
+  -- what is made of the numbers that d defines is made of its names, where the two are made alike
+  defined_alike : IsSound t → (d : ObjNo) (f : PropId → List ℕ) (g : Name → List ℕ) → ((id : PropId) (p : PropRow) → get t.props id ≡ Some p → p.definer ≡ d → f id ≡ g p.name) → flat_map f (ids_defined t d) ≡ flat_map g (names_of w d)
+  defined_alike sound d f g h =
+      flat_map-map f (λ e. e.0) (defined_among d)
+      ∙ flat_map-alike (λ e. IsHeld e × (same_object e.1.definer d ≡ true)) (λ e. f e.0) (λ e. g e.1.name) (λ e k. h e.0 e.1 k.0 ((same_object-Decides e.1.definer d).0 k.1)) (defined_among d)
+      (all_passing IsHeld (λ e. same_object e.1.definer d) (entries t.props) props_held)
+      ∙ sym (flat_map-map g (λ (e : PropId × PropRow). e.1.name) (defined_among d))
+      ∙ ap (flat_map g) (names_listed t sound d)
+
+  properties_are : IsSound t → (x : ObjNo) → flat_map (property_line_of t x) (ids_defined t x) ≡ flat_map (property_line x) (names_of w x)
+  properties_are sound x = defined_alike sound x (property_line_of t x) (property_line x) (λ id p e d. ap (λ (o : Option PropRow). elim o [ None ↦ [] | Some r ↦ property_line x r.name ]) e)
+
+  module _ (good : IsGood t) (x : ObjNo) (there : is_object w x ≡ true) where
+    -- the line of the slot of a property that is owed to x
+    slot_line_is : (d : ObjNo) → is_among d (chain w x) ≡ true → (id : PropId) (p : PropRow) → get t.props id ≡ Some p → p.definer ≡ d → slot_line_of t x id ≡ owed_line w x (d, p.name)
+    slot_line_is d among id p e same =
+        let s : (s : SlotRow) × (get t.slots (x, id) ≡ Some s) = some_of (get t.slots (x, id)) (slot_on_heir t good.sound good.formed x there id.0 p e (ap (λ y. is_among y (chain w x)) same ∙ among)) in
+        let seen : slot_of w x (folded p.name) ≡ Some (slot_seen p.definer s.0) = here_seen t good.sound x (folded p.name) id.0 (record { prop = p; row = s.0; there = e; held = s.1; name = refl }) in
+        (λ i. slot_line_by x (e i) (s.1 i))
+        ∙ ap (λ y. slot_line x (y, p.name) (slot_seen p.definer s.0)) same
+        ∙ sym (ap (λ (o : Option Slot). elim o [ None ↦ [] | Some r ↦ slot_line x (d, p.name) r ]) seen)
+
+    slots_of_definer : (d : ObjNo) → is_among d (chain w x) ≡ true → flat_map (slot_line_of t x) (ids_defined t d) ≡ flat_map (owed_line w x) (defined_by w d)
+    slots_of_definer d among =
+        defined_alike good.sound d (slot_line_of t x) (λ n. owed_line w x (d, n)) (slot_line_is d among)
+        ∙ sym (flat_map-map (owed_line w x) (λ n. (d, n)) (names_of w d))
+
+    slots_are : slot_lines_over t x (chain w x) ≡ flat_map (owed_line w x) (owed_by w (chain w x))
+    slots_are =
+        flat_map-alike (λ d. is_among d (chain w x) ≡ true) (λ d. flat_map (slot_line_of t x) (ids_defined t d)) (λ d. flat_map (owed_line w x) (defined_by w d)) slots_of_definer (chain w x) (each_among (chain w x))
+        ∙ sym (flat_map-flat_map (owed_line w x) (defined_by w) (chain w x))
+
+  pub verbs_walked : IsSound t → (x : ObjNo) → flat_map (λ (e : Entry). verb_line x e.1) (walk t x) ≡ flat_map (verb_line x) (verbs_of w x)
+  verbs_walked sound x =
+      sym (flat_map-map (λ (b : List ℕ). b) (λ (e : Entry). verb_line x e.1) (walk t x))
+      ∙ ap (flat_map (λ (b : List ℕ). b)) (walked_rows t sound x (verb_line x))
+      ∙ flat_map-map (λ (b : List ℕ). b) (verb_line x) (verbs_of w x)
+
+  -- the lines of an object are its own, those of its properties, those of its slots and those of its verbs
+  pub object_printed : IsGood t → (x : ObjNo) (row : ObjRow) → get t.objects x ≡ Some row
+      → object_lines w x ≡ object_line x row ++ (flat_map (property_line_of t x) (ids_defined t x) ++ (slot_lines_over t x (chain w x) ++ flat_map (verb_line x) (verbs_of w x)))
+  object_printed good x row e =
+      let seen : w.object x ≡ Some (record_of (look_ups t) x row) = object_seen (look_ups t) x row e in
+      let r : Record = record_of (look_ups t) x row in
+      let there : is_object w x ≡ true = ap is_some seen in
+      let names : names_of w x ≡ r.defines = ap (λ o. unwrap_or (option_map (λ (k : Record). k.defines) o) []) seen in
+      let verbs : verbs_of w x ≡ r.verbs = ap (λ o. unwrap_or (option_map (λ (k : Record). k.verbs) o) []) seen in
+      ap (λ (o : Option Record). elim o [ None ↦ [] | Some k ↦ record_lines w x k ]) seen
+      ∙ sym (λ i. object_line x row ++ ((properties_are good.sound x ∙ ap (flat_map (property_line x)) names) i ++ (slots_are good x there i ++ flat_map (verb_line x) (verbs i))))
+
+  -- what is no object has no lines
+  pub nothing_printed : (x : ObjNo) → get t.objects x ≡ None → object_lines w x ≡ []
+  unfolding world_shown
+  nothing_printed x e = ap (λ (o : Option ObjRow). elim (option_map (record_of (look_ups t) x) o) [ None ↦ [] | Some k ↦ record_lines w x k ]) e
+
+  -- the objects' lines by their entries
+  pub objects_printed : IsGood t → objects_text t ≡ flat_map (λ e. object_lines w e.0) (entries t.objects)
+  objects_printed good = ap (flat_map (object_lines w)) (objects_listed t good.formed.tree) ∙ flat_map-map (object_lines w) (λ e. e.0) (entries t.objects)

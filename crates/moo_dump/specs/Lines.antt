@@ -1,0 +1,52 @@
+-- The lines of objects, by the rows that they are printed from.
+use Rattle.std.specs.Prelude.{◌≡◌, ℕ, List, [], Option, Some, None, map, unwrap_or}
+use Rattle.std.specs.BTreeMap.{BTreeMap, get as tree_get}
+use Rattle.std.specs.FinMap.{get, entries}
+use Rattle.std.specs.List.{filter, flat_map}
+use Rattle.std.specs.Option.{option_map}
+use Rattle.std.specs.Global.{Vec}
+use Rattle.moo_value.specs.declared.value.ObjNo.{ObjNo}
+use Rattle.moo_rows.specs.declared.row.PropId.{PropId}
+use Rattle.moo_rows.specs.declared.row.PropRow.{PropRow}
+use Rattle.moo_rows.specs.declared.row.SlotRow.{SlotRow}
+use Rattle.moo_rows.specs.Maps.{Maps, object_cmp}
+use Rattle.moo_dump.specs.Dump.{property_line, slot_line, object_lines}
+use Rattle.moo_world.specs.ObjectLists.{objects_of}
+use Rattle.moo_world.specs.Objects.{same_object}
+use Rattle.moo_world.specs.Rows.{slot_seen, world_of}
+
+-- the properties that d defines, of these
+abbrev pub ids_among : ObjNo → List (PropId × PropRow) → List PropId
+ids_among d es = map (λ e. e.0) (filter (λ e. same_object e.1.definer d) es)
+
+-- the properties that an object defines, in ascending number
+abbrev pub ids_defined : Maps → ObjNo → List PropId
+ids_defined t d = ids_among d (entries t.props)
+
+-- what a map of lists has for an object
+abbrev pub ids_listed : BTreeMap ObjNo (Vec PropId) → ObjNo → List PropId
+ids_listed ids d = unwrap_or (option_map (λ v. v.items) (tree_get object_cmp ids d)) []
+
+-- the line of a property
+abbrev pub property_line_of : Maps → ObjNo → PropId → List ℕ
+property_line_of t x id = elim (get t.props id) [ None ↦ [] | Some p ↦ property_line x p.name ]
+
+-- the line of the slot of a property on x
+abbrev pub slot_line_by : ObjNo → Option PropRow → Option SlotRow → List ℕ
+slot_line_by x (Some p) (Some s) = slot_line x (p.definer, p.name) (slot_seen p.definer s)
+slot_line_by x _ _ = []
+
+abbrev pub slot_line_of : Maps → ObjNo → PropId → List ℕ
+slot_line_of t x id = slot_line_by x (get t.props id) (get t.slots (x, id))
+
+-- the lines of the slots on x of what these objects define
+abbrev pub slot_lines_over : Maps → ObjNo → List ObjNo → List ℕ
+slot_lines_over t x l = flat_map (λ d. flat_map (slot_line_of t x) (ids_defined t d)) l
+
+-- the map has what each object defines
+abbrev pub ListsDefinitions : Maps → BTreeMap ObjNo (Vec PropId) → Type 0
+ListsDefinitions t ids = (d : ObjNo) → ids_listed ids d ≡ ids_defined t d
+
+-- the lines of the objects, ascending
+abbrev pub objects_text : Maps → List ℕ
+objects_text t = flat_map (object_lines (world_of t)) (objects_of (world_of t))

@@ -1,0 +1,77 @@
+//! A dump.
+
+ghost use Rattle.std.specs.Prelude.{◌≡◌, ℕ, take, IfOk, OnOk, OnErr};
+ghost use Rattle.std.specs.Io.KnownBytes.{Appends};
+ghost use Rattle.moo_dump.specs.Dump.{heading, dump};
+ghost use Rattle.moo_dump.specs.Lines.{ListsDefinitions, objects_text};
+ghost use Rattle.moo_dump.specs.Written.{AppendsFront};
+ghost use Rattle.moo_world.specs.Judge.{state_of};
+ghost use Rattle.moo_world.specs.Rows.{IsGood};
+
+use crate::definitions::{Definitions, all_definitions};
+use crate::fault::DumpFault;
+use crate::objects::object_text;
+use crate::output::put_all;
+use moo_rows::rows::Rows;
+use moo_rows::walk::each_object;
+use moo_value::value::{ObjNo, Value};
+use moo_value::writing::print_literal;
+use std::alloc::{AllocError, Global};
+use std::io::Write;
+
+/// The lines of the counters.
+#[tactic(auto, unfolding(moo_world::specs::Rows::world_shown))]
+fn heading_text<R: Rows>(alloc: Global, rows: &R) -> Result<Vec<u8>, AllocError>
+    ensures { IfOk result (λ text. text.items ≡ heading (state_of (R.held rows.now).maps)) }
+{
+    let head = rows.head();
+    let seq = head.seq.to_string(alloc)?;
+    let top = Value::Obj(ObjNo(head.top));
+    let mut text = Vec::new(alloc);
+    text.extend_from_slice(b"seq ")?;
+    text.extend_from_slice(seq.as_bytes())?;
+    text.extend_from_slice(b"\ntop ")?;
+    print_literal(alloc, &top, &mut text)?;
+    text.push(b'\n')?;
+    Ok(text)
+}
+
+/// Writes the lines of the objects, ascending.
+fn put_objects<R: Rows, W: Write>(
+    alloc: Global,
+    rows: &R,
+    definitions: &Definitions,
+    output: &mut W,
+) -> Result<(), DumpFault>
+    requires good { IsGood (R.held rows.now).maps }
+    requires listed { ListsDefinitions (R.held rows.now).maps definitions.now }
+    ensures ok { OnOk result (Appends (W.contents output.old) (W.contents output.new) (objects_text (R.held rows.now).maps)) }
+    ensures err { OnErr result (AppendsFront (W.contents output.old) (W.contents output.new) (objects_text (R.held rows.now).maps)) }
+{
+    for (x, _) in each_object(rows) {
+        let text = object_text(alloc, rows, definitions, x)?;
+        put_all(output, &text)?;
+    }
+    Ok(())
+}
+
+/// Writes all that the rows hold as text: `seq` with the number of the batches that were taken, `top` with the greatest
+/// number that an object was given, and then for each object, ascending, the lines `object`, `property` for each name that
+/// it defines, `slot` for each property that it has, by definers from the object up its chain, and `verb` for each of its
+/// verbs; then `end`. Behind `object`, `property`, `slot` and `verb` stands a literal list.
+///
+/// Write where the writer fails or takes no bytes, OutOfMemory where memory runs out; a front of the text is written then.
+///
+/// All properties are gone over once, and then each object takes as many look-ups as it has lines and as its chain is long.
+pub fn dump<R: Rows, W: Write>(alloc: Global, rows: &R, output: &mut W) -> Result<(), DumpFault>
+    requires { IsGood (R.held rows.now).maps }
+    ensures ok { OnOk result (Appends (W.contents output.old) (W.contents output.new) (dump (state_of (R.held rows.now).maps))) }
+    ensures err { OnErr result ((count : ℕ)
+        × Appends (W.contents output.old) (W.contents output.new) (take count (dump (state_of (R.held rows.now).maps)))) }
+{
+    let definitions = all_definitions(alloc, rows)?;
+    let heading = heading_text(alloc, rows)?;
+    put_all(output, &heading)?;
+    put_objects(alloc, rows, &definitions, output)?;
+    put_all(output, b"end\n")
+}

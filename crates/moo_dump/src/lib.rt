@@ -1,0 +1,16 @@
+//! What a world is dumped as, and what one object looks like.
+#![tactic(auto)]
+
+mod definitions;
+mod dumping;
+mod fault;
+mod lines;
+mod looking;
+mod objects;
+mod output;
+mod seen;
+
+pub use dumping::dump;
+pub use fault::DumpFault;
+pub use looking::look;
+pub use seen::Look;

@@ -1,0 +1,140 @@
+//! The lines of a dump.
+
+ghost use Rattle.std.specs.Prelude.{◌≡◌, ◌++◌, OnOk, IfOk};
+ghost use Rattle.moo_value.specs.Text.{IsText};
+ghost use Rattle.moo_dump.specs.Dump.{line, object_line, property_line, slot_line, verb_line};
+ghost use Rattle.moo_world.specs.Rows.{slot_seen};
+
+use moo_rights::accept_lists::accept_value;
+use moo_rights::answers::{flag, list_of};
+use moo_rows::row::{ObjRow, PropRow, SlotRow, SlotState, VerbRow};
+use moo_value::text::MooStr;
+use moo_value::value::{ObjNo, Value};
+use moo_value::writing::print_literal;
+use moo_verbs::prep::{print_place, print_prep};
+use moo_verbs::reading::bits_letters;
+use std::alloc::{AllocError, Global};
+
+/// Appends a word and a literal list of these values, as a line.
+fn put_line(
+    alloc: Global,
+    word: &[u8],
+    values: Vec<Value>,
+    out: &mut Vec<u8>,
+) -> Result<(), AllocError>
+    ensures { OnOk result (out.new.items ≡ out.old.items ++ line word.now values.items) }
+{
+    let list = list_of(values);
+    out.extend_from_slice(word)?;
+    out.push(b' ')?;
+    print_literal(alloc, &list, out)?;
+    out.push(b'\n')?;
+    Ok(())
+}
+
+/// A text as a value.
+fn string(alloc: Global, text: &str) -> Result<Value, AllocError>
+    requires { IsText text.now }
+    ensures { IfOk result (λ v. v ≡ Value.Str text.now) }
+{
+    let bytes = text.as_bytes().to_vec(alloc)?;
+    Ok(Value::Str(MooStr::from_vec(bytes)))
+}
+
+/// Appends the line of an object.
+pub(crate) fn put_object_line(
+    alloc: Global,
+    x: ObjNo,
+    row: &ObjRow,
+    out: &mut Vec<u8>,
+) -> Result<(), AllocError>
+    ensures { OnOk result (out.new.items ≡ out.old.items ++ object_line x row.now) }
+{
+    let name = row.name.copy(alloc)?;
+    let accept = accept_value(alloc, &row.accept)?;
+    let values = vec![in alloc;
+        Value::Obj(x),
+        Value::Str(name),
+        Value::Obj(row.owner),
+        Value::Obj(row.parent),
+        Value::Obj(row.location),
+        flag(row.player),
+        flag(row.programmer),
+        flag(row.wizard),
+        flag(row.r),
+        flag(row.w),
+        flag(row.f),
+        accept,
+    ]?;
+    put_line(alloc, b"object", values, out)
+}
+
+/// Appends the line of a property that x defines.
+pub(crate) fn put_property_line(
+    alloc: Global,
+    x: ObjNo,
+    name: &MooStr,
+    out: &mut Vec<u8>,
+) -> Result<(), AllocError>
+    ensures { OnOk result (out.new.items ≡ out.old.items ++ property_line x name.now) }
+{
+    let name = name.copy(alloc)?;
+    let values = vec![in alloc; Value::Obj(x), Value::Str(name)]?;
+    put_line(alloc, b"property", values, out)
+}
+
+/// Appends the line of the slot of a property on x.
+pub(crate) fn put_slot_line(
+    alloc: Global,
+    x: ObjNo,
+    property: &PropRow,
+    slot: &SlotRow,
+    out: &mut Vec<u8>,
+) -> Result<(), AllocError>
+    ensures { OnOk result (out.new.items
+        ≡ out.old.items ++ slot_line x (property.now.definer, property.now.name) (slot_seen property.now.definer slot.now)) }
+{
+    let name = property.name.copy(alloc)?;
+    let letters = string(alloc, slot.bits.letters())?;
+    let mut values = vec![in alloc;
+        Value::Obj(x),
+        Value::Obj(property.definer),
+        Value::Str(name),
+        Value::Obj(slot.owner),
+        letters,
+    ]?;
+    match &slot.state {
+        SlotState::Clear => values.push(Value::Int(0))?,
+        SlotState::Set(value) => {
+            values.push(Value::Int(1))?;
+            values.push(value.copy(alloc)?)?;
+        }
+    }
+    put_line(alloc, b"slot", values, out)
+}
+
+/// Appends the line of a verb of x.
+pub(crate) fn put_verb_line(
+    alloc: Global,
+    x: ObjNo,
+    verb: &VerbRow,
+    out: &mut Vec<u8>,
+) -> Result<(), AllocError>
+    ensures { OnOk result (out.new.items ≡ out.old.items ++ verb_line x verb.now) }
+{
+    let names = verb.names.copy(alloc)?;
+    let letters = string(alloc, bits_letters(verb.bits))?;
+    let dobj = string(alloc, print_place(verb.args.dobj))?;
+    let prep = string(alloc, print_prep(verb.args.prep))?;
+    let iobj = string(alloc, print_place(verb.args.iobj))?;
+    let values = vec![in alloc;
+        Value::Obj(x),
+        Value::Str(names),
+        Value::Obj(verb.owner),
+        letters,
+        dobj,
+        prep,
+        iobj,
+    ]?;
+    put_line(alloc, b"verb", values, out)
+}

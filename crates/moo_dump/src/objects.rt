@@ -1,0 +1,128 @@
+//! The lines of one object.
+
+ghost use Rattle.std.specs.Prelude.{◌≡◌, ◌++◌, OnOk, IfOk};
+ghost use Rattle.std.specs.List.{flat_map};
+ghost use Rattle.moo_dump.specs.Dump.{verb_line, object_lines};
+ghost use Rattle.moo_dump.specs.Lines.{ListsDefinitions, property_line_of, slot_line_of, slot_lines_over};
+ghost use Rattle.moo_world.specs.Rows.{world_of, IsSound, IsGood};
+ghost use Rattle.moo_world.specs.World.{IsTree, chain, verbs_of};
+
+use crate::definitions::{Definitions, defined_by};
+use crate::lines::{put_object_line, put_property_line, put_slot_line, put_verb_line};
+use moo_rows::row::{PropId, VerbId};
+use moo_rows::rows::Rows;
+use moo_rows::walk::each_verb_of;
+use moo_tree::chain;
+use moo_value::value::ObjNo;
+use std::alloc::{AllocError, Global};
+
+/// Appends the lines of the properties that x defines.
+fn put_properties<R: Rows>(
+    alloc: Global,
+    rows: &R,
+    x: ObjNo,
+    ids: &[PropId],
+    out: &mut Vec<u8>,
+) -> Result<(), AllocError>
+    ensures { OnOk result (out.new.items ≡ out.old.items ++ flat_map (property_line_of (R.held rows.now).maps x) ids.now) }
+{
+    for id in ids {
+        if let Some(property) = rows.prop(*id) {
+            put_property_line(alloc, x, &property.name, out)?;
+        }
+    }
+    Ok(())
+}
+
+/// Appends the line of the slot of a property on x, where it has one.
+fn put_slot<R: Rows>(
+    alloc: Global,
+    rows: &R,
+    x: ObjNo,
+    id: PropId,
+    out: &mut Vec<u8>,
+) -> Result<(), AllocError>
+    ensures { OnOk result (out.new.items ≡ out.old.items ++ slot_line_of (R.held rows.now).maps x id) }
+{
+    let Some(property) = rows.prop(id) else {
+        return Ok(());
+    };
+    match rows.slot((x, id)) {
+        Some(slot) => put_slot_line(alloc, x, property, slot, out),
+        None => Ok(()),
+    }
+}
+
+/// Appends the lines of the slots of these properties on x.
+fn put_slots_of<R: Rows>(
+    alloc: Global,
+    rows: &R,
+    x: ObjNo,
+    ids: &[PropId],
+    out: &mut Vec<u8>,
+) -> Result<(), AllocError>
+    ensures { OnOk result (out.new.items ≡ out.old.items ++ flat_map (slot_line_of (R.held rows.now).maps x) ids.now) }
+{
+    for id in ids {
+        put_slot(alloc, rows, x, *id, out)?;
+    }
+    Ok(())
+}
+
+/// Appends the lines of the slots of x, by definers from x up its chain.
+fn put_slots<R: Rows>(
+    alloc: Global,
+    rows: &R,
+    definitions: &Definitions,
+    x: ObjNo,
+    out: &mut Vec<u8>,
+) -> Result<(), AllocError>
+    requires tree { IsTree (world_of (R.held rows.now).maps) }
+    requires listed { ListsDefinitions (R.held rows.now).maps definitions.now }
+    ensures { OnOk result (out.new.items
+        ≡ out.old.items ++ slot_lines_over (R.held rows.now).maps x (chain (world_of (R.held rows.now).maps) x)) }
+{
+    let definers = chain(alloc, rows, x)?;
+    for definer in &definers {
+        put_slots_of(alloc, rows, x, defined_by(definitions, *definer), out)?;
+    }
+    Ok(())
+}
+
+/// Appends the lines of the verbs of x, in the order of the directory.
+fn put_verbs<R: Rows>(
+    alloc: Global,
+    rows: &R,
+    x: ObjNo,
+    out: &mut Vec<u8>,
+) -> Result<(), AllocError>
+    requires { IsSound (R.held rows.now).maps }
+    ensures { OnOk result (out.new.items
+        ≡ out.old.items ++ flat_map (verb_line x) (verbs_of (world_of (R.held rows.now).maps) x)) }
+{
+    for (_, row) in each_verb_of(rows, x, VerbId(0)) {
+        put_verb_line(alloc, x, row, out)?;
+    }
+    Ok(())
+}
+
+/// The lines of an object: its row, the names that it defines, its slots by definers up its chain, its verbs.
+pub(crate) fn object_text<R: Rows>(
+    alloc: Global,
+    rows: &R,
+    definitions: &Definitions,
+    x: ObjNo,
+) -> Result<Vec<u8>, AllocError>
+    requires good { IsGood (R.held rows.now).maps }
+    requires listed { ListsDefinitions (R.held rows.now).maps definitions.now }
+    ensures { IfOk result (λ text. text.items ≡ object_lines (world_of (R.held rows.now).maps) x) }
+{
+    let mut text = Vec::new(alloc);
+    if let Some(row) = rows.object(x) {
+        put_object_line(alloc, x, row, &mut text)?;
+        put_properties(alloc, rows, x, defined_by(definitions, x), &mut text)?;
+        put_slots(alloc, rows, definitions, x, &mut text)?;
+        put_verbs(alloc, rows, x, &mut text)?;
+    }
+    Ok(text)
+}

@@ -1,5 +1,0 @@
-//! Tests of the rows. `moo_rows` stands below every crate but `moo_value` and `moo_worked`, and a crate with tests is proved twice.
-#![tactic(auto)]
-
-#[cfg(test)]
-mod rows;

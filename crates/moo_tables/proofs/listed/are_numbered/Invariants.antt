@@ -1,0 +1,7 @@
+use Rattle.std.proofs.Common.{◌≡◌, None, drop, option_map}
+use Rattle.sqlite.specs.declared.types.Value.TheVariants.{Int}
+use Rattle.moo_tables.proofs.ListedLemmas.{numbers_rise}
+use Rattle.moo_tables.proofs.listed.are_numbered.Given as goal
+
+abbrev pub invariant-loop-row : goal.invariant-loop-row
+invariant-loop-row l = numbers_rise None l.rows ≡ numbers_rise (option_map Int l.last) (drop l.row-index l.rows)

@@ -1,0 +1,7 @@
+use Rattle.std.proofs.Common.{◌≡◌, None, drop, option_map}
+use Rattle.moo_tables.specs.Rising.{pair_of_ints}
+use Rattle.moo_tables.proofs.ListedLemmas.{pairs_rise}
+use Rattle.moo_tables.proofs.listed.are_paired.Given as goal
+
+abbrev pub invariant-loop-row : goal.invariant-loop-row
+invariant-loop-row l = pairs_rise None l.rows ≡ pairs_rise (option_map pair_of_ints l.last) (drop l.row-index l.rows)

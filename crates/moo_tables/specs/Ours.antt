@@ -1,0 +1,32 @@
+-- Which tables are ours.
+use Rattle.std.specs.Prelude.{◌≡◌, ℕ, false, List, [], ◌∷◌, Some, None}
+use Rattle.sqlite.specs.Table.{Table}
+use Rattle.sqlite_value.specs.Keys.{plain}
+
+-- no constraint but the key, and no column that is computed
+pub record HasNoRules (t : Table) : Type 0 where
+  pub checks : t.checks ≡ []
+  pub references : t.references ≡ []
+  pub computed : t.computed ≡ []
+  pub places : t.stamps.places ≡ []
+  pub terms : t.stamps.terms ≡ []
+  pub formats : t.stamps.formats ≡ []
+  pub uncounted : t.is_counted ≡ false
+
+-- the first column is the row's number
+pub record IsNumbered (name : List ℕ) (tree : ℕ) (t : Table) : Type 0 where
+  pub name_is : t.name ≡ name
+  pub tree_is : t.tree ≡ tree
+  pub key : t.key ≡ Some 0
+  pub primary : t.primary ≡ 0 ∷ []
+  pub uniques : t.uniques ≡ []
+  pub orders : t.orders ≡ []
+
+-- the first two columns are the key
+pub record IsPaired (name : List ℕ) (tree : ℕ) (t : Table) : Type 0 where
+  pub name_is : t.name ≡ name
+  pub tree_is : t.tree ≡ tree
+  pub key : t.key ≡ None
+  pub primary : t.primary ≡ 1 ∷ 2 ∷ []
+  pub uniques : t.uniques ≡ (1 ∷ 2 ∷ []) ∷ []
+  pub orders : t.orders ≡ plain ∷ []

@@ -1,0 +1,22 @@
+-- Rows whose keys rise, told row by row.
+use Rattle.std.specs.Prelude.{◌&&◌, ℤ, Bool, true, Option, Some, None}
+use Rattle.std.specs.Ordering.{is_lt, ordering_then}
+use Rattle.std.specs.declared.cmp.Ordering.{Ordering}
+use Rattle.sqlite.specs.declared.types.Value.{Value}
+use Rattle.sqlite.specs.declared.types.Value.TheVariants.{Int}
+use Rattle.sqlite.specs.Order.{Row, column, value_cmp}
+use Rattle.sqlite_trees.specs.View.{is_int}
+
+abbrev pub pair_of_ints : ℤ × ℤ → Value × Value
+pair_of_ints key = (Int key.0, Int key.1)
+
+abbrev pub pair_cmp : Value × Value → Value × Value → Ordering
+pair_cmp a b = ordering_then (value_cmp a.0 b.0) (value_cmp a.1 b.1)
+
+-- the key is above the last one, if there was one
+abbrev pub is_above : {K : Type 0} → (K → K → Ordering) → Option K → K → Bool
+is_above cmp None key = true
+is_above cmp (Some last) key = is_lt (cmp last key)
+
+abbrev pub has_two_numbers : Row → Bool
+has_two_numbers row = is_int (column row 0) && is_int (column row 1)

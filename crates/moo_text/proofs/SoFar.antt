@@ -1,0 +1,95 @@
+-- A line of which so much is read, over the bytes that were given meanwhile.
+use Rattle.std.proofs.Common.{◌≡◌, ℕ, ◌+◌, ◌≤◌, ◌<◌, false, List, [], ◌++◌, length, take, drop, Option, Some, sym, ap, subst, ◌∙◌, append_assoc, arith}
+use Rattle.std.proofs.lemmas.List.{append-nil, length-append, length-take}
+use Rattle.std.specs.Prelude.{◌==◌}
+use Rattle.std.specs.Str.Lines.{strip_carriage_return}
+use Rattle.moo_text.specs.Feed.{TakesLine}
+use Rattle.moo_text.specs.Side.{Side, IsOver}
+use Rattle.moo_text.specs.Given.{Gives, ReadsLine, BreaksOff}
+use Rattle.moo_text.specs.declared.fault.TextFault.{TextFault}
+use Rattle.moo_text.specs.declared.fault.TextFault.TheVariants.{OutOfMemory}
+use Rattle.moo_text.proofs.Kept.{HasNoNewline, LineSoFar, NewlineAt, none-append, kept_again, end_found}
+use Rattle.moo_text.proofs.Giving.{Gives-none, Gives-then, gives_then_breaks, out_of_memory}
+
+pub record SoFar (start now : Side) (line : List ℕ) : Type 0 where
+  pub given : List ℕ
+  pub raw : List ℕ
+  pub gives : Gives start now given
+  pub room : start.room ≡ length given + now.room
+  pub none : HasNoNewline raw
+  pub kept : line ≡ take 262146 raw
+  pub whole : start.ahead ++ given ≡ raw ++ now.ahead
+
+pub nothing_yet : (start : Side) (line : List ℕ) → line ≡ [] → SoFar start start line
+nothing_yet start line e = record { given = []; raw = []; gives = Gives-none start; room = omega arith; none = tt; kept = e; whole = append-nil start.ahead }
+
+-- the bytes that are read ahead change, and the reader isn't read
+abbrev pub beside : Side → List ℕ → Side
+beside a ahead = record { left = a.left; room = a.room; ended = a.ended; ahead = ahead }
+
+gives_from : (a b : Side) (ahead given : List ℕ) → Gives (beside a ahead) b given → Gives a b given
+gives_from a b ahead given g = record { known = g.known; stays = g.stays; at_end = g.at_end }
+
+gives_to : (a b : Side) (ahead given : List ℕ) → Gives a b given → Gives a (beside b ahead) given
+gives_to a b ahead given g = record { known = g.known; stays = g.stays; at_end = g.at_end }
+
+breaks_from : (a b : Side) (ahead : List ℕ) (fault : TextFault) → BreaksOff (beside a ahead) b fault → BreaksOff a b fault
+breaks_from a b ahead fault o = record { given = o.given; gives = gives_from a b ahead o.given o.gives; count = o.count }
+
+-- what was read ahead is used up, and a piece is read
+pub piece_read : (start now next : Side) (line longer used : List ℕ) → SoFar start now line → HasNoNewline now.ahead → longer ≡ take 262146 (line ++ now.ahead)
+    → Gives (beside now used) next next.ahead → now.room ≡ length next.ahead + next.room → SoFar start next longer
+piece_read start now next line longer used s none put took less = record {
+  given = s.given ++ next.ahead;
+  raw = s.raw ++ now.ahead;
+  gives = Gives-then start now next s.given next.ahead s.gives (gives_from now next used next.ahead took);
+  room = omega (arith, s.room, less, length-append s.given next.ahead);
+  none = none-append s.raw now.ahead s.none none;
+  kept = put ∙ ap (λ (t : List ℕ). take 262146 (t ++ now.ahead)) s.kept ∙ kept_again 262146 s.raw now.ahead;
+  whole = sym (append_assoc start.ahead s.given next.ahead) ∙ ap (λ (t : List ℕ). t ++ next.ahead) s.whole;
+}
+
+-- whatever the reader gives behind these bytes
+behind : (start now : Side) (line : List ℕ) (s : SoFar start now line) (rest : List ℕ) → LineSoFar (start.ahead ++ (s.given ++ rest)) line (now.ahead ++ rest)
+behind start now line s rest = record {
+  raw = s.raw;
+  none = s.none;
+  kept = s.kept;
+  whole = sym (append_assoc start.ahead s.given rest) ∙ ap (λ (t : List ℕ). t ++ rest) s.whole ∙ append_assoc s.raw now.ahead rest;
+}
+
+-- what may still be used falls by what the line has
+pub room_falls : (start now : Side) (line : List ℕ) → SoFar start now line → length line + (length now.ahead + now.room) ≤ length start.ahead + start.room
+room_falls start now line s =
+    omega (arith, s.room, ap length s.kept, length-take 262146 s.raw, ap length s.whole, length-append start.ahead s.given, length-append s.raw now.ahead)
+
+-- the line's end is found
+pub found_line : (start now : Side) (line next left : List ℕ) (at : ℕ) → SoFar start now line → NewlineAt now.ahead at → next ≡ take 262146 (line ++ take at now.ahead) → left ≡ drop (at + 1) now.ahead
+    → ReadsLine start (beside now left) (Some (strip_carriage_return next))
+found_line start now line next left at s there put is = record {
+  given = s.given;
+  gives = gives_to start now left s.given s.gives;
+  room = s.room;
+  holds = λ rest _. end_found (start.ahead ++ (s.given ++ rest)) line now.ahead rest next left at (behind start now line s rest) there put is;
+}
+
+-- the text is at its end
+pub ends_with : (start now : Side) (line : List ℕ) (found : Option (List ℕ)) → SoFar start now line → IsOver now → ((text : List ℕ) → LineSoFar text line [] → TakesLine text [] found) → ReadsLine start now found
+ends_with start now line found s over take = record {
+  given = s.given;
+  gives = s.gives;
+  room = s.room;
+  holds = λ rest none.
+      let left : now.ahead ++ rest ≡ [] = ap (λ (t : List ℕ). t ++ rest) over.1 ∙ none over.0 in
+      subst (λ (t : List ℕ). TakesLine (start.ahead ++ (s.given ++ rest)) t found) (sym left) (take (start.ahead ++ (s.given ++ rest)) (subst (λ (t : List ℕ). LineSoFar (start.ahead ++ (s.given ++ rest)) line t) left (behind start now line s rest)));
+}
+
+pub some_there : (n : ℕ) → (n == 0) ≡ false → 0 < n
+some_there n e = grind (arith, e)
+
+-- memory is refused, or no piece is read
+pub line_refused : (start now : Side) (line : List ℕ) → SoFar start now line → BreaksOff start now OutOfMemory
+line_refused start now line s = out_of_memory start now s.given s.gives s.room
+
+pub piece_fails : (start now next : Side) (line used : List ℕ) (fault : TextFault) → SoFar start now line → BreaksOff (beside now used) next fault → BreaksOff start next fault
+piece_fails start now next line used fault s o = gives_then_breaks start now next s.given fault s.gives s.room (breaks_from now next used fault o)

@@ -1,0 +1,76 @@
+-- What reading does to the bytes of a text, said of the bytes that the reader gave, whether or not it tells them beforehand.
+use Rattle.std.specs.Prelude.{◌≡◌, ◌≤◌, ◌+◌, ℕ, true, List, [], ◌++◌, length, Option, IfSome}
+use Rattle.std.specs.Io.KnownBytes.{Consumes, IsAtEnd}
+use Rattle.moo_text.specs.Items.{items}
+use Rattle.moo_text.specs.Feed.{TakesLine, Carries, TakesFirst, TakesNext}
+use Rattle.moo_text.specs.Side.{Side, untouched}
+use Rattle.moo_text.specs.declared.fault.TextFault.{TextFault}
+use Rattle.moo_text.specs.declared.fault.TextFault.TheVariants.{Read, Write, OutOfMemory, Long}
+use Rattle.moo_text.specs.declared.next.Next.{Next}
+
+-- From old to new the reader gave these bytes. Where it tells its bytes they stood in front and are gone. Once it has given no bytes it
+-- gives none, and where it tells its bytes none are left then.
+pub record Gives (old new : Side) (given : List ℕ) : Type 0 where
+  pub known : Consumes old.left new.left given
+  pub stays : old.ended ≡ true → (given ≡ []) × (new.ended ≡ true)
+  pub at_end : (old.ended ≡ true → IsAtEnd old.left) → new.ended ≡ true → IsAtEnd new.left
+
+-- The reader gave some bytes, as many as were taken of the room. P holds of the bytes that were not used before and of those that are
+-- not used now, whatever the reader may give behind them: nothing, where the text is at its end.
+pub record Reads (old new : Side) (P : List ℕ → List ℕ → Type 0) : Type 0 where
+  pub given : List ℕ
+  pub gives : Gives old new given
+  pub room : old.room ≡ length given + new.room
+  pub holds : (rest : List ℕ) → (new.ended ≡ true → rest ≡ []) → P (old.ahead ++ (given ++ rest)) (new.ahead ++ rest)
+
+-- What a fault says of how many bytes were given: Long that it is one more than the room, any other that it is no more than the room.
+-- Nothing is written, so no fault is Write.
+abbrev pub Explains : ℕ → ℕ → TextFault → Type 0
+Explains room count Long = count ≡ room + 1
+Explains room count Write = ⊥
+Explains room count Read = count ≤ room
+Explains room count OutOfMemory = count ≤ room
+
+-- The reader gave some bytes, and there reading stopped.
+pub record BreaksOff (old new : Side) (fault : TextFault) : Type 0 where
+  pub given : List ℕ
+  pub gives : Gives old new given
+  pub count : Explains old.room (length given) fault
+
+-- a line is read, and none at the end
+abbrev pub ReadsLine : Side → Side → Option (List ℕ) → Type 0
+ReadsLine old new line = Reads old new (λ before behind. TakesLine before behind line)
+
+-- what f says of the lines before is what g says of those behind
+abbrev pub ReadsAlong : (List (List ℕ) → List Next) → (List (List ℕ) → List Next) → Side → Side → Type 0
+ReadsAlong f g old new = Reads old new (λ before behind. Carries f g before behind)
+
+-- f's first item is read
+abbrev pub ReadsFirst : (List (List ℕ) → List Next) → Side → Side → Next → Type 0
+ReadsFirst f old new item = Reads old new (λ before behind. TakesFirst f before behind item)
+
+-- the next item is read, and End where there is none
+abbrev pub ReadsNext : Side → Side → Next → Type 0
+ReadsNext old new item = Reads old new (λ before behind. TakesNext before behind item)
+
+-- these items are read
+abbrev pub ReadsItems : Side → Side → List Next → Type 0
+ReadsItems old new done = Reads old new (λ before behind. items before ≡ done ++ items behind)
+
+-- these are all items that the text has
+abbrev pub ReadsAll : Side → Side → List Next → Type 0
+ReadsAll old new all = Reads old new (λ before behind. items before ≡ all)
+
+-- From the start of a text on reading was stopped behind these items: whatever the reader may give behind what it gave, they come first.
+pub record StopsBehind (left : Option (List ℕ)) (room : ℕ) (new : Side) (done : List Next) (fault : TextFault) : Type 0 where
+  pub given : List ℕ
+  pub gives : Gives (untouched left room) new given
+  pub count : Explains room (length given) fault
+  pub front : (rest : List ℕ) → (new.ended ≡ true → rest ≡ []) → (more : List Next) × (items (given ++ rest) ≡ done ++ more)
+
+-- where the reader tells its bytes, these are all of them, or they stand in front
+abbrev pub GivesAll : Option (List ℕ) → List ℕ → Type 0
+GivesAll left given = IfSome left (λ text. given ≡ text)
+
+abbrev pub GivesFront : Option (List ℕ) → List ℕ → Type 0
+GivesFront left given = IfSome left (λ text. (rest : List ℕ) × (text ≡ given ++ rest))

@@ -1,0 +1,29 @@
+//! Literals that are a whole text.
+
+ghost use Rattle.std.specs.Prelude.{Ok, IfOk};
+ghost use Rattle.moo_value.specs.declared.value.Value.{Value};
+ghost use Rattle.moo_value.specs.Literal.{Spells, Fits};
+ghost use Rattle.moo_value.specs.Reading.{Gives};
+
+use crate::fault::LiteralFault;
+use crate::reading::read_literal;
+use crate::value::Value;
+use std::alloc::Global;
+
+/// The value that the bytes spell from the first to the last, in any of its spellings. Blanks may stand before it, and
+/// nothing behind it.
+///
+/// Errors: those of `read_literal`, and `NotALiteral` where something follows the literal in front.
+pub fn read_whole_literal(alloc: Global, bytes: &[u8]) -> Result<Value, LiteralFault>
+    // What is read is spelled so, and within the limits.
+    ensures spelled { IfOk result (λ v. Spells v bytes.now × Fits v) }
+    // What is spelled so, within the limits, is read, unless memory runs out.
+    ensures only { (v : Value) → Fits v → Spells v bytes.now → Gives (λ w. w) result (Ok v) }
+{
+    let (value, used) = read_literal(alloc, bytes)?;
+    if used == bytes.len() {
+        Ok(value)
+    } else {
+        Err(LiteralFault::NotALiteral)
+    }
+}

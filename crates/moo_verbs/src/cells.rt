@@ -1,0 +1,45 @@
+//! The arguments of verbs as the cells of a table spell them: exactly as they are printed, and not as calls may give them.
+
+ghost use Rattle.std.specs.Prelude.{◌≡◌, List, Some, IfSome};
+ghost use Rattle.std.specs.List.{find};
+ghost use Rattle.std.specs.Str.{bytes_eq};
+ghost use Rattle.moo_rows.specs.declared.row.Place.{Place};
+ghost use Rattle.moo_rows.specs.declared.row.Preposition.{Preposition};
+ghost use Rattle.moo_world.specs.Prepositions.{set_text, prep_text, place_text};
+
+use crate::prep::{print_place, set_text};
+use crate::reading::ALL_SETS;
+use moo_rows::row::{Place, Preposition, PrepositionSet};
+
+/// The place that the bytes spell in lower case: `this`, `any` or `none`; none for anything else. Takes no memory.
+pub fn read_place_cell(bytes: &[u8]) -> Option<Place>
+    ensures found { IfSome result (λ place. bytes.now ≡ place_text place) }
+    ensures only { (place : Place) → bytes.now ≡ place_text place → result ≡ Some place }
+{
+    [Place::This, Place::Any, Place::None]
+        .into_iter()
+        .find(|place| print_place(*place).as_bytes() == bytes)
+}
+
+/// The first of these sets whose phrases, with slashes between them, are the bytes.
+fn set_spelled(sets: &[PrepositionSet], bytes: &[u8]) -> Option<PrepositionSet>
+    ensures first { result ≡ find (λ set. bytes_eq (set_text set) bytes.now) sets.now }
+    ensures found { IfSome result (λ set. bytes.now ≡ set_text set) }
+{
+    sets.iter().copied().find(|set| set_text(*set).as_bytes() == bytes)
+}
+
+/// The preposition that the bytes spell in lower case: `none`, `any`, or all phrases of a set with slashes between them;
+/// none for anything else, as a single phrase. Takes no memory.
+pub fn read_prep_cell(bytes: &[u8]) -> Option<Preposition>
+    ensures found { IfSome result (λ prep. bytes.now ≡ prep_text prep) }
+    ensures only { (prep : Preposition) → bytes.now ≡ prep_text prep → result ≡ Some prep }
+{
+    if bytes == b"none".as_slice() {
+        return Some(Preposition::None);
+    }
+    if bytes == b"any".as_slice() {
+        return Some(Preposition::Any);
+    }
+    set_spelled(&ALL_SETS, bytes).map(Preposition::Set)
+}
