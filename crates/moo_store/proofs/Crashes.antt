@@ -1,13 +1,16 @@
 -- What a crash leaves of a connection, at rest and in a call.
-use Rattle.std.proofs.Common.{◌≡◌, ◌⊎◌, inl, inr, IsTrue}
+use Rattle.std.proofs.Common.{◌≡◌, ◌⊎◌, inl, inr, IsTrue, refl}
 use Rattle.sqlite.specs.Tree.{Trees}
+use Rattle.sqlite.specs.Store.{Ghosts}
 use Rattle.sqlite.specs.State.{State as Database, HasCleanDisk, Survives}
 use Rattle.moo_tables.proofs.InsideLemmas.{left_by, clean_before}
 use Rattle.moo_rows.specs.Maps.{Maps}
 use Rattle.moo_world.specs.Rows.{IsGood}
 use Rattle.moo_world.specs.Judge.{State, state_of}
 use Rattle.moo_store.specs.States.{KeepsRows, LeavesRows, Keeps, LeavesState}
-use Rattle.moo_store.specs.World.{Left}
+use Rattle.moo_store.specs.Kept.{World}
+use Rattle.moo_store.specs.Stand.{Stand, Works, Failed, StoreFailed}
+use Rattle.moo_store.specs.World.{store_of, Left, CrashLeaves, StandsAt}
 
 -- the law of a store that is open: a crash leaves the last commit
 abbrev pub IsSettled : Database → Type 0
@@ -47,3 +50,9 @@ left_by_write old new rows next s t good good_next is is_next settled rests surv
 pub rows_written : (old new : Database) (rows next : Maps) → (HasCleanDisk old → KeepsRows old rows) → Survives old new (λ trees. LeavesRows trees next) → (HasCleanDisk new → KeepsRows old rows → KeepsRows new next)
     → HasCleanDisk new → KeepsRows new next
 rows_written old new rows next rests survives written clean = written clean (rests (clean_before old new (λ x. LeavesRows x next) survives clean))
+
+-- a crash leaves what a World stands at
+pub crash_leaves : {S : Type 0} (g : Ghosts S) (world : World S) (stand : Stand) → IsSettled (store_of g world) → StandsAt g world stand → HasCleanDisk (store_of g world) → CrashLeaves (store_of g world) stand
+crash_leaves g world (Works s) settled at clean trees left = (s, refl, left_at_rest (store_of g world) s settled (at.is_at.tables clean) trees left)
+crash_leaves g world (Failed s) settled at clean trees left = (s, refl, left_at_rest (store_of g world) s settled (at.1.tables clean) trees left)
+crash_leaves g world (StoreFailed s hand) settled at clean trees left = at.1 clean trees left

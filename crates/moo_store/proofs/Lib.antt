@@ -3,6 +3,9 @@ pub mod Shown
 pub mod Committed
 pub mod Crashes
 pub mod Running
+pub mod Judged
+pub mod Following
+pub mod Standing
 pub mod Going
 pub mod Items
 pub mod Writing

@@ -1,12 +1,13 @@
 -- One batch, and then a list of them.
 use Rattle.std.proofs.Common.{◌≡◌, ◌⊎◌, inl, inr, ℕ, zero, suc, ◌+◌, ◌≤◌, ◌<◌, Bool, List, [], ◌∷◌, ◌++◌, take, drop, length, get_or, append_assoc, length-append, Result, Ok, Err, OnOk, OnErr, IfOk, IfErr, true, false, refl, sym, ap, subst, ◌∙◌, arith}
-use Rattle.std.specs.Prelude.{is_err, ⊤}
+use Rattle.std.specs.Prelude.{is_err, ⊤, IsTrue, map}
 use Rattle.moo_store.proofs.Crashes.{IsSettled, left_at_rest}
 use Rattle.std.proofs.lemmas.List.{append-nil, take_more}
 use Rattle.std.proofs.Math.Seq.{drop-append_seam, drop-cons}
 use Rattle.sqlite.specs.Tree.{Trees}
 use Rattle.sqlite.specs.State.{HasCleanDisk}
 use Rattle.sqlite.specs.Store.{Ghosts}
+use Rattle.sqlite.specs.declared.error.Error.{Error}
 use Rattle.moo_world.specs.declared.call.Batch.{Batch}
 use Rattle.moo_text.specs.declared.reply.Reply.{Reply}
 use Rattle.moo_text.specs.declared.reply.Reply.TheVariants as reply
@@ -16,7 +17,13 @@ use borrow.Author.Tests.{ltb-true}
 use Rattle.moo_world.specs.Judge.{State, Ran, Through, FailedAt, FullAt, Verdict, Accepted, Refused, NoRoom, Stale, is_due, last_seq, run_calls, verdict_of, judge, left_by, after}
 use Rattle.moo_store.specs.States.{LeavesState}
 use Rattle.moo_store.specs.Answered.{reply_of, next_of, IsRun, AnsweredOne, Answered, acknowledged, added}
-use Rattle.moo_store.specs.World.{store_of, IsAt, Left, LeftOrNext, RunsOne, MatchStore}
+use Rattle.moo_text.specs.declared.next.Next.TheVariants.{Batch as Whole}
+use Rattle.moo_text.specs.declared.reply.Answer.{Answer}
+use Rattle.moo_text.specs.declared.reply.Answer.TheVariants as answer
+use Rattle.moo_store.specs.Stand.{Stand, Works, Failed, StoreFailed, state_at, Leaves, RunsBatch}
+use Rattle.moo_store.specs.Turns.{Turns}
+use Rattle.moo_store.specs.Text.{StandsBehind, RunsAll, answer_to}
+use Rattle.moo_store.specs.World.{store_of, IsAt, StandsFor, StandsAt, Left, LeftOrNext, MatchStore}
 use Rattle.moo_store.specs.Kept.{World}
 use Rattle.moo_store.specs.declared.fault.StoreFault.{StoreFault}
 use Rattle.moo_store.specs.declared.fault.StoreFault.TheVariants.{Store, OutOfMemory, Closed}
@@ -58,20 +65,37 @@ accepted_is_run s t batch answers e = by (is_due batch.at s.seq) (nat_lt s.seq l
     by true false due low e = absurd cc
     by false room due low e = absurd cc
 
--- an accepted batch is committed, or the store failed
-pub accepted_one : {S : Type 0} (g : Ghosts S) (new : World S) (s : State) (batch : Batch) (answers : List Value) (next : State) (r : Result Reply StoreFault)
-    → judge s batch ≡ Accepted answers next
-    → IfOk r (λ r. r ≡ reply.Accepted next.seq answers) → OnOk r (IsAt g new next)
-    → IfErr r (λ fault. (error : _) × (fault ≡ Store error))
-    → OnErr r (HasCleanDisk (store_of g new) → (trees : Trees) → (store_of g new).may_leave trees → LeavesState trees s ⊎ LeavesState trees next)
-    → RunsOne g new s batch r
-accepted_one g new s batch answers next (Ok reply) judged is at fault crash = (next, inr (is ∙ sym (ap reply_of judged), sym (ap (left_by s) judged)), at)
-accepted_one g new s batch answers next (Err (Store error)) judged is at fault crash = λ clean trees left. elim (crash clean trees left) [
-  | inl was ↦ (0, omega arith, was)
-  | inr on ↦ (1, omega arith, subst (LeavesState trees) (sym (ap (left_by s) judged)) on)
-]
-accepted_one g new s batch answers next (Err OutOfMemory) judged is at fault crash = let no : OutOfMemory ≡ Store fault.0 = fault.1 in absurd cc
-accepted_one g new s batch answers next (Err Closed) judged is at fault crash = let no : Closed ≡ Store fault.0 = fault.1 in absurd cc
+-- ---- one batch, at a state
+
+-- what running one batch at s leaves
+abbrev pub RunsOne : {S : Type 0} (g : Ghosts S) → World S → State → Batch → Result Reply StoreFault → Type 0
+RunsOne g new s batch (Ok reply) = (next : State) × AnsweredOne s batch reply next × IsAt g new next
+RunsOne g new s batch (Err (Store error)) = HasCleanDisk (store_of g new) → LeftOrNext (store_of g new) s (batch ∷ [])
+RunsOne g new s batch (Err Closed) = IsAt g new s
+RunsOne g new s batch (Err fault) = ⊥
+
+-- the World has failed at a fault of the store, and at no other
+abbrev pub FailsAtStore : {T : Type 0} {S : Type 0} (g : Ghosts S) → World S → World S → Result T StoreFault → Type 0
+FailsAtStore g old new (Ok x) = old.failed ≡ false
+FailsAtStore g old new (Err (Store error)) = (old.failed ≡ false) × (new.failed ≡ true)
+FailsAtStore g old new (Err Closed) = (old.failed ≡ true) × (new ≡ old)
+FailsAtStore g old new (Err fault) = ⊥
+
+-- ..which is what its closing and its failing come to
+pub fails_of : {S : Type 0} (g : Ghosts S) (old new : World S) (r : Result Reply StoreFault) → (IsTrue old.failed → (r ≡ Err Closed) × (new ≡ old))
+    → (old.failed ≡ false → IfErr r (λ fault. ((error : Error) × (fault ≡ Store error)) × (new.failed ≡ true))) → FailsAtStore g old new r
+fails_of {S} g old new r closed fails = by old.failed r refl closed fails
+  where
+    by : (failed : Bool) (r : Result Reply StoreFault) → old.failed ≡ failed → (old.failed ≡ true → (r ≡ Err Closed) × (new ≡ old))
+        → (old.failed ≡ false → IfErr r (λ fault. ((error : Error) × (fault ≡ Store error)) × (new.failed ≡ true))) → FailsAtStore g old new r
+    by true (Ok reply) is closed fails = let no : Ok reply ≡ Err Closed = (closed is).0 in absurd cc
+    by true (Err (Store error)) is closed fails = let no : Store error ≡ Closed = ap (λ (r : Result Reply StoreFault). elim r [ Ok x ↦ Closed | Err f ↦ f ]) (closed is).0 in absurd cc
+    by true (Err OutOfMemory) is closed fails = let no : OutOfMemory ≡ Closed = ap (λ (r : Result Reply StoreFault). elim r [ Ok x ↦ Closed | Err f ↦ f ]) (closed is).0 in absurd cc
+    by true (Err Closed) is closed fails = (is, (closed is).1)
+    by false (Ok reply) is closed fails = is
+    by false (Err (Store error)) is closed fails = (is, (fails is).1)
+    by false (Err OutOfMemory) is closed fails = let no : OutOfMemory ≡ Store (fails is).0.0 = (fails is).0.1 in absurd cc
+    by false (Err Closed) is closed fails = let no : Closed ≡ Store (fails is).0.0 = (fails is).0.1 in absurd cc
 
 -- ---- a list of batches
 
@@ -108,6 +132,50 @@ answered_after s (b ∷ bs) (reply.Full k ∷ rs) end it = answered_after it.0 b
 answered_after s (b ∷ bs) (reply.Stale seq ∷ rs) end it = answered_after it.0 bs rs end it.2 ∙ ap (λ t. after t (acknowledged bs rs)) (keeps s it.0 b _ refl it.1)
 answered_after s (b ∷ bs) (reply.NoMemory ∷ rs) end it = answered_after it.0 bs rs end it.2 ∙ ap (λ t. after t (acknowledged bs rs)) (keeps s it.0 b _ refl it.1)
 
+-- ---- one batch, wherever the World stands
+
+-- what a verdict leaves is at the state that it leaves
+pub leaves_at : (s : State) (v : Verdict) (new : Stand) → Leaves s v new → state_at new ≡ left_by s v
+leaves_at s (Accepted answers next) new it = elim it [ inl on ↦ ap state_at on | inr on ↦ ap state_at on ]
+leaves_at s (Refused call code) new it = ap state_at it
+leaves_at s (NoRoom call) new it = ap state_at it
+leaves_at s (Stale seq) new it = ap state_at it
+
+-- a reply of a World that works is one of its judgement
+pub replied_one : (s : State) (batch : Batch) (reply : Reply) (new : Stand) → RunsBatch (Works s) batch (answer.Replied reply) new → AnsweredOne s batch reply (state_at new)
+replied_one s batch reply new it = elim it [ inl none ↦ inl (none.0, ap state_at none.1, none.2) | inr ran ↦ inr (ran.0, leaves_at s (judge s batch) new ran.1) ]
+
+-- no verdict leaves a store that failed
+no_store_failed : {X : Type 0} (s t : State) (hand : Batch) (v : Verdict) → Leaves s v (StoreFailed t hand) → X
+no_store_failed s t hand (Accepted answers next) it = elim it [ inl on ↦ (let no : StoreFailed t hand ≡ Works next = on in absurd cc) | inr on ↦ (let no : StoreFailed t hand ≡ Failed next = on in absurd cc) ]
+no_store_failed s t hand (Refused call code) it = let no : StoreFailed t hand ≡ Works s = it in absurd cc
+no_store_failed s t hand (NoRoom call) it = let no : StoreFailed t hand ≡ Works s = it in absurd cc
+no_store_failed s t hand (Stale seq) it = let no : StoreFailed t hand ≡ Works s = it in absurd cc
+
+replied_at : {S : Type 0} (g : Ghosts S) (new : World S) (s : State) (batch : Batch) (reply : Reply) (next : Stand) → StandsAt g new next → RunsBatch (Works s) batch (answer.Replied reply) next → IsAt g new (state_at next)
+replied_at g new s batch reply (Works t) it ran = it.is_at
+replied_at g new s batch reply (Failed t) it ran = it.1
+replied_at g new s batch reply (StoreFailed t hand) it ran = elim ran [
+  | inl none ↦ (let no : StoreFailed t hand ≡ Works s = none.1 in absurd cc)
+  | inr on ↦ no_store_failed s t hand (judge s batch) on.1
+]
+
+-- seen from the states alone
+pub runs_one : {S : Type 0} (g : Ghosts S) (old new : World S) (batch : Batch) (r : Result Reply StoreFault) → FailsAtStore g old new r → StandsBehind g old batch (answer_to r) new → (s : State) → IsAt g old s → RunsOne g new s batch r
+runs_one g old new batch (Ok reply) works stands s it =
+    let one = stands (Works s) (record { works = works; is_at = it }) in
+    (state_at one.0, replied_one s batch reply one.0 one.2, replied_at g new s batch reply one.0 one.1 one.2)
+runs_one g old new batch (Err (Store error)) fails stands s it =
+    let one = stands (Works s) (record { works = fails.0; is_at = it }) in
+    let lost : StandsAt g new (StoreFailed s batch) = subst (StandsAt g new) one.2.1 one.1 in
+    λ clean trees left.
+    let lies = lost.1 clean trees left in
+    elim lies.1 [ inl same ↦ (0, omega arith, subst (LeavesState trees) same lies.2) | inr on ↦ (1, omega arith, subst (LeavesState trees) on lies.2) ]
+runs_one g old new batch (Err OutOfMemory) fails stands s it = absurd fails
+runs_one g old new batch (Err Closed) fails stands s it = subst (λ w. IsAt g w s) (sym fails.1) it
+
+-- ---- a list of batches
+
 -- only the batches that have a reply count
 acknowledged-take : (batches : List Batch) (replies : List Reply) → acknowledged (take (length replies) batches) replies ≡ acknowledged batches replies
 acknowledged-take [] [] = refl
@@ -131,14 +199,22 @@ pub record Progress {S : Type 0} (g : Ghosts S) (old now : World S) (all : List 
   pub whole : replies ≡ before ++ new
   pub each : length new ≡ count
   pub answered : (s : State) → IsAt g old s → (end : State) × Answered s (take count all) new end × IsAt g now end
+  pub turned : (stand : Stand) → StandsAt g old stand → (mid : Stand) × StandsAt g now mid × Turns RunsBatch stand (map Whole (take count all)) (map answer.Replied new) mid
+
+turns-push : (old mid end : Stand) (batches : List Batch) (replies : List Reply) (batch : Batch) (r : Reply) → Turns RunsBatch old (map Whole batches) (map answer.Replied replies) mid → RunsBatch mid batch (answer.Replied r) end
+    → Turns RunsBatch old (map Whole (batches ++ batch ∷ [])) (map answer.Replied (replies ++ r ∷ [])) end
+turns-push old mid end [] [] batch r it one = (end, subst (λ t. RunsBatch t batch (answer.Replied r) end) it one, refl)
+turns-push old mid end [] (x ∷ xs) batch r it one = absurd it
+turns-push old mid end (b ∷ bs) [] batch r it one = absurd it
+turns-push old mid end (b ∷ bs) (x ∷ xs) batch r it one = (it.0, it.1, turns-push it.0 mid end bs xs batch r it.2 one)
 
 pub starts : {S : Type 0} (g : Ghosts S) (old : World S) (all : List Batch) (before replies : List Reply) → replies ≡ before → Progress g old old all 0 before replies
-starts g old all before replies same = record { new = []; whole = same ∙ sym (append-nil before); each = refl; answered = λ s it. (s, refl, it) }
+starts g old all before replies same = record { new = []; whole = same ∙ sym (append-nil before); each = refl; answered = λ s it. (s, refl, it); turned = λ stand it. (stand, it, refl) }
 
 pub goes_on : {S : Type 0} (g : Ghosts S) (old now next : World S) (all : List Batch) (count : ℕ) (before replies longer : List Reply) (batch : Batch) (r : Reply)
     → count < length all → batch ≡ get_or all count batch → Progress g old now all count before replies → longer ≡ replies ++ r ∷ []
-    → ((s : State) → IsAt g now s → RunsOne g next s batch (Ok r)) → Progress g old next all (count + 1) before longer
-goes_on g old now next all count before replies longer batch r low is p pushed runs = record {
+    → ((s : State) → IsAt g now s → RunsOne g next s batch (Ok r)) → StandsBehind g now batch (answer.Replied r) next → Progress g old next all (count + 1) before longer
+goes_on g old now next all count before replies longer batch r low is p pushed runs stands = record {
   new = p.new ++ r ∷ [];
   whole = pushed ∙ ap (λ t. t ++ r ∷ []) p.whole ∙ append_assoc before p.new (r ∷ []);
   each = length-append p.new (r ∷ []) ∙ ap (λ n. n + 1) p.each;
@@ -147,6 +223,11 @@ goes_on g old now next all count before replies longer batch r low is p pushed r
       let one = runs done.0 done.2 in
       let more : take (count + 1) all ≡ take count all ++ batch ∷ [] = take_more all count batch low ∙ ap (λ y. take count all ++ y ∷ []) (sym is) in
       (one.0, subst (λ t. Answered s t (p.new ++ r ∷ []) one.0) (sym more) (answered-push s done.0 one.0 (take count all) p.new batch r done.1 one.1), one.2);
+  turned = λ stand it.
+      let done = p.turned stand it in
+      let one = stands done.0 done.1 in
+      let more : take (count + 1) all ≡ take count all ++ batch ∷ [] = take_more all count batch low ∙ ap (λ y. take count all ++ y ∷ []) (sym is) in
+      (one.0, one.1, subst (λ t. Turns RunsBatch stand (map Whole t) (map answer.Replied (p.new ++ r ∷ [])) one.0) (sym more) (turns-push stand done.0 one.0 (take count all) p.new batch r done.2 one.2));
 }
 
 pub added_is : {S : Type 0} (g : Ghosts S) (old now : World S) (all : List Batch) (count : ℕ) (before replies : List Reply) (p : Progress g old now all count before replies) → added before replies ≡ p.new
@@ -196,3 +277,47 @@ left_at g new end (Ok x) Q settled it = λ clean. left_at_rest (store_of g new) 
 left_at g new end (Err (Store error)) Q settled it = tt
 left_at g new end (Err OutOfMemory) Q settled it = λ clean. left_at_rest (store_of g new) end settled (it.tables clean)
 left_at g new end (Err Closed) Q settled it = λ clean. left_at_rest (store_of g new) end settled (it.tables clean)
+
+-- ---- where a run stands at its end
+
+-- the turns, of the batches that have a reply
+turns_added : {S : Type 0} (g : Ghosts S) (old now : World S) (all : List Batch) (count : ℕ) (before replies : List Reply) (p : Progress g old now all count before replies) (stand : Stand) (it : StandsAt g old stand)
+    → Turns RunsBatch stand (map Whole (take (length (added before replies)) all)) (map answer.Replied (added before replies)) (p.turned stand it).0
+turns_added g old now all count before replies p stand it =
+    subst (λ rs. Turns RunsBatch stand (map Whole (take (length rs) all)) (map answer.Replied rs) (p.turned stand it).0) (sym (added_is g old now all count before replies p))
+    (subst (λ n. Turns RunsBatch stand (map Whole (take n all)) (map answer.Replied p.new) (p.turned stand it).0) (sym p.each) (p.turned stand it).2)
+
+-- no batch met a fault of the store
+pub runs_through : {S : Type 0} (g : Ghosts S) (old now : World S) (all : List Batch) (count : ℕ) (before replies : List Reply) (r : Result (Unit {0}) StoreFault) → ((P Q : Type 0) → P → MatchStore r P Q) → Progress g old now all count before replies
+    → (stand : Stand) → StandsAt g old stand → RunsAll g now stand all (added before replies) r
+runs_through g old now all count before replies r no_store p stand it = record {
+  mid = (p.turned stand it).0;
+  turns = turns_added g old now all count before replies p stand it;
+  new = (p.turned stand it).0;
+  stands = (p.turned stand it).1;
+  ends = no_store _ _ refl;
+}
+
+-- the batch in hand met a fault
+pub runs_stopped : {S : Type 0} (g : Ghosts S) (old now new : World S) (all : List Batch) (count : ℕ) (before replies : List Reply) (batch : Batch) (fault : StoreFault) → count < length all → batch ≡ get_or all count batch
+    → (let r : Result Reply StoreFault = Err fault in FailsAtStore g now new r) → StandsBehind g now batch (answer_to (Err fault)) new → Progress g old now all count before replies
+    → (stand : Stand) → StandsAt g old stand → RunsAll g new stand all (added before replies) (Err fault)
+runs_stopped g old now new all count before replies batch (Store error) low is fails stands p stand it =
+    let done = p.turned stand it in
+    let one = stands done.0 done.1 in
+    let place : length (added before replies) ≡ count = ap length (added_is g old now all count before replies p) ∙ p.each in
+    record {
+      mid = done.0;
+      turns = turns_added g old now all count before replies p stand it;
+      new = one.0;
+      stands = one.1;
+      ends = (batch, drop (suc count) all, ap (λ n. drop n all) place ∙ drop-cons all count batch low ∙ ap (λ b. b ∷ drop (suc count) all) (sym is), one.2);
+    }
+runs_stopped g old now new all count before replies batch OutOfMemory low is fails stands p stand it = absurd fails
+runs_stopped g old now new all count before replies batch Closed low is fails stands p stand it =
+    let same : now ≡ new = sym fails.1 in
+    subst (λ w. RunsAll g w stand all (added before replies) (Err Closed)) same (runs_through g old now all count before replies (Err Closed) (λ P Q p. p) p stand it)
+
+-- at a fault, fewer batches have a reply than there are
+pub fewer : {S : Type 0} (g : Ghosts S) (old now : World S) (all : List Batch) (count : ℕ) (before replies : List Reply) → count < length all → Progress g old now all count before replies → length (added before replies) < length all
+fewer g old now all count before replies low p = subst (λ n. n < length all) (sym (ap length (added_is g old now all count before replies p) ∙ p.each)) low

@@ -16,11 +16,11 @@ use Rattle.moo_world.specs.Rows.{IsGood}
 use Rattle.moo_world.specs.Judge.{State, Accepted, state_of, judge, left_by}
 use Rattle.moo_store.specs.Answered.{acknowledged, added}
 use Rattle.moo_cells.specs.Shows.{ShowsRows}
-use Rattle.moo_store.specs.World.{store_of, IsAt, MatchStore, FailsAtStore}
+use Rattle.moo_store.specs.World.{store_of, IsAt, MatchStore}
 use Rattle.moo_store.specs.Kept.{World}
 use Rattle.moo_store.specs.Untouched.{KeepsCells, Writes, IsOver, HasWritten, WritesOne, IsKnown, taken_of}
 use Rattle.moo_store.proofs.Committed.{shown_by}
-use Rattle.moo_store.proofs.Running.{Progress}
+use Rattle.moo_store.proofs.Running.{Progress, FailsAtStore}
 use Rattle.moo_store.specs.declared.fault.StoreFault.{StoreFault}
 use Rattle.moo_store.specs.declared.fault.StoreFault.TheVariants.{Store, OutOfMemory, Closed}
 

@@ -2,8 +2,8 @@ pub mod Printed
 pub mod States
 pub mod Kept
 pub mod Answered
+pub mod Stand
 pub mod World
-pub mod Text
 pub mod Turns
 pub mod Untouched
-pub mod Asked
+pub mod Text

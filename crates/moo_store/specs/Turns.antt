@@ -1,51 +1,82 @@
--- How the items of a text are answered in turn, whatever answers its batches.
-use Rattle.std.specs.Prelude.{◌≡◌, ◌≢◌, ◌⊎◌, ℕ, List, [], ◌∷◌, ◌++◌, take, Option}
-use Rattle.std.specs.List.{count_by}
+-- How the items of a text are answered in turn, and what is written for them.
+use Rattle.std.specs.Prelude.{◌≡◌, ◌≢◌, ◌⊎◌, ℕ, ◌≤◌, Bool, true, false, List, [], ◌∷◌, ◌++◌, length, take, Option, IfSome}
+use Rattle.std.specs.List.{flat_map, count_by}
 use Rattle.std.specs.Io.KnownBytes.{Appends}
 use Rattle.moo_world.specs.declared.call.Batch.{Batch}
+use Rattle.moo_text.specs.Given.{GivesAll}
+use Rattle.moo_text.specs.Items.{items}
 use Rattle.moo_text.specs.Replies.{answer_text}
 use Rattle.moo_text.specs.declared.next.Next.{Next}
 use Rattle.moo_text.specs.declared.next.Next.TheVariants.{Batch as Whole, Malformed, Truncated, End}
 use Rattle.moo_text.specs.declared.fault.TextFault.{TextFault}
-use Rattle.moo_text.specs.declared.fault.TextFault.TheVariants.{Read}
+use Rattle.moo_text.specs.declared.fault.TextFault.TheVariants.{Read, Write, Long}
 use Rattle.moo_text.specs.declared.reply.Answer.{Answer}
 use Rattle.moo_text.specs.declared.reply.Answer.TheVariants as answer
-use Rattle.moo_store.specs.Text.{text_of, is_batch, is_lost}
 
--- a batch is answered so; the other items answer for themselves, and change nothing
-abbrev pub Turn : {A : Type 0} → (A → A → Batch → Answer → Type 0) → A → A → Next → Answer → Type 0
-Turn answered old new (Whole batch) a = answered old new batch a
-Turn answered old new (Malformed number) a = (a ≡ answer.Malformed number) × (new ≡ old)
-Turn answered old new Truncated a = (a ≡ answer.Truncated) × (new ≡ old)
-Turn answered old new End a = ⊥
+-- what is written for these answers
+abbrev pub text_of : List Answer → List ℕ
+text_of = flat_map answer_text
 
--- each item has one answer, and each turn goes on where the one before it ended
-abbrev pub Turns : {A : Type 0} → (A → A → Batch → Answer → Type 0) → A → A → List Next → List Answer → Type 0
-Turns answered old new [] [] = new ≡ old
-Turns {A = A} answered old new (item ∷ items) (a ∷ answers) = (mid : A) × Turn answered old mid item a × Turns answered mid new items answers
-Turns answered old new items answers = ⊥
+abbrev pub is_batch : Answer → Bool
+is_batch (answer.Replied reply) = true
+is_batch answer.Fault = true
+is_batch answer.Closed = true
+is_batch (answer.Malformed number) = false
+is_batch answer.Truncated = false
 
--- All items are answered, and their answers are written.
-pub record Completes {A : Type 0} (answered : A → A → Batch → Answer → Type 0) (old new : A) (items : List Next) (before behind : Option (List ℕ)) (batches lost : ℕ) : Type 0 where
+abbrev pub is_lost : Answer → Bool
+is_lost answer.Fault = true
+is_lost answer.Closed = true
+is_lost a = false
+
+-- one item's turn, with this for a batch; the other items answer for themselves, and change nothing
+abbrev pub Turn : {A : Type 0} → (A → Batch → Answer → A → Type 0) → A → Next → Answer → A → Type 0
+Turn step old (Whole batch) a new = step old batch a new
+Turn step old (Malformed number) a new = (a ≡ answer.Malformed number) × (new ≡ old)
+Turn step old Truncated a new = (a ≡ answer.Truncated) × (new ≡ old)
+Turn step old End a new = ⊥
+
+-- each item has one turn, which goes on where the one before it ended
+abbrev pub Turns : {A : Type 0} → (A → Batch → Answer → A → Type 0) → A → List Next → List Answer → A → Type 0
+Turns step old [] [] new = new ≡ old
+Turns {A = A} step old (item ∷ items) (a ∷ answers) new = (mid : A) × Turn step old item a mid × Turns step mid items answers new
+Turns step old items answers new = ⊥
+
+-- The text is at its end: all its items have had their turns, and their answers are written. What the reader gave is the text.
+pub record Completes {A : Type 0} (step : A → Batch → Answer → A → Type 0) (old new : A) (text before behind : Option (List ℕ)) (batches lost : ℕ) : Type 0 where
+  pub given : List ℕ
+  pub all : GivesAll text given
+  pub short : length given ≤ 1073741824
   pub answers : List Answer
-  pub turns : Turns answered old new items answers
+  pub turns : Turns step old (items given) answers new
   pub wrote : Appends before behind (text_of answers)
   pub batches_are : batches ≡ count_by is_batch answers
   pub lost_are : lost ≡ count_by is_lost answers
 
--- nothing of the next answer, or some bytes of it; none where the reader failed
-abbrev pub InHand : {A : Type 0} → (A → A → Batch → Answer → Type 0) → A → A → List Next → List ℕ → TextFault → Type 0
-InHand answered old new items front fault = ((front ≡ []) × (new ≡ old))
-    ⊎ ((item : Next) × (rest : List Next) × (a : Answer) × (count : ℕ) × (items ≡ item ∷ rest) × Turn answered old new item a × (front ≡ take count (answer_text a)) × (fault ≢ Read))
+-- where the reader tells its bytes, these stand in front of them, and are all of them if it has ended
+abbrev pub GivesFront : Option (List ℕ) → Bool → List ℕ → Type 0
+GivesFront text ended given = IfSome text (λ bytes. (rest : List ℕ) × (bytes ≡ given ++ rest) × (ended ≡ true → rest ≡ []))
 
--- Some items are done, and their answers are written whole, and a front of the next one.
-pub record Halts {A : Type 0} (answered : A → A → Batch → Answer → Type 0) (old new : A) (items : List Next) (before behind : Option (List ℕ)) (fault : TextFault) : Type 0 where
+-- Some items are done, and their answers are written whole. Then a fault came; or the next item had its turn first, and a front of
+-- its answer is written.
+pub record Halts {A : Type 0} (step : A → Batch → Answer → A → Type 0) (old new : A) (text before behind : Option (List ℕ)) (fault : TextFault) : Type 0 where
+  pub given : List ℕ
+  pub ended : Bool
+  pub front : GivesFront text ended given
+  pub long : (fault ≡ Long → length given ≡ 1073741825) × (fault ≢ Long → length given ≤ 1073741824)
   pub done : List Next
-  pub left : List Next
-  pub whole : items ≡ done ++ left
+  pub hand : List Next
+  -- they come first, whatever the reader may give behind what it gave
+  pub whole : (rest : List ℕ) → (ended ≡ true → rest ≡ []) → (left : List Next) × (items (given ++ rest) ≡ done ++ (hand ++ left))
   pub answers : List Answer
   pub mid : A
-  pub turns : Turns answered old mid done answers
-  pub front : List ℕ
-  pub wrote : Appends before behind (text_of answers ++ front)
-  pub in_hand : InHand answered mid new left front fault
+  pub turns : Turns step old done answers mid
+  -- the item in hand, if any
+  pub one : length hand ≤ 1
+  pub last : List Answer
+  pub in_hand : Turns step mid hand last new
+  pub count : ℕ
+  pub wrote : Appends before behind (text_of answers ++ take count (text_of last))
+  -- where the reader fails or the text is too long, none is in hand; and an answer is cut off only where the writer fails
+  pub read : (fault ≡ Read) ⊎ (fault ≡ Long) → hand ≡ []
+  pub cut : fault ≢ Write → count ≡ 0

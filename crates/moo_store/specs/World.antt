@@ -5,10 +5,9 @@ use Rattle.sqlite.specs.Tree.{Trees}
 use Rattle.sqlite.specs.Store.{Ghosts}
 use Rattle.sqlite.specs.Held.{state}
 use Rattle.moo_world.specs.declared.call.Batch.{Batch}
-use Rattle.moo_text.specs.declared.reply.Reply.{Reply}
 use Rattle.moo_world.specs.Judge.{State, state_of, after}
 use Rattle.moo_store.specs.States.{KeepsRows, Keeps, LeavesState}
-use Rattle.moo_store.specs.Answered.{AnsweredOne}
+use Rattle.moo_store.specs.Stand.{Stand, Works, Failed, StoreFailed, MayLeave}
 use Rattle.moo_store.specs.Kept.{World}
 use Rattle.moo_store.specs.declared.fault.StoreFault.{StoreFault}
 use Rattle.moo_store.specs.declared.fault.StoreFault.TheVariants.{Store, OutOfMemory, Closed}
@@ -40,23 +39,18 @@ Left store s = (trees : Trees) → store.may_leave trees → LeavesState trees s
 abbrev pub LeftOrNext : Database → State → List Batch → Type 0
 LeftOrNext store s batches = (trees : Trees) → store.may_leave trees → (more : ℕ) × (more ≤ 1) × LeavesState trees (after s (take more batches))
 
+-- whatever a crash leaves shows a state that this stand may leave
+abbrev pub CrashLeaves : Database → Stand → Type 0
+CrashLeaves store stand = (trees : Trees) → store.may_leave trees → (t : State) × MayLeave stand t × LeavesState trees t
+
+-- the World stands there: it is at the state, or where its store failed a crash leaves that or the one after the batch in hand
+abbrev pub StandsAt : {S : Type 0} (g : Ghosts S) → World S → Stand → Type 0
+StandsAt g world (Works s) = StandsFor g world s
+StandsAt g world (Failed s) = (world.failed ≡ true) × IsAt g world s
+StandsAt g world (StoreFailed s hand) = (world.failed ≡ true) × (HasCleanDisk (store_of g world) → CrashLeaves (store_of g world) (StoreFailed s hand))
+
 -- P, or Q where the store failed
 abbrev pub MatchStore : {T : Type 0} → Result T StoreFault → Type 0 → Type 0 → Type 0
 MatchStore (Ok x) P Q = P
 MatchStore (Err (Store error)) P Q = Q
-MatchStore (Err OutOfMemory) P Q = P
-MatchStore (Err Closed) P Q = P
-
--- what running one batch at s leaves
-abbrev pub RunsOne : {S : Type 0} (g : Ghosts S) → World S → State → Batch → Result Reply StoreFault → Type 0
-RunsOne g new s batch (Ok reply) = (next : State) × AnsweredOne s batch reply next × IsAt g new next
-RunsOne g new s batch (Err (Store error)) = HasCleanDisk (store_of g new) → LeftOrNext (store_of g new) s (batch ∷ [])
-RunsOne g new s batch (Err Closed) = IsAt g new s
-RunsOne g new s batch (Err OutOfMemory) = ⊥
-
--- the World has failed at a fault of the store, and at no other
-abbrev pub FailsAtStore : {T : Type 0} {S : Type 0} (g : Ghosts S) → World S → World S → Result T StoreFault → Type 0
-FailsAtStore g old new (Ok x) = old.failed ≡ false
-FailsAtStore g old new (Err (Store error)) = (old.failed ≡ false) × (new.failed ≡ true)
-FailsAtStore g old new (Err Closed) = (old.failed ≡ true) × (new ≡ old)
-FailsAtStore g old new (Err OutOfMemory) = ⊥
+MatchStore (Err fault) P Q = P

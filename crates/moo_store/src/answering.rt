@@ -1,8 +1,7 @@
 //! Answering the items of a text in turn.
 
-ghost use Rattle.std.specs.Prelude.{◌≡◌, ◌≤◌, ◌<◌, length, IfOk, IfErr, IfSome, IfNone, IsErrOf, OnOk};
+ghost use Rattle.std.specs.Prelude.{◌≡◌, IfOk, IfErr, IfSome, IfNone};
 ghost use Rattle.moo_world.specs.declared.call.Batch.{Batch};
-ghost use Rattle.moo_text.specs.Items.{items};
 ghost use Rattle.moo_text.specs.declared.reply.Answer.{Answer};
 ghost use Rattle.moo_store.specs.Text.{answer_to};
 ghost use Rattle.moo_store.specs.Turns.{Turn, Completes, Halts};
@@ -21,11 +20,11 @@ use std::io::{Read, Write};
 /// What answers the batches of a text.
 pub(crate) trait Answering {
     // What an answer to a batch says of the one that gives it, before and after.
-    ghost answered: { Self → Self → Batch → Answer → Type 0 };
+    ghost answered: { Self → Batch → Answer → Self → Type 0 };
 
     /// Answers one batch.
     fn answer(&mut self, batch: &Batch) -> Answer
-        ensures { answered self.old self.new batch.now result };
+        ensures { answered self.old batch.now result self.new };
 }
 
 /// The answer to a batch that a World ran or was asked.
@@ -34,6 +33,7 @@ pub(crate) fn answered_by(reply: Result<Reply, StoreFault>) -> Answer
 {
     match reply {
         Ok(reply) => Answer::Replied(reply),
+        Err(StoreFault::OutOfMemory) => Answer::Replied(Reply::NoMemory),
         Err(StoreFault::Closed) => Answer::Closed,
         Err(_) => Answer::Fault,
     }
@@ -41,7 +41,7 @@ pub(crate) fn answered_by(reply: Result<Reply, StoreFault>) -> Answer
 
 /// Answers one item of a text; its end has no answer.
 fn answer_item<A: Answering>(answering: &mut A, item: &Next) -> Option<Answer>
-    ensures some { IfSome result (λ answer. Turn A.answered answering.old answering.new item.now answer) }
+    ensures some { IfSome result (λ answer. Turn A.answered answering.old item.now answer answering.new) }
     ensures none { IfNone result ((item.now ≡ Next.End) × (answering.new ≡ answering.old)) }
 {
     match item {
@@ -59,12 +59,8 @@ pub(crate) fn answer_all<R: Read + Drop, W: Write, A: Answering>(
     writer: &mut W,
     answering: &mut A,
 ) -> Result<Tally, TextFault>
-    ensures completes { IfOk result (λ tally. IfSome (R.remaining reader) (λ text.
-        Completes A.answered answering.old answering.new (items text) (W.contents writer.old) (W.contents writer.new) tally.batches tally.lost)) }
-    ensures halts { IfErr result (λ fault. IfSome (R.remaining reader) (λ text.
-        Halts A.answered answering.old answering.new (items text) (W.contents writer.old) (W.contents writer.new) fault)) }
-    ensures short { OnOk result (IfSome (R.remaining reader) (λ text. length text ≤ 1073741824)) }
-    ensures long { IsErrOf result TextFault.Long → IfSome (R.remaining reader) (λ text. 1073741824 < length text) }
+    ensures completes { IfOk result (λ tally. Completes A.answered answering.old answering.new (R.remaining reader) (W.contents writer.old) (W.contents writer.new) tally.batches tally.lost) }
+    ensures halts { IfErr result (λ fault. Halts A.answered answering.old answering.new (R.remaining reader) (W.contents writer.old) (W.contents writer.new) fault) }
 {
     let mut feed = Feed::new(alloc, reader);
     let mut tally = Tally::new();

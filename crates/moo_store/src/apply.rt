@@ -1,9 +1,9 @@
 //! Running a text of batches.
 
-ghost use Rattle.std.specs.Prelude.{◌≤◌, ◌<◌, length, IfOk, IfErr, IfSome, IsErrOf, OnOk};
-ghost use Rattle.moo_text.specs.Items.{items};
-ghost use Rattle.moo_store.specs.World.{IsAt};
-ghost use Rattle.moo_store.specs.Text.{RunsBatch, Applies, Stops};
+ghost use Rattle.std.specs.Prelude.{IfOk, IfErr};
+ghost use Rattle.moo_store.specs.Stand.{Stand};
+ghost use Rattle.moo_store.specs.World.{StandsAt};
+ghost use Rattle.moo_store.specs.Text.{Runs, Applies, Stops};
 
 use crate::answering::{Answering, answer_all, answered_by};
 use crate::tally::Tally;
@@ -16,7 +16,7 @@ use std::alloc::Global;
 use std::io::{Read, Write};
 
 impl<S: Alter + Drop> Answering for World<S> {
-    ghost answered = { RunsBatch S.Store };
+    ghost answered = { Runs S.Store };
 
     fn answer(&mut self, batch: &Batch) -> Answer {
         answered_by(self.run_one(batch))
@@ -34,17 +34,13 @@ pub fn apply_text<R: Read + Drop, W: Write, S: Alter + Drop>(
     writer: &mut W,
     world: &mut World<S>,
 ) -> Result<Tally, TextFault>
-    // The answers of all items of the text are written, and nothing else.
-    ensures applies { IfOk result (λ tally. (s : _) → IsAt S.Store world.old s → IfSome (R.remaining reader) (λ text.
-        Applies S.Store s (items text) (W.contents writer.old) (W.contents writer.new) world.old world.new tally.batches tally.lost)) }
+    // The answers of all items of the text that the reader gave are written, and nothing else.
+    ensures applies { IfOk result (λ tally. (stand : Stand) → StandsAt S.Store world.old stand →
+        Applies S.Store stand (R.remaining reader) (W.contents writer.old) (W.contents writer.new) world.old world.new tally.batches tally.lost) }
 
     // At a fault those of the items that are done, and a front of the next one.
-    ensures stops { IfErr result (λ fault. (s : _) → IsAt S.Store world.old s → IfSome (R.remaining reader) (λ text.
-        Stops S.Store s (items text) (W.contents writer.old) (W.contents writer.new) world.old world.new fault)) }
-
-    // Long is a text of more than 1,073,741,824 bytes, and no other.
-    ensures short { OnOk result (IfSome (R.remaining reader) (λ text. length text ≤ 1073741824)) }
-    ensures long { IsErrOf result TextFault.Long → IfSome (R.remaining reader) (λ text. 1073741824 < length text) }
+    ensures stops { IfErr result (λ fault. (stand : Stand) → StandsAt S.Store world.old stand →
+        Stops S.Store stand (R.remaining reader) (W.contents writer.old) (W.contents writer.new) world.old world.new fault) }
 {
     answer_all(alloc, reader, writer, world)
 }

@@ -1,8 +1,9 @@
 //! Asking a text of batches, which changes nothing.
 
-ghost use Rattle.std.specs.Prelude.{◌≡◌, ◌≤◌, ◌<◌, length, IfOk, IfErr, IfSome, IsErrOf, OnOk};
-ghost use Rattle.moo_text.specs.Items.{items};
-ghost use Rattle.moo_store.specs.Asked.{IsAtIfWorking, AskedBatch, Asks, StopsAsking};
+ghost use Rattle.std.specs.Prelude.{◌≡◌, IfOk, IfErr};
+ghost use Rattle.moo_store.specs.Stand.{Stand, AsksBatch};
+ghost use Rattle.moo_store.specs.Turns.{Completes, Halts};
+ghost use Rattle.moo_store.specs.World.{StandsAt};
 
 use crate::answering::{Answering, answer_all, answered_by};
 use crate::tally::Tally;
@@ -21,7 +22,7 @@ struct Questions<'a, S: Alter> {
 }
 
 impl<'a, S: Alter + Drop> Answering for Questions<'a, S> {
-    ghost answered = { λ old new batch a. (new ≡ old) × ((s : _) → IsAtIfWorking S.Store old.world.now s → AskedBatch old.world.now.failed s batch a) };
+    ghost answered = { λ old batch a new. (new ≡ old) × ((stand : Stand) → StandsAt S.Store old.world.now stand → AsksBatch stand batch a stand) };
 
     fn answer(&mut self, batch: &Batch) -> Answer {
         answered_by(self.world.ask(batch))
@@ -36,17 +37,13 @@ pub fn ask_text<R: Read + Drop, W: Write, S: Alter + Drop>(
     writer: &mut W,
     world: &World<S>,
 ) -> Result<Tally, TextFault>
-    // The answers of all items of the text are written, and nothing else.
-    ensures asks { IfOk result (λ tally. (s : _) → IsAtIfWorking S.Store world.now s → IfSome (R.remaining reader) (λ text.
-        Asks world.now.failed s (items text) (W.contents writer.old) (W.contents writer.new) tally.batches tally.lost)) }
+    // The answers of all items of the text that the reader gave are written, and nothing else.
+    ensures asks { IfOk result (λ tally. (stand : Stand) → StandsAt S.Store world.now stand →
+        Completes AsksBatch stand stand (R.remaining reader) (W.contents writer.old) (W.contents writer.new) tally.batches tally.lost) }
 
     // At a fault those of the items that are done, and a front of the next one.
-    ensures stops { IfErr result (λ fault. (s : _) → IsAtIfWorking S.Store world.now s → IfSome (R.remaining reader) (λ text.
-        StopsAsking world.now.failed s (items text) (W.contents writer.old) (W.contents writer.new) fault)) }
-
-    // Long is a text of more than 1,073,741,824 bytes, and no other.
-    ensures short { OnOk result (IfSome (R.remaining reader) (λ text. length text ≤ 1073741824)) }
-    ensures long { IsErrOf result TextFault.Long → IfSome (R.remaining reader) (λ text. 1073741824 < length text) }
+    ensures stops { IfErr result (λ fault. (stand : Stand) → StandsAt S.Store world.now stand →
+        Halts AsksBatch stand stand (R.remaining reader) (W.contents writer.old) (W.contents writer.new) fault) }
 {
     answer_all(alloc, reader, writer, &mut Questions { world })
 }

@@ -1,6 +1,6 @@
 //! What holds of runs as wholes.
 
-ghost use Rattle.std.specs.Prelude.{◌≡◌, ◌++◌, Bool, true, List};
+ghost use Rattle.std.specs.Prelude.{◌≡◌, ◌++◌, true, List};
 ghost use Rattle.std.specs.List.{AllByRecursion};
 ghost use Rattle.moo_world.specs.declared.call.Batch.{Batch};
 ghost use Rattle.moo_text.specs.declared.next.Next.{Next};
@@ -8,8 +8,9 @@ ghost use Rattle.moo_text.specs.declared.reply.Reply.{Reply};
 ghost use Rattle.moo_text.specs.declared.reply.Answer.{Answer};
 ghost use Rattle.moo_world.specs.Judge.{State, after};
 ghost use Rattle.moo_store.specs.Answered.{Answered, acknowledged};
-ghost use Rattle.moo_store.specs.Text.{AnsweredItems, is_plain, replies, asked, batches_of};
-ghost use Rattle.moo_store.specs.Asked.{AskedItems};
+ghost use Rattle.moo_store.specs.Stand.{Stand, state_at, RunsBatch, AsksBatch};
+ghost use Rattle.moo_store.specs.Text.{accepted, is_plain, replies, asked, batches_of};
+ghost use Rattle.moo_store.specs.Turns.{Turns};
 
 /// The state behind a run is that after its acknowledged batches.
 pub fn acknowledged_batches_decide()
@@ -21,13 +22,18 @@ pub fn runs_join()
     ensures { (s : State) (first second : List Batch) → after s (first ++ second) ≡ after (after s first) second }
 {}
 
+/// The state behind a text is that after its acknowledged batches.
+pub fn acknowledged_items_decide()
+    ensures { (old new : Stand) (items : List Next) (answers : List Answer) → Turns RunsBatch old items answers new → state_at new ≡ after (state_at old) (accepted items answers) }
+{}
+
 /// Where nothing is refused for want of memory and no fault is met, each batch of a text is judged after the accepted ones before it.
 pub fn plain_answers_are_judged()
-    ensures { (s end : State) (items : List Next) (answers : List Answer) → AnsweredItems s items answers end → AllByRecursion (λ answer. is_plain answer ≡ true) answers →
-        (answers ≡ replies s items) × (end ≡ after s (batches_of items)) }
+    ensures { (old new : Stand) (items : List Next) (answers : List Answer) → Turns RunsBatch old items answers new → AllByRecursion (λ answer. is_plain answer ≡ true) answers →
+        (answers ≡ replies (state_at old) items) × (state_at new ≡ after (state_at old) (batches_of items)) }
 {}
 
 /// Where nothing is refused for want of memory and no fault is met, each batch of a text of questions is judged on the one state.
 pub fn plain_questions_are_judged()
-    ensures { (failed : Bool) (s : State) (items : List Next) (answers : List Answer) → AskedItems failed s items answers → AllByRecursion (λ answer. is_plain answer ≡ true) answers → answers ≡ asked s items }
+    ensures { (old new : Stand) (items : List Next) (answers : List Answer) → Turns AsksBatch old items answers new → AllByRecursion (λ answer. is_plain answer ≡ true) answers → answers ≡ asked (state_at old) items }
 {}

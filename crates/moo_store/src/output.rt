@@ -1,6 +1,6 @@
 //! Bytes, written whole.
 
-ghost use Rattle.std.specs.Prelude.{◌≡◌, ◌⊎◌, ℕ, take, IfErr, IfOk, OnOk, OnErr};
+ghost use Rattle.std.specs.Prelude.{◌≡◌, ◌≢◌, ◌⊎◌, ℕ, take, IfErr, IfOk, OnOk, OnErr};
 ghost use Rattle.std.specs.Io.KnownBytes.{Appends};
 ghost use Rattle.moo_text.specs.Replies.{answer_text};
 
@@ -35,14 +35,14 @@ fn printed(alloc: Global, answer: &Answer) -> Result<Vec<u8>, TextFault>
     Ok(text)
 }
 
-/// Writes the lines of an answer whole. At a fault, which is Write or OutOfMemory, a front of them is written.
+/// Writes the lines of an answer whole. At Write a front of them is written, at OutOfMemory nothing.
 pub(crate) fn put_answer<W: Write>(
     alloc: Global,
     writer: &mut W,
     answer: &Answer,
 ) -> Result<(), TextFault>
     ensures ok { OnOk result (Appends (W.contents writer.old) (W.contents writer.new) (answer_text answer.now)) }
-    ensures err { OnErr result ((count : ℕ) × Appends (W.contents writer.old) (W.contents writer.new) (take count (answer_text answer.now))) }
+    ensures err { IfErr result (λ fault. (count : ℕ) × Appends (W.contents writer.old) (W.contents writer.new) (take count (answer_text answer.now)) × (fault ≢ TextFault.Write → count ≡ 0)) }
     ensures fault { IfErr result (λ fault. (fault ≡ TextFault.Write) ⊎ (fault ≡ TextFault.OutOfMemory)) }
 {
     match printed(alloc, answer) {

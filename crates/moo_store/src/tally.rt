@@ -1,7 +1,7 @@
 //! Counting the answers to a text.
 
 ghost use Rattle.std.specs.Prelude.{◌≡◌, ◌<◌, ◌+◌, ◌^◌, cond};
-ghost use Rattle.moo_store.specs.Text.{is_batch, is_lost};
+ghost use Rattle.moo_store.specs.Turns.{is_batch, is_lost};
 
 use moo_text::reply::Answer;
 

@@ -42,7 +42,7 @@ impl<S: Alter> Model for World<S> {
 }
 
 impl<S: Alter + Drop> World<S> {
-    ghost use Rattle.std.specs.Prelude.{◌≡◌, ◌⊎◌, ◌<◌, ◌^◌, false, true, IsTrue, [], ◌∷◌, length, take, drop, OnOk, OnErr, IfOk, IfErr, IsErrAnd, IsErrOf, IsOkAnd, ⊤, Ok, Err};
+    ghost use Rattle.std.specs.Prelude.{◌≡◌, ◌≢◌, ◌⊎◌, ◌<◌, ◌^◌, false, true, IsTrue, [], ◌∷◌, length, take, drop, OnOk, OnErr, IfOk, IfErr, IsErrAnd, IsErrOf, IsOkAnd, ⊤, Ok, Err};
     ghost use Rattle.sqlite.specs.State.{HasCleanDisk};
     ghost use Rattle.sqlite.specs.Held.{state};
     ghost use Rattle.moo_rows.specs.Maps.{Maps};
@@ -56,7 +56,9 @@ impl<S: Alter + Drop> World<S> {
     ghost use Rattle.moo_tables.specs.Tables.{Tables};
     ghost use Rattle.moo_tables.specs.Inside.{Rests};
     ghost use Rattle.moo_store.specs.Untouched.{KeepsCells, WritesOne, HasWritten, IsKnown, taken_of};
-    ghost use Rattle.moo_store.specs.World.{store_of, ShowsItsRows, IsAt, StandsFor, Left, LeftOrNext, RunsOne, MatchStore, FailsAtStore};
+    ghost use Rattle.moo_store.specs.Stand.{Stand};
+    ghost use Rattle.moo_store.specs.Text.{answer_to, StandsBehind, RunsAll};
+    ghost use Rattle.moo_store.specs.World.{store_of, ShowsItsRows, IsAt, StandsFor, StandsAt, CrashLeaves, Left, LeftOrNext, MatchStore};
     ghost use Rattle.moo_store.specs.declared.fault.StoreFault.TheVariants.{Store, OutOfMemory, Closed};
 
     /// The World of good rows. It stands for them where the tables of the connection show them.
@@ -110,10 +112,11 @@ impl<S: Alter + Drop> World<S> {
 
     /// Runs one batch, and commits it where it is accepted.
     pub(crate) fn run_one(&mut self, batch: &Batch) -> Result<Reply, StoreFault>
-        ensures runs { (s : _) → IsAt S.Store self.old s → RunsOne S.Store self.new s batch.now result }
+        ensures stands { StandsBehind S.Store self.old batch.now (answer_to result) self.new }
         ensures cells { WritesOne S.Store self.old self.new batch.now result }
         ensures same { taken_of batch.now result ≡ [] → MatchStore result (self.new ≡ self.old) ⊤ }
-        ensures fails { FailsAtStore S.Store self.old self.new result }
+        ensures closed { IsTrue self.old.failed → IsErrOf result StoreFault.Closed × (self.new ≡ self.old) }
+        ensures fails { self.old.failed ≡ false → IfErr result (λ fault. ((error : _) × (fault ≡ Store error)) × (self.new.failed ≡ true)) }
     {
         if self.failed {
             return Err(StoreFault::Closed);
@@ -139,6 +142,10 @@ impl<S: Alter + Drop> World<S> {
         // The replies that stood stay, and behind them comes one for each batch before the run stopped.
         ensures stood { take (length replies.old.items) replies.new.items ≡ replies.old.items }
         ensures each { OnOk result (length (added replies.old.items replies.new.items) ≡ length batches.now) }
+        ensures fewer { self.old.failed ≡ false → IfErr result (λ fault. fault ≢ StoreFault.OutOfMemory → length (added replies.old.items replies.new.items) < length batches.now) }
+
+        // Wherever the World stood, each of these batches has its turn. A fault of the store is met by the next one.
+        ensures turns { (stand : Stand) → StandsAt S.Store self.old stand → RunsAll S.Store self.new stand batches.now (added replies.old.items replies.new.items) result }
 
         // Each is judged after the accepted batches before it; or, where its calls are run, NoMemory, which changes nothing.
         ensures replies { (s : _) → IsAt S.Store self.old s →
@@ -154,6 +161,9 @@ impl<S: Alter + Drop> World<S> {
         ensures left { (s : _) → IsAt S.Store self.old s →
             let end = after s (acknowledged batches.now (added replies.old.items replies.new.items)) in
             MatchStore result (HasCleanDisk (store_of S.Store self.new) → Left (store_of S.Store self.new) end) ⊤ }
+
+        // A disk that returns what was written did so before.
+        ensures clean { HasCleanDisk (store_of S.Store self.new) → HasCleanDisk (store_of S.Store self.old) }
 
         // In the tables, each acknowledged batch leads from rows that they show to rows that they show, and a row that is the
         // same in both keeps its cells, byte for byte. Where the store failed, the batch in hand wrote nothing.
@@ -210,6 +220,14 @@ impl<S: Alter + Drop> World<S> {
     /// A World that works and whose tables show its rows stands for their world. The call does nothing; its contract is what it is for.
     pub fn stands(&self)
         ensures { self.now.failed ≡ false → ShowsItsRows S.Store self.now → StandsFor S.Store self.now (state_of self.now.rows.maps) }
+    {
+        let _failed = self.failed;
+    }
+
+    /// What a crash leaves of a World at rest, wherever it stands: the state of one that works. The call does nothing; its contract
+    /// is what it is for.
+    pub fn leaves(&self)
+        ensures { (stand : Stand) → StandsAt S.Store self.now stand → HasCleanDisk (store_of S.Store self.now) → CrashLeaves (store_of S.Store self.now) stand }
     {
         let _failed = self.failed;
     }

@@ -1,7 +1,7 @@
 use Rattle.std.proofs.Common.{◌≡◌, ◌+◌, vec_len, refl, arith, Ok, Err}
 use Rattle.std.specs.Prelude.{⊤}
 use Rattle.moo_store.specs.declared.fault.StoreFault.TheVariants.{OutOfMemory, Closed}
-use Rattle.moo_store.proofs.Running.{when_ok, starts, goes_on, answers, is_at_end, stops, left_at}
+use Rattle.moo_store.proofs.Running.{when_ok, starts, goes_on, answers, is_at_end, stops, left_at, fails_of, runs_one, runs_through, runs_stopped, fewer}
 use Rattle.moo_store.proofs.Untouched.{is_over, wrote_at_start, wrote_on, wrote_stopped, same_stopped}
 use Rattle.moo_store.specs.Answered.{added}
 use Rattle.moo_store.proofs.world.World.run.Goals as goal
@@ -54,9 +54,9 @@ loop-batch-init g c = record {
 pub loop-batch-preserved : goal.loop-batch-preserved
 loop-batch-preserved g c = record {
   progress = goes_on g.S.Store c.args.self.now c.loop-batch.self c.run_one.new.self c.args.batches.now c.loop-batch.batch-index c.args.replies.now.items c.loop-batch.replies.items c.push.new.self.items c.batch-item.result c.in-Ok.reply
-      c.loop-batch-test.true c.batch-item.is c.loop-batch.invariant.progress (rw c.unwrap.ensures at c.push.ensures.items) c.in-Ok.ensures.runs;
+      c.loop-batch-test.true c.batch-item.is c.loop-batch.invariant.progress (rw c.unwrap.ensures at c.push.ensures.items) (runs_one g.S.Store c.loop-batch.self c.run_one.new.self c.batch-item.result (Ok c.in-Ok.reply) (fails_of g.S.Store c.loop-batch.self c.run_one.new.self (Ok c.in-Ok.reply) c.in-Ok.ensures.closed c.in-Ok.ensures.fails) c.in-Ok.ensures.stands) c.in-Ok.ensures.stands;
   cells = wrote_on g.S.Store c.args.self.now c.loop-batch.self c.run_one.new.self c.args.batches.now c.loop-batch.batch-index c.args.replies.now.items c.loop-batch.replies.items c.push.new.self.items c.batch-item.result c.in-Ok.reply
-      c.loop-batch-test.true c.batch-item.is c.loop-batch.invariant.progress (rw c.unwrap.ensures at c.push.ensures.items) c.loop-batch.invariant.cells c.in-Ok.ensures.fails c.in-Ok.ensures.cells c.in-Ok.ensures.same;
+      c.loop-batch-test.true c.batch-item.is c.loop-batch.invariant.progress (rw c.unwrap.ensures at c.push.ensures.items) c.loop-batch.invariant.cells (fails_of g.S.Store c.loop-batch.self c.run_one.new.self (Ok c.in-Ok.reply) c.in-Ok.ensures.closed c.in-Ok.ensures.fails) c.in-Ok.ensures.cells c.in-Ok.ensures.same;
   room = let longer : vec_len c.push.new.self ≡ vec_len c.loop-batch.replies + 1 = rw c.unwrap.ensures at c.push.ensures.len in omega (arith, longer, c.loop-batch.invariant.room, c.push.ensures.capacity, c.loop-batch-test.true);
 }
 
@@ -66,13 +66,13 @@ returns-in-Err-clause-replies g c s it = answers g.S.Store c.args.self.now c.loo
 pub returns-in-Err-clause-world : goal.returns-in-Err-clause-world
 returns-in-Err-clause-world g c s it =
     stops (Unit {0}) g.S.Store c.args.self.now c.loop-batch.self c.run_one.new.self c.args.batches.now c.loop-batch.batch-index c.args.replies.now.items c.loop-batch.replies.items c.batch-item.result c.in-Err.fault
-    c.loop-batch-test.true c.batch-item.is c.loop-batch.invariant.progress c.in-Err.ensures.runs s it
+    c.loop-batch-test.true c.batch-item.is c.loop-batch.invariant.progress (runs_one g.S.Store c.loop-batch.self c.run_one.new.self c.batch-item.result (Err c.in-Err.fault) (fails_of g.S.Store c.loop-batch.self c.run_one.new.self (Err c.in-Err.fault) c.in-Err.ensures.closed c.in-Err.ensures.fails) c.in-Err.ensures.stands) s it
 
 pub returns-in-Err-clause-left : goal.returns-in-Err-clause-left
 returns-in-Err-clause-left g c s it =
     left_at {T = Unit {0}} g.S.Store c.run_one.new.self _ (Err c.in-Err.fault) _ (g.met.S.Store.settled c.run_one.new.self.connection.store)
     (stops (Unit {0}) g.S.Store c.args.self.now c.loop-batch.self c.run_one.new.self c.args.batches.now c.loop-batch.batch-index c.args.replies.now.items c.loop-batch.replies.items c.batch-item.result c.in-Err.fault
-    c.loop-batch-test.true c.batch-item.is c.loop-batch.invariant.progress c.in-Err.ensures.runs s it)
+    c.loop-batch-test.true c.batch-item.is c.loop-batch.invariant.progress (runs_one g.S.Store c.loop-batch.self c.run_one.new.self c.batch-item.result (Err c.in-Err.fault) (fails_of g.S.Store c.loop-batch.self c.run_one.new.self (Err c.in-Err.fault) c.in-Err.ensures.closed c.in-Err.ensures.fails) c.in-Err.ensures.stands) s it)
 
 pub returns-clause-replies : goal.returns-clause-replies
 returns-clause-replies g c s it = answers g.S.Store c.args.self.now c.loop-batch.self c.args.batches.now c.loop-batch.batch-index c.args.replies.now.items c.loop-batch.replies.items c.loop-batch.invariant.progress s it
@@ -97,7 +97,7 @@ returns-then-is_err-clause-cells g c s it clean known tables rests =
 
 pub returns-in-Err-clause-cells : goal.returns-in-Err-clause-cells
 returns-in-Err-clause-cells g c s it clean known tables rests =
-    wrote_stopped (Unit {0}) g.S.Store c.args.self.now c.loop-batch.self c.run_one.new.self c.args.batches.now (added c.args.replies.now.items c.loop-batch.replies.items) c.batch-item.result c.in-Err.fault c.loop-batch.invariant.cells c.in-Err.ensures.fails c.in-Err.ensures.cells
+    wrote_stopped (Unit {0}) g.S.Store c.args.self.now c.loop-batch.self c.run_one.new.self c.args.batches.now (added c.args.replies.now.items c.loop-batch.replies.items) c.batch-item.result c.in-Err.fault c.loop-batch.invariant.cells (fails_of g.S.Store c.loop-batch.self c.run_one.new.self (Err c.in-Err.fault) c.in-Err.ensures.closed c.in-Err.ensures.fails) c.in-Err.ensures.cells
     clean known tables (is_over g.S.Store c.args.self.now s tables it (c.loop-batch.invariant.cells.clean (c.in-Err.ensures.cells.clean clean)) rests)
 
 pub returns-clause-cells : goal.returns-clause-cells
@@ -107,7 +107,39 @@ returns-clause-cells g c s it clean known tables rests = c.loop-batch.invariant.
 
 pub returns-in-Err-clause-same : goal.returns-in-Err-clause-same
 returns-in-Err-clause-same g c =
-    same_stopped (Unit {0}) g.S.Store c.args.self.now c.loop-batch.self c.run_one.new.self c.args.batches.now (added c.args.replies.now.items c.loop-batch.replies.items) c.in-Err.fault c.loop-batch.invariant.cells c.in-Err.ensures.fails
+    same_stopped (Unit {0}) g.S.Store c.args.self.now c.loop-batch.self c.run_one.new.self c.args.batches.now (added c.args.replies.now.items c.loop-batch.replies.items) c.in-Err.fault c.loop-batch.invariant.cells (fails_of g.S.Store c.loop-batch.self c.run_one.new.self (Err c.in-Err.fault) c.in-Err.ensures.closed c.in-Err.ensures.fails)
 
 pub returns-clause-same : goal.returns-clause-same
 returns-clause-same g c = c.loop-batch.invariant.cells.same
+
+-- where the World stands
+
+pub returns-then-self-clause-turns : goal.returns-then-self-clause-turns
+returns-then-self-clause-turns g c =
+    let p = starts g.S.Store c.args.self.now c.args.batches.now c.args.replies.now.items c.args.replies.now.items refl in
+    runs_through g.S.Store c.args.self.now c.args.self.now c.args.batches.now 0 c.args.replies.now.items c.args.replies.now.items (Err Closed) (λ P Q p. p) p
+
+pub returns-then-is_err-clause-turns : goal.returns-then-is_err-clause-turns
+returns-then-is_err-clause-turns g c =
+    let p = starts g.S.Store c.args.self.now c.args.batches.now c.args.replies.now.items c.reserve.new.self.items c.reserve.ensures.items in
+    runs_through g.S.Store c.args.self.now c.args.self.now c.args.batches.now 0 c.args.replies.now.items c.reserve.new.self.items (Err OutOfMemory) (λ P Q p. p) p
+
+pub returns-in-Err-clause-turns : goal.returns-in-Err-clause-turns
+returns-in-Err-clause-turns g c =
+    runs_stopped g.S.Store c.args.self.now c.loop-batch.self c.run_one.new.self c.args.batches.now c.loop-batch.batch-index c.args.replies.now.items c.loop-batch.replies.items c.batch-item.result c.in-Err.fault
+    c.loop-batch-test.true c.batch-item.is
+    (fails_of g.S.Store c.loop-batch.self c.run_one.new.self (Err c.in-Err.fault) c.in-Err.ensures.closed c.in-Err.ensures.fails) c.in-Err.ensures.stands c.loop-batch.invariant.progress
+
+pub returns-clause-turns : goal.returns-clause-turns
+returns-clause-turns g c =
+    runs_through g.S.Store c.args.self.now c.loop-batch.self c.args.batches.now c.loop-batch.batch-index c.args.replies.now.items c.loop-batch.replies.items (Ok tt) (λ P Q p. p) c.loop-batch.invariant.progress
+
+pub returns-in-Err-clause-fewer : goal.returns-in-Err-clause-fewer
+returns-in-Err-clause-fewer g c works other =
+    fewer g.S.Store c.args.self.now c.loop-batch.self c.args.batches.now c.loop-batch.batch-index c.args.replies.now.items c.loop-batch.replies.items c.loop-batch-test.true c.loop-batch.invariant.progress
+
+pub returns-in-Err-clause-clean : goal.returns-in-Err-clause-clean
+returns-in-Err-clause-clean g c clean = c.loop-batch.invariant.cells.clean (c.in-Err.ensures.cells.clean clean)
+
+pub returns-clause-clean : goal.returns-clause-clean
+returns-clause-clean g c = c.loop-batch.invariant.cells.clean

@@ -1,13 +1,13 @@
-use Rattle.std.proofs.Common.{◌≡◌, ◌<◌, ◌⊎◌, inl, IfOk, refl, sym, ap, ◌∙◌, subst, false}
+use Rattle.std.proofs.Common.{◌≡◌, ◌<◌, ◌⊎◌, IfOk, refl, sym, ap, ◌∙◌, subst, true, false}
 use Rattle.moo_rows.specs.declared.row.Head.{Head}
-use Rattle.moo_world.specs.Judge.{state_of, judge, Accepted}
+use Rattle.moo_world.specs.Judge.{state_of, judge, Accepted, Refused, NoRoom, Stale}
 use Rattle.moo_batch.specs.Changes.{AreChanges}
 use Rattle.moo_text.specs.declared.reply.Reply.TheVariants as reply
 use Rattle.moo_store.specs.Kept.{World}
 use Rattle.moo_store.specs.States.{LeavesState}
 use Rattle.moo_store.specs.Answered.{IsRun}
-use Rattle.moo_store.specs.World.{IsAt}
-use Rattle.moo_store.proofs.Running.{accepted_low, accepted_is_run, accepted_one, at_changed, at_error}
+use Rattle.moo_store.proofs.Judged.{closed_stands, no_memory_stands, refused_stands, accepted_stands}
+use Rattle.moo_store.proofs.Running.{accepted_low, accepted_is_run, at_changed, at_error}
 use Rattle.moo_store.proofs.Untouched.{nothing_written, accepted_writes, accepted_is_taken}
 use Rattle.moo_store.proofs.world.World.run_one.Goals as goal
 
@@ -22,31 +22,48 @@ commit-requires-clause-changes g c =
     let found = c.in-Accepted.ensures in
     (found.0, subst (λ (w : World _). AreChanges w.rows.maps found.0 c.in-Accepted.changes) c.self.view_is found.1, found.2)
 
-pub returns-in-Ok-clause-runs : goal.returns-in-Ok-clause-runs
-returns-in-Ok-clause-runs g c s it =
+pub returns-in-Ok-clause-stands : goal.returns-in-Ok-clause-stands
+returns-in-Ok-clause-stands g c =
     let found = c.in-Accepted.ensures in
     let next = found.0 in
-    let answers = c.in-Accepted.answers in
-    let here = subst (λ w. IsAt g.S.Store w s) (sym c.self.view_is) it in
     let works = subst (λ (w : World _). w.failed ≡ false) c.self.view_is c.if-self.false in
     let exact = subst (λ (w : World _). AreChanges w.rows.maps next c.in-Accepted.changes) c.self.view_is found.1 in
-    let judged = subst (λ t. judge t c.args.batch.now ≡ Accepted answers (state_of next)) (here.rows c.if-self.false) found.3 in
-    accepted_one g.S.Store c.commit.new.self s c.args.batch.now answers (state_of next) c.commit.result judged
-    (subst (λ n. IfOk c.commit.result (λ r. r ≡ reply.Accepted n answers)) (ap (λ (h : Head). h.seq) found.1.head) c.commit.ensures.reply)
-    (at_changed c.commit.result (λ at. at next (it.shown works) exact found.2) c.commit.ensures.is_at) c.commit.ensures.fault
-    (at_error c.commit.result (λ crash clean trees left. subst (λ t. LeavesState trees t ⊎ LeavesState trees (state_of next)) (it.rows works) (crash next (it.shown works) exact found.2 clean trees left)) c.commit.ensures.crash)
+    let judged = subst (λ (w : World _). judge (state_of w.rows.maps) c.args.batch.now ≡ Accepted c.in-Accepted.answers (state_of next)) c.self.view_is found.3 in
+    accepted_stands g.S.Store c.args.self.now c.commit.new.self c.args.batch.now c.in-Accepted.answers (state_of next) c.commit.result works judged
+    (subst (λ n. IfOk c.commit.result (λ r. r ≡ reply.Accepted n c.in-Accepted.answers)) (ap (λ (h : Head). h.seq) found.1.head) c.commit.ensures.reply)
+    (λ s at. at_changed c.commit.result (λ here. here next (at.shown works) exact found.2) c.commit.ensures.is_at) c.commit.ensures.fault c.commit.ensures.failed
+    (λ s at. at_error c.commit.result (λ crash clean trees left. subst (λ t. LeavesState trees t ⊎ LeavesState trees (state_of next)) (at.rows works) (crash next (at.shown works) exact found.2 clean trees left)) c.commit.ensures.crash)
 
-pub returns-in-Err-clause-runs : goal.returns-in-Err-clause-runs
-returns-in-Err-clause-runs g c s it =
+pub returns-then-self-clause-stands : goal.returns-then-self-clause-stands
+returns-then-self-clause-stands g c = closed_stands g.S.Store c.args.self.now c.args.batch.now (subst (λ (w : World _). w.failed ≡ true) c.self.view_is c.if-self.true)
+
+pub returns-in-Err-clause-stands : goal.returns-in-Err-clause-stands
+returns-in-Err-clause-stands g c =
     let found = c.in-Accepted.ensures in
-    let here = subst (λ w. IsAt g.S.Store w s) (sym c.self.view_is) it in
     let run = accepted_is_run (state_of c.self.inside.rows.maps) (state_of found.0) c.args.batch.now c.in-Accepted.answers found.3 in
-    (s, inl (refl, refl, subst (λ t. IsRun t c.args.batch.now) (here.rows c.if-self.false) run), it)
+    no_memory_stands g.S.Store c.args.self.now c.args.batch.now (subst (λ (w : World _). w.failed ≡ false) c.self.view_is c.if-self.false) (subst (λ (w : World _). IsRun (state_of w.rows.maps) c.args.batch.now) c.self.view_is run)
 
-pub returns-in-OutOfMemory-clause-runs : goal.returns-in-OutOfMemory-clause-runs
-returns-in-OutOfMemory-clause-runs g c s it =
-    let here = subst (λ w. IsAt g.S.Store w s) (sym c.self.view_is) it in
-    (s, inl (refl, refl, subst (λ t. IsRun t c.args.batch.now) (here.rows c.if-self.false) c.in-OutOfMemory.ensures), it)
+pub returns-in-OutOfMemory-clause-stands : goal.returns-in-OutOfMemory-clause-stands
+returns-in-OutOfMemory-clause-stands g c =
+    no_memory_stands g.S.Store c.args.self.now c.args.batch.now (subst (λ (w : World _). w.failed ≡ false) c.self.view_is c.if-self.false) (subst (λ (w : World _). IsRun (state_of w.rows.maps) c.args.batch.now) c.self.view_is c.in-OutOfMemory.ensures)
+
+pub returns-in-Refused-clause-stands : goal.returns-in-Refused-clause-stands
+returns-in-Refused-clause-stands g c =
+    let v = Refused c.in-Refused.call c.in-Refused.code in
+    refused_stands g.S.Store c.args.self.now c.args.batch.now v (subst (λ (w : World _). w.failed ≡ false) c.self.view_is c.if-self.false)
+    (subst (λ (w : World _). judge (state_of w.rows.maps) c.args.batch.now ≡ v) c.self.view_is c.in-Refused.ensures) (λ s. refl)
+
+pub returns-in-Full-clause-stands : goal.returns-in-Full-clause-stands
+returns-in-Full-clause-stands g c =
+    let v = NoRoom c.in-Full.call in
+    refused_stands g.S.Store c.args.self.now c.args.batch.now v (subst (λ (w : World _). w.failed ≡ false) c.self.view_is c.if-self.false)
+    (subst (λ (w : World _). judge (state_of w.rows.maps) c.args.batch.now ≡ v) c.self.view_is c.in-Full.ensures) (λ s. refl)
+
+pub returns-in-Stale-clause-stands : goal.returns-in-Stale-clause-stands
+returns-in-Stale-clause-stands g c =
+    let v = Stale c.in-Stale.seq in
+    refused_stands g.S.Store c.args.self.now c.args.batch.now v (subst (λ (w : World _). w.failed ≡ false) c.self.view_is c.if-self.false)
+    (subst (λ (w : World _). judge (state_of w.rows.maps) c.args.batch.now ≡ v) c.self.view_is c.in-Stale.ensures) (λ s. refl)
 
 pub returns-in-Ok-clause-cells : goal.returns-in-Ok-clause-cells
 returns-in-Ok-clause-cells g c =
