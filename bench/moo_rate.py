@@ -1,4 +1,4 @@
-"""Batches a second that moo_file_bench runs on a new world in a file.
+"""Batches a second that bench_stores runs on a new world in a file.
 
     python3 moo_rate.py PROGRAM COUNT FOLDER
 
@@ -26,10 +26,10 @@ def seconds(program, text, answers, folder):
     """Runs the text, compares what is answered, and returns how long it took."""
     with tempfile.TemporaryDirectory(dir=folder) as room:
         start = time.perf_counter()
-        ran = subprocess.run([program], input=text.encode(), stdout=subprocess.PIPE, cwd=room, check=True)
+        ran = subprocess.run([program, "file"], input=text.encode(), stdout=subprocess.PIPE, cwd=room, check=True)
         taken = time.perf_counter() - start
     if ran.stdout.decode() != answers:
-        sys.exit("moo_file_bench answered something else")
+        sys.exit("bench_stores answered something else")
     return taken
 
 

@@ -9,9 +9,9 @@ batches=${1:-2000}
 rounds=${2:-5}
 folder=$(mktemp -d "${3:-${TMPDIR:-/tmp}}/moo-bench.XXXXXX") || exit 1
 trap 'rm -rf "$folder"' EXIT
-program=$here/crates/moo_file_bench/out/moo_file_bench
+program=$here/crates/bench_stores/out/bench_stores
 if [ ! -x "$program" ]; then
-    (cd "$here/crates/moo_file_bench" && rt run </dev/null >"$folder/build.log" 2>&1) || {
+    (cd "$here/crates/bench_stores" && rt run -- memory 1 </dev/null >"$folder/build.log" 2>&1) || {
         cat "$folder/build.log" >&2
         exit 1
     }

@@ -1,3 +1,11 @@
 pub mod Columns
-pub mod Table
 pub mod Texts
+pub mod Exits
+pub mod Table
+pub mod Keys
+pub mod HeadLemmas
+pub mod RowsLemmas
+pub mod OneRows
+pub mod GoodRows
+pub mod CellsLemmas
+pub mod OneDamage

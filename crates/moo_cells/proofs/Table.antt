@@ -1,20 +1,23 @@
 -- A table read row by row, whatever its keys are.
-use Rattle.std.proofs.Common.{◌≡◌, inl, inr, ℕ, List, [], ◌∷◌, ◌++◌, Bool, true, false, cond, find, Option, None, Some, refl, sym, ap, subst, ◌∙◌, true≢false}
+use Rattle.std.proofs.Common.{◌≡◌, inl, inr, ℕ, suc, ◌+◌, ◌<◌, length, List, [], ◌∷◌, ◌++◌, Bool, true, false, cond, find, take, drop, get_or, add-one, Option, None, Some, refl, sym, ap, subst, ◌∙◌, true≢false}
 use Rattle.std.specs.List.{AllByRecursion}
 use Rattle.std.specs.Option.{option_or}
 use Rattle.std.specs.Ordering.{is_eq, eq_by_cmp}
-use Rattle.std.specs.Cmp.{IsTotalOrder}
+use Rattle.std.specs.Cmp.{IsTotalOrder, tied_itself}
 use Rattle.std.specs.declared.cmp.Ordering.{Ordering}
 use Rattle.std.specs.declared.cmp.Ordering.TheVariants.{Less, Equal, Greater}
-use Rattle.std.specs.FinMap.{FinMap, get, insert, get-insert, IsAntisymmetric}
+use Rattle.std.specs.FinMap.{FinMap, empty, get, insert, get-empty, get-insert, IsAntisymmetric}
+use Rattle.std.proofs.lemmas.List.{take_more, take-append-drop}
 use Rattle.std.proofs.lemmas.List.Folds.{find-append}
+use Rattle.std.proofs.Math.Seq.{drop-cons}
 use Rattle.sqlite.specs.Order.{Row}
 use Rattle.sqlite_rules.specs.Lists.{Has}
 use Rattle.sqlite_rules.proofs.ListLemmas.{all_has, has_found}
 use Rattle.sqlite_trees.specs.Tree.{IsAscending}
 use Rattle.moo_cells.specs.Reading.{IsRead}
 use Rattle.moo_cells.specs.Shows.{ShowsOrNone}
-use Rattle.moo_cells.specs.Damage.{IsUnread, FirstUnread}
+use Rattle.moo_cells.specs.Unread.{IsUnread, FirstUnread}
+use Rattle.moo_cells.specs.Holding.{HoldsTable, Takes}
 
 -- how rows in ascending order bear the keys of a table
 pub record Bears {J K X : Type 0} (has : J → Row → Bool) (number : K → J) (reads : K → Row → X → Type 0) (up : Row → Row → Type 0) (below : J → J → Type 0) : Type 0 where
@@ -33,7 +36,7 @@ or_none : {X : Type 0} (o : Option X) → option_or o None ≡ o
 or_none None = refl
 or_none (Some x) = refl
 
-tied : (o : Ordering) → is_eq o ≡ true → o ≡ Equal
+pub tied : (o : Ordering) → is_eq o ≡ true → o ≡ Equal
 tied Less h = cc
 tied Equal h = refl
 tied Greater h = cc
@@ -65,7 +68,7 @@ module _ {J K X : Type 0} {has : J → Row → Bool} {number : K → J} {reads :
       go false e = other (has (number q) r) refl
         where
           other : (c : Bool) → has (number q) r ≡ c → ShowsOrNone (reads q) (option_or (find (has (number q)) front) (cond c (Some r) None)) (get m q)
-          other true h = absurd (true≢false (sym (ap (λ k. eq_by_cmp cmp q k) (bears.one q k (bears.only (number q) k r x read h)) ∙ e)))
+          other true h = absurd (true≢false (sym (ap is_eq (tied_itself total q)) ∙ ap (λ k. eq_by_cmp cmp q k) (bears.one q k (bears.only (number q) k r x read h)) ∙ e))
           other false h = rw (or_none (find (has (number q)) front)) (shown q)
 
   -- a row that can't be read, where those in front can
@@ -102,3 +105,39 @@ module _ {J K X : Type 0} {has : J → Row → Bool} {number : K → J} {reads :
           let found = has_found (has j) rows c e in
           let read = all_has (IsRead reads) rows c all found.0 in
           absurd (none read.0 (bears.only j read.0 c read.1 read.2 found.1))
+
+  -- ---- a loop over the rows
+
+  split_at : (cells : List Row) (i : ℕ) (r : Row) → i < length cells → r ≡ get_or cells i r → cells ≡ take i cells ++ r ∷ drop (i + 1) cells
+  split_at cells i r within is =
+      let tail : drop i cells ≡ get_or cells i r ∷ drop (suc i) cells = drop-cons cells i r within in
+      sym (take-append-drop i cells) ∙ ap (λ t. take i cells ++ t) (tail ∙ λ j. sym is j ∷ drop (sym (add-one i) j) cells)
+
+  all_then : (P : Row → Type 0) (xs : List Row) (x : Row) → AllByRecursion P xs → P x → AllByRecursion P (xs ++ x ∷ [])
+  all_then P [] x all here = (here, tt)
+  all_then P (y ∷ xs) x all here = (all.0, all_then P xs x all.1 here)
+
+  pub held_none : {cmp : K → K → Ordering} → (m : FinMap cmp X) → m ≡ empty → HoldsTable has number reads [] m
+  held_none {cmp} m none = record {
+    shown = λ q. rw (ap (λ m. get m q) none ∙ get-empty cmp q) tt;
+    read = tt;
+  }
+
+  pub held_more : {cmp : K → K → Ordering} → IsTotalOrder cmp → IsAntisymmetric cmp → (cells : List Row) (i : ℕ) (r : Row) → i < length cells → r ≡ get_or cells i r → IsAscending up cells
+      → (m n : FinMap cmp X) → HoldsTable has number reads (take i cells) m → Takes reads r m n → HoldsTable has number reads (take (i + 1) cells) n
+  held_more {cmp} total exact cells i r within is rise m n held taken =
+      let more : take (i + 1) cells ≡ take i cells ++ r ∷ [] = take_more cells i r within ∙ ap (λ x. take i cells ++ x ∷ []) (sym is) in
+      let rise′ : IsAscending up (take i cells ++ r ∷ drop (i + 1) cells) = subst (IsAscending up) (split_at cells i r within is) rise in
+      let P : List Row → Type 0 = λ front. HoldsTable has number reads front n in
+      let Q : FinMap cmp X → Type 0 = λ n. HoldsTable has number reads (take i cells ++ r ∷ []) n in
+      subst P (sym more) (subst Q (sym taken.put) (record {
+        shown = step total exact (take i cells) r (drop (i + 1) cells) rise′ taken.key taken.row taken.is_read m held.shown;
+        read = all_then (IsRead reads) (take i cells) r held.read (taken.key, taken.row, taken.is_read);
+      }))
+
+  pub held_first : {cmp : K → K → Ordering} → (cells : List Row) (i : ℕ) (r : Row) → i < length cells → r ≡ get_or cells i r → IsAscending up cells
+      → (m : FinMap cmp X) → HoldsTable has number reads (take i cells) m → ¬ (IsRead reads r) → (k : J) → has k r ≡ true → FirstUnread reads below (λ j. find (has j) cells) k
+  held_first cells i r within is rise m held bad k mine =
+      let whole : cells ≡ take i cells ++ r ∷ drop (i + 1) cells = split_at cells i r within is in
+      let P : List Row → Type 0 = λ c. FirstUnread reads below (λ j. find (has j) c) k in
+      subst P (sym whole) (first_unread (take i cells) r (drop (i + 1) cells) (subst (IsAscending up) whole rise) held.read bad k mine)

@@ -1,7 +1,9 @@
 -- Texts in cells.
-use Rattle.std.proofs.Common.{◌≡◌, ◌≢◌, ℕ, ℤ, List, [], ◌≤◌, length, take, true, refl, sym, ap, subst, ◌∙◌, arith, IsTrue}
+use Rattle.std.proofs.Common.{◌≡◌, ◌≢◌, ℕ, zero, suc, ℤ, List, [], ◌∷◌, ◌≤◌, ◌<◌, length, map, get_or, take, Bool, true, false, true≢false, Some, Result, Ok, Err, refl, sym, ap, subst, ◌∙◌, arith}
+use Rattle.std.specs.Prelude.{if◌then◌else◌, ◌==◌}
+use Rattle.std.specs.Result.{is_err}
 use Rattle.std.specs.List.{list_all}
-use Rattle.std.proofs.lemmas.Bool.{and_parts}
+use Rattle.std.proofs.lemmas.Bool.{and_parts, and_from, le-leb, leb-true}
 use Rattle.std.proofs.lemmas.List.{take_all}
 use Rattle.sqlite.specs.declared.types.Value.{Value}
 use Rattle.sqlite.specs.declared.types.Value.TheVariants.{Null, Int, Real, Text, Blob}
@@ -9,8 +11,22 @@ use Rattle.moo_value.specs.Text.{IsText, AllAllowed}
 use Rattle.moo_value.specs.TextFaults.{IsTextFault}
 use Rattle.moo_value.specs.declared.fault.LiteralFault.{LiteralFault}
 use Rattle.moo_value.specs.declared.fault.LiteralFault.TheVariants.{NotALiteral, OutOfRange, BadByte, TooDeep, TooLong, OutOfMemory}
-use Rattle.moo_world.specs.Arguments.{is_text}
-use Rattle.moo_world.proofs.Ranges.{text_tested}
+use Rattle.moo_value.specs.declared.value.ObjNo.{ObjNo}
+use Rattle.moo_value.specs.declared.value.Value.{Value as MooValue}
+use Rattle.moo_value.specs.declared.value.Value.TheVariants.{Obj, List as a_list}
+use Rattle.moo_value.specs.Literal.{Spells, Fits, HoldInside, InRange}
+use Rattle.moo_value.specs.Reading.{Fails}
+use Rattle.moo_value.specs.Value.{gather, spread}
+use Rattle.moo_value.specs.Values.{Values, no_values, levels}
+use Rattle.moo_value.proofs.Printed.{one_spelled}
+use Rattle.moo_rows.specs.declared.row.SlotState.{SlotState}
+use Rattle.moo_rows.specs.declared.row.SlotState.TheVariants.{Clear, Set}
+use Rattle.moo_world.specs.Arguments.{is_text, is_number}
+use Rattle.moo_world.specs.World.{has_word, state_fits, accept_fits}
+use Rattle.moo_world.proofs.Ranges.{text_tested, fits_tested, range_of, fits_signed}
+use Rattle.moo_verbs.specs.declared.fault.VerbFault.{VerbFault}
+use Rattle.moo_verbs.specs.declared.fault.VerbFault.TheVariants.{BadNames}
+use Rattle.moo_cells.specs.Shows.{ShowsState, object_list}
 
 abbrev text_in : Value → List ℕ
 text_in Null = []
@@ -46,3 +62,89 @@ not_text f s text fault some fits same = by f fault some (subst IsText (sym same
     by NotALiteral fault some t = fault
     by OutOfRange fault some t = fault
     by TooDeep fault some t = fault
+
+-- ---- names of verbs
+
+-- names that pass the check have a word
+pub has_a_word : (names : List ℕ) (r : Result (Unit {0}) VerbFault) → r ≡ (if has_word names then Ok tt else Err BadNames) → is_err r ≡ false → has_word names ≡ true
+has_a_word names r is right = go (has_word names) (sym (ap is_err is) ∙ right)
+  where
+    go : (b : Bool) → is_err (let x : Result (Unit {0}) VerbFault = if b then Ok tt else Err BadNames in x) ≡ false → b ≡ true
+    go true e = refl
+    go false e = absurd (true≢false e)
+
+-- ---- literals
+
+-- a whole text that fails to be read spells no value within the limits
+pub fails_none : (f : LiteralFault) (v : MooValue) → Fails f (let x : Result MooValue LiteralFault = Ok v in x) → f ≢ OutOfMemory → ⊥
+fails_none BadByte v e some = cc
+fails_none TooLong v e some = cc
+fails_none OutOfMemory v e some = some refl
+fails_none NotALiteral v e some = cc
+fails_none OutOfRange v e some = cc
+fails_none TooDeep v e some = cc
+
+pub not_state : (f : LiteralFault) (s text : List ℕ) (state : SlotState) → ((v : MooValue) → Fits v → Spells v s → Fails f (let x : Result MooValue LiteralFault = Ok v in x)) → f ≢ OutOfMemory → (s ≡ [] → ⊥) → ShowsState text state → state_fits state ≡ true → s ≡ text → ⊥
+not_state f s text Clear only some full shows fits is = full (is ∙ shows)
+not_state f s text (Set v) only some full shows fits is = fails_none f v (only v ((fits_tested v).0 fits) (subst (Spells v) (sym is) shows)) some
+
+-- ---- lists of objects
+
+-- whether each number of a list of objects is within its limits
+numbers_in : (objects : List ObjNo) → HoldInside InRange IsText (gather (map Obj objects)) → list_all is_number objects ≡ true
+numbers_in [] h = refl
+numbers_in (x ∷ objects) h = and_from _ _ (range_of x.0 h.0) (numbers_in objects h.1)
+
+pub list_fits : (objects : List ObjNo) → length objects ≤ 1000 → Fits (object_list objects) → accept_fits (Some objects) ≡ true
+list_fits objects short fits = and_from _ _ (le-leb (length objects) 1000 short) (numbers_in objects fits.0)
+
+inside : (objects : List ObjNo) → list_all is_number objects ≡ true → HoldInside InRange IsText (gather (map Obj objects))
+inside [] h = tt
+inside (x ∷ objects) h = let parts = and_parts _ _ h in (fits_signed x.0 parts.0, inside objects parts.1)
+
+flat : (objects : List ObjNo) → levels (gather (map Obj objects)) ≡ 0
+flat [] = refl
+flat (x ∷ objects) = flat objects
+
+-- an accept list within its limits is a value within its own
+pub fits_list : (objects : List ObjNo) → accept_fits (Some objects) ≡ true → (length objects ≤ 1000) × Fits (object_list objects)
+fits_list objects fits =
+    let parts = and_parts _ _ fits in
+    let none = flat objects in (leb-true (length objects) 1000 parts.0, (inside objects parts.1, omega arith))
+
+pub obj_at : (objects : List ObjNo) (i : ℕ) (v : MooValue) → i < length (map Obj objects) → (x : ObjNo) × (get_or (map Obj objects) i v ≡ Obj x)
+obj_at [] i v h = absurd (omega arith)
+obj_at (x ∷ objects) zero v h = (x, refl)
+obj_at (x ∷ objects) (suc i) v h = obj_at objects i v (omega arith)
+
+-- one value that is no object
+pub not_objects : (values : List MooValue) (i : ℕ) (v : MooValue) → i < length values → v ≡ get_or values i v → ((x : ObjNo) → v ≡ Obj x → ⊥) → (objects : List ObjNo) → values ≡ map Obj objects → ⊥
+not_objects values i v within is none objects same =
+    let at = obj_at objects i v (subst (λ l. i < length l) same within) in
+    none at.0 (is ∙ ap (λ l. get_or l i v) same ∙ at.1)
+
+pub not_empty : (s : List ℕ) → (length s == 0) ≡ false → s ≡ [] → ⊥
+not_empty s some none = true≢false (ap (λ l. length l == 0) (sym none) ∙ some)
+
+-- ---- a list that a literal spells
+
+pub spells_list : (b : List ℕ) (vs : Values) (items : List MooValue) (objects : List ObjNo) → Spells (a_list vs) b → gather items ≡ vs → items ≡ map Obj objects → Spells (object_list objects) b
+spells_list b vs items objects spells gathered same = subst (λ v. Spells v b) (ap a_list (sym gathered ∙ ap gather same)) spells
+
+pub fits_spelled : (vs : Values) (items : List MooValue) (objects : List ObjNo) → Fits (a_list vs) → gather items ≡ vs → items ≡ map Obj objects → length objects ≤ 1000 → accept_fits (Some objects) ≡ true
+fits_spelled vs items objects fits gathered same short = list_fits objects short (subst Fits (ap a_list (sym gathered ∙ ap gather same)) fits)
+
+pub spread_objects : (objects : List ObjNo) → spread (gather (map Obj objects)) ≡ map Obj objects
+spread_objects [] = refl
+spread_objects (x ∷ objects) = ap (λ l. Obj x ∷ l) (spread_objects objects)
+
+abbrev values_in : MooValue → Values
+values_in (a_list vs) = vs
+values_in v = no_values
+
+-- what is spelled is no list of objects, so no such list is spelled
+pub no_list : (b : List ℕ) (v : MooValue) → Fits v → Spells v b → (objects : List ObjNo) → accept_fits (Some objects) ≡ true → Spells (object_list objects) b → v ≡ object_list objects
+no_list b v fits spells objects short spelled = one_spelled b v (object_list objects) fits (fits_list objects short).1 spells spelled
+
+pub no_items : (vs : Values) (items : List MooValue) (objects : List ObjNo) → items ≡ spread vs → a_list vs ≡ object_list objects → items ≡ map Obj objects
+no_items vs items objects plain same = plain ∙ ap (λ v. spread (values_in v)) same ∙ spread_objects objects

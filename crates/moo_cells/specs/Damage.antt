@@ -1,13 +1,53 @@
--- Damage of cells: rows that can't be read, and heads that are none.
-use Rattle.std.specs.Prelude.{◌≡◌, ◌≢◌, ℕ, ℤ, pos, negsuc, ◌<ℤ◌, ◌≤ℤ◌, ◌<◌, ◌≤◌, Option, None, Some}
-use Rattle.sqlite.specs.Order.{Row}
-use Rattle.moo_cells.specs.Reading.{IsRead}
+-- What reading the cells of tables comes to: the rows that they show, or the first kind of damage with its least key.
+use Rattle.std.specs.Prelude.{ℤ, pos, ⊤}
+use Rattle.moo_rows.specs.Maps.{Maps}
+use Rattle.moo_tables.specs.Tables.{Tables}
+use Rattle.moo_damage.specs.declared.kind.Kind.{Kind}
+use Rattle.moo_damage.specs.declared.kind.Kind.TheVariants.{BadHead, BadCell}
+use Rattle.moo_damage.specs.declared.kind.Key.{Key}
+use Rattle.moo_damage.specs.declared.kind.Key.TheVariants.{Head, Object, Prop, Slot, Verb}
+use Rattle.moo_damage.specs.Kinds.{InRows, IsFirstMet}
+use Rattle.moo_damage.specs.Limits.{AreWithin}
+use Rattle.moo_cells.specs.Head.{IsNewerThan, HasHead}
+use Rattle.moo_cells.specs.Reading.{ReadsObject, ReadsProp, ReadsSlot, ReadsVerb}
+use Rattle.moo_cells.specs.Shows.{ShowsRows}
+use Rattle.moo_cells.specs.Unread.{IsUnread}
+use Rattle.moo_cells.specs.declared.fault.CellFault.{CellFault}
+use Rattle.moo_cells.specs.declared.fault.CellFault.TheVariants.{Damaged, NewerVersion, OutOfMemory}
 
--- there is such a row, and it can't be read
-abbrev pub IsUnread : {J K X : Type 0} → (K → Row → X → Type 0) → (J → Option Row) → J → Type 0
-IsUnread reads table key = (cells : Row) × (table key ≡ Some cells) × ¬ (IsRead reads cells)
+-- the greatest version of tables that is known
+abbrev pub version : ℤ
+version = pos 1
 
--- the row of the key can't be read, and it is the first such row of its table
-pub record FirstUnread {J K X : Type 0} (reads : K → Row → X → Type 0) (below : J → J → Type 0) (table : J → Option Row) (key : J) : Type 0 where
-  pub bad : IsUnread reads table key
-  pub least : (other : J) → below other key → ¬ (IsUnread reads table other)
+-- the head is that of a later version
+abbrev pub IsNewer : Tables → Type 0
+IsNewer t = IsNewerThan version t.head
+
+-- there is no head, and it isn't that of a later version either
+abbrev pub IsBadHead : Tables → Key → Type 0
+IsBadHead t Head = ¬ (HasHead version t.head) × ¬ (IsNewer t)
+IsBadHead t _ = ⊥
+
+-- a row is there that can't be read
+abbrev pub IsBadCell : Tables → Key → Type 0
+IsBadCell t Head = ⊥
+IsBadCell t (Object n) = IsUnread ReadsObject t.object n
+IsBadCell t (Prop id) = IsUnread ReadsProp t.prop id
+IsBadCell t (Slot n id) = IsUnread ReadsSlot t.slot (n, id)
+IsBadCell t (Verb n id) = IsUnread ReadsVerb t.verb (n, id)
+
+-- the kind is met at the key: the first two in the cells, each other one in the rows that the cells show
+abbrev pub IsMet : Tables → Kind → Key → Type 0
+IsMet t BadHead key = IsBadHead t key
+IsMet t BadCell key = IsBadCell t key
+IsMet t kind key = (m : Maps) × ShowsRows t m × AreWithin m × InRows m kind key
+
+-- the first kind that is met, with its least key, in tables of a version that is known
+abbrev pub Damage : Tables → Kind → Key → Type 0
+Damage t kind key = ¬ (IsNewer t) × IsFirstMet (IsMet t) kind key
+
+-- the fault says what is wrong with the tables, or that memory was refused
+abbrev pub SaysOfCells : Tables → CellFault → Type 0
+SaysOfCells t (Damaged kind key) = Damage t kind key
+SaysOfCells t NewerVersion = IsNewer t
+SaysOfCells t OutOfMemory = ⊤

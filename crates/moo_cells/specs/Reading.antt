@@ -1,5 +1,5 @@
 -- Cells that can be read: those that show a row within its limits.
-use Rattle.std.specs.Prelude.{◌≡◌, ℕ, ℤ, pos, ◌<◌, true, ◌&&◌, Option, Some}
+use Rattle.std.specs.Prelude.{◌≡◌, ℕ, ◌<◌, true}
 use Rattle.sqlite.specs.Order.{Row}
 use Rattle.moo_value.specs.declared.value.ObjNo.{ObjNo}
 use Rattle.moo_rows.specs.declared.row.ObjRow.{ObjRow}

@@ -1,8 +1,10 @@
 //! Single cells.
 
-ghost use Rattle.std.specs.Prelude.{◌≡◌, ◌≢◌, ℕ, ℤ, pos, ◌<◌, Bool, true, List, Some, IfOk, IfErr};
+ghost use Rattle.std.specs.Prelude.{◌≡◌, ◌≢◌, ℕ, ℤ, pos, ◌<◌, Bool, true, List, Some, IfOk, IfErr, IsTrue, FitsSigned};
+ghost use Rattle.std.specs.Int.{w64};
 ghost use Rattle.sqlite.specs.Order.{column};
 ghost use Rattle.sqlite.specs.declared.types.Value.TheVariants.{Int as Number, Text};
+ghost use Rattle.sqlite_trees.specs.View.{is_int};
 ghost use Rattle.moo_value.specs.declared.value.ObjNo.{ObjNo};
 ghost use Rattle.moo_rows.specs.declared.row.Bits.{Bits};
 ghost use Rattle.moo_rows.specs.declared.row.VerbBits.{VerbBits};
@@ -30,11 +32,24 @@ const MAX_ID: u32 = u32::MAX - 1;
 /// The whole number in a column.
 pub(crate) fn int_at(cells: &Row, at: usize) -> Result<i64, RowFault>
     ensures ok { IfOk result (λ n. column cells.now at ≡ Number n) }
+    ensures fits { IfOk result (λ n. FitsSigned w64 n) }
     ensures err { IfErr result (λ _. (n : ℤ) → column cells.now at ≢ Number n) }
 {
     match cells.get_ref(at) {
         Ok(ValueRef::Int(number)) => Ok(number),
         _ => Err(RowFault::Unreadable),
+    }
+}
+
+/// The whole number in a column that has one.
+pub(crate) fn int_in(cells: &Row, at: usize) -> i64
+    requires { IsTrue (is_int (column cells.now at)) }
+    ensures value { column cells.now at ≡ Number result }
+    ensures fits { FitsSigned w64 result }
+{
+    match cells.get_ref(at) {
+        Ok(ValueRef::Int(number)) => number,
+        _ => unreachable!(),
     }
 }
 

@@ -3,7 +3,9 @@
 ghost use Rattle.std.specs.Prelude.{◌≡◌, ◌≢◌};
 ghost use Rattle.moo_value.specs.declared.fault.LiteralFault.TheVariants.{OutOfMemory as no_memory};
 ghost use Rattle.moo_cells.specs.declared.fault.RowFault.TheVariants.{Unreadable, OutOfMemory};
+ghost use Rattle.moo_cells.specs.declared.fault.CellFault.TheVariants.{OutOfMemory as none_left};
 
+use moo_damage::{Key, Kind};
 use moo_value::fault::LiteralFault;
 use std::alloc::AllocError;
 use thiserror::Error;
@@ -35,5 +37,27 @@ impl From<LiteralFault> for RowFault {
             LiteralFault::OutOfMemory => RowFault::OutOfMemory,
             _ => RowFault::Unreadable,
         }
+    }
+}
+
+/// Why cells give no rows.
+#[derive(Clone, Copy, Debug, PartialEq, Eq, Drop, Error)]
+pub enum CellFault {
+    /// The first kind of damage that is met, with the least key at which it is.
+    #[error("{0} at {1}")]
+    Damaged(Kind, Key),
+    /// The tables are of a version later than the greatest that is known.
+    #[error("the tables are of a newer version")]
+    NewerVersion,
+    /// There is no memory for the rows.
+    #[error("out of memory")]
+    OutOfMemory,
+}
+
+impl From<AllocError> for CellFault {
+    ghost from_gives = { λ _ e. e ≡ none_left };
+
+    fn from(_e: AllocError) -> CellFault {
+        CellFault::OutOfMemory
     }
 }

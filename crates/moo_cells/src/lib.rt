@@ -5,15 +5,27 @@
 #![tactic(auto)]
 
 mod cell;
+mod cells;
 mod fault;
+mod head;
+mod laws;
 mod literal;
 mod object;
 mod prop;
+mod rows;
 mod slot;
+mod tables;
 mod verb;
 
-pub use fault::RowFault;
+pub use cells::read_cells;
+pub use fault::{CellFault, RowFault};
+pub use head::read_head;
+pub use laws::{one_damage, one_set_of_rows, shown_without_damage};
 pub use object::read_object;
 pub use prop::read_prop;
+pub use rows::read_rows;
 pub use slot::read_slot;
 pub use verb::read_verb;
+
+/// The rows of each table, as they are listed.
+pub use moo_tables::CellLists as Cells;

@@ -1,5 +1,5 @@
 -- What a run over a text leaves of a World.
-use Rattle.std.proofs.Common.{◌≡◌, inl, inr, ℕ, Bool, true, false, List, [], ◌∷◌, ◌++◌, append_assoc, Option, Some, None, Result, Ok, Err, refl, sym, ap, subst, ◌∙◌}
+use Rattle.std.proofs.Common.{◌≡◌, ℕ, true, false, List, [], ◌∷◌, ◌++◌, append_assoc, Option, Result, Ok, Err, sym, ap, subst, ◌∙◌}
 use Rattle.std.proofs.lemmas.List.{append-nil}
 use Rattle.sqlite.specs.State.{HasCleanDisk}
 use Rattle.sqlite.specs.Store.{Ghosts}
@@ -12,11 +12,11 @@ use Rattle.moo_text.specs.declared.reply.Reply.{Reply}
 use Rattle.moo_text.specs.declared.fault.TextFault.{TextFault}
 use Rattle.moo_tables.specs.Tables.{Tables}
 use Rattle.moo_tables.specs.Inside.{Rests}
-use Rattle.moo_store.specs.World.{store_of, CrashLeaves, StandsAt}
+use Rattle.moo_store.specs.World.{store_of, StandsAt}
 use Rattle.moo_store.specs.Stand.{Stand, Works, Failed, StoreFailed, RunsBatch}
 use Rattle.moo_store.specs.Kept.{World}
 use Rattle.moo_store.specs.declared.fault.StoreFault.{StoreFault}
-use Rattle.moo_store.specs.declared.fault.StoreFault.TheVariants.{Store, OutOfMemory, Closed}
+use Rattle.moo_store.specs.declared.fault.StoreFault.TheVariants.{Store, Damaged, NewerVersion, OutOfMemory, Closed}
 use Rattle.moo_store.specs.Text.{Runs, answer_to, accepted_at, accepted, KeepsRest, Applies, Stops}
 use Rattle.moo_store.specs.Untouched.{IsOver, taken_of}
 use Rattle.moo_store.specs.Turns.{Turn, Turns, Completes, Halts}
@@ -30,6 +30,8 @@ use Rattle.moo_store.proofs.Untouched.{Written, is_over, written_none, written_o
 one_taken : (batch : Batch) (a : Answer) (r : Result Reply StoreFault) → a ≡ answer_to r → accepted_at (Whole batch) a ≡ taken_of batch r
 one_taken batch a (Ok reply) is = ap (accepted_at (Whole batch)) is
 one_taken batch a (Err (Store error)) is = ap (accepted_at (Whole batch)) is
+one_taken batch a (Err (Damaged kind key)) is = ap (accepted_at (Whole batch)) is
+one_taken batch a (Err NewerVersion) is = ap (accepted_at (Whole batch)) is
 one_taken batch a (Err OutOfMemory) is = ap (accepted_at (Whole batch)) is
 one_taken batch a (Err Closed) is = ap (accepted_at (Whole batch)) is
 

@@ -18,7 +18,7 @@ use Rattle.moo_store.specs.States.{LeavesState}
 use Rattle.moo_store.specs.Text.{StandsBehind, answer_to}
 use Rattle.moo_store.specs.World.{store_of, IsAt, StandsAt}
 use Rattle.moo_store.specs.declared.fault.StoreFault.{StoreFault}
-use Rattle.moo_store.specs.declared.fault.StoreFault.TheVariants.{Store, OutOfMemory, Closed}
+use Rattle.moo_store.specs.declared.fault.StoreFault.TheVariants.{Store, Damaged, NewerVersion, OutOfMemory, Closed}
 
 not_both : {X : Type 0} (b : Bool) → b ≡ false → b ≡ true → X
 not_both b p q = let no : true ≡ false = sym q ∙ p in absurd cc
@@ -72,5 +72,7 @@ accepted_stands {S} g old new batch answers next r works judged is at fault fail
       (failed, λ clean trees left. elim (crash clean trees left) [ inl was ↦ (s, inl refl, was) | inr on ↦ (next, inr (sym (ap (left_by s) judged)), on) ]),
       (subst ReachesStore (sym judged) tt, refl),
     )
+    by (Err (Damaged kind key)) s here judged is at fault failed crash = let no : (Damaged kind key) ≡ Store fault.0 = fault.1 in absurd cc
+    by (Err NewerVersion) s here judged is at fault failed crash = let no : NewerVersion ≡ Store fault.0 = fault.1 in absurd cc
     by (Err OutOfMemory) s here judged is at fault failed crash = let no : OutOfMemory ≡ Store fault.0 = fault.1 in absurd cc
     by (Err Closed) s here judged is at fault failed crash = let no : Closed ≡ Store fault.0 = fault.1 in absurd cc

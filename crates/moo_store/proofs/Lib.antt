@@ -13,3 +13,6 @@ pub mod WholeRuns
 pub mod Opened
 pub mod Untouched
 pub mod Asking
+pub mod AdoptLemmas
+pub mod HeadlineLemmas
+pub mod CheckLemmas

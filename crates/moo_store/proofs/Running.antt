@@ -1,10 +1,9 @@
 -- One batch, and then a list of them.
-use Rattle.std.proofs.Common.{◌≡◌, ◌⊎◌, inl, inr, ℕ, zero, suc, ◌+◌, ◌≤◌, ◌<◌, Bool, List, [], ◌∷◌, ◌++◌, take, drop, length, get_or, append_assoc, length-append, Result, Ok, Err, OnOk, OnErr, IfOk, IfErr, true, false, refl, sym, ap, subst, ◌∙◌, arith}
+use Rattle.std.proofs.Common.{◌≡◌, inl, inr, ℕ, zero, suc, ◌+◌, ◌≤◌, ◌<◌, Bool, List, [], ◌∷◌, ◌++◌, take, drop, length, get_or, append_assoc, length-append, Result, Ok, Err, OnOk, OnErr, IfErr, true, false, refl, sym, ap, subst, ◌∙◌, arith}
 use Rattle.std.specs.Prelude.{is_err, ⊤, IsTrue, map}
 use Rattle.moo_store.proofs.Crashes.{IsSettled, left_at_rest}
 use Rattle.std.proofs.lemmas.List.{append-nil, take_more}
 use Rattle.std.proofs.Math.Seq.{drop-append_seam, drop-cons}
-use Rattle.sqlite.specs.Tree.{Trees}
 use Rattle.sqlite.specs.State.{HasCleanDisk}
 use Rattle.sqlite.specs.Store.{Ghosts}
 use Rattle.sqlite.specs.declared.error.Error.{Error}
@@ -18,15 +17,14 @@ use Rattle.moo_world.specs.Judge.{State, Ran, Through, FailedAt, FullAt, Verdict
 use Rattle.moo_store.specs.States.{LeavesState}
 use Rattle.moo_store.specs.Answered.{reply_of, next_of, IsRun, AnsweredOne, Answered, acknowledged, added}
 use Rattle.moo_text.specs.declared.next.Next.TheVariants.{Batch as Whole}
-use Rattle.moo_text.specs.declared.reply.Answer.{Answer}
 use Rattle.moo_text.specs.declared.reply.Answer.TheVariants as answer
 use Rattle.moo_store.specs.Stand.{Stand, Works, Failed, StoreFailed, state_at, Leaves, RunsBatch}
 use Rattle.moo_store.specs.Turns.{Turns}
 use Rattle.moo_store.specs.Text.{StandsBehind, RunsAll, answer_to}
-use Rattle.moo_store.specs.World.{store_of, IsAt, StandsFor, StandsAt, Left, LeftOrNext, MatchStore}
+use Rattle.moo_store.specs.World.{store_of, IsAt, StandsAt, Left, LeftOrNext, MatchStore}
 use Rattle.moo_store.specs.Kept.{World}
 use Rattle.moo_store.specs.declared.fault.StoreFault.{StoreFault}
-use Rattle.moo_store.specs.declared.fault.StoreFault.TheVariants.{Store, OutOfMemory, Closed}
+use Rattle.moo_store.specs.declared.fault.StoreFault.TheVariants.{Store, Damaged, NewerVersion, OutOfMemory, Closed}
 
 pub when_ok : {T E P : Type 0} (r : Result T E) → false ≡ is_err r → OnOk r P → P
 when_ok (Ok x) e p = p
@@ -90,10 +88,14 @@ fails_of {S} g old new r closed fails = by old.failed r refl closed fails
         → (old.failed ≡ false → IfErr r (λ fault. ((error : Error) × (fault ≡ Store error)) × (new.failed ≡ true))) → FailsAtStore g old new r
     by true (Ok reply) is closed fails = let no : Ok reply ≡ Err Closed = (closed is).0 in absurd cc
     by true (Err (Store error)) is closed fails = let no : Store error ≡ Closed = ap (λ (r : Result Reply StoreFault). elim r [ Ok x ↦ Closed | Err f ↦ f ]) (closed is).0 in absurd cc
+    by true (Err (Damaged kind key)) is closed fails = let no : (Damaged kind key) ≡ Closed = ap (λ (r : Result Reply StoreFault). elim r [ Ok x ↦ Closed | Err f ↦ f ]) (closed is).0 in absurd cc
+    by true (Err NewerVersion) is closed fails = let no : NewerVersion ≡ Closed = ap (λ (r : Result Reply StoreFault). elim r [ Ok x ↦ Closed | Err f ↦ f ]) (closed is).0 in absurd cc
     by true (Err OutOfMemory) is closed fails = let no : OutOfMemory ≡ Closed = ap (λ (r : Result Reply StoreFault). elim r [ Ok x ↦ Closed | Err f ↦ f ]) (closed is).0 in absurd cc
     by true (Err Closed) is closed fails = (is, (closed is).1)
     by false (Ok reply) is closed fails = is
     by false (Err (Store error)) is closed fails = (is, (fails is).1)
+    by false (Err (Damaged kind key)) is closed fails = let no : (Damaged kind key) ≡ Store (fails is).0.0 = (fails is).0.1 in absurd cc
+    by false (Err NewerVersion) is closed fails = let no : NewerVersion ≡ Store (fails is).0.0 = (fails is).0.1 in absurd cc
     by false (Err OutOfMemory) is closed fails = let no : OutOfMemory ≡ Store (fails is).0.0 = (fails is).0.1 in absurd cc
     by false (Err Closed) is closed fails = let no : Closed ≡ Store (fails is).0.0 = (fails is).0.1 in absurd cc
 
@@ -171,6 +173,8 @@ runs_one g old new batch (Err (Store error)) fails stands s it =
     λ clean trees left.
     let lies = lost.1 clean trees left in
     elim lies.1 [ inl same ↦ (0, omega arith, subst (LeavesState trees) same lies.2) | inr on ↦ (1, omega arith, subst (LeavesState trees) on lies.2) ]
+runs_one g old new batch (Err (Damaged kind key)) fails stands s it = absurd fails
+runs_one g old new batch (Err NewerVersion) fails stands s it = absurd fails
 runs_one g old new batch (Err OutOfMemory) fails stands s it = absurd fails
 runs_one g old new batch (Err Closed) fails stands s it = subst (λ w. IsAt g w s) (sym fails.1) it
 
@@ -267,6 +271,8 @@ stops T g old now new all count before replies batch (Store error) low is p runs
     let lost = runs end (is_at_end g old now all count before replies p s it) clean trees left in
     let place : length (added before replies) ≡ count = ap length (added_is g old now all count before replies p) ∙ p.each in
     (lost.0, lost.1, subst (LeavesState trees) (next_is all count batch end lost.0 lost.1 low is ∙ ap (λ n. after end (take lost.0 (drop n all))) (sym place)) lost.2)
+stops T g old now new all count before replies batch (Damaged kind key) low is p runs s it = absurd (runs (after s (acknowledged all (added before replies))) (is_at_end g old now all count before replies p s it))
+stops T g old now new all count before replies batch NewerVersion low is p runs s it = absurd (runs (after s (acknowledged all (added before replies))) (is_at_end g old now all count before replies p s it))
 stops T g old now new all count before replies batch OutOfMemory low is p runs s it = absurd (runs (after s (acknowledged all (added before replies))) (is_at_end g old now all count before replies p s it))
 stops T g old now new all count before replies batch Closed low is p runs s it = runs (after s (acknowledged all (added before replies))) (is_at_end g old now all count before replies p s it)
 
@@ -275,6 +281,8 @@ pub left_at : {S T : Type 0} (g : Ghosts S) (new : World S) (end : State) (r : R
     → MatchStore r (HasCleanDisk (store_of g new) → Left (store_of g new) end) ⊤
 left_at g new end (Ok x) Q settled it = λ clean. left_at_rest (store_of g new) end settled (it.tables clean)
 left_at g new end (Err (Store error)) Q settled it = tt
+left_at g new end (Err (Damaged kind key)) Q settled it = λ clean. left_at_rest (store_of g new) end settled (it.tables clean)
+left_at g new end (Err NewerVersion) Q settled it = λ clean. left_at_rest (store_of g new) end settled (it.tables clean)
 left_at g new end (Err OutOfMemory) Q settled it = λ clean. left_at_rest (store_of g new) end settled (it.tables clean)
 left_at g new end (Err Closed) Q settled it = λ clean. left_at_rest (store_of g new) end settled (it.tables clean)
 
@@ -313,6 +321,8 @@ runs_stopped g old now new all count before replies batch (Store error) low is f
       stands = one.1;
       ends = (batch, drop (suc count) all, ap (λ n. drop n all) place ∙ drop-cons all count batch low ∙ ap (λ b. b ∷ drop (suc count) all) (sym is), one.2);
     }
+runs_stopped g old now new all count before replies batch (Damaged kind key) low is fails stands p stand it = absurd fails
+runs_stopped g old now new all count before replies batch NewerVersion low is fails stands p stand it = absurd fails
 runs_stopped g old now new all count before replies batch OutOfMemory low is fails stands p stand it = absurd fails
 runs_stopped g old now new all count before replies batch Closed low is fails stands p stand it =
     let same : now ≡ new = sym fails.1 in

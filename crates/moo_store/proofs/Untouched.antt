@@ -22,7 +22,7 @@ use Rattle.moo_store.specs.Untouched.{KeepsCells, Writes, IsOver, HasWritten, Wr
 use Rattle.moo_store.proofs.Committed.{shown_by}
 use Rattle.moo_store.proofs.Running.{Progress, FailsAtStore}
 use Rattle.moo_store.specs.declared.fault.StoreFault.{StoreFault}
-use Rattle.moo_store.specs.declared.fault.StoreFault.TheVariants.{Store, OutOfMemory, Closed}
+use Rattle.moo_store.specs.declared.fault.StoreFault.TheVariants.{Store, Damaged, NewerVersion, OutOfMemory, Closed}
 
 -- tables that rest in the store of a World that is at a state
 pub is_over : {S : Type 0} (g : Ghosts S) (world : World S) (s : State) (tables : Tables) → IsAt g world s → HasCleanDisk (store_of g world) → Rests (store_of g world) tables → IsOver g world tables
@@ -115,6 +115,8 @@ accepted_writes g old new batch answers seq next (Err (Store error)) works good 
     rows = λ on. let no : true ≡ false = sym failed ∙ on in absurd cc;
   };
 }
+accepted_writes g old new batch answers seq next (Err (Damaged kind key)) works good judged is rows cells undone clean fault failed = let no : (Damaged kind key) ≡ Store fault.0 = fault.1 in absurd cc
+accepted_writes g old new batch answers seq next (Err NewerVersion) works good judged is rows cells undone clean fault failed = let no : NewerVersion ≡ Store fault.0 = fault.1 in absurd cc
 accepted_writes g old new batch answers seq next (Err OutOfMemory) works good judged is rows cells undone clean fault failed = let no : OutOfMemory ≡ Store fault.0 = fault.1 in absurd cc
 accepted_writes g old new batch answers seq next (Err Closed) works good judged is rows cells undone clean fault failed = let no : Closed ≡ Store fault.0 = fault.1 in absurd cc
 
@@ -123,6 +125,8 @@ pub accepted_is_taken : {S : Type 0} (old new : World S) (batch : Batch) (answer
     → IfOk r (λ r. r ≡ reply.Accepted seq answers) → IfErr r (λ fault. (error : _) × (fault ≡ Store error)) → taken_of batch r ≡ [] → MatchStore r (new ≡ old) ⊤
 accepted_is_taken old new batch answers seq (Ok reply) is fault none = let no : batch ∷ [] ≡ [] = subst (λ x. acknowledged (batch ∷ []) (x ∷ []) ≡ []) is none in absurd cc
 accepted_is_taken old new batch answers seq (Err (Store error)) is fault none = tt
+accepted_is_taken old new batch answers seq (Err (Damaged kind key)) is fault none = let no : (Damaged kind key) ≡ Store fault.0 = fault.1 in absurd cc
+accepted_is_taken old new batch answers seq (Err NewerVersion) is fault none = let no : NewerVersion ≡ Store fault.0 = fault.1 in absurd cc
 accepted_is_taken old new batch answers seq (Err OutOfMemory) is fault none = let no : OutOfMemory ≡ Store fault.0 = fault.1 in absurd cc
 accepted_is_taken old new batch answers seq (Err Closed) is fault none = let no : Closed ≡ Store fault.0 = fault.1 in absurd cc
 
@@ -153,6 +157,8 @@ written_on g old now next batches batch (Err (Store error)) was fails one = reco
     | inr opened ↦ written_then g old now next tables batches [] fails.0 (over.shows (was.works fails.0)) (was.written (one.clean c) (inl fails.0) tables over) (one.written c opened)
   ];
 }
+written_on g old now next batches batch (Err (Damaged kind key)) was fails one = absurd fails
+written_on g old now next batches batch (Err NewerVersion) was fails one = absurd fails
 written_on g old now next batches batch (Err OutOfMemory) was fails one = absurd fails
 written_on g old now next batches batch (Err Closed) was fails one = subst (λ w. Written g old w (batches ++ [])) (sym fails.1) (subst (Written g old now) (sym (append-nil batches)) was)
 
@@ -198,6 +204,8 @@ pub wrote_stopped : (T : Type 0) {S : Type 0} (g : Ghosts S) (old now new : Worl
 wrote_stopped T g old now new all replies batch (Store error) it fails one clean opened tables over =
     subst (HasWritten g old new tables) (append-nil (acknowledged all replies))
     (written_then g old now new tables (acknowledged all replies) [] fails.0 (over.shows (it.works fails.0)) (it.written (one.clean clean) tables over) (one.written clean opened))
+wrote_stopped T g old now new all replies batch (Damaged kind key) it fails one clean known tables over = absurd fails
+wrote_stopped T g old now new all replies batch NewerVersion it fails one clean known tables over = absurd fails
 wrote_stopped T g old now new all replies batch OutOfMemory it fails one clean known tables over = absurd fails
 wrote_stopped T g old now new all replies batch Closed it fails one clean known tables over =
     let same : now ≡ new = sym fails.1 in
@@ -206,6 +214,8 @@ wrote_stopped T g old now new all replies batch Closed it fails one clean known 
 pub same_stopped : (T : Type 0) {S : Type 0} (g : Ghosts S) (old now new : World S) (all : List Batch) (replies : List Reply) (fault : StoreFault) → Wrote g old now all replies
     → (let r : Result Reply StoreFault = Err fault in FailsAtStore g now new r) → acknowledged all replies ≡ [] → MatchStore (let r : Result T StoreFault = Err fault in r) (new ≡ old) ⊤
 same_stopped T g old now new all replies (Store error) it fails none = tt
+same_stopped T g old now new all replies (Damaged kind key) it fails none = absurd fails
+same_stopped T g old now new all replies NewerVersion it fails none = absurd fails
 same_stopped T g old now new all replies OutOfMemory it fails none = absurd fails
 same_stopped T g old now new all replies Closed it fails none = fails.1 ∙ it.same none
 

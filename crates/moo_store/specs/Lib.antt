@@ -7,3 +7,6 @@ pub mod World
 pub mod Turns
 pub mod Untouched
 pub mod Text
+pub mod Opening
+pub mod Reopened
+pub mod Checked

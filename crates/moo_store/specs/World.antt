@@ -1,5 +1,5 @@
 -- What a World stands for, and what a crash leaves of it.
-use Rattle.std.specs.Prelude.{◌≡◌, ℕ, ◌≤◌, true, false, List, [], ◌∷◌, take, Result, Ok, Err}
+use Rattle.std.specs.Prelude.{◌≡◌, ℕ, ◌≤◌, true, false, List, take, Result, Ok, Err}
 use Rattle.sqlite.specs.State.{State as Database, HasCleanDisk}
 use Rattle.sqlite.specs.Tree.{Trees}
 use Rattle.sqlite.specs.Store.{Ghosts}
@@ -10,7 +10,7 @@ use Rattle.moo_store.specs.States.{KeepsRows, Keeps, LeavesState}
 use Rattle.moo_store.specs.Stand.{Stand, Works, Failed, StoreFailed, MayLeave}
 use Rattle.moo_store.specs.Kept.{World}
 use Rattle.moo_store.specs.declared.fault.StoreFault.{StoreFault}
-use Rattle.moo_store.specs.declared.fault.StoreFault.TheVariants.{Store, OutOfMemory, Closed}
+use Rattle.moo_store.specs.declared.fault.StoreFault.TheVariants.{Store}
 
 -- what the connection of a World shows
 abbrev pub store_of : {S : Type 0} (g : Ghosts S) → World S → Database

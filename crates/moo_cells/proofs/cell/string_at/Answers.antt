@@ -1,6 +1,5 @@
-use Rattle.std.proofs.Common.{ap, sym, ◌∙◌}
+use Rattle.std.proofs.Common.{sym, ◌∙◌}
 use Rattle.std.proofs.lemmas.Result.{err_from_is_err_and}
-use Rattle.sqlite.specs.declared.types.Value.TheVariants.{Text}
 use Rattle.moo_cells.proofs.Texts.{not_text, text_inj}
 use Rattle.moo_cells.proofs.cell.string_at.Goals as goal
 

@@ -1,7 +1,8 @@
-use Rattle.std.proofs.Common.{◌≡◌, true, ◌&&◌, refl, ap, sym, ◌∙◌}
-use Rattle.std.proofs.lemmas.Bool.{and_parts}
+use Rattle.std.proofs.Common.{◌≡◌, length, [], ◌∷◌, ap, sym, ◌∙◌}
+use Rattle.std.proofs.lemmas.Bool.{and_parts, and_from}
 use Rattle.std.proofs.lemmas.Result.{err_from_is_err_and}
 use Rattle.sqlite.specs.Order.{Row, column}
+use Rattle.moo_cells.proofs.Columns.{twelve}
 use Rattle.moo_cells.proofs.object.read_object.Goals as goal
 
 pub returns-in_err-number-clause-err : goal.returns-in_err-number-clause-err
@@ -39,3 +40,22 @@ returns-in_err-accept-clause-err c =
     let p = err_from_is_err_and c.from_residual-in_err-accept.result c.from_residual-in_err-accept.ensures.1 in
     rw p.1 (λ fault read. c.in_err-accept.ensures.err (sym p.2 ∙ fault) read.2.0.0 read.1.accept read.2.0.1 (and_parts _ _ (and_parts _ _ read.2.1.fits).1).1 (ap (λ (r : Row). column r 11) read.2.0.2))
 
+pub returns-clause-ok : goal.returns-clause-ok
+returns-clause-ok c =
+    let long : length c.args.cells.now ≡ 12 = sym c.column_count.ensures ∙ c.if-column_count-ne-COLUMNS.false in
+    let flags = c.in_ok-flags.ensures.ok in
+    let accept = c.in_ok-accept.ensures.ok in (
+      (
+        accept.0,
+        accept.1,
+        twelve c.args.cells.now long
+            ∙ (λ i. c.in_ok-number.ensures.ok i ∷ c.in_ok-name.ensures.ok i ∷ c.in_ok-owner.ensures.ok i ∷ c.in_ok-parent.ensures.ok i ∷ c.in_ok-location.ensures.ok i
+            ∷ flags.player i ∷ flags.programmer i ∷ flags.wizard i ∷ flags.r i ∷ flags.w i ∷ flags.f i ∷ accept.2 i ∷ []),
+      ),
+      record {
+        number = c.in_ok-number.ensures.fits;
+        parent = c.in_ok-parent.ensures.fits;
+        location = c.in_ok-location.ensures.fits;
+        fits = and_from _ _ c.in_ok-name.ensures.fits (and_from _ _ c.in_ok-owner.ensures.fits c.in_ok-accept.ensures.fits);
+      },
+    )

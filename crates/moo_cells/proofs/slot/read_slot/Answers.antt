@@ -1,7 +1,7 @@
-use Rattle.std.proofs.Common.{◌≡◌, true, ◌&&◌, refl, ap, sym, ◌∙◌}
-use Rattle.std.proofs.lemmas.Bool.{and_parts}
+use Rattle.std.proofs.Common.{◌≡◌, length, [], ◌∷◌, ap, sym, ◌∙◌}
 use Rattle.std.proofs.lemmas.Result.{err_from_is_err_and}
 use Rattle.sqlite.specs.Order.{Row, column}
+use Rattle.moo_cells.proofs.Columns.{five}
 use Rattle.moo_cells.proofs.slot.read_slot.Goals as goal
 
 pub returns-in_err-object-clause-err : goal.returns-in_err-object-clause-err
@@ -29,3 +29,22 @@ returns-in_err-state-clause-err c =
     let p = err_from_is_err_and c.from_residual-in_err-state.result c.from_residual-in_err-state.ensures.1 in
     rw p.1 (λ fault read. c.in_err-state.ensures.err (sym p.2 ∙ fault) read.2.0.1 read.1.state read.2.0.3 read.2.1.state (ap (λ (r : Row). column r 4) read.2.0.4))
 
+pub returns-clause-ok : goal.returns-clause-ok
+returns-clause-ok c =
+    let long : length c.args.cells.now ≡ 5 = sym c.column_count.ensures ∙ c.if-column_count-ne-COLUMNS.false in
+    let bits = c.in_ok-bits.ensures.ok in
+    let state = c.in_ok-state.ensures.ok in (
+      (
+        bits.0,
+        state.0,
+        bits.1,
+        state.1,
+        five c.args.cells.now long ∙ (λ i. c.in_ok-object.ensures.ok i ∷ c.in_ok-prop.ensures.ok i ∷ c.in_ok-owner.ensures.ok i ∷ bits.2 i ∷ state.2 i ∷ []),
+      ),
+      record {
+        object = c.in_ok-object.ensures.fits;
+        number = c.in_ok-prop.ensures.fits;
+        owner = c.in_ok-owner.ensures.fits;
+        state = c.in_ok-state.ensures.fits;
+      },
+    )

@@ -1,7 +1,9 @@
-use Rattle.std.proofs.Common.{◌≡◌, true, ◌&&◌, refl, ap, sym, ◌∙◌}
-use Rattle.std.proofs.lemmas.Bool.{and_parts}
+use Rattle.std.proofs.Common.{◌≡◌, length, [], ◌∷◌, ap, sym, ◌∙◌}
+use Rattle.std.proofs.lemmas.Bool.{and_parts, and_from}
 use Rattle.std.proofs.lemmas.Result.{err_from_is_err_and}
 use Rattle.sqlite.specs.Order.{Row, column}
+use Rattle.moo_cells.proofs.Columns.{eight}
+use Rattle.moo_cells.proofs.Texts.{has_a_word}
 use Rattle.moo_cells.proofs.verb.read_verb.Goals as goal
 
 pub returns-in_err-object-clause-err : goal.returns-in_err-object-clause-err
@@ -34,3 +36,21 @@ returns-in_err-args-clause-err c =
     let p = err_from_is_err_and c.from_residual-in_err-args.result c.from_residual-in_err-args.ensures.1 in
     rw p.1 (λ fault read. c.in_err-args.ensures.err read.1.args (record { dobj = (ap (λ (r : Row). column r 5) read.2.0.2); prep = (ap (λ (r : Row). column r 6) read.2.0.2); iobj = (ap (λ (r : Row). column r 7) read.2.0.2) }))
 
+pub returns-clause-ok : goal.returns-clause-ok
+returns-clause-ok c =
+    let long : length c.args.cells.now ≡ 8 = sym c.column_count.ensures ∙ c.if-column_count-ne-COLUMNS.false in
+    let bits = c.in_ok-bits.ensures.ok in
+    let args = c.in_ok-args.ensures.ok in
+    let word = has_a_word c.in_ok-names.names c.check_names.result c.check_names.ensures (sym c.is_err.ensures.value ∙ c.if-is_err.false) in (
+      (
+        bits.0,
+        bits.1,
+        eight c.args.cells.now long
+            ∙ (λ i. c.in_ok-object.ensures.ok i ∷ c.in_ok-id.ensures.ok i ∷ c.in_ok-names.ensures.ok i ∷ c.in_ok-owner.ensures.ok i ∷ bits.2 i ∷ args.dobj i ∷ args.prep i ∷ args.iobj i ∷ []),
+      ),
+      record {
+        object = c.in_ok-object.ensures.fits;
+        number = c.in_ok-id.ensures.fits;
+        fits = and_from _ _ word (and_from _ _ c.in_ok-names.ensures.fits c.in_ok-owner.ensures.fits);
+      },
+    )

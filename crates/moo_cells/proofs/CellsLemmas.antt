@@ -1,0 +1,175 @@
+-- Damage of tables, and damage of the rows that they show.
+use Rattle.std.proofs.Common.{◌≡◌, ◌⊎◌, inl, inr, ◌<◌, pos, negsuc, Option, Some, None, refl, sym, subst, ◌∙◌, arith}
+use Rattle.std.specs.FinMap.{get}
+use Rattle.sqlite.specs.Order.{Row}
+use Rattle.moo_rows.specs.Maps.{Maps}
+use Rattle.moo_world.specs.Rows.{IsGood}
+use Rattle.moo_tables.specs.Tables.{Tables}
+use Rattle.moo_tables.specs.Cells.{head_cells}
+use Rattle.moo_damage.specs.declared.kind.Kind.{Kind}
+use Rattle.moo_damage.specs.declared.kind.Kind.TheVariants.{BadHead, BadCell, PastHead, NoParent, ParentLoop, NoPlace, PlaceLoop, NoDefiner, DoubleName, StrangeSlot, MissingSlot, ClearDefiner, StrangeVerb, Mismatch}
+use Rattle.moo_damage.specs.declared.kind.Key.{Key}
+use Rattle.moo_damage.specs.declared.kind.Key.TheVariants.{Head, Object, Prop, Slot, Verb}
+use Rattle.moo_damage.specs.Kinds.{place, NoneBefore, IsLeast, IsFirstInRows, InRows}
+use Rattle.moo_damage.specs.Limits.{AreWithin}
+use Rattle.moo_damage.proofs.Clean.{clean}
+use Rattle.moo_damage.proofs.Told.{none_told}
+use Rattle.moo_cells.specs.Head.{HeadIs, ReadsHead}
+use Rattle.moo_cells.specs.Reading.{IsRead, ObjectFits, PropFits, SlotFits, VerbFits}
+use Rattle.moo_cells.specs.Shows.{ShowsOrNone, ShowsObject, ShowsProp, ShowsSlot, ShowsVerb, ShowsRows}
+use Rattle.moo_cells.specs.Damage.{version, IsNewer, IsBadHead, IsBadCell, IsMet, Damage, SaysOfCells}
+use Rattle.moo_cells.specs.declared.fault.CellFault.{CellFault}
+use Rattle.moo_cells.specs.declared.fault.CellFault.TheVariants.{Damaged, NewerVersion, OutOfMemory}
+use Rattle.moo_cells.proofs.GoodRows.{head_limits, object_fits, prop_fits, slot_fits_here, verb_fits_here, good_within}
+use Rattle.moo_cells.proofs.HeadLemmas.{head_known, head_not_newer}
+use Rattle.moo_cells.proofs.OneRows.{one_rows}
+
+none_is : {A : Type 0} (o : Option A) (a : A) → o ≡ None → o ≡ Some a → ⊥
+none_is o a p q = let e : None ≡ Some a = sym p ∙ q in cc
+
+-- ---- what the first two kinds are not, where good rows are shown
+
+module _ (t : Tables) (m : Maps) (shown : ShowsRows t m) (good : IsGood m) where
+  head_is : HeadIs t.head (head_cells m.head)
+  head_is = record { row = shown.head; alone = shown.no_head }
+
+  reads_head : ReadsHead version m.head (head_cells m.head)
+  reads_head = (refl, head_limits m good)
+
+  pub not_newer : ¬ (IsNewer t)
+  not_newer = head_not_newer t.head (head_cells m.head) m.head head_is reads_head
+
+  not_bad_head : (key : Key) → ¬ (IsBadHead t key)
+  not_bad_head Head bad = bad.0 (head_known t.head (head_cells m.head) m.head head_is reads_head)
+  not_bad_head (Object n) bad = bad
+  not_bad_head (Prop n) bad = bad
+  not_bad_head (Slot n i) bad = bad
+  not_bad_head (Verb n i) bad = bad
+
+  -- the cells that show a row within its limits can be read
+  is_read : {K X : Type 0} (shows : K → Row → X → Type 0) (fits : K → X → Type 0) (key : K) (cells : Row) (o : Option Row) (x : Option X) → ((row : X) → x ≡ Some row → fits key row) → ShowsOrNone (shows key) o x → o ≡ Some cells
+      → IsRead (λ k c r. shows k c r × fits k r) cells
+  is_read shows fits key cells None x fit s e = absurd (none_is None cells refl e)
+  is_read shows fits key cells (Some c) None fit s e = absurd s
+  is_read shows fits key cells (Some c) (Some row) fit s e =
+      let same : c ≡ cells = one c cells e in
+      (key, row, (subst (λ c. shows key c row) same s, fit row refl))
+    where
+      one : (a b : Row) → Some a ≡ Some b → a ≡ b
+      one a b e = cc
+
+  not_bad_cell : (key : Key) → ¬ (IsBadCell t key)
+  not_bad_cell Head bad = bad
+  not_bad_cell (Object n) bad = bad.2 (is_read ShowsObject ObjectFits (record { 0 = n }) bad.0 (t.object n) (get m.objects (record { 0 = n })) (object_fits m good (record { 0 = n })) (shown.maps.objects (record { 0 = n })) bad.1)
+  not_bad_cell (Prop (pos i)) bad = bad.2 (is_read ShowsProp PropFits (record { 0 = i }) bad.0 (t.prop (pos i)) (get m.props (record { 0 = i })) (prop_fits m good (record { 0 = i })) (shown.maps.props (record { 0 = i })) bad.1)
+  not_bad_cell (Prop (negsuc i)) bad = none_is (t.prop (negsuc i)) bad.0 (shown.maps.no_prop i) bad.1
+  not_bad_cell (Slot n (pos i)) bad = bad.2 (is_read ShowsSlot SlotFits (record { 0 = n }, record { 0 = i }) bad.0 (t.slot (n, pos i)) (get m.slots (record { 0 = n }, record { 0 = i })) (slot_fits_here m good (record { 0 = n }, record { 0 = i })) (shown.maps.slots (record { 0 = n }, record { 0 = i })) bad.1)
+  not_bad_cell (Slot n (negsuc i)) bad = none_is (t.slot (n, negsuc i)) bad.0 (shown.maps.no_slot n i) bad.1
+  not_bad_cell (Verb n (pos i)) bad = bad.2 (is_read ShowsVerb VerbFits (record { 0 = n }, record { 0 = i }) bad.0 (t.verb (n, pos i)) (get m.verbs (record { 0 = n }, record { 0 = i })) (verb_fits_here m good (record { 0 = n }, record { 0 = i })) (shown.maps.verbs (record { 0 = n }, record { 0 = i })) bad.1)
+  not_bad_cell (Verb n (negsuc i)) bad = none_is (t.verb (n, negsuc i)) bad.0 (shown.maps.no_verb n i) bad.1
+
+-- ---- the other kinds
+
+-- a kind that is met in rows is met in tables that show them, and the other way
+pub record OfRows (t : Tables) (kind : Kind) : Type 0 where
+  pub up : (m : Maps) (key : Key) → ShowsRows t m → AreWithin m → InRows m kind key → IsMet t kind key
+  pub down : (m : Maps) (key : Key) → ShowsRows t m → AreWithin m → IsMet t kind key → InRows m kind key
+
+in_rows : (t : Tables) (m n : Maps) (kind : Kind) (key : Key) → ShowsRows t m → AreWithin m → ShowsRows t n → AreWithin n → InRows n kind key → InRows m kind key
+in_rows t m n kind key sm wm sn wn met = subst (λ m. InRows m kind key) (one_rows t n m sn wn sm wm) met
+
+-- each kind but the first two is of rows
+kind_of : (t : Tables) (kind : Kind) → (place kind < 3) ⊎ OfRows t kind
+kind_of t BadHead = inl (omega arith)
+kind_of t BadCell = inl (omega arith)
+kind_of t PastHead = inr (record { up = λ m key s w met. (m, s, w, met); down = λ m key s w met. in_rows t m met.0 PastHead key s w met.1 met.2 met.3 })
+kind_of t NoParent = inr (record { up = λ m key s w met. (m, s, w, met); down = λ m key s w met. in_rows t m met.0 NoParent key s w met.1 met.2 met.3 })
+kind_of t ParentLoop = inr (record { up = λ m key s w met. (m, s, w, met); down = λ m key s w met. in_rows t m met.0 ParentLoop key s w met.1 met.2 met.3 })
+kind_of t NoPlace = inr (record { up = λ m key s w met. (m, s, w, met); down = λ m key s w met. in_rows t m met.0 NoPlace key s w met.1 met.2 met.3 })
+kind_of t PlaceLoop = inr (record { up = λ m key s w met. (m, s, w, met); down = λ m key s w met. in_rows t m met.0 PlaceLoop key s w met.1 met.2 met.3 })
+kind_of t NoDefiner = inr (record { up = λ m key s w met. (m, s, w, met); down = λ m key s w met. in_rows t m met.0 NoDefiner key s w met.1 met.2 met.3 })
+kind_of t DoubleName = inr (record { up = λ m key s w met. (m, s, w, met); down = λ m key s w met. in_rows t m met.0 DoubleName key s w met.1 met.2 met.3 })
+kind_of t StrangeSlot = inr (record { up = λ m key s w met. (m, s, w, met); down = λ m key s w met. in_rows t m met.0 StrangeSlot key s w met.1 met.2 met.3 })
+kind_of t MissingSlot = inr (record { up = λ m key s w met. (m, s, w, met); down = λ m key s w met. in_rows t m met.0 MissingSlot key s w met.1 met.2 met.3 })
+kind_of t ClearDefiner = inr (record { up = λ m key s w met. (m, s, w, met); down = λ m key s w met. in_rows t m met.0 ClearDefiner key s w met.1 met.2 met.3 })
+kind_of t StrangeVerb = inr (record { up = λ m key s w met. (m, s, w, met); down = λ m key s w met. in_rows t m met.0 StrangeVerb key s w met.1 met.2 met.3 })
+kind_of t Mismatch = inr (record { up = λ m key s w met. (m, s, w, met); down = λ m key s w met. in_rows t m met.0 Mismatch key s w met.1 met.2 met.3 })
+
+no_rows : (m : Maps) (kind : Kind) → place kind < 3 → (key : Key) → InRows m kind key → ⊥
+no_rows m BadHead under Head met = met
+no_rows m BadHead under (Object n) met = met
+no_rows m BadHead under (Prop (pos i)) met = met
+no_rows m BadHead under (Prop (negsuc i)) met = met
+no_rows m BadHead under (Slot n (pos i)) met = met
+no_rows m BadHead under (Slot n (negsuc i)) met = met
+no_rows m BadHead under (Verb n (pos i)) met = met
+no_rows m BadHead under (Verb n (negsuc i)) met = met
+no_rows m BadCell under Head met = met
+no_rows m BadCell under (Object n) met = met
+no_rows m BadCell under (Prop (pos i)) met = met
+no_rows m BadCell under (Prop (negsuc i)) met = met
+no_rows m BadCell under (Slot n (pos i)) met = met
+no_rows m BadCell under (Slot n (negsuc i)) met = met
+no_rows m BadCell under (Verb n (pos i)) met = met
+no_rows m BadCell under (Verb n (negsuc i)) met = met
+no_rows m PastHead under key met = absurd (omega arith)
+no_rows m NoParent under key met = absurd (omega arith)
+no_rows m ParentLoop under key met = absurd (omega arith)
+no_rows m NoPlace under key met = absurd (omega arith)
+no_rows m PlaceLoop under key met = absurd (omega arith)
+no_rows m NoDefiner under key met = absurd (omega arith)
+no_rows m DoubleName under key met = absurd (omega arith)
+no_rows m StrangeSlot under key met = absurd (omega arith)
+no_rows m MissingSlot under key met = absurd (omega arith)
+no_rows m ClearDefiner under key met = absurd (omega arith)
+no_rows m StrangeVerb under key met = absurd (omega arith)
+no_rows m Mismatch under key met = absurd (omega arith)
+
+-- the damage of rows is that of the tables that show them
+pub rows_damage : (t : Tables) (m : Maps) → ShowsRows t m → AreWithin m → ¬ (IsNewer t) × NoneBefore (IsMet t) 3 → (kind : Kind) (key : Key) → IsFirstInRows m kind key → Damage t kind key
+rows_damage t m shown within none kind key first = (none.0, (before, least (kind_of t kind)))
+  where
+    before : NoneBefore (IsMet t) (place kind)
+    before other under at met = go (kind_of t other)
+      where
+        go : (place other < 3) ⊎ OfRows t other → ⊥
+        go (inl low) = none.1 other low at met
+        go (inr of) = first.0 other under at (of.down m at shown within met)
+
+    least : (place kind < 3) ⊎ OfRows t kind → IsLeast (IsMet t kind) (Some key)
+    least (inl low) = absurd (no_rows m kind low key first.1.0)
+    least (inr of) = (of.up m key shown within first.1.0, λ other under met. first.1.1 other under (of.down m other shown within met))
+
+-- tables that show good rows have no damage
+pub none_met : (t : Tables) (m : Maps) → ShowsRows t m → IsGood m → (kind : Kind) (key : Key) → ¬ (IsMet t kind key)
+none_met t m shown good kind key met = go kind (kind_of t kind) met
+  where
+    low : (kind : Kind) → place kind < 3 → IsMet t kind key → ⊥
+    low BadHead under met = not_bad_head t m shown good key met
+    low BadCell under met = not_bad_cell t m shown good key met
+    low PastHead under met = absurd (omega arith)
+    low NoParent under met = absurd (omega arith)
+    low ParentLoop under met = absurd (omega arith)
+    low NoPlace under met = absurd (omega arith)
+    low PlaceLoop under met = absurd (omega arith)
+    low NoDefiner under met = absurd (omega arith)
+    low DoubleName under met = absurd (omega arith)
+    low StrangeSlot under met = absurd (omega arith)
+    low MissingSlot under met = absurd (omega arith)
+    low ClearDefiner under met = absurd (omega arith)
+    low StrangeVerb under met = absurd (omega arith)
+    low Mismatch under met = absurd (omega arith)
+
+    go : (kind : Kind) → (place kind < 3) ⊎ OfRows t kind → IsMet t kind key → ⊥
+    go kind (inl under) met = low kind under met
+    go kind (inr of) met = none_told m (clean m good) kind key (of.down m key shown (good_within m good) met)
+
+-- so nothing is said of them but want of memory
+pub says_nothing : (t : Tables) (m : Maps) → ShowsRows t m → IsGood m → (fault : CellFault) → SaysOfCells t fault → fault ≡ OutOfMemory
+says_nothing t m shown good (Damaged kind key) says = absurd (none_met t m shown good kind key says.1.1.0)
+says_nothing t m shown good NewerVersion says = absurd (not_newer t m shown good says)
+says_nothing t m shown good OutOfMemory says = refl
+
+-- good rows that tables show are the only ones
+pub one_good : (t : Tables) (rows m : Maps) → ShowsRows t rows → AreWithin rows → ShowsRows t m → IsGood m → rows ≡ m
+one_good t rows m shown within other good = one_rows t rows m shown within other (good_within m good)

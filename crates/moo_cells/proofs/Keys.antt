@@ -1,0 +1,156 @@
+-- How the rows of each table bear their keys.
+use Rattle.std.proofs.Common.{◌≡◌, inl, inr, ℕ, ℤ, pos, negsuc, ◌<ℤ◌, true, refl, sym, ap, ◌∙◌, arith}
+use Rattle.std.specs.Ordering.{is_eq, int_cmp, ordering_then}
+use Rattle.std.specs.Cmp.{int_ranked, tied_itself, alike_right}
+use Rattle.std.specs.declared.cmp.Ordering.{Ordering}
+use Rattle.std.specs.declared.cmp.Ordering.TheVariants.{Less, Equal, Greater}
+use Rattle.std.proofs.lemmas.Bool.{and_parts, and_from}
+use Rattle.std.proofs.lemmas.Int.{ints}
+use Rattle.sqlite.specs.declared.types.Value.{Value}
+use Rattle.sqlite.specs.declared.types.Value.TheVariants.{Int}
+use Rattle.sqlite.specs.Order.{Row, column, value_cmp}
+use Rattle.sqlite.specs.Tree.{rowid, has_rowid}
+use Rattle.sqlite_value.proofs.OrderLemmas.{value_cmp_total, value_cmp-Int}
+use Rattle.moo_tables.specs.Listing.{begins_with, IsBelow}
+use Rattle.moo_cells.specs.Reading.{ReadsObject, ReadsProp, ReadsSlot, ReadsVerb}
+use Rattle.moo_cells.specs.Holding.{object_number, prop_number, slot_number, verb_number, IsLess, IsPairLess}
+use Rattle.moo_cells.proofs.Table.{Bears, tied}
+
+-- a value that ties with a number orders as it does
+ties : (a b : Value) (m n : ℤ) → value_cmp a (Int m) ≡ Equal → value_cmp b (Int n) ≡ Equal → value_cmp a b ≡ int_cmp m n
+ties a b m n p q = value_cmp_total.congr a (Int m) b p ∙ alike_right value_cmp_total b (Int n) (Int m) q ∙ value_cmp-Int m n
+
+-- the number that ties with another is that number
+one_number : (m n : ℤ) → is_eq (value_cmp (Int m) (Int n)) ≡ true → m ≡ n
+one_number m n h = int_ranked m n Equal (sym (sym (value_cmp-Int m n) ∙ tied (value_cmp (Int m) (Int n)) h))
+
+less_of : (m n : ℤ) → int_cmp m n ≡ Less → m <ℤ n
+less_of m n e = int_ranked m n Less (sym e)
+
+irreflexive : (m n : ℤ) → m <ℤ n → m ≡ n → ⊥
+irreflexive m n h e = absurd (omega (arith, ints))
+
+asymmetric : (m n : ℤ) → m <ℤ n → n <ℤ m → ⊥
+asymmetric m n h k = absurd (omega (arith, ints))
+
+abbrev pub rises : Row → Row → Type 0
+rises a b = value_cmp (rowid a) (rowid b) ≡ Less
+
+pub self_tied : (v : Value) (n : ℤ) → v ≡ Int n → is_eq (value_cmp v (Int n)) ≡ true
+self_tied v n is = ap (λ x. is_eq (value_cmp x (Int n))) is ∙ ap is_eq (tied_itself value_cmp_total (Int n))
+
+pub tied_number : (v : Value) (n j : ℤ) → v ≡ Int n → is_eq (value_cmp v (Int j)) ≡ true → j ≡ n
+tied_number v n j is h = sym (one_number n j (ap (λ x. is_eq (value_cmp x (Int j))) (sym is) ∙ h))
+
+-- ---- one number
+
+pub number_apart : (j : ℤ) (r s : Row) → rises r s → has_rowid j r ≡ true → has_rowid j s ≡ true → ⊥
+number_apart j r s up p q = irreflexive j j (less_of j j (sym (ties (rowid r) (rowid s) j j (tied _ p) (tied _ q)) ∙ up)) refl
+
+number_above : (j k : ℤ) (r s : Row) → rises r s → has_rowid k r ≡ true → has_rowid j s ≡ true → j <ℤ k → ⊥
+number_above j k r s up p q under = asymmetric j k under (less_of k j (sym (ties (rowid r) (rowid s) k j (tied _ p) (tied _ q)) ∙ up))
+
+number_same : (j k : ℤ) (r : Row) → has_rowid j r ≡ true → has_rowid k r ≡ true → j <ℤ k → ⊥
+number_same j k r p q under =
+    irreflexive j k under (int_ranked j k Equal (sym (sym (ties (rowid r) (rowid r) j k (tied _ p) (tied _ q)) ∙ tied_itself value_cmp_total (rowid r))))
+
+pub objects_bear : Bears has_rowid object_number ReadsObject rises IsLess
+objects_bear = record {
+  mine = λ k r x read. self_tied (rowid r) k.0 (ap (λ (c : Row). column c 0) read.0.2);
+  only = λ j k r x read h. tied_number (rowid r) k.0 j (ap (λ (c : Row). column c 0) read.0.2) h;
+  one = λ k l e i. record { 0 = e i };
+  apart = number_apart;
+  above = number_above;
+  same = number_same;
+}
+
+abbrev number_in : ℤ → ℕ
+number_in (pos n) = n
+number_in (negsuc n) = n
+
+pub pos_inj : (m n : ℕ) → pos m ≡ pos n → m ≡ n
+pos_inj m n e = ap number_in e
+
+pub props_bear : Bears has_rowid prop_number ReadsProp rises IsLess
+props_bear = record {
+  mine = λ k r x read. self_tied (rowid r) (pos k.0) (ap (λ (c : Row). column c 0) read.0);
+  only = λ j k r x read h. tied_number (rowid r) (pos k.0) j (ap (λ (c : Row). column c 0) read.0) h;
+  one = λ k l e. let same = pos_inj k.0 l.0 e in λ i. record { 0 = same i };
+  apart = number_apart;
+  above = number_above;
+  same = number_same;
+}
+
+-- ---- two numbers
+
+pair_ties : (r s : Row) (j k : ℤ × ℤ) → begins_with j r ≡ true → begins_with k s ≡ true → ordering_then (int_cmp j.0 k.0) (int_cmp j.1 k.1) ≡ ordering_then (value_cmp (column r 0) (column s 0)) (value_cmp (column r 1) (column s 1))
+pair_ties r s j k p q =
+    let a = and_parts _ _ p in
+    let b = and_parts _ _ q in
+    let one = ties (column r 0) (column s 0) j.0 k.0 (tied _ a.0) (tied _ b.0) in
+    let two = ties (column r 1) (column s 1) j.1 k.1 (tied _ a.1) (tied _ b.1) in
+    λ i. ordering_then (sym one i) (sym two i)
+
+-- the order of two pairs, as a fact
+then_less : (j k : ℤ × ℤ) → ordering_then (int_cmp j.0 k.0) (int_cmp j.1 k.1) ≡ Less → IsPairLess j k
+then_less j k e = go (int_cmp j.0 k.0) refl e
+  where
+    go : (o : Ordering) → int_cmp j.0 k.0 ≡ o → ordering_then o (int_cmp j.1 k.1) ≡ Less → IsPairLess j k
+    go Less is h = inl (less_of j.0 k.0 is)
+    go Equal is h = inr (int_ranked j.0 k.0 Equal (sym is), less_of j.1 k.1 h)
+    go Greater is h = cc
+
+pair_asymmetric : (j k : ℤ × ℤ) → IsPairLess j k → IsPairLess k j → ⊥
+pair_asymmetric j k (inl h) (inl g) = asymmetric j.0 k.0 h g
+pair_asymmetric j k (inl h) (inr g) = irreflexive j.0 k.0 h (sym g.0)
+pair_asymmetric j k (inr h) (inl g) = irreflexive k.0 j.0 g (sym h.0)
+pair_asymmetric j k (inr h) (inr g) = asymmetric j.1 k.1 h.1 g.1
+
+pair_irreflexive : (j k : ℤ × ℤ) → IsPairLess j k → j.0 ≡ k.0 → j.1 ≡ k.1 → ⊥
+pair_irreflexive j k (inl h) e f = irreflexive j.0 k.0 h e
+pair_irreflexive j k (inr h) e f = irreflexive j.1 k.1 h.1 f
+
+pair_apart : (j : ℤ × ℤ) (r s : Row) → IsBelow r s → begins_with j r ≡ true → begins_with j s ≡ true → ⊥
+pair_apart j r s up p q = pair_irreflexive j j (then_less j j (pair_ties r s j j p q ∙ up)) refl refl
+
+pair_above : (j k : ℤ × ℤ) (r s : Row) → IsBelow r s → begins_with k r ≡ true → begins_with j s ≡ true → IsPairLess j k → ⊥
+pair_above j k r s up p q under = pair_asymmetric j k under (then_less k j (pair_ties r s k j p q ∙ up))
+
+same_tie : (v : Value) (m n : ℤ) → is_eq (value_cmp v (Int m)) ≡ true → is_eq (value_cmp v (Int n)) ≡ true → m ≡ n
+same_tie v m n p q = int_ranked m n Equal (sym (sym (ties v v m n (tied _ p) (tied _ q)) ∙ tied_itself value_cmp_total v))
+
+pair_same : (j k : ℤ × ℤ) (r : Row) → begins_with j r ≡ true → begins_with k r ≡ true → IsPairLess j k → ⊥
+pair_same j k r p q under =
+    let a = and_parts _ _ p in
+    let b = and_parts _ _ q in
+    pair_irreflexive j k under (same_tie (column r 0) j.0 k.0 a.0 b.0) (same_tie (column r 1) j.1 k.1 a.1 b.1)
+
+pub pair_mine : (r : Row) (m n : ℤ) → column r 0 ≡ Int m → column r 1 ≡ Int n → begins_with (m, n) r ≡ true
+pair_mine r m n p q = and_from _ _ (self_tied (column r 0) m p) (self_tied (column r 1) n q)
+
+pair_only : (j : ℤ × ℤ) (r : Row) (m n : ℤ) → column r 0 ≡ Int m → column r 1 ≡ Int n → begins_with j r ≡ true → j ≡ (m, n)
+pair_only j r m n p q h =
+    let a = and_parts _ _ h in
+    let one = tied_number (column r 0) m j.0 p a.0 in
+    let two = tied_number (column r 1) n j.1 q a.1 in
+    λ i. (one i, two i)
+
+pub slots_bear : Bears begins_with slot_number ReadsSlot IsBelow IsPairLess
+slots_bear = record {
+  mine = λ k r x read. pair_mine r k.0.0 (pos k.1.0) (ap (λ (c : Row). column c 0) read.0.4) (ap (λ (c : Row). column c 1) read.0.4);
+  only = λ j k r x read h. pair_only j r k.0.0 (pos k.1.0) (ap (λ (c : Row). column c 0) read.0.4) (ap (λ (c : Row). column c 1) read.0.4) h;
+  one = λ k l e. let x = ap (λ (p : ℤ × ℤ). p.0) e in let id = pos_inj k.1.0 l.1.0 (ap (λ (p : ℤ × ℤ). p.1) e) in λ i. (record { 0 = x i }, record { 0 = id i });
+  apart = pair_apart;
+  above = pair_above;
+  same = pair_same;
+}
+
+pub verbs_bear : Bears begins_with verb_number ReadsVerb IsBelow IsPairLess
+verbs_bear = record {
+  mine = λ k r x read. pair_mine r k.0.0 (pos k.1.0) (ap (λ (c : Row). column c 0) read.0.2) (ap (λ (c : Row). column c 1) read.0.2);
+  only = λ j k r x read h. pair_only j r k.0.0 (pos k.1.0) (ap (λ (c : Row). column c 0) read.0.2) (ap (λ (c : Row). column c 1) read.0.2) h;
+  one = λ k l e. let x = ap (λ (p : ℤ × ℤ). p.0) e in let id = pos_inj k.1.0 l.1.0 (ap (λ (p : ℤ × ℤ). p.1) e) in λ i. (record { 0 = x i }, record { 0 = id i });
+  apart = pair_apart;
+  above = pair_above;
+  same = pair_same;
+}

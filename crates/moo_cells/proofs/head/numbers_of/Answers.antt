@@ -1,0 +1,33 @@
+use Rattle.std.proofs.Common.{◌≡◌, ℤ, length, [], ◌∷◌, ap, sym, subst, ◌∙◌, w64, FitsSigned, to_z, of_z}
+use Rattle.std.proofs.lemmas.Int.{to_z-of_z}
+use Rattle.sqlite.specs.declared.types.Value.{Value}
+use Rattle.sqlite.specs.declared.types.Value.TheVariants.{Int as Number}
+use Rattle.moo_cells.proofs.Columns.{six}
+use Rattle.moo_cells.proofs.head.numbers_of.Goals as goal
+
+-- the number as a field keeps it
+kept : (v : Value) (n : ℤ) → v ≡ Number n → FitsSigned w64 n → v ≡ Number (to_z w64 (of_z w64 n))
+kept v n is fits = is ∙ ap Number (sym (to_z-of_z w64 n fits))
+
+pub returns-clause-ok : goal.returns-clause-ok
+returns-clause-ok c =
+    let long : length c.args.cells.now ≡ 6 = sym c.column_count.ensures ∙ c.if-column_count-ne-COLUMNS.false in
+    let id = kept _ _ c.in_ok-id.ensures.ok c.in_ok-id.ensures.fits in
+    let version = kept _ _ c.in_ok-version.ensures.ok c.in_ok-version.ensures.fits in
+    let seq = kept _ _ c.in_ok-seq.ensures.ok c.in_ok-seq.ensures.fits in
+    let top = kept _ _ c.in_ok-top.ensures.ok c.in_ok-top.ensures.fits in
+    let next_prop = kept _ _ c.in_ok-next_prop.ensures.ok c.in_ok-next_prop.ensures.fits in
+    let next_verb = kept _ _ c.in_ok-next_verb.ensures.ok c.in_ok-next_verb.ensures.fits in
+    six c.args.cells.now long ∙ (λ i. id i ∷ version i ∷ seq i ∷ top i ∷ next_prop i ∷ next_verb i ∷ [])
+
+-- a field keeps a number of 64 bits
+fits_kept : (n : ℤ) → FitsSigned w64 n → FitsSigned w64 (to_z w64 (of_z w64 n))
+fits_kept n fits = subst (FitsSigned w64) (sym (to_z-of_z w64 n fits)) fits
+
+pub returns-clause-words : goal.returns-clause-words
+returns-clause-words c = record {
+  seq = fits_kept c.in_ok-seq.seq c.in_ok-seq.ensures.fits;
+  top = fits_kept c.in_ok-top.top c.in_ok-top.ensures.fits;
+  next_prop = fits_kept c.in_ok-next_prop.next_prop c.in_ok-next_prop.ensures.fits;
+  next_verb = fits_kept c.in_ok-next_verb.next_verb c.in_ok-next_verb.ensures.fits;
+}

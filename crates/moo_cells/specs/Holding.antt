@@ -1,0 +1,67 @@
+-- What is read of a table so far, and the keys of rows as the tables have them.
+use Rattle.std.specs.Prelude.{◌≡◌, ℤ, pos, ◌<ℤ◌, ◌⊎◌, Bool, List, find, ⊤}
+use Rattle.std.specs.List.{AllByRecursion}
+use Rattle.std.specs.FinMap.{FinMap, get, insert}
+use Rattle.std.specs.declared.cmp.Ordering.{Ordering}
+use Rattle.sqlite.specs.Order.{Row}
+use Rattle.moo_value.specs.declared.value.ObjNo.{ObjNo}
+use Rattle.moo_rows.specs.declared.row.PropId.{PropId}
+use Rattle.moo_rows.specs.declared.row.VerbId.{VerbId}
+use Rattle.moo_damage.specs.declared.kind.Kind.TheVariants.{BadCell}
+use Rattle.moo_damage.specs.declared.kind.Key.{Key}
+use Rattle.moo_damage.specs.declared.kind.Key.TheVariants.{Object, Prop, Slot, Verb}
+use Rattle.moo_cells.specs.Reading.{IsRead}
+use Rattle.moo_cells.specs.Shows.{ShowsOrNone}
+use Rattle.moo_cells.specs.Unread.{FirstUnread}
+use Rattle.moo_cells.specs.declared.fault.CellFault.{CellFault}
+use Rattle.moo_cells.specs.declared.fault.CellFault.TheVariants.{Damaged, NewerVersion, OutOfMemory}
+
+abbrev pub object_number : ObjNo → ℤ
+object_number n = n.0
+
+abbrev pub prop_number : PropId → ℤ
+prop_number id = pos id.0
+
+abbrev pub slot_number : ObjNo × PropId → ℤ × ℤ
+slot_number key = (key.0.0, pos key.1.0)
+
+abbrev pub verb_number : ObjNo × VerbId → ℤ × ℤ
+verb_number key = (key.0.0, pos key.1.0)
+
+-- the key that is told of a row
+abbrev pub object_key : ℤ → Key
+object_key n = Object n
+
+abbrev pub prop_key : ℤ → Key
+prop_key id = Prop id
+
+abbrev pub slot_key : ℤ × ℤ → Key
+slot_key key = Slot key.0 key.1
+
+abbrev pub verb_key : ℤ × ℤ → Key
+verb_key key = Verb key.0 key.1
+
+-- the order of keys
+abbrev pub IsLess : ℤ → ℤ → Type 0
+IsLess m n = m <ℤ n
+
+abbrev pub IsPairLess : ℤ × ℤ → ℤ × ℤ → Type 0
+IsPairLess a b = (a.0 <ℤ b.0) ⊎ ((a.0 ≡ b.0) × (a.1 <ℤ b.1))
+
+-- the rows are read, each one, and the map has what they show and nothing else
+pub record HoldsTable {J K X : Type 0} {cmp : K → K → Ordering} (has : J → Row → Bool) (number : K → J) (reads : K → Row → X → Type 0) (cells : List Row) (m : FinMap cmp X) : Type 0 where
+  pub shown : (q : K) → ShowsOrNone (reads q) (find (has (number q)) cells) (get m q)
+  pub read : AllByRecursion (IsRead reads) cells
+
+-- one row more is put, which the cells show
+pub record Takes {K X : Type 0} {cmp : K → K → Ordering} (reads : K → Row → X → Type 0) (cells : Row) (old new : FinMap cmp X) : Type 0 where
+  pub key : K
+  pub row : X
+  pub is_read : reads key cells row
+  pub put : new ≡ insert old key row
+
+-- the first row that can't be read is told, or want of memory
+abbrev pub SaysUnread : {J K X : Type 0} → (J → Row → Bool) → (K → Row → X → Type 0) → (J → J → Type 0) → (J → Key) → List Row → CellFault → Type 0
+SaysUnread {J} has reads below key_of cells (Damaged kind key) = (j : J) × (kind ≡ BadCell) × (key ≡ key_of j) × FirstUnread reads below (λ k. find (has k) cells) j
+SaysUnread has reads below key_of cells NewerVersion = ⊥
+SaysUnread has reads below key_of cells OutOfMemory = ⊤

@@ -1,0 +1,13 @@
+-- Rows that can't be read.
+use Rattle.std.specs.Prelude.{◌≡◌, Option, Some}
+use Rattle.sqlite.specs.Order.{Row}
+use Rattle.moo_cells.specs.Reading.{IsRead}
+
+-- there is such a row, and it can't be read
+abbrev pub IsUnread : {J K X : Type 0} → (K → Row → X → Type 0) → (J → Option Row) → J → Type 0
+IsUnread reads table key = (cells : Row) × (table key ≡ Some cells) × ¬ (IsRead reads cells)
+
+-- the row of the key can't be read, and it is the first such row of its table
+pub record FirstUnread {J K X : Type 0} (reads : K → Row → X → Type 0) (below : J → J → Type 0) (table : J → Option Row) (key : J) : Type 0 where
+  pub bad : IsUnread reads table key
+  pub least : (other : J) → below other key → ¬ (IsUnread reads table other)

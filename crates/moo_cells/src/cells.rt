@@ -1,0 +1,39 @@
+//! The rows of a world, from the cells of its tables.
+
+ghost use Rattle.std.specs.Prelude.{◌≡◌, IfOk, IfErr};
+ghost use Rattle.moo_rows.specs.Maps.{Maps};
+ghost use Rattle.moo_world.specs.Rows.{IsGood};
+ghost use Rattle.moo_tables.specs.Listing.{AreListed, tables_of};
+ghost use Rattle.moo_cells.specs.Shows.{ShowsRows};
+ghost use Rattle.moo_cells.specs.Damage.{SaysOfCells};
+
+use crate::fault::CellFault;
+use crate::rows::read_rows;
+use moo_damage::damage_of;
+use moo_rows::flat::Flat;
+use moo_tables::CellLists as Cells;
+use std::alloc::Global;
+
+/// The rows that the tables show, where they are those of a world.
+///
+/// Errors: `Damaged` with the first kind of damage that is met and the least key at which it is; `NewerVersion` where the
+/// head is that of a later version, and then nothing else is asked; `OutOfMemory`.
+pub fn read_cells(alloc: Global, lists: &Cells) -> Result<Flat, CellFault>
+    requires { AreListed lists.now }
+    ensures rows { IfOk result (λ rows. ShowsRows (tables_of lists.now) rows.maps) }
+    // What is read is good whatever the tables hold.
+    ensures good { IfOk result (λ rows. IsGood rows.maps) }
+    // Good rows that the tables show are the ones that are read.
+    ensures one { (m : Maps) → ShowsRows (tables_of lists.now) m → IsGood m → IfOk result (λ rows. rows.maps ≡ m) }
+    // Which fault it is.
+    ensures fault { IfErr result (SaysOfCells (tables_of lists.now)) }
+    // Tables that show good rows are read, unless memory runs out.
+    ensures whole { (m : Maps) → ShowsRows (tables_of lists.now) m → IsGood m → IfErr result (λ fault. fault ≡ CellFault.OutOfMemory) }
+{
+    let rows = read_rows(alloc, lists)?;
+    let damage = damage_of(alloc, &rows)?;
+    match damage {
+        Some((kind, key)) => Err(CellFault::Damaged(kind, key)),
+        None => Ok(rows),
+    }
+}

@@ -1,0 +1,149 @@
+//! The table of the head.
+
+ghost use Rattle.std.specs.Prelude.{◌≡◌, ◌≢◌, ℕ, ◌<◌, ◌≤◌, ℤ, pos, negsuc, ◌≤ℤ◌, find, FitsSigned, IfOk, IfErr, IfSome, IfNone};
+ghost use Rattle.std.specs.Int.{w32};
+ghost use Rattle.sqlite.specs.Tree.{has_rowid};
+ghost use Rattle.moo_rows.specs.declared.row.Head.{Head};
+ghost use Rattle.moo_tables.specs.Inside.{AreKeyed};
+ghost use Rattle.moo_cells.specs.Head.{HeadIs, ReadsHead, ReadsNewer, ReadsKnown, IsNewerThan, HasHead, SaysOfHead};
+ghost use Rattle.moo_cells.specs.HeadCells.{cells_of, AreWords, IsHead};
+ghost use Rattle.moo_cells.specs.declared.head.HeadCells.{HeadCells};
+
+use crate::cell::int_at;
+use crate::fault::{CellFault, RowFault};
+use moo_damage::{Key, Kind};
+use moo_rows::row::Head;
+use sqlite::Row;
+
+/// How many columns the table of the head has.
+const COLUMNS: usize = 6;
+
+/// The greatest version of tables that is known, and the only one.
+const VERSION: i64 = 1;
+
+const BAD_HEAD: CellFault = CellFault::Damaged(Kind::BadHead, Key::Head);
+
+/// The numbers in the cells of the head.
+#[derive(Clone, Copy)]
+struct HeadCells {
+    id: i64,
+    version: i64,
+    seq: i64,
+    top: i64,
+    next_prop: i64,
+    next_verb: i64,
+}
+
+/// The numbers in these cells.
+fn numbers_of(cells: &Row) -> Result<HeadCells, RowFault>
+    ensures ok { IfOk result (λ numbers. cells.now ≡ cells_of numbers) }
+    ensures words { IfOk result (λ numbers. AreWords numbers) }
+    ensures err { IfErr result (λ _. (numbers : HeadCells) → ¬ (cells.now ≡ cells_of numbers)) }
+{
+    if cells.column_count() != COLUMNS {
+        return Err(RowFault::Unreadable);
+    }
+    let id = int_at(cells, 0)?;
+    let version = int_at(cells, 1)?;
+    let seq = int_at(cells, 2)?;
+    let top = int_at(cells, 3)?;
+    let next_prop = int_at(cells, 4)?;
+    let next_verb = int_at(cells, 5)?;
+    Ok(HeadCells {
+        id,
+        version,
+        seq,
+        top,
+        next_prop,
+        next_verb,
+    })
+}
+
+/// How many batches were accepted.
+fn seq_in(number: i64) -> Option<u64>
+    ensures some { IfSome result (λ seq. number ≡ pos seq) }
+    ensures none { IfNone result ((seq : ℕ) → number ≢ pos seq) }
+{
+    u64::try_from(number).ok()
+}
+
+/// The greatest number of an object.
+fn top_in(number: i64) -> Option<i32>
+    ensures some { IfSome result (λ top. number ≡ top) }
+    ensures within { IfSome result (λ top. (negsuc 0 ≤ℤ top) × (top ≤ℤ pos 2147483647)) }
+    ensures fits { IfSome result (λ top. FitsSigned w32 top) }
+    ensures none { IfNone result (((negsuc 0 ≤ℤ number) × (number ≤ℤ pos 2147483647)) → ⊥) }
+{
+    match i32::try_from(number) {
+        Ok(top) if -1 <= top => Some(top),
+        _ => None,
+    }
+}
+
+/// The next number of a property or a verb.
+fn counter_in(number: i64) -> Option<u32>
+    ensures some { IfSome result (λ counter. number ≡ pos counter) }
+    ensures within { IfSome result (λ counter. (0 < counter) × (counter ≤ 4294967295)) }
+    ensures none { IfNone result ((counter : ℕ) → (0 < counter) × (counter ≤ 4294967295) → number ≢ pos counter) }
+{
+    match u32::try_from(number) {
+        Ok(counter) if 0 < counter => Some(counter),
+        _ => None,
+    }
+}
+
+/// The head of these numbers, where they are within its limits.
+fn head_within(numbers: HeadCells) -> Option<Head>
+    requires { AreWords numbers }
+    ensures some { IfSome result (λ head. IsHead numbers head) }
+    ensures none { IfNone result ((head : Head) → ¬ (IsHead numbers head)) }
+{
+    let seq = seq_in(numbers.seq)?;
+    let top = top_in(numbers.top)?;
+    let next_prop = counter_in(numbers.next_prop)?;
+    let next_verb = counter_in(numbers.next_verb)?;
+    Some(Head {
+        top,
+        next_prop,
+        next_verb,
+        seq,
+    })
+}
+
+/// The head that these cells show.
+fn head_of(cells: &Row) -> Result<Head, CellFault>
+    ensures ok { IfOk result (λ head. ReadsHead (pos 1) head cells.now) }
+    ensures err { IfErr result (SaysOfHead (ReadsKnown (pos 1) cells.now) (ReadsNewer (pos 1) cells.now)) }
+{
+    let Ok(numbers) = numbers_of(cells) else {
+        return Err(BAD_HEAD);
+    };
+    if numbers.id != 1 {
+        return Err(BAD_HEAD);
+    }
+    if VERSION < numbers.version {
+        return Err(CellFault::NewerVersion);
+    }
+    if numbers.version < 1 {
+        return Err(BAD_HEAD);
+    }
+    match head_within(numbers) {
+        Some(head) => Ok(head),
+        None => Err(BAD_HEAD),
+    }
+}
+
+/// The head, from the rows of its table.
+///
+/// Errors: `Damaged(BadHead, Head)` where the table isn't one row of id 1 with numbers within their limits;
+/// `NewerVersion` where it is one row of id 1 with whole numbers, the version above 1.
+pub fn read_head(rows: &[Row]) -> Result<Head, CellFault>
+    requires { AreKeyed rows.now }
+    ensures ok { IfOk result (λ head. (cells : _) × HeadIs (λ n. find (has_rowid n) rows.now) cells × ReadsHead (pos 1) head cells) }
+    ensures err { IfErr result (SaysOfHead (HasHead (pos 1) (λ n. find (has_rowid n) rows.now)) (IsNewerThan (pos 1) (λ n. find (has_rowid n) rows.now))) }
+{
+    if rows.len() != 1 {
+        return Err(BAD_HEAD);
+    }
+    head_of(&rows[0])
+}

@@ -1,0 +1,48 @@
+//! The rows of all tables.
+
+ghost use Rattle.std.specs.Prelude.{◌≡◌, IfOk, IfErr, OnOk};
+ghost use Rattle.moo_rows.specs.Maps.{no_maps};
+ghost use Rattle.moo_tables.specs.Listing.{AreListed, tables_of};
+ghost use Rattle.moo_damage.specs.Kinds.{NoneBefore};
+ghost use Rattle.moo_damage.specs.Limits.{AreWithin};
+ghost use Rattle.moo_cells.specs.Shows.{ShowsRows};
+ghost use Rattle.moo_cells.specs.Damage.{IsMet, IsNewer, SaysOfCells};
+
+use crate::fault::CellFault;
+use crate::head::read_head;
+use crate::tables::{read_objects, read_props, read_slots, read_verbs};
+use moo_rows::flat::Flat;
+use moo_rows::row::Head;
+use moo_rows::rows::Rows;
+use moo_tables::CellLists as Cells;
+use std::alloc::Global;
+
+/// No rows under this head.
+fn under(alloc: Global, head: Head) -> Flat
+    ensures { result.maps ≡ record no_maps { head = head } }
+{
+    let mut rows = Flat::new(alloc);
+    rows.set_head(head);
+    rows
+}
+
+/// The rows that the tables show, within their limits; whether they are those of a world isn't asked.
+///
+/// Errors: `Damaged` with `BadHead` or `BadCell`, the first of the two that is met, and its least key; `NewerVersion`;
+/// `OutOfMemory`.
+pub fn read_rows(alloc: Global, lists: &Cells) -> Result<Flat, CellFault>
+    requires { AreListed lists.now }
+    ensures shown { IfOk result (λ rows. ShowsRows (tables_of lists.now) rows.maps) }
+    ensures within { IfOk result (λ rows. AreWithin rows.maps) }
+    // Neither a bad head nor a bad cell is met.
+    ensures read { OnOk result (¬ (IsNewer (tables_of lists.now)) × NoneBefore (IsMet (tables_of lists.now)) 3) }
+    ensures fault { IfErr result (SaysOfCells (tables_of lists.now)) }
+{
+    let head = read_head(&lists.head)?;
+    let mut rows = under(alloc, head);
+    read_objects(alloc, &lists.object, &mut rows)?;
+    read_props(alloc, &lists.prop, &mut rows)?;
+    read_slots(alloc, &lists.slot, &mut rows)?;
+    read_verbs(alloc, &lists.verb, &mut rows)?;
+    Ok(rows)
+}

@@ -1,0 +1,11 @@
+//! The rows of the tables, one table after another.
+
+mod objects;
+mod props;
+mod slots;
+mod verbs;
+
+pub(crate) use objects::read_objects;
+pub(crate) use props::read_props;
+pub(crate) use slots::read_slots;
+pub(crate) use verbs::read_verbs;

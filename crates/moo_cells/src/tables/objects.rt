@@ -1,0 +1,49 @@
+//! The table of objects.
+
+ghost use Rattle.std.specs.Prelude.{◌≡◌, IfErr, OnOk};
+ghost use Rattle.std.specs.FinMap.{empty, insert};
+ghost use Rattle.sqlite.specs.Tree.{has_rowid};
+ghost use Rattle.moo_tables.specs.Inside.{AreKeyed};
+ghost use Rattle.moo_cells.specs.Reading.{ReadsObject, IsRead};
+ghost use Rattle.moo_cells.specs.Holding.{object_number, object_key, IsLess, HoldsTable, SaysUnread, Takes};
+ghost use Rattle.moo_cells.specs.declared.fault.RowFault.TheVariants.{Unreadable};
+
+use crate::cell::int_in;
+use crate::fault::{CellFault, RowFault};
+use crate::object::read_object;
+use moo_damage::{Key, Kind};
+use moo_rows::flat::Flat;
+use moo_rows::rows::Rows;
+use sqlite::Row;
+use std::alloc::Global;
+
+/// Puts the object that these cells show.
+fn take_object(alloc: Global, cells: &Row, rows: &mut Flat) -> Result<(), RowFault>
+    ensures ok { OnOk result (Takes ReadsObject cells.now rows.old.maps.objects rows.new.maps.objects) }
+    ensures kept { OnOk result (rows.new.maps ≡ record rows.old.maps { objects = rows.new.maps.objects }) }
+    ensures err { IfErr result (λ fault. fault ≡ Unreadable → ¬ (IsRead ReadsObject cells.now)) }
+{
+    let (key, row) = read_object(alloc, cells)?;
+    rows.put_object(key, row)?;
+    Ok(())
+}
+
+/// Puts what each row of the table shows, where no row is so far.
+pub(crate) fn read_objects(alloc: Global, cells: &[Row], rows: &mut Flat) -> Result<(), CellFault>
+    requires listed { AreKeyed cells.now }
+    requires none { rows.old.maps.objects ≡ empty }
+    ensures holds { OnOk result (HoldsTable has_rowid object_number ReadsObject cells.now rows.new.maps.objects) }
+    ensures kept { OnOk result (rows.new.maps ≡ record rows.old.maps { objects = rows.new.maps.objects }) }
+    ensures fault { IfErr result (SaysUnread has_rowid ReadsObject IsLess object_key cells.now) }
+{
+    for row in cells {
+        match take_object(alloc, row, rows) {
+            Ok(()) => {}
+            Err(RowFault::Unreadable) => {
+                return Err(CellFault::Damaged(Kind::BadCell, Key::Object(int_in(row, 0))));
+            }
+            Err(RowFault::OutOfMemory) => return Err(CellFault::OutOfMemory),
+        }
+    }
+    Ok(())
+}

@@ -1,0 +1,49 @@
+//! The table of properties.
+
+ghost use Rattle.std.specs.Prelude.{◌≡◌, IfErr, OnOk};
+ghost use Rattle.std.specs.FinMap.{empty, insert};
+ghost use Rattle.sqlite.specs.Tree.{has_rowid};
+ghost use Rattle.moo_tables.specs.Inside.{AreKeyed};
+ghost use Rattle.moo_cells.specs.Reading.{ReadsProp, IsRead};
+ghost use Rattle.moo_cells.specs.Holding.{prop_number, prop_key, IsLess, HoldsTable, SaysUnread, Takes};
+ghost use Rattle.moo_cells.specs.declared.fault.RowFault.TheVariants.{Unreadable};
+
+use crate::cell::int_in;
+use crate::fault::{CellFault, RowFault};
+use crate::prop::read_prop;
+use moo_damage::{Key, Kind};
+use moo_rows::flat::Flat;
+use moo_rows::rows::Rows;
+use sqlite::Row;
+use std::alloc::Global;
+
+/// Puts the property that these cells show.
+fn take_prop(alloc: Global, cells: &Row, rows: &mut Flat) -> Result<(), RowFault>
+    ensures ok { OnOk result (Takes ReadsProp cells.now rows.old.maps.props rows.new.maps.props) }
+    ensures kept { OnOk result (rows.new.maps ≡ record rows.old.maps { props = rows.new.maps.props }) }
+    ensures err { IfErr result (λ fault. fault ≡ Unreadable → ¬ (IsRead ReadsProp cells.now)) }
+{
+    let (key, row) = read_prop(alloc, cells)?;
+    rows.put_prop(key, row)?;
+    Ok(())
+}
+
+/// Puts what each row of the table shows, where no row is so far.
+pub(crate) fn read_props(alloc: Global, cells: &[Row], rows: &mut Flat) -> Result<(), CellFault>
+    requires listed { AreKeyed cells.now }
+    requires none { rows.old.maps.props ≡ empty }
+    ensures holds { OnOk result (HoldsTable has_rowid prop_number ReadsProp cells.now rows.new.maps.props) }
+    ensures kept { OnOk result (rows.new.maps ≡ record rows.old.maps { props = rows.new.maps.props }) }
+    ensures fault { IfErr result (SaysUnread has_rowid ReadsProp IsLess prop_key cells.now) }
+{
+    for row in cells {
+        match take_prop(alloc, row, rows) {
+            Ok(()) => {}
+            Err(RowFault::Unreadable) => {
+                return Err(CellFault::Damaged(Kind::BadCell, Key::Prop(int_in(row, 0))));
+            }
+            Err(RowFault::OutOfMemory) => return Err(CellFault::OutOfMemory),
+        }
+    }
+    Ok(())
+}

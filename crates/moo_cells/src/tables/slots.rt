@@ -1,0 +1,51 @@
+//! The table of slots.
+
+ghost use Rattle.std.specs.Prelude.{◌≡◌, IfErr, OnOk};
+ghost use Rattle.std.specs.FinMap.{empty, insert};
+ghost use Rattle.moo_tables.specs.Listing.{begins_with, ArePaired};
+ghost use Rattle.moo_cells.specs.Reading.{ReadsSlot, IsRead};
+ghost use Rattle.moo_cells.specs.Holding.{slot_number, slot_key, IsPairLess, HoldsTable, SaysUnread, Takes};
+ghost use Rattle.moo_cells.specs.declared.fault.RowFault.TheVariants.{Unreadable};
+
+use crate::cell::int_in;
+use crate::fault::{CellFault, RowFault};
+use crate::slot::read_slot;
+use moo_damage::{Key, Kind};
+use moo_rows::flat::Flat;
+use moo_rows::rows::Rows;
+use sqlite::Row;
+use std::alloc::Global;
+
+/// Puts the slot that these cells show.
+fn take_slot(alloc: Global, cells: &Row, rows: &mut Flat) -> Result<(), RowFault>
+    ensures ok { OnOk result (Takes ReadsSlot cells.now rows.old.maps.slots rows.new.maps.slots) }
+    ensures kept { OnOk result (rows.new.maps ≡ record rows.old.maps { slots = rows.new.maps.slots }) }
+    ensures err { IfErr result (λ fault. fault ≡ Unreadable → ¬ (IsRead ReadsSlot cells.now)) }
+{
+    let (key, row) = read_slot(alloc, cells)?;
+    rows.put_slot(key, row)?;
+    Ok(())
+}
+
+/// Puts what each row of the table shows, where no row is so far.
+pub(crate) fn read_slots(alloc: Global, cells: &[Row], rows: &mut Flat) -> Result<(), CellFault>
+    requires listed { ArePaired cells.now }
+    requires none { rows.old.maps.slots ≡ empty }
+    ensures holds { OnOk result (HoldsTable begins_with slot_number ReadsSlot cells.now rows.new.maps.slots) }
+    ensures kept { OnOk result (rows.new.maps ≡ record rows.old.maps { slots = rows.new.maps.slots }) }
+    ensures fault { IfErr result (SaysUnread begins_with ReadsSlot IsPairLess slot_key cells.now) }
+{
+    for row in cells {
+        match take_slot(alloc, row, rows) {
+            Ok(()) => {}
+            Err(RowFault::Unreadable) => {
+                return Err(CellFault::Damaged(
+                    Kind::BadCell,
+                    Key::Slot(int_in(row, 0), int_in(row, 1)),
+                ));
+            }
+            Err(RowFault::OutOfMemory) => return Err(CellFault::OutOfMemory),
+        }
+    }
+    Ok(())
+}

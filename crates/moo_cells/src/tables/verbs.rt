@@ -1,0 +1,51 @@
+//! The table of verbs.
+
+ghost use Rattle.std.specs.Prelude.{◌≡◌, IfErr, OnOk};
+ghost use Rattle.std.specs.FinMap.{empty, insert};
+ghost use Rattle.moo_tables.specs.Listing.{begins_with, ArePaired};
+ghost use Rattle.moo_cells.specs.Reading.{ReadsVerb, IsRead};
+ghost use Rattle.moo_cells.specs.Holding.{verb_number, verb_key, IsPairLess, HoldsTable, SaysUnread, Takes};
+ghost use Rattle.moo_cells.specs.declared.fault.RowFault.TheVariants.{Unreadable};
+
+use crate::cell::int_in;
+use crate::fault::{CellFault, RowFault};
+use crate::verb::read_verb;
+use moo_damage::{Key, Kind};
+use moo_rows::flat::Flat;
+use moo_rows::rows::Rows;
+use sqlite::Row;
+use std::alloc::Global;
+
+/// Puts the verb that these cells show.
+fn take_verb(alloc: Global, cells: &Row, rows: &mut Flat) -> Result<(), RowFault>
+    ensures ok { OnOk result (Takes ReadsVerb cells.now rows.old.maps.verbs rows.new.maps.verbs) }
+    ensures kept { OnOk result (rows.new.maps ≡ record rows.old.maps { verbs = rows.new.maps.verbs }) }
+    ensures err { IfErr result (λ fault. fault ≡ Unreadable → ¬ (IsRead ReadsVerb cells.now)) }
+{
+    let (key, row) = read_verb(alloc, cells)?;
+    rows.put_verb(key, row)?;
+    Ok(())
+}
+
+/// Puts what each row of the table shows, where no row is so far.
+pub(crate) fn read_verbs(alloc: Global, cells: &[Row], rows: &mut Flat) -> Result<(), CellFault>
+    requires listed { ArePaired cells.now }
+    requires none { rows.old.maps.verbs ≡ empty }
+    ensures holds { OnOk result (HoldsTable begins_with verb_number ReadsVerb cells.now rows.new.maps.verbs) }
+    ensures kept { OnOk result (rows.new.maps ≡ record rows.old.maps { verbs = rows.new.maps.verbs }) }
+    ensures fault { IfErr result (SaysUnread begins_with ReadsVerb IsPairLess verb_key cells.now) }
+{
+    for row in cells {
+        match take_verb(alloc, row, rows) {
+            Ok(()) => {}
+            Err(RowFault::Unreadable) => {
+                return Err(CellFault::Damaged(
+                    Kind::BadCell,
+                    Key::Verb(int_in(row, 0), int_in(row, 1)),
+                ));
+            }
+            Err(RowFault::OutOfMemory) => return Err(CellFault::OutOfMemory),
+        }
+    }
+    Ok(())
+}

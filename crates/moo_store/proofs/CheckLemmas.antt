@@ -1,0 +1,98 @@
+-- From what a check read to the World that it leaves.
+use Rattle.std.proofs.Common.{◌≡◌, ◌⊎◌, inl, inr, ◌≤◌, ◌≤ℤ◌, ℕ, ℤ, pos, negsuc, suc, zero, [], ◌∷◌, length, map, Bool, true, false, Result, Ok, Err, refl, sym, ap, subst, ◌∙◌, arith, length-append}
+use Rattle.std.proofs.lemmas.List.{length-map}
+use Rattle.std.proofs.lemmas.List.Sums.{count_by-le-length, length-filter}
+use Rattle.std.proofs.lemmas.Int.{ints}
+use Rattle.std.specs.Prelude.{MatchResult}
+use Rattle.std.specs.FinMap.{entries}
+use Rattle.sqlite.specs.declared.error.Error.{Error}
+use Rattle.sqlite.specs.State.{HasCleanDisk}
+use Rattle.sqlite.specs.Store.{Ghosts}
+use Rattle.sqlite.specs.Held.{Held, state}
+use Rattle.moo_rows.specs.Maps.{Maps}
+use Rattle.moo_world.specs.Objects.{object_at}
+use Rattle.moo_world.specs.ObjectLists.{objects_of}
+use Rattle.moo_world.specs.Rows.{IsGood, world_of, numbers_below}
+use Rattle.moo_world.specs.World.{is_object, numbers_to}
+use Rattle.moo_world.specs.Judge.{State}
+use Rattle.moo_world.proofs.ObjectEntries.{objects_listed}
+use Rattle.moo_tables.specs.Tables.{Tables, moo_schema}
+use Rattle.moo_tables.specs.Inside.{Rests, Reads}
+use Rattle.moo_tables.proofs.ReadLemmas.{rests_on}
+use Rattle.moo_damage.specs.declared.kind.Key.{Key}
+use Rattle.moo_damage.specs.declared.kind.Key.TheVariants.{Head, Object, Prop, Slot, Verb}
+use Rattle.moo_damage.specs.Differences.{AgreeAt}
+use Rattle.moo_store.specs.States.{KeepsRows}
+use Rattle.moo_store.specs.Kept.{World}
+use Rattle.moo_store.specs.World.{store_of, StandsFor}
+use Rattle.moo_store.specs.Checked.{Fails}
+use Rattle.moo_store.specs.declared.fault.StoreFault.{StoreFault}
+use Rattle.moo_store.specs.declared.fault.StoreFault.TheVariants.{Store, Damaged, NewerVersion, OutOfMemory, Closed}
+
+pub agrees_itself : (m : Maps) (key : Key) → AgreeAt m m key
+agrees_itself m Head = refl
+agrees_itself m (Object n) = refl
+agrees_itself m (Prop (pos id)) = refl
+agrees_itself m (Prop (negsuc i)) = tt
+agrees_itself m (Slot n (pos id)) = refl
+agrees_itself m (Slot n (negsuc i)) = tt
+agrees_itself m (Verb n (pos id)) = refl
+agrees_itself m (Verb n (negsuc i)) = tt
+
+-- a World that works on was answered Ok, or OutOfMemory
+pub works_on : (r : Result ℕ StoreFault) (failed : Bool) (P : Type 0) → Fails r failed → failed ≡ false → MatchResult r (λ _. P) (λ fault. fault ≡ OutOfMemory → P) → P
+works_on (Ok count) failed P fails works it = it
+works_on (Err (Store error)) failed P fails works it = absurd (let e : true ≡ false = sym fails ∙ works in cc)
+works_on (Err (Damaged kind key)) failed P fails works it = absurd (let e : true ≡ false = sym fails ∙ works in cc)
+works_on (Err NewerVersion) failed P fails works it = absurd (let e : true ≡ false = sym fails ∙ works in cc)
+works_on (Err OutOfMemory) failed P fails works it = it refl
+works_on (Err Closed) failed P fails works it = absurd (let e : true ≡ false = sym fails ∙ works in cc)
+
+pub stands_on : {S : Type 0} (g : Ghosts S) (old : World S) (conn : Held S) (failed : Bool) (s : State) → StandsFor g old s → failed ≡ false → (HasCleanDisk (state g conn) → HasCleanDisk (store_of g old))
+    → ((tables : Tables) → Rests (store_of g old) tables → Rests (state g conn) tables) → HasCleanDisk (state g conn) → StandsFor g (record { connection = conn; rows = old.rows; failed = failed }) s
+stands_on g old conn failed s it works clean stays late =
+    let k = it.is_at.tables (clean late) in
+    let shown = it.is_at.shown it.works (clean late) in
+    let over : (rows : Maps) → KeepsRows (store_of g old) rows → KeepsRows (state g conn) rows = λ rows kept. record { tables = kept.tables; rests = stays kept.tables kept.rests; shows = kept.shows } in
+    record {
+      works = works;
+      is_at = record {
+        tables = λ _. record { rows = k.rows; good = k.good; state = k.state; keeps = over k.rows k.keeps };
+        rows = λ _. it.is_at.rows it.works;
+        shown = λ _ _. over old.rows.maps shown;
+      };
+    }
+
+-- ---- how many objects there are
+
+pub objects_held : (t : Maps) → IsGood t → length (entries t.objects) ≡ length (objects_of (world_of t))
+objects_held t good = sym (length-map (entries t.objects) (λ e. e.0)) ∙ sym (ap length (objects_listed t good.formed.tree))
+
+length-numbers_below : (n : ℕ) → length (numbers_below n) ≡ n
+length-numbers_below zero = refl
+length-numbers_below (suc n) = length-append (numbers_below n) (n ∷ []) ∙ (let e = length-numbers_below n in omega arith)
+
+numbers_up_to : (top : ℤ) → top ≤ℤ pos 2147483647 → numbers_to top ≤ 2147483648
+numbers_up_to (pos n) h = grind (arith, ints, h)
+numbers_up_to (negsuc n) h = omega arith
+
+pub few_objects : (t : Maps) → IsGood t → length (objects_of (world_of t)) ≤ 2147483648
+few_objects t good =
+    let top = numbers_up_to (world_of t).top good.formed.limits.top.1 in
+    let all = map object_at (numbers_below (numbers_to (world_of t).top)) in
+    let fewer = count_by-le-length (is_object (world_of t)) all in
+    let is = length-filter (is_object (world_of t)) all in
+    let many = length-map (numbers_below (numbers_to (world_of t).top)) object_at in
+    let count = length-numbers_below (numbers_to (world_of t).top) in
+    omega (arith, top, fewer, is, many, count)
+
+-- ---- where the store did not fail
+
+pub rests_still : {S : Type 0} (g : Ghosts S) (old new : Held S) → (new ≡ old) ⊎ Reads moo_schema (state g old) (state g new) → HasCleanDisk (state g new) → (tables : Tables) → Rests (state g old) tables → Rests (state g new) tables
+rests_still g old new (inl same) clean tables rests = subst (λ h. Rests (state g h) tables) (sym same) rests
+rests_still g old new (inr read) clean tables rests = rests_on (state g old) (state g new) tables (read.same clean rests.holds.schema) rests
+
+pub rests_without_memory : {S : Type 0} (g : Ghosts S) (old new : Held S) (fault : StoreFault) → ((error : Error) × (fault ≡ Store error)) ⊎ ((new ≡ old) ⊎ Reads moo_schema (state g old) (state g new)) → fault ≡ OutOfMemory → HasCleanDisk (state g new)
+    → (tables : Tables) → Rests (state g old) tables → Rests (state g new) tables
+rests_without_memory g old new fault (inl failed) is clean = absurd (let e : Store failed.0 ≡ OutOfMemory = sym failed.1 ∙ is in cc)
+rests_without_memory g old new fault (inr read) is clean = rests_still g old new read clean

@@ -1,0 +1,71 @@
+-- From what a crash left to the World that is found.
+use Rattle.std.proofs.Common.{◌≡◌, ◌≤◌, ℕ, List, [], ◌∷◌, ◌++◌, take, drop, length, Result, Ok, Err, refl, sym, ap, subst, ◌∙◌, arith}
+use Rattle.std.specs.Prelude.{⊤}
+use Rattle.sqlite.specs.State.{State as Database, HasCleanDisk, Opens}
+use Rattle.sqlite.specs.Effect.{IsDatabase}
+use Rattle.sqlite.specs.Store.{Ghosts}
+use Rattle.moo_world.specs.declared.call.Batch.{Batch}
+use Rattle.moo_world.specs.Judge.{State, judge, left_by, after}
+use Rattle.moo_text.specs.declared.reply.Reply.{Reply}
+use Rattle.moo_tables.specs.Inside.{MayOpenAs}
+use Rattle.moo_tables.proofs.ReopenLemmas.{opened}
+use Rattle.moo_store.specs.States.{Keeps, LeavesState}
+use Rattle.moo_store.specs.Answered.{acknowledged}
+use Rattle.moo_store.specs.Kept.{World}
+use Rattle.moo_store.specs.World.{store_of, IsAt, StandsFor, Left, LeftOrNext, MatchStore}
+use Rattle.moo_store.specs.Reopened.{HoldsAcknowledged, kept_of, RunsInParts, IsKeptOf}
+use Rattle.moo_store.specs.declared.fault.StoreFault.{StoreFault}
+use Rattle.moo_store.specs.declared.fault.StoreFault.TheVariants.{Store, Damaged, NewerVersion, OutOfMemory, Closed}
+
+pub after_joined : (s : State) (first second : List Batch) → after s (first ++ second) ≡ after (after s first) second
+after_joined s [] second = refl
+after_joined s (batch ∷ first) second = after_joined (left_by s (judge s batch)) first second
+
+-- what a crash left, opened again, keeps its state
+keeps_again : (again : Database) (t : State) → Opens again → IsDatabase again.now → LeavesState again.now.trees t → Keeps again t
+keeps_again again t opens sound it = record {
+  rows = it.rows;
+  good = it.good;
+  state = it.state;
+  keeps = record { tables = it.leaves.tables; rests = opened again it.leaves.tables opens sound it.leaves.leaves; shows = it.leaves.shows };
+}
+
+-- at every exit of a run a crash leaves the state after the acknowledged batches, or one more
+pub leaves_one : {S : Type 0} (g : Ghosts S) (world : World S) (r : Result (Unit {0}) StoreFault) (end : State) (rest : List Batch)
+    → MatchStore r (IsAt g world end) (HasCleanDisk (store_of g world) → LeftOrNext (store_of g world) end rest)
+    → MatchStore r (HasCleanDisk (store_of g world) → Left (store_of g world) end) ⊤ → HasCleanDisk (store_of g world) → LeftOrNext (store_of g world) end rest
+leaves_one g world (Ok x) end rest is left clean trees lies = (0, omega arith, left clean trees lies)
+leaves_one g world (Err (Store error)) end rest is left clean trees lies = is clean trees lies
+leaves_one g world (Err (Damaged kind key)) end rest is left clean trees lies = (0, omega arith, left clean trees lies)
+leaves_one g world (Err NewerVersion) end rest is left clean trees lies = (0, omega arith, left clean trees lies)
+leaves_one g world (Err OutOfMemory) end rest is left clean trees lies = (0, omega arith, left clean trees lies)
+leaves_one g world (Err Closed) end rest is left clean trees lies = (0, omega arith, left clean trees lies)
+
+-- a state that a connection keeps which was opened on what a crash left
+pub record Found (again : Database) (s : State) (batches : List Batch) (replies : List Reply) : Type 0 where
+  pub more : ℕ
+  pub at_most_one : more ≤ 1
+  pub keeps : Keeps again (after s (acknowledged batches replies ++ take more (drop (length replies) batches)))
+
+pub found : (crashed again : Database) (s : State) (batches : List Batch) (replies : List Reply) → LeftOrNext crashed (after s (acknowledged batches replies)) (drop (length replies) batches) → MayOpenAs crashed again → Found again s batches replies
+found crashed again s batches replies left may =
+    let it = left again.now.trees may.found in
+    let keeps = keeps_again again _ may.opens may.sound it.2 in
+    record { more = it.0; at_most_one = it.1; keeps = subst (Keeps again) (sym (after_joined s (acknowledged batches replies) (take it.0 (drop (length replies) batches)))) keeps }
+
+pub holds : {T : Type 0} (g : Ghosts T) (again : Database) (world : World T) (s : State) (batches : List Batch) (replies : List Reply) (it : Found again s batches replies)
+    → StandsFor g world (after s (acknowledged batches replies ++ take it.more (drop (length replies) batches))) → HoldsAcknowledged g world s batches replies
+holds g again world s batches replies it stands = record { more = it.more; at_most_one = it.at_most_one; stands = stands }
+
+-- ---- several parts
+
+pub one_part_more : (s t end : State) (parts : List (List Batch × List Reply)) (batches : List Batch) (replies : List Reply) (more : ℕ) → more ≤ 1 → end ≡ after t (kept_of batches replies more) → RunsInParts s parts t → RunsInParts s (parts ++ (batches, replies) ∷ []) end
+one_part_more s t end [] batches replies more few is runs = (more, few, is ∙ ap (λ u. after u (kept_of batches replies more)) runs)
+one_part_more s t end (part ∷ parts) batches replies more few is runs = (runs.0, runs.1, one_part_more (after s (kept_of part.0 part.1 runs.0)) t end parts batches replies more few is runs.2)
+
+pub parts_joined : (s end : State) (parts : List (List Batch × List Reply)) → RunsInParts s parts end → (kept : List Batch) × IsKeptOf kept parts × (end ≡ after s kept)
+parts_joined s end [] runs = ([], refl, runs)
+parts_joined s end (part ∷ parts) runs =
+    let first = kept_of part.0 part.1 runs.0 in
+    let rest = parts_joined (after s first) end parts runs.2 in
+    (first ++ rest.0, (runs.0, rest.0, runs.1, rest.1, refl), rest.2 ∙ sym (after_joined s first rest.0))

@@ -1,0 +1,13 @@
+use Rattle.std.proofs.Common.{◌≡◌, length, ap, arith}
+use Rattle.moo_rows.specs.Walk.{objects_left}
+use Rattle.moo_store.proofs.CheckLemmas.{objects_held, few_objects}
+use Rattle.moo_store.proofs.checking.object_count.Goals as goal
+
+pub overflow_add-count : goal.overflow_add-count
+overflow_add-count g c = omega (arith, c.loop-object.invariant, objects_held (g.R.Rows.held c.args.rows.now).maps c.requires, few_objects (g.R.Rows.held c.args.rows.now).maps c.requires)
+
+pub returns : goal.returns
+returns g c =
+    let held = objects_held (g.R.Rows.held c.args.rows.now).maps c.requires in
+    let none : length (objects_left c.loop-object._object-iterator.last (g.R.Rows.held c.loop-object._object-iterator.rows.now).maps) ≡ 0 = ap length c.in-None.ensures.steps.0 in
+    omega (arith, c.loop-object.invariant, none, held)

@@ -1,0 +1,8 @@
+use Rattle.std.proofs.Common.{◌≡◌, ◌+◌, length}
+use Rattle.std.specs.FinMap.{entries}
+use Rattle.moo_rows.specs.Walk.{objects_left}
+use Rattle.moo_store.proofs.checking.object_count.Given as goal
+
+-- those counted, and those left
+abbrev pub invariant-loop-object : goal.invariant-loop-object
+invariant-loop-object g l = l.count + length (objects_left l._object-iterator.last (g.R.Rows.held l._object-iterator.rows.now).maps) ≡ length (entries (g.R.Rows.held l.rows).maps.objects)

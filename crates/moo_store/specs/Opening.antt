@@ -1,0 +1,28 @@
+-- What opening a store may answer, and what it may leave.
+use Rattle.std.specs.Prelude.{⊤}
+use Rattle.sqlite.specs.State.{State as Database}
+use Rattle.sqlite.specs.Tree.{Trees}
+use Rattle.moo_tables.specs.Tables.{Tables}
+use Rattle.moo_cells.specs.Damage.{Damage, IsNewer}
+use Rattle.moo_store.specs.declared.fault.StoreFault.{StoreFault}
+use Rattle.moo_store.specs.declared.fault.StoreFault.TheVariants.{Store, Damaged, NewerVersion, OutOfMemory, Closed}
+
+-- what a fault of opening says of the tables: Store and OutOfMemory nothing, and Closed never comes
+abbrev pub Says : Tables → StoreFault → Type 0
+Says tables (Store error) = ⊤
+Says tables (Damaged kind key) = Damage tables kind key
+Says tables NewerVersion = IsNewer tables
+Says tables OutOfMemory = ⊤
+Says tables Closed = ⊥
+
+-- a fault that says nothing of the tables
+abbrev pub IsOfStore : StoreFault → Type 0
+IsOfStore (Store error) = ⊤
+IsOfStore (Damaged kind key) = ⊥
+IsOfStore NewerVersion = ⊥
+IsOfStore OutOfMemory = ⊤
+IsOfStore Closed = ⊥
+
+-- what opening may commit: nothing
+abbrev pub Adopts : Database → Trees → Type 0
+Adopts conn trees = ⊥

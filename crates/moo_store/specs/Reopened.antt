@@ -1,0 +1,29 @@
+-- What is found by opening again what a crash left.
+use Rattle.std.specs.Prelude.{◌≡◌, ℕ, ◌≤◌, List, [], ◌∷◌, ◌++◌, take, drop, length}
+use Rattle.sqlite.specs.Store.{Ghosts}
+use Rattle.moo_world.specs.declared.call.Batch.{Batch}
+use Rattle.moo_world.specs.Judge.{State, after}
+use Rattle.moo_text.specs.declared.reply.Reply.{Reply}
+use Rattle.moo_store.specs.Answered.{acknowledged}
+use Rattle.moo_store.specs.Kept.{World}
+use Rattle.moo_store.specs.World.{StandsFor}
+
+-- the batches that were acknowledged, and so many of those that have no reply
+abbrev pub kept_of : List Batch → List Reply → ℕ → List Batch
+kept_of batches replies more = acknowledged batches replies ++ take more (drop (length replies) batches)
+
+-- The World is exactly what the definitions give for every acknowledged batch and at most one more, the next one.
+pub record HoldsAcknowledged {S : Type 0} (g : Ghosts S) (world : World S) (s : State) (batches : List Batch) (replies : List Reply) : Type 0 where
+  pub more : ℕ
+  pub at_most_one : more ≤ 1
+  pub stands : StandsFor g world (after s (kept_of batches replies more))
+
+-- Several runs, each from what the opening after the one before found: the batches that each was given, and its replies.
+abbrev pub RunsInParts : State → List (List Batch × List Reply) → State → Type 0
+RunsInParts s [] end = end ≡ s
+RunsInParts s (part ∷ parts) end = (more : ℕ) × (more ≤ 1) × RunsInParts (after s (kept_of part.0 part.1 more)) parts end
+
+-- one list of all the parts' acknowledged batches in turn, with at most one more behind each part's
+abbrev pub IsKeptOf : List Batch → List (List Batch × List Reply) → Type 0
+IsKeptOf kept [] = kept ≡ []
+IsKeptOf kept (part ∷ parts) = (more : ℕ) × (rest : List Batch) × (more ≤ 1) × IsKeptOf rest parts × (kept ≡ kept_of part.0 part.1 more ++ rest)

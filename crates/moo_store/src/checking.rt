@@ -1,0 +1,106 @@
+//! Whether the tables of a World still show its rows.
+
+ghost use Rattle.std.specs.Prelude.{◌≡◌, ◌≢◌, IfOk, IfErr, OnOk, MatchResult, IsErrOf, IsTrue, false, length};
+ghost use Rattle.sqlite.specs.State.{HasCleanDisk, Survives};
+ghost use Rattle.sqlite.specs.Held.{state};
+ghost use Rattle.moo_world.specs.ObjectLists.{objects_of};
+ghost use Rattle.moo_world.specs.Rows.{IsGood, world_of};
+ghost use Rattle.moo_tables.specs.Tables.{Tables};
+ghost use Rattle.moo_tables.specs.Inside.{Rests};
+ghost use Rattle.moo_cells.specs.Shows.{ShowsRows};
+ghost use Rattle.moo_store.specs.Opening.{IsOfStore};
+ghost use Rattle.moo_store.specs.Checked.{SaysInCheck, Fails};
+ghost use Rattle.moo_store.specs.World.{store_of, StandsFor};
+
+use crate::fault::StoreFault;
+use crate::reading::read_rows;
+use crate::world::World;
+use moo_damage::{Kind, first_difference};
+use moo_rows::flat::Flat;
+use moo_rows::rows::Rows;
+use moo_rows::walk::each_object;
+use sqlite::{Alter, Connection};
+use std::alloc::Global;
+
+/// The number of objects. Takes no memory.
+fn object_count<R: Rows>(rows: &R) -> u64
+    requires { IsGood (R.held rows.now).maps }
+    ensures { result ≡ length (objects_of (world_of (R.held rows.now).maps)) }
+{
+    let mut count = 0;
+    for _object in each_object(rows) {
+        count += 1;
+    }
+    count
+}
+
+/// The number of objects, where the tables of a connection show these rows. Nothing is written.
+fn check_rows<S: Alter>(
+    alloc: Global,
+    conn: &mut Connection<S>,
+    own: &Flat,
+) -> Result<u64, StoreFault>
+    requires outside { (state S.Store conn.old).in_transaction ≡ false }
+    requires good { IsGood own.now.maps }
+    ensures outside { (state S.Store conn.new).in_transaction ≡ false }
+    ensures shown { OnOk result (HasCleanDisk (state S.Store conn.new) → (tables : Tables) → Rests (state S.Store conn.old) tables → ShowsRows tables own.now.maps) }
+    ensures count { IfOk result (λ count. count ≡ length (objects_of (world_of own.now.maps))) }
+    ensures fault { HasCleanDisk (state S.Store conn.new) → IfErr result (λ fault. (tables : Tables) → Rests (state S.Store conn.old) tables → SaysInCheck own.now.maps tables fault) }
+    ensures whole { HasCleanDisk (state S.Store conn.new) → IfErr result (λ fault. (tables : Tables) → Rests (state S.Store conn.old) tables → ShowsRows tables own.now.maps → IsOfStore fault) }
+    ensures kept { HasCleanDisk (state S.Store conn.new) → IsTrue (state S.Store conn.new).is_open → (tables : Tables) → Rests (state S.Store conn.old) tables → Rests (state S.Store conn.new) tables }
+    ensures stays { HasCleanDisk (state S.Store conn.new) → MatchResult result (λ _. (tables : Tables) → Rests (state S.Store conn.old) tables → Rests (state S.Store conn.new) tables) (λ fault. fault ≡ StoreFault.OutOfMemory → (tables : Tables) → Rests (state S.Store conn.old) tables → Rests (state S.Store conn.new) tables) }
+    ensures clean { HasCleanDisk (state S.Store conn.new) → HasCleanDisk (state S.Store conn.old) }
+    ensures crash { Survives (state S.Store conn.old) (state S.Store conn.new) (λ _. ⊥) }
+    ensures open { IfErr result (λ fault. fault ≢ StoreFault.Closed) }
+{
+    match read_rows(alloc, conn) {
+        Ok(found) => match first_difference(own, &found) {
+            Some(key) => Err(StoreFault::Damaged(Kind::Mismatch, key)),
+            None => Ok(object_count(own)),
+        },
+        Err(fault) => Err(fault),
+    }
+}
+
+/// Whether a World has failed by such a check: by every fault but want of memory.
+fn has_failed(checked: &Result<u64, StoreFault>) -> bool
+    ensures { Fails checked.now result }
+{
+    match checked {
+        Ok(_) | Err(StoreFault::OutOfMemory) => false,
+        Err(_) => true,
+    }
+}
+
+impl<S: Alter + Drop> World<S> {
+    /// Reads the tables again, and answers the number of objects where they show the World's own rows.
+    ///
+    /// Nothing is written. Store: the store failed, or its tables are no longer ours. Damaged and NewerVersion: the tables show
+    /// no world, or another than the World's (`Kind::Mismatch`, with the first row in which they differ). These fail the
+    /// World. OutOfMemory: memory was refused, and the World works on. Closed: the World had failed.
+    pub fn check(&mut self) -> Result<u64, StoreFault>
+        // Ok only where the tables show the World's own rows.
+        ensures shown { OnOk result (HasCleanDisk (store_of S.Store self.new) → (tables : Tables) → Rests (store_of S.Store self.old) tables → ShowsRows tables self.old.rows.maps) }
+        ensures count { IfOk result (λ count. count ≡ length (objects_of (world_of self.old.rows.maps))) }
+        // A damage is answered only as it is said of the tables, or where they show other rows than these.
+        ensures fault { HasCleanDisk (store_of S.Store self.new) → IfErr result (λ fault. (tables : Tables) → Rests (store_of S.Store self.old) tables → SaysInCheck self.old.rows.maps tables fault) }
+        // A World that stands for a state is checked with no damage, and stands for it as long as it works.
+        ensures whole { (s : _) → StandsFor S.Store self.old s → HasCleanDisk (store_of S.Store self.new) → IfErr result IsOfStore }
+        ensures stands { (s : _) → StandsFor S.Store self.old s → self.new.failed ≡ false → HasCleanDisk (store_of S.Store self.new) → StandsFor S.Store self.new s }
+        // The rows, the tables and what a crash leaves stay.
+        ensures rows { self.new.rows ≡ self.old.rows }
+        ensures kept { HasCleanDisk (store_of S.Store self.new) → IsTrue (store_of S.Store self.new).is_open → (tables : Tables) → Rests (store_of S.Store self.old) tables → Rests (store_of S.Store self.new) tables }
+        ensures crash { Survives (store_of S.Store self.old) (store_of S.Store self.new) (λ _. ⊥) }
+        // Every fault but want of memory fails the World. A failed World changes no more.
+        ensures fails { self.old.failed ≡ false → Fails result self.new.failed }
+        ensures closed { IsTrue self.old.failed → IsErrOf result StoreFault.Closed × (self.new ≡ self.old) }
+        ensures open { self.old.failed ≡ false → IfErr result (λ fault. fault ≢ StoreFault.Closed) }
+    {
+        if self.failed {
+            return Err(StoreFault::Closed);
+        }
+        let checked = check_rows(self.alloc, &mut self.connection, &self.rows);
+        self.failed = has_failed(&checked);
+        checked
+    }
+}

@@ -1,0 +1,246 @@
+//! Calls of this crate that look first whether they may be made.
+
+ghost use Rattle.std.specs.Prelude.{◌≡◌, true, OnOk};
+ghost use Rattle.moo_world.specs.Creation.{next_object};
+ghost use Rattle.moo_world.specs.Rows.{world_of, IsGood};
+ghost use Rattle.moo_world.specs.World.{is_property_name};
+ghost use Rattle.moo_props.specs.Names.{defines};
+
+use moo_props::birth::make;
+use moo_props::clashing::{clashes, meets};
+use moo_props::defining::define;
+use moo_props::dropping::{Dropped, drop_object};
+use moo_props::finding::{find, slot_of};
+use moo_props::renaming::rename;
+use moo_props::reparent::{Touched, reparent};
+use moo_props::state::{set_info, set_value};
+use moo_props::value::value_of;
+use moo_rows::row::{Bits, PropId, SlotState};
+use moo_rows::rows::Rows;
+use moo_tree::{is_under, valid};
+use moo_value::text::MooStr;
+use moo_value::value::{ObjNo, Value};
+use std::alloc::Global;
+use std::process::Abort;
+use std::test::*;
+
+/// The wizard of the opening world, who owns what is made here.
+pub(super) const WIZARD: ObjNo = ObjNo(3);
+
+/// Readable, and no more.
+pub(super) const READ: Bits = Bits {
+    r: true,
+    w: false,
+    c: false,
+};
+
+/// The number of the next object, where one is left.
+#[tactic(auto, unfolding(moo_world::specs::Rows::world_shown))]
+fn next_number<R: Rows>(rows: &R) -> Option<ObjNo>
+    ensures { result ≡ next_object (world_of (R.held rows.now).maps) }
+{
+    let top = rows.head().top;
+    if top < i32::MAX {
+        Some(ObjNo(top + 1))
+    } else {
+        None
+    }
+}
+
+/// Whether x defines a property.
+#[tactic(auto, unfolding(moo_world::specs::Objects::same_object))]
+fn is_definer<R: Rows>(rows: &R, x: ObjNo, id: PropId) -> bool
+    ensures { result ≡ defines (R.held rows.now).maps x id }
+{
+    match rows.prop(id) {
+        None => false,
+        Some(row) => row.definer == x,
+    }
+}
+
+/// Makes the object of the next number.
+pub(super) fn made<R: Rows>(
+    rt: &impl Abort,
+    alloc: Global,
+    rows: &mut R,
+    parent: i32,
+) -> Result<ObjNo, Fail>
+    requires { IsGood (R.held rows.old).maps }
+    ensures { OnOk result (IsGood (R.held rows.new).maps) }
+{
+    assert!(rt; valid(rows, ObjNo(parent)));
+    let Some(x) = next_number(rows) else {
+        panic!(rt; "no number is left");
+    };
+    make(alloc, rows, x, ObjNo(parent), WIZARD)?;
+    Ok(x)
+}
+
+/// Defines a property of the wizard's.
+pub(super) fn added<R: Rows>(
+    rt: &impl Abort,
+    alloc: Global,
+    rows: &mut R,
+    x: i32,
+    name: &[u8],
+    value: i32,
+    bits: Bits,
+) -> Result<PropId, Fail>
+    requires good { IsGood (R.held rows.old).maps }
+    requires name { is_property_name name.now ≡ true }
+    ensures { OnOk result (IsGood (R.held rows.new).maps) }
+{
+    let name = MooStr::from_bytes(alloc, name)?;
+    assert!(rt; valid(rows, ObjNo(x)));
+    assert!(rt; !clashes(rows, ObjNo(x), &name));
+    assert!(rt; rows.head().next_prop < u32::MAX);
+    let value = Value::Int(value);
+    Ok(define(alloc, rows, ObjNo(x), name, value, WIZARD, bits)?)
+}
+
+/// Gives a property that x defines another name.
+pub(super) fn renamed<R: Rows>(
+    rt: &impl Abort,
+    alloc: Global,
+    rows: &mut R,
+    x: i32,
+    id: PropId,
+    name: &[u8],
+) -> Result<(), Fail>
+    requires good { IsGood (R.held rows.old).maps }
+    requires name { is_property_name name.now ≡ true }
+    ensures { OnOk result (IsGood (R.held rows.new).maps) }
+{
+    let name = MooStr::from_bytes(alloc, name)?;
+    assert!(rt; is_definer(rows, ObjNo(x), id));
+    assert!(rt; !clashes(rows, ObjNo(x), &name));
+    rename(rows, ObjNo(x), id, name)?;
+    Ok(())
+}
+
+/// The property of a name that x has.
+pub(super) fn found<R: Rows>(
+    alloc: Global,
+    rows: &R,
+    x: i32,
+    name: &[u8],
+) -> Result<Option<PropId>, Fail>
+    requires { IsGood (R.held rows.now).maps }
+{
+    let name = MooStr::from_bytes(alloc, name)?;
+    Ok(find(rows, ObjNo(x), &name))
+}
+
+/// The integer that x reads for a name.
+pub(super) fn integer<R: Rows>(
+    alloc: Global,
+    rows: &R,
+    x: i32,
+    name: &[u8],
+) -> Result<Option<i32>, Fail>
+    requires { IsGood (R.held rows.now).maps }
+{
+    let name = MooStr::from_bytes(alloc, name)?;
+    let Some(id) = find(rows, ObjNo(x), &name) else {
+        return Ok(None);
+    };
+    Ok(match value_of(rows, ObjNo(x), id) {
+        Value::Int(value) => Some(*value),
+        _ => None,
+    })
+}
+
+/// The owner and the bits of the property of a name on x, and whether it is clear there.
+pub(super) fn slot<R: Rows>(
+    alloc: Global,
+    rows: &R,
+    x: i32,
+    name: &[u8],
+) -> Result<Option<(ObjNo, Bits, bool)>, Fail>
+    requires { IsGood (R.held rows.now).maps }
+{
+    let name = MooStr::from_bytes(alloc, name)?;
+    Ok(match slot_of(rows, ObjNo(x), &name) {
+        None => None,
+        Some(found) => {
+            let clear = match found.slot.state {
+                SlotState::Clear => true,
+                SlotState::Set(_) => false,
+            };
+            Some((found.slot.owner, found.slot.bits, clear))
+        }
+    })
+}
+
+/// Sets an integer on x.
+pub(super) fn set<R: Rows>(
+    rt: &impl Abort,
+    alloc: Global,
+    rows: &mut R,
+    x: i32,
+    name: &[u8],
+    value: i32,
+) -> Result<(), Fail>
+    requires { IsGood (R.held rows.old).maps }
+    ensures { OnOk result (IsGood (R.held rows.new).maps) }
+{
+    let name = MooStr::from_bytes(alloc, name)?;
+    let Some(id) = find(rows, ObjNo(x), &name) else {
+        panic!(rt; "no such property");
+    };
+    set_value(rows, ObjNo(x), id, Value::Int(value))?;
+    Ok(())
+}
+
+/// Gives the property of a name on x another owner, and other bits.
+pub(super) fn given<R: Rows>(
+    rt: &impl Abort,
+    alloc: Global,
+    rows: &mut R,
+    x: i32,
+    name: &[u8],
+    owner: ObjNo,
+    bits: Bits,
+) -> Result<(), Fail>
+    requires { IsGood (R.held rows.old).maps }
+    ensures { OnOk result (IsGood (R.held rows.new).maps) }
+{
+    let name = MooStr::from_bytes(alloc, name)?;
+    let Some(id) = find(rows, ObjNo(x), &name) else {
+        panic!(rt; "no such property");
+    };
+    set_info(alloc, rows, ObjNo(x), id, owner, bits)?;
+    Ok(())
+}
+
+/// Puts x under another parent.
+pub(super) fn moved<R: Rows>(
+    rt: &impl Abort,
+    alloc: Global,
+    rows: &mut R,
+    x: i32,
+    new: i32,
+) -> Result<Touched, Fail>
+    requires { IsGood (R.held rows.old).maps }
+    ensures { OnOk result (IsGood (R.held rows.new).maps) }
+{
+    assert!(rt; valid(rows, ObjNo(x)));
+    assert!(rt; valid(rows, ObjNo(new)));
+    assert!(rt; !is_under(rows, ObjNo(new), ObjNo(x)));
+    assert!(rt; !meets(rows, ObjNo(x), ObjNo(new)));
+    Ok(reparent(alloc, rows, ObjNo(x), ObjNo(new))?)
+}
+
+/// Drops x.
+pub(super) fn dropped<R: Rows>(
+    rt: &impl Abort,
+    alloc: Global,
+    rows: &mut R,
+    x: i32,
+) -> Result<Dropped, Fail>
+    requires { IsGood (R.held rows.old).maps }
+    ensures { OnOk result (IsGood (R.held rows.new).maps) }
+{
+    assert!(rt; valid(rows, ObjNo(x)));
+    Ok(drop_object(alloc, rows, ObjNo(x))?)
+}
