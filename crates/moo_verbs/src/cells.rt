@@ -26,7 +26,9 @@ fn set_spelled(sets: &[PrepositionSet], bytes: &[u8]) -> Option<PrepositionSet>
     ensures first { result ≡ find (λ set. bytes_eq (set_text set) bytes.now) sets.now }
     ensures found { IfSome result (λ set. bytes.now ≡ set_text set) }
 {
-    sets.iter().copied().find(|set| set_text(*set).as_bytes() == bytes)
+    sets.iter()
+        .copied()
+        .find(|set| set_text(*set).as_bytes() == bytes)
 }
 
 /// The preposition that the bytes spell in lower case: `none`, `any`, or all phrases of a set with slashes between them;
