@@ -1,11 +1,11 @@
 #!/bin/sh
-# Builds the program if it isn't built yet, and runs it with the words given.
+# Runs the program with the words given. Where it isn't built yet, or a source is newer, it is proved and built first.
 here=$(cd "$(dirname "$0")" && pwd) || exit 1
-if [ ! -x "$here/crates/moo/out/moo" ]; then
-    (cd "$here/crates/moo" && rt run </dev/null >/dev/null 2>"$here/crates/moo/build.log") || {
-        cat "$here/crates/moo/build.log" >&2
-        echo "moo: the program could not be built" >&2
-        exit 1
-    }
+program=$here/crates/moo/out/moo
+is_built() {
+    [ -x "$program" ] && [ -z "$(find "$here/crates.txt" "$here"/crates/moo*/src "$here"/crates/moo*/specs "$here"/crates/moo*/proofs -newer "$program" 2>/dev/null | head -n 1)" ]
+}
+if ! is_built; then
+    "$here/.ci/build" moo >&2 || exit 1
 fi
-exec "$here/crates/moo/out/moo" "$@"
+exec "$program" "$@"

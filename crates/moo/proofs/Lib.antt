@@ -1,2 +1,0 @@
-mod Stopping
-mod Words

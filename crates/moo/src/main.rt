@@ -1,7 +1,10 @@
 //! The program `moo`: an object database server with the behaviour of LambdaMOO 1.8.
 #![tactic(auto)]
 
+mod commands;
 mod failure;
+mod files;
+mod output;
 mod run;
 #[cfg(test)]
 mod tests;

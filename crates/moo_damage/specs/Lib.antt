@@ -7,3 +7,4 @@ pub mod Limits
 pub mod Local
 pub mod Missing
 pub mod Noted
+pub mod Words

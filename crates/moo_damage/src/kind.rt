@@ -1,7 +1,8 @@
 //! Kinds of damage, and the rows at which they are found.
 
-ghost use Rattle.std.specs.Prelude.{◌≡◌, pos};
+ghost use Rattle.std.specs.Prelude.{◌≡◌, pos, Some};
 ghost use Rattle.moo_damage.specs.declared.kind.Key.TheVariants as keys;
+ghost use Rattle.moo_damage.specs.Words.{kind_text, key_text};
 
 use moo_rows::row::{PropId, VerbId};
 use moo_value::value::ObjNo;
@@ -41,6 +42,8 @@ pub enum Kind {
 }
 
 impl fmt::Display for Kind {
+    ghost output = { λ kind. Some (kind_text kind) };
+
     fn fmt<W: fmt::Write>(&self, f: &mut fmt::Formatter<W>) -> fmt::Result {
         f.write_str(match self {
             Kind::BadHead => "bad-head",
@@ -77,6 +80,8 @@ pub enum Key {
 }
 
 impl fmt::Display for Key {
+    ghost output = { λ key. Some (key_text key) };
+
     fn fmt<W: fmt::Write>(&self, f: &mut fmt::Formatter<W>) -> fmt::Result {
         match self {
             Key::Head => write!(f, "head"),

@@ -7,10 +7,6 @@ pub(crate) const FILE: &str =
 
 pub(crate) const BATCHES: &str = "A file of batches, or - for standard input";
 
-pub(crate) const PORT: &str = "The port on 127.0.0.1 to listen on, 1 to 65535";
-
-pub(crate) const COUNT: &str = "How many connections to answer before it ends, 0 to 1000000";
-
 pub(crate) const MOO: &str =
     "Keeps the objects of a text world in a database, and runs batches of calls on them";
 
@@ -26,7 +22,7 @@ A batch: a line `batch as #3` (the programmer; #3 is the wizard of a new world),
 
 `moo COMMAND --help` says what each command writes, and how it ends.
 
-Exit status: 0 done; 1 the store, a stream or the port failed, or an answer was `fault` or `closed`;
+Exit status: 0 done; 1 the store or a stream failed, or an answer was `fault` or `closed`;
 2 the words are wrong; 3 the file is damaged, or of a newer version; 4 memory ran out.";
 
 pub(crate) const INIT: &str = "Make a new world in FILE, which must hold no tables yet";
@@ -88,17 +84,3 @@ Exit status: 0 whole; 1 `moo: store fault`; 3 `moo: damaged KIND KEY` or `moo: n
 
 Example:
   moo check world.db";
-
-pub(crate) const SERVE: &str =
-    "Answer HTTP requests on 127.0.0.1:PORT, one a connection, COUNT of them";
-
-pub(crate) const SERVE_MORE: &str =
-    "Standard output: `listening 127.0.0.1:PORT` at once, and at its end `served A failed F`.
-POST /batch and /ask take JSON; GET /seq and /object/N answer it.
-
-Exit status: 0 COUNT connections came; 1 `moo: cannot listen` or `moo: store fault`;
-3 `moo: damaged KIND KEY` or `moo: newer version`; 4 `moo: no memory`.
-
-Example:
-  moo serve world.db 8080 1000 &
-  curl -d '{\"as\":\"#3\",\"calls\":[\"create(#1)\"]}' http://127.0.0.1:8080/batch";

@@ -4,6 +4,7 @@ use crate::{Task, Usage, read_words};
 use std::process::Abort;
 use std::test::Fail;
 
+/// The status of words that are refused, -2 where the matches lack an entry, -1 of others.
 fn refused(rt: &HostRuntime, words: &[&str]) -> i32 {
     match read_words(rt.alloc(), words) {
         Ok(_) => -1,
@@ -20,44 +21,48 @@ fn reads(rt: &HostRuntime, words: &[&str], task: Task<'_>) -> bool {
 }
 
 #[test]
-fn reads_commands(rt: HostRuntime) -> Result<(), Fail> {
-    assert!(rt;
-        reads(
-            &rt,
-            &["moo"],
+fn words_name_a_task(rt: HostRuntime) -> Result<(), Fail> {
+    let (file, batches) = ("world.db", "-");
+    for (words, task) in [
+        (["moo", "init", "world.db"].as_slice(), Task::Init { file }),
+        (
+            ["moo", "apply", "world.db", "-"].as_slice(),
+            Task::Apply { file, batches },
+        ),
+        (
+            ["moo", "ask", "world.db", "-"].as_slice(),
+            Task::Ask { file, batches },
+        ),
+        (["moo", "dump", "world.db"].as_slice(), Task::Dump { file }),
+        (
+            ["moo", "check", "world.db"].as_slice(),
+            Task::Check { file },
+        ),
+        (
+            ["moo"].as_slice(),
             Task::Apply {
                 file: ":memory:",
-                batches: "-"
-            }
-        )
-    );
-    assert!(rt;
-        reads(
-            &rt,
-            &["moo", "apply", "w", "-"],
-            Task::Apply {
-                file: "w",
-                batches: "-"
-            }
-        )
-    );
-    assert!(rt;
-        reads(
-            &rt,
-            &["moo", "serve", ":memory:", "8080", "0"],
-            Task::Serve {
-                file: ":memory:",
-                port: 8080,
-                count: 0
-            }
-        )
-    );
-    assert_eq!(rt; refused(&rt, &["moo", "apply", "F"]), 2);
-    assert_eq!(rt; refused(&rt, &["moo", "serve", "F", "0", "1"]), 2);
-    assert_eq!(rt; refused(&rt, &["moo", "serve", "F", "80", "1000001"]), 2);
-    assert_eq!(rt; refused(&rt, &["moo", "serve", "F", "65536", "1"]), 2);
-    assert_eq!(rt; refused(&rt, &["moo", "sing"]), 2);
-    assert_eq!(rt; refused(&rt, &["moo", "--help"]), 0);
-    assert_eq!(rt; refused(&rt, &["moo", "help"]), 0);
+                batches,
+            },
+        ),
+    ] {
+        assert!(rt; reads(&rt, words, task));
+    }
+    Ok(())
+}
+
+#[test]
+fn other_words_are_refused(rt: HostRuntime) -> Result<(), Fail> {
+    for (words, status) in [
+        (["moo", "apply", "world.db"].as_slice(), 2),
+        (["moo", "check"].as_slice(), 2),
+        (["moo", "check", "world.db", "more"].as_slice(), 2),
+        (["moo", "sing"].as_slice(), 2),
+        (["moo", "--help"].as_slice(), 0),
+        (["moo", "help"].as_slice(), 0),
+        (["moo", "--version"].as_slice(), 0),
+    ] {
+        assert_eq!(rt; refused(&rt, words), status);
+    }
     Ok(())
 }

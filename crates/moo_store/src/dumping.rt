@@ -1,0 +1,44 @@
+//! Writing all that a World holds.
+
+ghost use Rattle.std.specs.Prelude.{◌≡◌, ◌≢◌, ℕ, take, false, IsTrue, OnOk, OnErr, IfErr, IsErrOf};
+ghost use Rattle.std.specs.Io.KnownBytes.{Appends};
+ghost use Rattle.moo_dump.specs.Dump.{dump};
+ghost use Rattle.moo_store.specs.World.{StandsFor};
+
+use crate::world::World;
+use moo_dump::{DumpFault as RowsFault, dump};
+use sqlite::Alter;
+use std::io::Write;
+
+/// Why a dump stopped.
+#[derive(Clone, Copy, Debug, PartialEq, Eq)]
+pub enum DumpFault {
+    /// The writer failed, or took no bytes.
+    Write,
+    /// Memory ran out.
+    OutOfMemory,
+    /// The World had failed.
+    Closed,
+}
+
+impl<S: Alter + Drop> World<S> {
+    /// Writes all that the World holds as text, as `moo_dump::dump` does.
+    ///
+    /// Write where the writer fails or takes no bytes, and OutOfMemory: a front of the text is written then. Closed where the
+    /// World had failed: nothing is written.
+    pub fn dump<W: Write>(&self, output: &mut W) -> Result<(), DumpFault>
+        ensures ok { (s : _) → StandsFor S.Store self.now s → OnOk result (Appends (W.contents output.old) (W.contents output.new) (dump s)) }
+        ensures err { (s : _) → StandsFor S.Store self.now s → OnErr result ((count : ℕ) × Appends (W.contents output.old) (W.contents output.new) (take count (dump s))) }
+        ensures closed { IsTrue self.now.failed → IsErrOf result DumpFault.Closed × (output.new ≡ output.old) }
+        ensures open { self.now.failed ≡ false → IfErr result (λ fault. fault ≢ DumpFault.Closed) }
+    {
+        if self.failed {
+            return Err(DumpFault::Closed);
+        }
+        match dump(self.alloc, &self.rows, output) {
+            Ok(()) => Ok(()),
+            Err(RowsFault::Write) => Err(DumpFault::Write),
+            Err(RowsFault::OutOfMemory) => Err(DumpFault::OutOfMemory),
+        }
+    }
+}
