@@ -15,7 +15,8 @@ pub struct Behind {
     pub tables: CellLists,
 }
 
-fn run<S: Alter + Drop>(
+/// Runs a text, and adds what is replied.
+pub(crate) fn run<S: Alter + Drop>(
     alloc: Global,
     world: &mut World<S>,
     text: &[u8],
@@ -25,7 +26,8 @@ fn run<S: Alter + Drop>(
     Ok(())
 }
 
-fn ask<S: Alter + Drop>(
+/// Asks a text, and adds what is replied.
+pub(crate) fn ask<S: Alter + Drop>(
     alloc: Global,
     world: &World<S>,
     text: &[u8],

@@ -1,4 +1,5 @@
-//! Tests of runs on new worlds in memory: what is answered, and what the tables hold behind it.
+//! Tests of worlds in memory: what is answered to runs, what the tables hold behind them, and what is said of tables that are
+//! opened again.
 #![tactic(auto)]
 
 #[cfg(test)]
@@ -9,6 +10,12 @@ mod behind;
 mod calls;
 #[cfg(test)]
 mod cells;
+#[cfg(test)]
+mod damage;
+#[cfg(test)]
+mod opened;
+#[cfg(test)]
+mod reopened;
 #[cfg(test)]
 mod runs;
 #[cfg(test)]
