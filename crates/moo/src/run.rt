@@ -1,5 +1,8 @@
 //! What the words of the command line do.
 
+ghost use Rattle.std.specs.Prelude.{map};
+ghost use Rattle.moo.specs.Run.{EndsUsage, RunsWords};
+
 use crate::failure::Failure;
 use crate::files::run_task;
 use crate::output::{put_line, report};
@@ -8,7 +11,9 @@ use moo_words::{Usage, read_words};
 use std::io::{Read, Write};
 
 /// Writes what the reader of the command line says, and answers its status.
-fn put_usage<W: Write>(rt: &HostRuntime, error: &clap::Error, output: &mut W) -> u8 {
+fn put_usage<W: Write>(rt: &HostRuntime, error: &clap::Error, output: &mut W) -> u8
+    ensures { EndsUsage (W.contents output.old) (W.contents output.new) result }
+{
     if error.kind() == ErrorKind::OutOfMemory {
         return report(rt, Failure::NoMemory, output);
     }
@@ -20,7 +25,9 @@ fn put_usage<W: Write>(rt: &HostRuntime, error: &clap::Error, output: &mut W) ->
 }
 
 /// Says why the words name no task.
-fn report_usage<W: Write>(rt: &HostRuntime, usage: &Usage, output: &mut W) -> u8 {
+fn report_usage<W: Write>(rt: &HostRuntime, usage: &Usage, output: &mut W) -> u8
+    ensures { EndsUsage (W.contents output.old) (W.contents output.new) result }
+{
     match usage {
         Usage::Refused(error) => put_usage(rt, error, output),
         Usage::Absent => report(rt, Failure::Usage, output),
@@ -33,7 +40,9 @@ pub fn run_words<R: Read + Drop, W: Write>(
     words: &[&str],
     input: R,
     output: &mut W,
-) -> u8 {
+) -> u8
+    ensures { RunsWords (map (λ word. word.now) words.now) (R.remaining input) (W.contents output.old) (W.contents output.new) result }
+{
     match read_words(rt.alloc(), words) {
         Ok(task) => run_task(rt, task, input, output),
         Err(usage) => report_usage(rt, &usage, output),
