@@ -86,7 +86,7 @@ Stops (Dump file) s end failure Clean input old new = (end ≡ Works s) × Stops
 Stops (Check file) s end failure Clean input old new =
     (end ≡ Works s)
     × (((fault : StoreFault) × (failure ≡ store_failure fault) × (Clean → IsOfStore fault) × (new ≡ old))
-        ⊎ StopsIn (checked_line s.seq (length (objects_of s.world))) failure old new)
+    ⊎ StopsIn (checked_line s.seq (length (objects_of s.world))) failure old new)
 
 -- What was done to a World leaves it so: a disk that returns what was written did so before, and what a crash leaves then is known.
 pub record Ends {S : Type 0} (g : Ghosts S) (was world : World S) (End : Stand → Type 0) : Type 0 where

@@ -8,9 +8,9 @@ ghost use Rattle.moo_store.specs.Opening.{IsOfStore};
 ghost use Rattle.moo.specs.Lines.{store_failure};
 ghost use Rattle.moo.specs.Run.{begins_anew, FailsAtOnce, RunsUnseen, RunsTask};
 
-use crate::over::run_over;
 use crate::failure::Failure;
 use crate::output::report;
+use crate::over::run_over;
 use moo_words::Task;
 use sqlite::{Connection, Error, ErrorCode, FileStore};
 use sqlite_disk::Disk;

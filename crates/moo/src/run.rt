@@ -34,7 +34,16 @@ fn report_usage<W: Write>(rt: &HostRuntime, usage: &Usage, output: &mut W) -> u8
     }
 }
 
-/// Does what the words say, which begin with `moo`, and answers the exit status.
+/// Does what the words say, which begin with `moo`, and answers the exit status: `init`, `apply`, `ask`, `dump` or `check` on
+/// a file, or on a new world in memory for `:memory:`; with no other word `apply :memory: -`.
+///
+/// What the command writes goes to the output, and so does the line of a failure behind it: 1 where the store, the reader or
+/// the writer failed, the text is too long, or an answer is `fault` or `closed`; 3 where the file is damaged or of a newer
+/// version; 4 where memory ran out. Words that name no task give the text of their reader: 2, or 0 for help and the version.
+/// The cause of a store fault goes to standard error.
+///
+/// At the end of a run the file is closed, so that nothing stays beside it. Where that fails its log stays, which is a part
+/// of it: what was committed stands, and the status is the same.
 pub fn run_words<R: Read + Drop, W: Write>(
     rt: &HostRuntime,
     words: &[&str],

@@ -111,7 +111,14 @@ fn ends(rt: &HostRuntime, words: &[&str], status: u8, text: &str) -> bool {
 #[test]
 fn a_new_world_is_made_dumped_and_checked(rt: HostRuntime) -> Result<(), Fail> {
     assert!(rt; ends(&rt, &["moo", "init", ":memory:"], 0, "created\n"));
-    assert!(rt; ends(&rt, &["moo", "check", ":memory:"], 0, "ok seq 0 objects 4\n"));
+    assert!(rt;
+        ends(
+            &rt,
+            &["moo", "check", ":memory:"],
+            0,
+            "ok seq 0 objects 4\n"
+        )
+    );
     let dump = "seq 0
 top #3
 object {#0, \"System Object\", #3, #1, #-1, 0, 0, 0, 0, 0, 0, 0}
