@@ -11,6 +11,7 @@ pub mod creating;
 mod dumping;
 pub mod fault;
 pub mod laws;
+mod looking;
 pub mod output;
 mod printing;
 mod reading;

@@ -1,0 +1,30 @@
+//! What one object of a World looks like.
+
+ghost use Rattle.std.specs.Prelude.{◌≡◌, false, IfOk, IfErr, IsErrOf, IsTrue};
+ghost use Rattle.moo_dump.specs.Look.{look_of};
+ghost use Rattle.moo_store.specs.World.{StandsFor};
+
+use crate::fault::StoreFault;
+use crate::world::World;
+use moo_dump::{Look, look};
+use moo_value::value::ObjNo;
+use sqlite::Alter;
+
+impl<S: Alter + Drop> World<S> {
+    /// The fields of an object, its children and what lies in it; none where the number is that of no object. Nothing changes.
+    ///
+    /// OutOfMemory where memory runs out. Closed where the World had failed.
+    pub fn object(&self, x: ObjNo) -> Result<Option<Look>, StoreFault>
+        ensures look { (s : _) → StandsFor S.Store self.now s → IfOk result (λ look. look ≡ look_of s.world x) }
+        ensures fault { self.now.failed ≡ false → IfErr result (λ fault. fault ≡ StoreFault.OutOfMemory) }
+        ensures closed { IsTrue self.now.failed → IsErrOf result StoreFault.Closed }
+    {
+        if self.failed {
+            return Err(StoreFault::Closed);
+        }
+        match look(self.alloc, &self.rows, x) {
+            Ok(look) => Ok(look),
+            Err(_) => Err(StoreFault::OutOfMemory),
+        }
+    }
+}
