@@ -1,22 +1,51 @@
 //! What each command does over a world.
 
-ghost use Rattle.std.specs.Prelude.{◌≡◌, false};
-ghost use Rattle.sqlite.specs.Held.{state};
+ghost use Rattle.std.specs.Prelude.{◌≡◌, ◌⊎◌, length, IfOk, IfErr};
+ghost use Rattle.sqlite.specs.State.{HasCleanDisk, Survives};
+ghost use Rattle.std.specs.Io.KnownBytes.{Appends};
+ghost use Rattle.moo_world.specs.Judge.{State};
+ghost use Rattle.moo_world.specs.ObjectLists.{objects_of};
+ghost use Rattle.moo_text.specs.declared.fault.TextFault.{TextFault};
+ghost use Rattle.moo_dump.specs.Dump.{dump};
+ghost use Rattle.moo_store.specs.declared.fault.StoreFault.{StoreFault};
+ghost use Rattle.moo_store.specs.Opening.{IsOfStore};
+ghost use Rattle.moo_store.specs.Stand.{Works, RunsBatch, AsksBatch};
+ghost use Rattle.moo_store.specs.Turns.{Halts};
+ghost use Rattle.moo_store.specs.World.{store_of, StandsFor};
+ghost use Rattle.moo.specs.Lines.{text_failure, store_failure, checked_line};
+ghost use Rattle.moo.specs.Run.{given, lost_status, RunsText, StopsText, StopsIn, Done, Stops, Ends};
 
 use crate::failure::Failure;
-use crate::output::{checked_text, report};
-use moo_store::creating::create_in;
+use crate::output::checked_text;
 use moo_store::output::put_all;
 use moo_store::world::World;
-use moo_store::{Tally, adopt, apply_text, ask_text};
+use moo_store::{Tally, apply_text, ask_text};
 use moo_words::Task;
-use sqlite::{Alter, Connection};
+use sqlite::Alter;
+use std::alloc::Global;
 use std::fs::File;
 use std::io::{Read, Write};
 
 /// The status of a text with this tally.
-fn status_after(tally: Tally) -> u8 {
+fn status_after(tally: Tally) -> u8
+    ensures { result ≡ lost_status tally.lost }
+{
     if tally.lost == 0 { 0 } else { 1 }
+}
+
+/// Runs the batches of a text.
+fn run_text<R: Read + Drop, W: Write, S: Alter + Drop>(
+    alloc: Global,
+    world: &mut World<S>,
+    text: R,
+    output: &mut W,
+) -> Result<u8, Failure>
+    ensures done { (s : State) → StandsFor S.Store world.old s → IfOk result (λ status. Ends S.Store world.old world.new (λ end. RunsText RunsBatch s end (R.remaining text) (W.contents output.old) (W.contents output.new) status)) }
+    ensures stops { (s : State) → StandsFor S.Store world.old s → IfErr result (λ failure. Ends S.Store world.old world.new (λ end.
+        (fault : TextFault) × (failure ≡ text_failure fault) × Halts RunsBatch (Works s) end (R.remaining text) (W.contents output.old) (W.contents output.new) fault)) }
+{
+    let tally = apply_text(alloc, text, output, world)?;
+    Ok(status_after(tally))
 }
 
 /// Runs the batches of a file, or of the input for `-`.
@@ -26,15 +55,32 @@ fn apply<R: Read + Drop, W: Write, S: Alter + Drop>(
     batches: &str,
     input: R,
     output: &mut W,
-) -> Result<u8, Failure> {
-    let tally = if batches == "-" {
-        apply_text(rt.alloc(), input, output, world)?
-    } else {
-        let Ok(file) = File::open(rt, batches) else {
-            return Err(Failure::Read);
-        };
-        apply_text(rt.alloc(), file, output, world)?
-    };
+) -> Result<u8, Failure>
+    ensures done { (s : State) → StandsFor S.Store world.old s → IfOk result (λ status. Ends S.Store world.old world.new (λ end. RunsText RunsBatch s end (given batches.now (R.remaining input)) (W.contents output.old) (W.contents output.new) status)) }
+    ensures stops { (s : State) → StandsFor S.Store world.old s → IfErr result (λ failure. Ends S.Store world.old world.new (λ end. StopsText RunsBatch s end failure (given batches.now (R.remaining input)) (W.contents output.old) (W.contents output.new))) }
+{
+    world.leaves();
+    if batches == "-" {
+        return run_text(rt.alloc(), world, input, output);
+    }
+    match File::open(rt, batches) {
+        Ok(file) => run_text(rt.alloc(), world, file, output),
+        Err(_) => Err(Failure::Read),
+    }
+}
+
+/// Says what the batches of a text would come to.
+fn ask_batches<R: Read + Drop, W: Write, S: Alter + Drop>(
+    alloc: Global,
+    world: &World<S>,
+    text: R,
+    output: &mut W,
+) -> Result<u8, Failure>
+    ensures done { (s : State) → StandsFor S.Store world.now s → IfOk result (RunsText AsksBatch s (Works s) (R.remaining text) (W.contents output.old) (W.contents output.new)) }
+    ensures stops { (s : State) → StandsFor S.Store world.now s → IfErr result (λ failure.
+        (fault : TextFault) × (failure ≡ text_failure fault) × Halts AsksBatch (Works s) (Works s) (R.remaining text) (W.contents output.old) (W.contents output.new) fault) }
+{
+    let tally = ask_text(alloc, text, output, world)?;
     Ok(status_after(tally))
 }
 
@@ -45,96 +91,76 @@ fn ask<R: Read + Drop, W: Write, S: Alter + Drop>(
     batches: &str,
     input: R,
     output: &mut W,
-) -> Result<u8, Failure> {
-    let tally = if batches == "-" {
-        ask_text(rt.alloc(), input, output, world)?
-    } else {
-        let Ok(file) = File::open(rt, batches) else {
-            return Err(Failure::Read);
-        };
-        ask_text(rt.alloc(), file, output, world)?
-    };
-    Ok(status_after(tally))
+) -> Result<u8, Failure>
+    ensures done { (s : State) → StandsFor S.Store world.now s → IfOk result (RunsText AsksBatch s (Works s) (given batches.now (R.remaining input)) (W.contents output.old) (W.contents output.new)) }
+    ensures stops { (s : State) → StandsFor S.Store world.now s → IfErr result (λ failure. StopsText AsksBatch s (Works s) failure (given batches.now (R.remaining input)) (W.contents output.old) (W.contents output.new)) }
+{
+    if batches == "-" {
+        return ask_batches(rt.alloc(), world, input, output);
+    }
+    match File::open(rt, batches) {
+        Ok(file) => ask_batches(rt.alloc(), world, file, output),
+        Err(_) => Err(Failure::Read),
+    }
 }
 
-/// Tests the tables, and writes what they hold.
-fn check<W: Write, S: Alter + Drop>(
-    rt: &HostRuntime,
-    world: &mut World<S>,
-    output: &mut W,
-) -> Result<u8, Failure> {
-    let seq = world.seq()?;
-    let objects = world.check()?;
-    let Ok(line) = checked_text(rt.alloc(), seq, objects) else {
-        return Err(Failure::NoMemory);
-    };
+/// Writes what the world holds.
+fn show<W: Write, S: Alter + Drop>(world: &World<S>, output: &mut W) -> Result<u8, Failure>
+    ensures done { (s : State) → StandsFor S.Store world.now s → IfOk result (λ status. Appends (W.contents output.old) (W.contents output.new) (dump s) × (status ≡ 0)) }
+    ensures stops { (s : State) → StandsFor S.Store world.now s → IfErr result (λ failure. StopsIn (dump s) failure (W.contents output.old) (W.contents output.new)) }
+{
+    world.dump(output)?;
+    Ok(0)
+}
+
+/// Writes a line, whole.
+fn put_text<W: Write>(line: &str, output: &mut W) -> Result<u8, Failure>
+    ensures done { IfOk result (λ status. Appends (W.contents output.old) (W.contents output.new) line.now × (status ≡ 0)) }
+    ensures stops { IfErr result (λ failure. StopsIn line.now failure (W.contents output.old) (W.contents output.new)) }
+{
     put_all(output, line.as_bytes())?;
     Ok(0)
 }
 
+/// Tests the tables, and writes what they hold.
+fn check<W: Write, S: Alter + Drop>(
+    alloc: Global,
+    world: &mut World<S>,
+    output: &mut W,
+) -> Result<u8, Failure>
+    ensures done { (s : State) → StandsFor S.Store world.old s → IfOk result (λ status. Appends (W.contents output.old) (W.contents output.new) (checked_line s.seq (length (objects_of s.world))) × (status ≡ 0)) }
+    ensures stops { (s : State) → StandsFor S.Store world.old s → IfErr result (λ failure.
+        ((fault : StoreFault) × (failure ≡ store_failure fault) × (HasCleanDisk (store_of S.Store world.new) → IsOfStore fault) × (W.contents output.new ≡ W.contents output.old))
+        ⊎ StopsIn (checked_line s.seq (length (objects_of s.world))) failure (W.contents output.old) (W.contents output.new)) }
+    ensures crash { Survives (store_of S.Store world.old) (store_of S.Store world.new) (λ _. ⊥) }
+{
+    let seq = world.seq()?;
+    let objects = world.check()?;
+    match checked_text(alloc, seq, objects) {
+        Ok(line) => put_text(line.as_str(), output),
+        Err(_) => Err(Failure::NoMemory),
+    }
+}
+
 /// Does what a task says over its world.
-fn do_task<R: Read + Drop, W: Write, S: Alter + Drop>(
+pub(crate) fn do_task<R: Read + Drop, W: Write, S: Alter + Drop>(
     rt: &HostRuntime,
     world: &mut World<S>,
     task: Task<'_>,
     input: R,
     output: &mut W,
-) -> Result<u8, Failure> {
+) -> Result<u8, Failure>
+    ensures done { (s : State) → StandsFor S.Store world.old s → IfOk result (λ status. Ends S.Store world.old world.new (λ end.
+        Done task.entry s end (R.remaining input) (W.contents output.old) (W.contents output.new) status)) }
+    ensures stops { (s : State) → StandsFor S.Store world.old s → IfErr result (λ failure. Ends S.Store world.old world.new (λ end.
+        Stops task.entry s end failure (HasCleanDisk (store_of S.Store world.new)) (R.remaining input) (W.contents output.old) (W.contents output.new))) }
+{
+    world.leaves();
     match task {
-        Task::Init { file: _ } => {
-            put_all(output, b"created\n")?;
-            Ok(0)
-        }
+        Task::Init { file: _ } => put_text("created\n", output),
         Task::Apply { file: _, batches } => apply(rt, world, batches, input, output),
         Task::Ask { file: _, batches } => ask(rt, world, batches, input, output),
-        Task::Dump { file: _ } => {
-            world.dump(output)?;
-            Ok(0)
-        }
-        Task::Check { file: _ } => check(rt, world, output),
+        Task::Dump { file: _ } => show(world, output),
+        Task::Check { file: _ } => check(rt.alloc(), world, output),
     }
-}
-
-/// Whether a task begins with a new world: `init` does, and each task on `:memory:`.
-fn begins_anew(task: Task<'_>) -> bool {
-    match task {
-        Task::Init { file: _ } => true,
-        Task::Apply { file, batches: _ }
-        | Task::Ask { file, batches: _ }
-        | Task::Dump { file }
-        | Task::Check { file } => file == ":memory:",
-    }
-}
-
-/// Does what a task says over a connection, writes the line of a failure, and hands the connection back.
-///
-/// A new world is made in a connection that has no tables where the task begins with one; otherwise the one that its tables
-/// show is opened.
-pub(crate) fn run_over<R: Read + Drop, W: Write, S: Alter + Drop>(
-    rt: &HostRuntime,
-    conn: Connection<S>,
-    task: Task<'_>,
-    input: R,
-    output: &mut W,
-    status: &mut u8,
-) -> Connection<S>
-    requires outside { (state S.Store conn).in_transaction ≡ false }
-{
-    let opened = if begins_anew(task) {
-        create_in(rt.alloc(), conn)
-    } else {
-        adopt(rt.alloc(), conn)
-    };
-    let mut world = match opened {
-        Ok(world) => world,
-        Err((fault, conn)) => {
-            *status = report(rt, Failure::from(fault), output);
-            return conn;
-        }
-    };
-    *status = match do_task(rt, &mut world, task, input, output) {
-        Ok(status) => status,
-        Err(failure) => report(rt, failure, output),
-    };
-    world.into_connection()
 }

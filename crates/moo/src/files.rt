@@ -1,8 +1,16 @@
 //! The file of a task.
 
-use crate::commands::run_over;
+ghost use Rattle.std.specs.Prelude.{◌≡◌, ◌⊎◌, true, codes};
+ghost use Rattle.std.specs.Str.{bytes_eq};
+ghost use Rattle.moo_rows.specs.Opening.{opening_maps};
+ghost use Rattle.moo_world.specs.Judge.{state_of};
+ghost use Rattle.moo_store.specs.Opening.{IsOfStore};
+ghost use Rattle.moo.specs.Lines.{store_failure};
+ghost use Rattle.moo.specs.Run.{begins_anew, FailsAtOnce, RunsUnseen, RunsTask};
+
 use crate::failure::Failure;
 use crate::output::report;
+use crate::over::run_over;
 use moo_words::Task;
 use sqlite::{Connection, Error, ErrorCode, FileStore};
 use sqlite_disk::Disk;
@@ -10,13 +18,15 @@ use std::fs;
 use std::io::{Read, Write};
 
 /// The file of a task, and whether the task makes it.
-fn file_of<'a>(task: Task<'a>) -> (&'a str, bool) {
+fn file_of<'a>(task: Task<'a>) -> (&'a str, bool)
+    ensures { begins_anew task.entry ≡ true → bytes_eq result.0.now (codes ":memory:") ≡ false → result.1 ≡ true }
+{
     match task {
         Task::Init { file } => (file, true),
-        Task::Apply { file, batches: _ }
-        | Task::Ask { file, batches: _ }
-        | Task::Dump { file }
-        | Task::Check { file } => (file, false),
+        Task::Apply { file, batches: _ } => (file, false),
+        Task::Ask { file, batches: _ } => (file, false),
+        Task::Dump { file } => (file, false),
+        Task::Check { file } => (file, false),
     }
 }
 
@@ -29,12 +39,17 @@ fn run_over_files<R: Read + Drop, W: Write, D: Disk + Drop>(
     input: R,
     output: &mut W,
     status: &mut u8,
-) -> Connection<FileStore<D>> {
+) -> Connection<FileStore<D>>
+    requires outside { conn.in_transaction ≡ false }
+    ensures { RunsTask task.entry (R.remaining input) (W.contents output.old) (W.contents output.new) status.new }
+{
     run_over(rt, conn, task, input, output, status)
 }
 
 /// Why a file can't be opened.
-fn open_failure(error: Error) -> Failure {
+fn open_failure(error: Error) -> Failure
+    ensures { (fault : _) × IsOfStore fault × (result ≡ store_failure fault) }
+{
     match error {
         Error::SqliteFailure(ErrorCode::OutOfMemory) => Failure::NoMemory,
         error => Failure::Store(error),
@@ -47,7 +62,9 @@ fn run_in_memory<R: Read + Drop, W: Write>(
     task: Task<'_>,
     input: R,
     output: &mut W,
-) -> u8 {
+) -> u8
+    ensures { RunsTask task.entry (R.remaining input) (W.contents output.old) (W.contents output.new) result }
+{
     let Ok(conn) = Connection::open_in_memory(rt.alloc()) else {
         return report(rt, Failure::NoMemory, output);
     };
@@ -66,7 +83,11 @@ fn run_in_file<R: Read + Drop, W: Write>(
     task: Task<'_>,
     input: R,
     output: &mut W,
-) -> u8 {
+) -> u8
+    requires file { bytes_eq file.now (codes ":memory:") ≡ false }
+    requires makes { begins_anew task ≡ true → bytes_eq file.now (codes ":memory:") ≡ false → makes ≡ true }
+    ensures { RunsTask task.entry (R.remaining input) (W.contents output.old) (W.contents output.new) result }
+{
     if !makes && fs::metadata(rt, file).is_err() {
         return report(rt, Failure::NoFile, output);
     }
@@ -86,7 +107,9 @@ pub(crate) fn run_task<R: Read + Drop, W: Write>(
     task: Task<'_>,
     input: R,
     output: &mut W,
-) -> u8 {
+) -> u8
+    ensures { RunsTask task.entry (R.remaining input) (W.contents output.old) (W.contents output.new) result }
+{
     let (file, makes) = file_of(task);
     if file == ":memory:" {
         run_in_memory(rt, task, input, output)

@@ -5,6 +5,7 @@ mod commands;
 mod failure;
 mod files;
 mod output;
+mod over;
 mod run;
 #[cfg(test)]
 mod tests;

@@ -38,7 +38,8 @@ pub(crate) fn put_line<W: Write>(line: &str, status: u8, output: &mut W) -> u8
 fn explain(rt: &HostRuntime, failure: Failure) {
     let reason = match failure {
         Failure::NoFile => "no such file",
-        Failure::Store(Error::SqliteFailure(ErrorCode::DatabaseBusy)) => "in use by another program",
+        Failure::Store(Error::SqliteFailure(ErrorCode::DatabaseBusy)) =>
+            "in use by another program",
         Failure::Store(Error::SqliteFailure(ErrorCode::NotADatabase)) => "not a database of moo",
         Failure::Store(Error::SqliteFailure(ErrorCode::NameTaken)) => "it has tables already",
         Failure::Store(Error::SqliteFailure(ErrorCode::DiskFull)) => "the disk is full",

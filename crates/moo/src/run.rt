@@ -1,5 +1,8 @@
 //! What the words of the command line do.
 
+ghost use Rattle.std.specs.Prelude.{map};
+ghost use Rattle.moo.specs.Run.{EndsUsage, RunsWords};
+
 use crate::failure::Failure;
 use crate::files::run_task;
 use crate::output::{put_line, report};
@@ -8,7 +11,9 @@ use moo_words::{Usage, read_words};
 use std::io::{Read, Write};
 
 /// Writes what the reader of the command line says, and answers its status.
-fn put_usage<W: Write>(rt: &HostRuntime, error: &clap::Error, output: &mut W) -> u8 {
+fn put_usage<W: Write>(rt: &HostRuntime, error: &clap::Error, output: &mut W) -> u8
+    ensures { EndsUsage (W.contents output.old) (W.contents output.new) result }
+{
     if error.kind() == ErrorKind::OutOfMemory {
         return report(rt, Failure::NoMemory, output);
     }
@@ -20,20 +25,33 @@ fn put_usage<W: Write>(rt: &HostRuntime, error: &clap::Error, output: &mut W) ->
 }
 
 /// Says why the words name no task.
-fn report_usage<W: Write>(rt: &HostRuntime, usage: &Usage, output: &mut W) -> u8 {
+fn report_usage<W: Write>(rt: &HostRuntime, usage: &Usage, output: &mut W) -> u8
+    ensures { EndsUsage (W.contents output.old) (W.contents output.new) result }
+{
     match usage {
         Usage::Refused(error) => put_usage(rt, error, output),
         Usage::Absent => report(rt, Failure::Usage, output),
     }
 }
 
-/// Does what the words say, which begin with `moo`, and answers the exit status.
+/// Does what the words say, which begin with `moo`, and answers the exit status: `init`, `apply`, `ask`, `dump` or `check` on
+/// a file, or on a new world in memory for `:memory:`; with no other word `apply :memory: -`.
+///
+/// What the command writes goes to the output, and so does the line of a failure behind it: 1 where the store, the reader or
+/// the writer failed, the text is too long, or an answer is `fault` or `closed`; 3 where the file is damaged or of a newer
+/// version; 4 where memory ran out. Words that name no task give the text of their reader: 2, or 0 for help and the version.
+/// The cause of a store fault goes to standard error.
+///
+/// At the end of a run the file is closed, so that nothing stays beside it. Where that fails its log stays, which is a part
+/// of it: what was committed stands, and the status is the same.
 pub fn run_words<R: Read + Drop, W: Write>(
     rt: &HostRuntime,
     words: &[&str],
     input: R,
     output: &mut W,
-) -> u8 {
+) -> u8
+    ensures { RunsWords (map (λ word. word.now) words.now) (R.remaining input) (W.contents output.old) (W.contents output.new) result }
+{
     match read_words(rt.alloc(), words) {
         Ok(task) => run_task(rt, task, input, output),
         Err(usage) => report_usage(rt, &usage, output),

@@ -30,6 +30,7 @@ pub fn adopt<S: Alter + Drop>(
     requires outside { (state S.Store conn).in_transaction ≡ false }
     // Tables that show a world and a number give a World that stands for these, unless the store fails or memory is refused.
     ensures stands { (s : State) → Keeps (state S.Store conn) s → IfOk result (λ world. HasCleanDisk (store_of S.Store world) → StandsFor S.Store world s) }
+    ensures works { IfOk result (λ world. world.failed ≡ false) }
     ensures whole { (s : State) → Keeps (state S.Store conn) s → IfErr result (λ e. HasCleanDisk (state S.Store e.1) → IsOfStore e.0) }
     // Nothing else is opened, and a damage that is answered is that of the tables.
     ensures shown { IfOk result (λ world. HasCleanDisk (store_of S.Store world) → (tables : Tables) → Rests (state S.Store conn) tables → ShowsRows tables world.rows.maps × IsGood world.rows.maps) }

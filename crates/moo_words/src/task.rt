@@ -1,5 +1,5 @@
 //! The task that the words of the command line name.
-ghost use Rattle.std.specs.Prelude.{◌≡◌, Some, map, IfOk, IfSome, codes, length};
+ghost use Rattle.std.specs.Prelude.{◌≡◌, ◌<◌, Some, map, IfOk, IsErr, IfSome, codes, length};
 ghost use Rattle.clap.specs.Walk.{rows_of};
 ghost use Rattle.clap.specs.Matches.{found_of};
 ghost use Rattle.moo_words.specs.Tasks.{HasText, IsTask, NamesTask};
@@ -73,7 +73,8 @@ fn task_in<'a>(name: &str, matches: &ArgMatches<'a>) -> Option<Task<'a>>
 /// With no other word it is `apply :memory: -`. Refused where `clap` refuses the words, which asking for help or the version is
 /// too, or memory runs out; Absent where its matches lack an entry.
 pub fn read_words<'a>(alloc: Global, words: &'a [&'a str]) -> Result<Task<'a>, Usage>
-    ensures { IfOk result (NamesTask (map (λ word. word.now) words.entry.now)) }
+    ensures task { IfOk result (NamesTask (map (λ word. word.now) words.entry.now)) }
+    ensures more { IsErr result → 1 < length words.entry.now }
 {
     if words.len() <= 1 {
         return Ok(Task::Apply {
