@@ -101,6 +101,15 @@ relinked_is g c = c.from_vec-2.ensures ∙ c.in_ok-relinked.ensures
 pub returns-clause-removed : goal.returns-clause-removed
 returns-clause-removed g c = removed_is g c
 
+pub returns-clause-props : goal.returns-clause-props
+returns-clause-props g c = own_is g c
+
+pub returns-clause-verbs : goal.returns-clause-verbs
+returns-clause-verbs g c = c.in_ok-verbs.ensures
+
+pub returns-clause-relinked : goal.returns-clause-relinked
+returns-clause-relinked g c = relinked_is g c
+
 pub returns-clause-removed_order : goal.returns-clause-removed_order
 returns-clause-removed_order g c = subst (AreAscending slot_cmp) (sym (removed_is g c)) (dropped_ascend (before g c).maps c.requires.good c.args.x c.in-Some.row.now (here g c))
 

@@ -1,5 +1,6 @@
 use Rattle.std.proofs.Common.{◌≡◌, ◌++◌, map, length, Some, sym, ap, subst, ◌∙◌, arith}
-use Rattle.std.specs.Prelude.{is_some}
+use Rattle.std.specs.Prelude.{is_some, unwrap_or, []}
+use Rattle.std.specs.Option.{option_map}
 use Rattle.std.specs.FinMap.{get, entries}
 use Rattle.std.proofs.lemmas.Bool.{false≢true}
 use Rattle.moo_value.specs.declared.value.ObjNo.{ObjNo}
@@ -10,7 +11,7 @@ use Rattle.moo_world.specs.World.{IsWellFormed}
 use Rattle.moo_world.specs.Rows.{look_ups, world_of, IsSound}
 use Rattle.moo_world.proofs.Reparenting.{IsWellFormed-reparented}
 use Rattle.moo_world.proofs.Seen.{is_object_seen}
-use Rattle.moo_props.specs.Reparent.{owners_under, props_only_of, id_of, origins, slots_moved, keys_over, relinked}
+use Rattle.moo_props.specs.Reparent.{owners_under, props_only_of, id_of, origins, slots_moved, keys_over, relinked, relinked_list}
 use Rattle.moo_props.specs.Touched.{props_of, removed_keys, added_keys, slot_after, IsSameButSlotsAndObjects}
 use Rattle.moo_props.proofs.Definers.{new_is, no_clash}
 use Rattle.moo_props.proofs.Moved.{lost_list, gained_list, all_on_new, slots2, objects2, rest2, world2, sound2, base2, writes2}
@@ -70,6 +71,11 @@ returns-clause-removed g c = removed_is g c
 
 pub returns-clause-added : goal.returns-clause-added
 returns-clause-added g c = added_is g c
+
+pub returns-clause-relinked : goal.returns-clause-relinked
+returns-clause-relinked g c =
+    c.in_ok-relinked.ensures.list
+    ∙ ap (λ o. unwrap_or (option_map (λ row. relinked_list c.args.x row c.args.new) o) []) (sym (here g c))
 
 pub returns-clause-removed_order : goal.returns-clause-removed_order
 returns-clause-removed_order g c = subst (AreAscending slot_cmp) (sym (removed_is g c)) (removed_ascend (before g c).maps c.args.x c.args.new)
