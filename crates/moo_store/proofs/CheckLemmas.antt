@@ -25,7 +25,8 @@ use Rattle.moo_damage.specs.Differences.{AgreeAt}
 use Rattle.moo_store.specs.States.{KeepsRows}
 use Rattle.moo_store.specs.Kept.{World}
 use Rattle.moo_store.specs.World.{store_of, StandsFor}
-use Rattle.moo_store.specs.Checked.{Fails}
+use Rattle.moo_store.specs.Checked.{Fails, SaysInCheck}
+use Rattle.moo_store.specs.Opening.{Says}
 use Rattle.moo_store.specs.declared.fault.StoreFault.{StoreFault}
 use Rattle.moo_store.specs.declared.fault.StoreFault.TheVariants.{Store, Damaged, NewerVersion, OutOfMemory, Closed}
 
@@ -38,6 +39,14 @@ agrees_itself m (Slot n (pos id)) = refl
 agrees_itself m (Slot n (negsuc i)) = tt
 agrees_itself m (Verb n (pos id)) = refl
 agrees_itself m (Verb n (negsuc i)) = tt
+
+-- what opening says of the tables, a check says too
+pub says_in_check : (own : Maps) (tables : Tables) (fault : StoreFault) → Says tables fault → SaysInCheck own tables fault
+says_in_check own tables (Store error) it = tt
+says_in_check own tables (Damaged kind key) it = inl it
+says_in_check own tables NewerVersion it = it
+says_in_check own tables OutOfMemory it = tt
+says_in_check own tables Closed it = tt
 
 -- a World that works on was answered Ok, or OutOfMemory
 pub works_on : (r : Result ℕ StoreFault) (failed : Bool) (P : Type 0) → Fails r failed → failed ≡ false → MatchResult r (λ _. P) (λ fault. fault ≡ OutOfMemory → P) → P

@@ -1,6 +1,6 @@
 use Rattle.std.proofs.Common.{inr, refl, sym, subst}
 use Rattle.moo_damage.specs.Differences.{AgreeAt}
-use Rattle.moo_store.proofs.CheckLemmas.{agrees_itself, rests_without_memory}
+use Rattle.moo_store.proofs.CheckLemmas.{agrees_itself, says_in_check, rests_without_memory}
 use Rattle.moo_store.proofs.checking.check_rows.Goals as goal
 
 pub returns-in-Some-clause-fault : goal.returns-in-Some-clause-fault
@@ -15,3 +15,6 @@ returns-in-Some-clause-whole g c clean tables rests shows =
 
 pub returns-clause-stays : goal.returns-clause-stays
 returns-clause-stays g c clean memory = rests_without_memory g.S.Store c.args.conn.now c.read_rows.new.conn c.in-Err.fault c.in-Err.ensures.quiet memory clean
+
+pub returns-clause-fault : goal.returns-clause-fault
+returns-clause-fault g c clean tables rests = says_in_check c.args.own.now.maps tables c.in-Err.fault (c.in-Err.ensures.fault clean tables rests)
