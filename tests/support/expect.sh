@@ -34,7 +34,7 @@ rows() {
 import sqlite3, sys
 connection = sqlite3.connect(sys.argv[1])
 for (table,) in connection.execute("select name from sqlite_schema where type = '"'table'"' order by name").fetchall():
-    for row in connection.execute(f"select * from {table} order by 1, 2"):
+    for row in sorted(connection.execute(f"select * from {table}").fetchall(), key=repr):
         print(table, *row, sep="|")
 ' "$1"
 }

@@ -10,8 +10,8 @@ moo_simple : is_simple moo_app ≡ true
 unfolding clap_on_literals
 moo_simple = refl
 
-pub returns-in-Some-task_in : goal.returns-in-Some-task_in
-returns-in-Some-task_in c =
+pub returns-in-Some-task_in-clause-task : goal.returns-in-Some-task_in-clause-task
+returns-in-Some-task_in-clause-task c =
     let parsed = c.in-Ok-try_get_matches_from.ensures.matches (ap is_simple c.in-Ok.ensures ∙ moo_simple) in
     let found = pair_given (subcommand_rows_of c.in-Ok-try_get_matches_from.matches) c.in-Some.name.now _ (c.in-Some.ensures.name ∙ name_is c.in-Ok-try_get_matches_from.matches) c.in-Some.ensures.rows in
     let many : 1 < length (map (λ word. word.now) c.args.words.now) =
