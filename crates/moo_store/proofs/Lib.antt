@@ -12,6 +12,7 @@ pub mod Writing
 pub mod WholeRuns
 pub mod Opened
 pub mod Untouched
+pub mod Numbered
 pub mod Asking
 pub mod AdoptLemmas
 pub mod HeadlineLemmas

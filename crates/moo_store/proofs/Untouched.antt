@@ -13,6 +13,7 @@ use Rattle.moo_text.specs.declared.reply.Reply.{Reply}
 use Rattle.moo_text.specs.declared.reply.Reply.TheVariants as reply
 use Rattle.moo_value.specs.declared.value.Value.{Value}
 use Rattle.moo_world.specs.Rows.{IsGood}
+use Rattle.moo_world.specs.Between.{BatchLeads}
 use Rattle.moo_world.specs.Judge.{State, Accepted, state_of, judge, left_by}
 use Rattle.moo_store.specs.Answered.{acknowledged, added}
 use Rattle.moo_cells.specs.Shows.{ShowsRows}
@@ -32,12 +33,12 @@ is_over g world s tables at clean rests = record { rests = rests; shows = λ wor
 writes-append : (rows : Maps) (tables : Tables) (batches : List Batch) (mid : Maps) (between : Tables) (more : List Batch) (end : Maps) (after : Tables)
     → Writes rows tables batches mid between → Writes mid between more end after → Writes rows tables (batches ++ more) end after
 writes-append rows tables [] mid between more end after it on = subst (λ m. Writes m tables more end after) it.0 (subst (λ t. Writes mid t more end after) it.1 on)
-writes-append rows tables (b ∷ bs) mid between more end after it on = (it.0, it.1, it.2, it.3, it.4, writes-append it.0 it.1 bs mid between more end after it.5 on)
+writes-append rows tables (b ∷ bs) mid between more end after it on = (it.0, it.1, it.2, it.3, it.4, it.5, writes-append it.0 it.1 bs mid between more end after it.6 on)
 
 -- what was written shows the rows at the end
 writes-show : (rows : Maps) (tables : Tables) (batches : List Batch) (end : Maps) (after : Tables) → Writes rows tables batches end after → ShowsRows tables rows → ShowsRows after end
 writes-show rows tables [] end after it shown = subst (ShowsRows after) (sym it.0) (subst (λ t. ShowsRows t rows) (sym it.1) shown)
-writes-show rows tables (b ∷ bs) end after it shown = writes-show it.0 it.1 bs end after it.5 it.4.shows
+writes-show rows tables (b ∷ bs) end after it shown = writes-show it.0 it.1 bs end after it.6 it.5.shows
 
 none_without_replies : (batches : List Batch) → acknowledged batches [] ≡ []
 none_without_replies [] = refl
@@ -87,13 +88,13 @@ nothing_written g old batch r none = record {
 }
 
 -- an accepted batch writes its changes, or the store failed and nothing is written
-pub accepted_writes : {S : Type 0} (g : Ghosts S) (old new : World S) (batch : Batch) (answers : List Value) (seq : ℕ) (next : Maps) (r : Result Reply StoreFault) → old.failed ≡ false → IsGood next
+pub accepted_writes : {S : Type 0} (g : Ghosts S) (old new : World S) (batch : Batch) (answers : List Value) (seq : ℕ) (next : Maps) (r : Result Reply StoreFault) → old.failed ≡ false → IsGood next → BatchLeads batch old.rows.maps next
     → judge (state_of old.rows.maps) batch ≡ Accepted answers (state_of next)
     → IfOk r (λ r. r ≡ reply.Accepted seq answers) → OnOk r (new.failed ≡ false → new.rows.maps ≡ next)
     → OnOk r ((tables : Tables) → HasCleanDisk (store_of g new) → Rests (store_of g old) tables → ShowsRows tables old.rows.maps → (after : Tables) × Rests (store_of g new) after × KeepsCells old.rows.maps next tables after)
     → OnErr r (HasCleanDisk (store_of g new) → IsTrue (store_of g new).is_open → (tables : Tables) → Rests (store_of g old) tables → Rests (store_of g new) tables)
     → (HasCleanDisk (store_of g new) → HasCleanDisk (store_of g old)) → IfErr r (λ fault. (error : _) × (fault ≡ Store error)) → OnErr r (new.failed ≡ true) → WritesOne g old new batch r
-accepted_writes g old new batch answers seq next (Ok reply) works good judged is rows cells undone clean fault failed = record {
+accepted_writes g old new batch answers seq next (Ok reply) works good leads judged is rows cells undone clean fault failed = record {
   clean = clean;
   written = λ c known tables over.
       let it = cells tables c over.rests (over.shows works) in
@@ -101,11 +102,11 @@ accepted_writes g old new batch answers seq next (Ok reply) works good judged is
         end = next;
         after = it.0;
         rests = it.1;
-        writes = subst (λ x. Writes old.rows.maps tables (acknowledged (batch ∷ []) (x ∷ [])) next it.0) (sym is) (next, it.0, good, sym (ap (left_by (state_of old.rows.maps)) judged), it.2, (refl, refl));
+        writes = subst (λ x. Writes old.rows.maps tables (acknowledged (batch ∷ []) (x ∷ [])) next it.0) (sym is) (next, it.0, good, leads, sym (ap (left_by (state_of old.rows.maps)) judged), it.2, (refl, refl));
         rows = rows;
       };
 }
-accepted_writes g old new batch answers seq next (Err (Store error)) works good judged is rows cells undone clean fault failed = record {
+accepted_writes g old new batch answers seq next (Err (Store error)) works good leads judged is rows cells undone clean fault failed = record {
   clean = clean;
   written = λ c opened tables over. record {
     end = old.rows.maps;
@@ -115,10 +116,10 @@ accepted_writes g old new batch answers seq next (Err (Store error)) works good 
     rows = λ on. let no : true ≡ false = sym failed ∙ on in absurd cc;
   };
 }
-accepted_writes g old new batch answers seq next (Err (Damaged kind key)) works good judged is rows cells undone clean fault failed = let no : (Damaged kind key) ≡ Store fault.0 = fault.1 in absurd cc
-accepted_writes g old new batch answers seq next (Err NewerVersion) works good judged is rows cells undone clean fault failed = let no : NewerVersion ≡ Store fault.0 = fault.1 in absurd cc
-accepted_writes g old new batch answers seq next (Err OutOfMemory) works good judged is rows cells undone clean fault failed = let no : OutOfMemory ≡ Store fault.0 = fault.1 in absurd cc
-accepted_writes g old new batch answers seq next (Err Closed) works good judged is rows cells undone clean fault failed = let no : Closed ≡ Store fault.0 = fault.1 in absurd cc
+accepted_writes g old new batch answers seq next (Err (Damaged kind key)) works good leads judged is rows cells undone clean fault failed = let no : (Damaged kind key) ≡ Store fault.0 = fault.1 in absurd cc
+accepted_writes g old new batch answers seq next (Err NewerVersion) works good leads judged is rows cells undone clean fault failed = let no : NewerVersion ≡ Store fault.0 = fault.1 in absurd cc
+accepted_writes g old new batch answers seq next (Err OutOfMemory) works good leads judged is rows cells undone clean fault failed = let no : OutOfMemory ≡ Store fault.0 = fault.1 in absurd cc
+accepted_writes g old new batch answers seq next (Err Closed) works good leads judged is rows cells undone clean fault failed = let no : Closed ≡ Store fault.0 = fault.1 in absurd cc
 
 -- an accepted batch is acknowledged, unless the store failed
 pub accepted_is_taken : {S : Type 0} (old new : World S) (batch : Batch) (answers : List Value) (seq : ℕ) (r : Result Reply StoreFault)

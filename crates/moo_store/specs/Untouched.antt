@@ -11,6 +11,7 @@ use Rattle.moo_tables.specs.Tables.{Tables}
 use Rattle.moo_tables.specs.Inside.{Rests}
 use Rattle.moo_world.specs.declared.call.Batch.{Batch}
 use Rattle.moo_world.specs.Rows.{IsGood}
+use Rattle.moo_world.specs.Between.{BatchLeads}
 use Rattle.moo_world.specs.Judge.{state_of}
 use Rattle.moo_text.specs.declared.reply.Reply.{Reply}
 use Rattle.moo_store.specs.Answered.{next_of, acknowledged}
@@ -28,12 +29,12 @@ pub record KeepsCells (rows next : Maps) (old new : Tables) : Type 0 where
   pub slots : (key : ObjNo × PropId) → get rows.slots key ≡ get next.slots key → new.slot (key.0.0, pos key.1.0) ≡ old.slot (key.0.0, pos key.1.0)
   pub verbs : (key : ObjNo × VerbId) → get rows.verbs key ≡ get next.verbs key → new.verb (key.0.0, pos key.1.0) ≡ old.verb (key.0.0, pos key.1.0)
 
--- Accepted batches, one after another: each leads from good rows to good rows, as it is judged, and keeps the cells of every row
--- that is the same in both.
+-- Accepted batches, one after another: each leads from good rows to good rows, as it is judged, call by call with the numbers of
+-- properties and verbs kept, and keeps the cells of every row that is the same in both.
 abbrev pub Writes : Maps → Tables → List Batch → Maps → Tables → Type 0
 Writes rows tables [] end after = (end ≡ rows) × (after ≡ tables)
 Writes rows tables (batch ∷ batches) end after =
-    (next : Maps) × (between : Tables) × IsGood next × (state_of next ≡ next_of (state_of rows) batch) × KeepsCells rows next tables between × Writes next between batches end after
+    (next : Maps) × (between : Tables) × IsGood next × BatchLeads batch rows next × (state_of next ≡ next_of (state_of rows) batch) × KeepsCells rows next tables between × Writes next between batches end after
 
 -- the tables of a World, after these batches were written
 pub record HasWritten {S : Type 0} (g : Ghosts S) (old new : World S) (tables : Tables) (batches : List Batch) : Type 0 where

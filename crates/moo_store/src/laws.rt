@@ -6,7 +6,11 @@ ghost use Rattle.moo_world.specs.declared.call.Batch.{Batch};
 ghost use Rattle.moo_text.specs.declared.next.Next.{Next};
 ghost use Rattle.moo_text.specs.declared.reply.Reply.{Reply};
 ghost use Rattle.moo_text.specs.declared.reply.Answer.{Answer};
+ghost use Rattle.moo_rows.specs.Maps.{Maps};
+ghost use Rattle.moo_tables.specs.Tables.{Tables};
 ghost use Rattle.moo_world.specs.Judge.{State, after};
+ghost use Rattle.moo_world.specs.Numbers.{NumbersStay};
+ghost use Rattle.moo_store.specs.Untouched.{Writes};
 ghost use Rattle.moo_store.specs.Answered.{Answered, acknowledged};
 ghost use Rattle.moo_store.specs.Stand.{Stand, state_at, RunsBatch, AsksBatch};
 ghost use Rattle.moo_store.specs.Text.{accepted, is_plain, replies, asked, batches_of};
@@ -20,6 +24,12 @@ pub fn acknowledged_batches_decide()
 /// Runs that each start from what the one before left join to one list.
 pub fn runs_join()
     ensures { (s : State) (first second : List Batch) → after s (first ++ second) ≡ after (after s first) second }
+{}
+
+/// The rows that accepted batches lead to have every property and verb that they keep under its number, and none under a number that
+/// was given before.
+pub fn written_batches_keep_numbers()
+    ensures { (rows end : Maps) (tables after : Tables) (batches : List Batch) → Writes rows tables batches end after → NumbersStay rows end }
 {}
 
 /// The state behind a text is that after its acknowledged batches.

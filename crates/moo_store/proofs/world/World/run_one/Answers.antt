@@ -1,6 +1,7 @@
 use Rattle.std.proofs.Common.{◌≡◌, ◌<◌, ◌⊎◌, IfOk, refl, sym, ap, ◌∙◌, subst, true, false}
 use Rattle.moo_rows.specs.declared.row.Head.{Head}
 use Rattle.moo_world.specs.Judge.{state_of, judge, Accepted, Refused, NoRoom, Stale}
+use Rattle.moo_world.specs.Between.{BatchLeads}
 use Rattle.moo_batch.specs.Changes.{AreChanges}
 use Rattle.moo_text.specs.declared.reply.Reply.TheVariants as reply
 use Rattle.moo_store.specs.Kept.{World}
@@ -73,7 +74,8 @@ returns-in-Ok-clause-cells g c =
     let exact = subst (λ (w : World _). AreChanges w.rows.maps next c.in-Accepted.changes) c.self.view_is found.1 in
     let works = subst (λ (w : World _). w.failed ≡ false) c.self.view_is c.if-self.false in
     let judged = subst (λ (w : World _). judge (state_of w.rows.maps) c.args.batch.now ≡ Accepted answers (state_of next)) c.self.view_is found.3 in
-    accepted_writes g.S.Store c.args.self.now c.commit.new.self c.args.batch.now answers c.in-Accepted.changes.head.seq next c.commit.result works found.2 judged c.commit.ensures.reply
+    let leads = subst (λ (w : World _). BatchLeads c.args.batch.now w.rows.maps next) c.self.view_is found.4 in
+    accepted_writes g.S.Store c.args.self.now c.commit.new.self c.args.batch.now answers c.in-Accepted.changes.head.seq next c.commit.result works found.2 leads judged c.commit.ensures.reply
     (at_changed c.commit.result (λ rows. rows next exact) c.commit.ensures.rows)
     (at_changed c.commit.result (λ cells tables clean rests shown. cells next tables exact clean rests shown) c.commit.ensures.cells) c.commit.ensures.undone c.commit.ensures.clean c.commit.ensures.fault c.commit.ensures.failed
 
