@@ -9,13 +9,8 @@ batches=${1:-2000}
 rounds=${2:-5}
 folder=$(mktemp -d "${3:-${TMPDIR:-/tmp}}/moo-bench.XXXXXX") || exit 1
 trap 'rm -rf "$folder"' EXIT
-program=$here/crates/bench_stores/out/bench_stores
-if [ ! -x "$program" ]; then
-    (cd "$here/crates/bench_stores" && rt run -- memory 1 </dev/null >"$folder/build.log" 2>&1) || {
-        cat "$folder/build.log" >&2
-        exit 1
-    }
-fi
+program=$here/crates/moo/out/moo
+[ -x "$program" ] || "$here/.ci/build" moo >&2 || exit 1
 
 # the figure in front of 'a second'
 rate() {

@@ -1,4 +1,4 @@
-"""The rows that the batches of bench_stores write, written by the machine's own SQLite.
+"""The rows that the batches of moo_rate.py write, written by the machine's own SQLite.
 
     python3 sqlite_baseline.py COUNT FILE
 
