@@ -1,2 +1,2 @@
-mod Over
-mod Tasks
+mod Stopping
+mod Words

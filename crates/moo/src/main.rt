@@ -1,11 +1,7 @@
 //! The program `moo`: an object database server with the behaviour of LambdaMOO 1.8.
 #![tactic(auto)]
 
-mod commands;
 mod failure;
-mod files;
-mod output;
-mod over;
 mod run;
 #[cfg(test)]
 mod tests;
