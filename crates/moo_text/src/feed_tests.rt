@@ -41,16 +41,17 @@ fn a_text_is_read_in_whatever_pieces_it_comes(rt: HostRuntime) -> Result<(), Fai
 #[derive(Drop)]
 struct PieceByPiece<'a> {
     pieces: &'a [&'a [u8]],
+    given: usize,
 }
 
 impl<'a> Read for PieceByPiece<'a> {
     fn read(&mut self, buf: &mut [u8]) -> io::Result<usize> {
-        let Some((piece, others)) = self.pieces.split_first() else {
+        let Some(piece) = self.pieces.get(self.given) else {
             return Err(io::Error::from(io::ErrorKind::WouldBlock));
         };
         let count = buf.len().min(piece.len());
         buf[..count].copy_from_slice(&piece[..count]);
-        self.pieces = others;
+        self.given = self.given.saturating_add(1);
         Ok(count)
     }
 }
@@ -58,7 +59,14 @@ impl<'a> Read for PieceByPiece<'a> {
 #[test]
 fn a_line_ends_where_no_bytes_come(rt: HostRuntime) -> Result<(), Fail> {
     let pieces: [&[u8]; 3] = [b"ab", b"", b"c\n"];
-    let mut lines = LineReader::new(rt.alloc(), PieceByPiece { pieces: &pieces }, 100);
+    let mut lines = LineReader::new(
+        rt.alloc(),
+        PieceByPiece {
+            pieces: &pieces,
+            given: 0,
+        },
+        100,
+    );
     let line = lines.next_line()?;
     assert!(rt; matches!(&line, Some(line) if line.as_slice() == b"ab".as_slice()));
     assert!(rt; lines.next_line()?.is_none());
@@ -81,7 +89,7 @@ fn a_text_ends_where_no_bytes_come(rt: HostRuntime) -> Result<(), Fail> {
         (&[b"", b"batch as #3\nend\n"], b""),
     ];
     for (pieces, told) in cases {
-        assert!(rt; items_of(&rt, PieceByPiece { pieces })?.as_slice() == told);
+        assert!(rt; items_of(&rt, PieceByPiece { pieces, given: 0 })?.as_slice() == told);
     }
     Ok(())
 }
