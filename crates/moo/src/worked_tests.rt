@@ -1,10 +1,10 @@
 //! The worked batches as texts that the program runs.
 
 use crate::tests::answers;
-use test_worked::{OBJECTS, PROPERTIES, TREE, VERBS};
 use std::alloc::Global;
 use std::process::Abort;
 use std::test::Fail;
+use test_worked::{OBJECTS, PROPERTIES, TREE, VERBS};
 
 /// Puts each of the pieces that `; ` parts on a line of its own.
 fn put_lines(text: &mut String, pieces: &str) -> Result<(), Fail> {
