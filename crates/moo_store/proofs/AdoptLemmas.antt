@@ -1,5 +1,5 @@
 -- From what was read of a connection to the World over it.
-use Rattle.std.proofs.Common.{◌≡◌, ◌⊎◌, inl, inr, Result, Ok, Err, IfOk, IfErr, IsTrue, false, sym, ap, subst, subst₂, ◌∙◌}
+use Rattle.std.proofs.Common.{◌≡◌, ◌⊎◌, inl, inr, Result, Ok, Err, IfOk, IfErr, IsTrue, false, sym, ap, subst, subst₂, ◌∙◌, true}
 use Rattle.sqlite.specs.State.{State as Database, HasCleanDisk, IsUnchanged, IsRolledBack, Survives}
 use Rattle.sqlite.specs.Store.{Ghosts}
 use Rattle.sqlite.specs.Held.{Held, state}
@@ -73,7 +73,7 @@ module _ {S : Type 0} (g : Ghosts S) (old new : Held S) where
 
     pub stands : IsGood rows → (HasCleanDisk (state g new) → (tables : Tables) → Rests (state g old) tables → ShowsRows tables rows)
         → (HasCleanDisk (state g new) → (tables : Tables) (m : Maps) → Rests (state g old) tables → ShowsRows tables m → IsGood m → rows ≡ m)
-        → (s : State) → Keeps (state g old) s → HasCleanDisk (store_of g world) → StandsFor g world s
+        → (s : State) → Keeps (state g old) s → HasCleanDisk (store_of g world) → StandsFor g true world s
     stands good shown one s it first =
         let clean = clean_at first in
         let k = it.keeps in
@@ -84,8 +84,8 @@ module _ {S : Type 0} (g : Ghosts S) (old new : Held S) where
         record {
           works = works;
           is_at = record {
-            tables = λ _. subst (λ h. Keeps (state g h) s) (sym is) (record { rows = rows; good = good; state = is_state; keeps = keeps });
+            tables = λ _ _. subst (λ h. Keeps (state g h) s) (sym is) (record { rows = rows; good = good; state = is_state; keeps = keeps });
             rows = λ _. ap state_of same_rows ∙ is_state;
-            shown = λ _ _. subst₂ (λ h m. KeepsRows (state g h) m) (sym is) (sym same_rows) keeps;
+            shown = λ _ _ _. subst₂ (λ h m. KeepsRows (state g h) m) (sym is) (sym same_rows) keeps;
           };
         }

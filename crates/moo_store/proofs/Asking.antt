@@ -1,5 +1,5 @@
 -- What the asking of a text answers.
-use Rattle.std.proofs.Common.{◌≡◌, inl, inr, ℕ, true, List, Option, Result, Ok, Err, refl, ap, subst, sym}
+use Rattle.std.proofs.Common.{◌≡◌, inl, inr, ℕ, true, List, Option, Result, Ok, Err, refl, ap, subst, sym, Bool}
 use Rattle.std.specs.Prelude.{◌⊎◌, IsTrue, IfOk}
 use Rattle.std.specs.Result.{IsOkAnd}
 use Rattle.sqlite.specs.Store.{Ghosts}
@@ -32,11 +32,11 @@ replies_judged s batch (Err fault) it run = absurd it
 
 -- what asking a batch says of a World, wherever it stands
 pub asked_one : {S : Type 0} (g : Ghosts S) (world : World S) (batch : Batch) (r : Result Reply StoreFault)
-    → ((s : State) → StandsFor g world s → IsOkAnd r (λ reply. (reply ≡ NoMemory) ⊎ (reply ≡ answer_of s (judge s batch)))) → ((s : State) → StandsFor g world s → IfOk r (λ reply. reply ≡ NoMemory → IsRun s batch))
-    → (IsTrue world.failed → r ≡ Err Closed) → (stand : Stand) → StandsAt g world stand → AsksBatch stand batch (answer_to r) stand
-asked_one g world batch r judged run closed (Works s) at = replies_judged s batch r (judged s at) (run s at)
-asked_one g world batch r judged run closed (Failed s) at = (ap answer_to (closed at.0), refl)
-asked_one g world batch r judged run closed (StoreFailed s hand) at = (ap answer_to (closed at.0), refl)
+    → ((known : Bool) (s : State) → StandsFor g known world s → IsOkAnd r (λ reply. (reply ≡ NoMemory) ⊎ (reply ≡ answer_of s (judge s batch)))) → ((known : Bool) (s : State) → StandsFor g known world s → IfOk r (λ reply. reply ≡ NoMemory → IsRun s batch))
+    → (IsTrue world.failed → r ≡ Err Closed) → (known : Bool) (stand : Stand) → StandsAt g known world stand → AsksBatch stand batch (answer_to r) stand
+asked_one g world batch r judged run closed known (Works s) at = replies_judged s batch r (judged known s at) (run known s at)
+asked_one g world batch r judged run closed known (Failed s) at = (ap answer_to (closed at.0), refl)
+asked_one g world batch r judged run closed known (StoreFailed s hand) at = (ap answer_to (closed at.0), refl)
 
 -- ---- a text
 

@@ -1,5 +1,5 @@
 -- From what a check read to the World that it leaves.
-use Rattle.std.proofs.Common.{◌≡◌, ◌⊎◌, inl, inr, ◌≤◌, ◌≤ℤ◌, ℕ, ℤ, pos, negsuc, suc, zero, [], ◌∷◌, length, map, Bool, true, false, Result, Ok, Err, refl, sym, ap, subst, ◌∙◌, arith, length-append}
+use Rattle.std.proofs.Common.{◌≡◌, ◌⊎◌, inl, inr, ◌≤◌, ◌≤ℤ◌, ℕ, ℤ, pos, negsuc, suc, zero, [], ◌∷◌, length, map, Bool, true, false, Result, Ok, Err, refl, sym, ap, subst, ◌∙◌, arith, length-append, IsTrue}
 use Rattle.std.proofs.lemmas.List.{length-map}
 use Rattle.std.proofs.lemmas.List.Sums.{count_by-le-length, length-filter}
 use Rattle.std.proofs.lemmas.Int.{ints}
@@ -57,18 +57,16 @@ works_on (Err NewerVersion) failed P fails works it = absurd (let e : true ≡ f
 works_on (Err OutOfMemory) failed P fails works it = it refl
 works_on (Err Closed) failed P fails works it = absurd (let e : true ≡ false = sym fails ∙ works in cc)
 
-pub stands_on : {S : Type 0} (g : Ghosts S) (old : World S) (conn : Held S) (failed : Bool) (s : State) → StandsFor g old s → failed ≡ false → (HasCleanDisk (state g conn) → HasCleanDisk (store_of g old))
-    → ((tables : Tables) → Rests (store_of g old) tables → Rests (state g conn) tables) → HasCleanDisk (state g conn) → StandsFor g (record { connection = conn; rows = old.rows; failed = failed }) s
-stands_on g old conn failed s it works clean stays late =
-    let k = it.is_at.tables (clean late) in
-    let shown = it.is_at.shown it.works (clean late) in
+pub stands_on : {S : Type 0} (g : Ghosts S) (known : Bool) (old : World S) (conn : Held S) (failed : Bool) (s : State) → StandsFor g known old s → failed ≡ false → (HasCleanDisk (state g conn) → HasCleanDisk (store_of g old))
+    → ((tables : Tables) → Rests (store_of g old) tables → Rests (state g conn) tables) → HasCleanDisk (state g conn) → StandsFor g known (record { connection = conn; rows = old.rows; failed = failed }) s
+stands_on g known old conn failed s it works clean stays late =
     let over : (rows : Maps) → KeepsRows (store_of g old) rows → KeepsRows (state g conn) rows = λ rows kept. record { tables = kept.tables; rests = stays kept.tables kept.rests; shows = kept.shows } in
     record {
       works = works;
       is_at = record {
-        tables = λ _. record { rows = k.rows; good = k.good; state = k.state; keeps = over k.rows k.keeps };
+        tables = λ sure _. let k = it.is_at.tables sure (clean late) in record { rows = k.rows; good = k.good; state = k.state; keeps = over k.rows k.keeps };
         rows = λ _. it.is_at.rows it.works;
-        shown = λ _ _. over old.rows.maps shown;
+        shown = λ sure _ _. over old.rows.maps (it.is_at.shown sure it.works (clean late));
       };
     }
 

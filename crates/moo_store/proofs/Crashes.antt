@@ -1,5 +1,5 @@
 -- What a crash leaves of a connection, at rest and in a call.
-use Rattle.std.proofs.Common.{◌≡◌, ◌⊎◌, inl, inr, IsTrue, refl}
+use Rattle.std.proofs.Common.{◌≡◌, ◌⊎◌, inl, inr, Bool, IsTrue, refl}
 use Rattle.sqlite.specs.Tree.{Trees}
 use Rattle.sqlite.specs.Store.{Ghosts}
 use Rattle.sqlite.specs.State.{State as Database, HasCleanDisk, Survives}
@@ -52,7 +52,7 @@ pub rows_written : (old new : Database) (rows next : Maps) → (HasCleanDisk old
 rows_written old new rows next rests survives written clean = written clean (rests (clean_before old new (λ x. LeavesRows x next) survives clean))
 
 -- a crash leaves what a World stands at
-pub crash_leaves : {S : Type 0} (g : Ghosts S) (world : World S) (stand : Stand) → IsSettled (store_of g world) → StandsAt g world stand → HasCleanDisk (store_of g world) → CrashLeaves (store_of g world) stand
-crash_leaves g world (Works s) settled at clean trees left = (s, refl, left_at_rest (store_of g world) s settled (at.is_at.tables clean) trees left)
-crash_leaves g world (Failed s) settled at clean trees left = (s, refl, left_at_rest (store_of g world) s settled (at.1.tables clean) trees left)
-crash_leaves g world (StoreFailed s hand) settled at clean trees left = at.1 clean trees left
+pub crash_leaves : {S : Type 0} (g : Ghosts S) (known : Bool) (world : World S) (stand : Stand) → IsSettled (store_of g world) → StandsAt g known world stand → IsTrue known → HasCleanDisk (store_of g world) → CrashLeaves (store_of g world) stand
+crash_leaves g known world (Works s) settled at sure clean trees left = (s, refl, left_at_rest (store_of g world) s settled (at.is_at.tables sure clean) trees left)
+crash_leaves g known world (Failed s) settled at sure clean trees left = (s, refl, left_at_rest (store_of g world) s settled (at.1.tables sure clean) trees left)
+crash_leaves g known world (StoreFailed s hand) settled at sure clean trees left = at.1 sure clean trees left

@@ -1,5 +1,5 @@
 -- From what a crash left to the World that is found.
-use Rattle.std.proofs.Common.{◌≡◌, ◌≤◌, ℕ, List, [], ◌∷◌, ◌++◌, take, drop, length, Result, Ok, Err, refl, sym, ap, subst, ◌∙◌, arith}
+use Rattle.std.proofs.Common.{◌≡◌, ◌≤◌, ℕ, List, [], ◌∷◌, ◌++◌, take, drop, length, Result, Ok, Err, refl, sym, ap, subst, ◌∙◌, arith, true, IsTrue}
 use Rattle.std.specs.Prelude.{⊤}
 use Rattle.sqlite.specs.State.{State as Database, HasCleanDisk, Opens}
 use Rattle.sqlite.specs.Effect.{IsDatabase}
@@ -32,10 +32,10 @@ keeps_again again t opens sound it = record {
 
 -- at every exit of a run a crash leaves the state after the acknowledged batches, or one more
 pub leaves_one : {S : Type 0} (g : Ghosts S) (world : World S) (r : Result (Unit {0}) StoreFault) (end : State) (rest : List Batch)
-    → MatchStore r (IsAt g world end) (HasCleanDisk (store_of g world) → LeftOrNext (store_of g world) end rest)
+    → MatchStore r (IsAt g true world end) (IsTrue true → HasCleanDisk (store_of g world) → LeftOrNext (store_of g world) end rest)
     → MatchStore r (HasCleanDisk (store_of g world) → Left (store_of g world) end) ⊤ → HasCleanDisk (store_of g world) → LeftOrNext (store_of g world) end rest
 leaves_one g world (Ok x) end rest is left clean trees lies = (0, omega arith, left clean trees lies)
-leaves_one g world (Err (Store error)) end rest is left clean trees lies = is clean trees lies
+leaves_one g world (Err (Store error)) end rest is left clean trees lies = is refl clean trees lies
 leaves_one g world (Err (Damaged kind key)) end rest is left clean trees lies = (0, omega arith, left clean trees lies)
 leaves_one g world (Err NewerVersion) end rest is left clean trees lies = (0, omega arith, left clean trees lies)
 leaves_one g world (Err OutOfMemory) end rest is left clean trees lies = (0, omega arith, left clean trees lies)
@@ -54,7 +54,7 @@ found crashed again s batches replies left may =
     record { more = it.0; at_most_one = it.1; keeps = subst (Keeps again) (sym (after_joined s (acknowledged batches replies) (take it.0 (drop (length replies) batches)))) keeps }
 
 pub holds : {T : Type 0} (g : Ghosts T) (again : Database) (world : World T) (s : State) (batches : List Batch) (replies : List Reply) (it : Found again s batches replies)
-    → StandsFor g world (after s (acknowledged batches replies ++ take it.more (drop (length replies) batches))) → HoldsAcknowledged g world s batches replies
+    → StandsFor g true world (after s (acknowledged batches replies ++ take it.more (drop (length replies) batches))) → HoldsAcknowledged g world s batches replies
 holds g again world s batches replies it stands = record { more = it.more; at_most_one = it.at_most_one; stands = stands }
 
 -- ---- several parts

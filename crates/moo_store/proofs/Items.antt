@@ -1,5 +1,5 @@
 -- What a run over a text leaves of a World.
-use Rattle.std.proofs.Common.{◌≡◌, ℕ, true, false, List, [], ◌∷◌, ◌++◌, append_assoc, Option, Result, Ok, Err, sym, ap, subst, ◌∙◌}
+use Rattle.std.proofs.Common.{◌≡◌, ℕ, Bool, true, false, IsTrue, List, [], ◌∷◌, ◌++◌, append_assoc, Option, Result, Ok, Err, sym, ap, subst, ◌∙◌}
 use Rattle.std.proofs.lemmas.List.{append-nil}
 use Rattle.sqlite.specs.State.{HasCleanDisk}
 use Rattle.sqlite.specs.Store.{Ghosts}
@@ -55,40 +55,40 @@ turns_written g old now new batches (item ∷ items) (a ∷ answers) was turns =
     (turns_written g old turns.0 new (batches ++ accepted_at item a) items answers (turn_written g old now turns.0 batches item a was turns.1) turns.2)
 
 -- the tables of a World that works show its rows
-over_at : {S : Type 0} (g : Ghosts S) (world : World S) (stand : Stand) (tables : Tables) → StandsAt g world stand → HasCleanDisk (store_of g world) → Rests (store_of g world) tables → IsOver g world tables
-over_at g world (Works s) tables at clean rests = is_over g world s tables at.is_at clean rests
-over_at g world (Failed s) tables at clean rests = is_over g world s tables at.1 clean rests
-over_at g world (StoreFailed s hand) tables at clean rests = record { rests = rests; shows = λ works. let no : true ≡ false = sym at.0 ∙ works in absurd cc }
+over_at : {S : Type 0} (g : Ghosts S) (known : Bool) (world : World S) (stand : Stand) (tables : Tables) → IsTrue known → StandsAt g known world stand → HasCleanDisk (store_of g world) → Rests (store_of g world) tables → IsOver g world tables
+over_at g known world (Works s) tables sure at clean rests = is_over g known world s tables sure at.is_at clean rests
+over_at g known world (Failed s) tables sure at clean rests = is_over g known world s tables sure at.1 clean rests
+over_at g known world (StoreFailed s hand) tables sure at clean rests = record { rests = rests; shows = λ works. let no : true ≡ false = sym at.0 ∙ works in absurd cc }
 
-keeps_rest : {S : Type 0} (g : Ghosts S) (old new : World S) (stand : Stand) (batches : List Batch) → Written g old new batches → StandsAt g old stand → KeepsRest g old new batches
-keeps_rest g old new stand batches it at clean known tables rests = it.written clean known tables (over_at g old stand tables at (it.clean clean) rests)
+keeps_rest : {S : Type 0} (g : Ghosts S) (known : Bool) (old new : World S) (stand : Stand) (batches : List Batch) → Written g old new batches → StandsAt g known old stand → IsTrue known → KeepsRest g old new batches
+keeps_rest g known old new stand batches it at sure clean works tables rests = it.written clean works tables (over_at g known old stand tables sure at (it.clean clean) rests)
 
 -- ---- a whole text
 
 module _ {S : Type 0} (g : Ghosts S) (settled : (w : World S) → IsSettled (store_of g w)) where
-  pub applies : (old new : World S) (text before behind : Option (List ℕ)) (b l : ℕ) → Completes (Runs g) old new text before behind b l → (stand : Stand) → StandsAt g old stand → Applies g stand text before behind old new b l
-  applies old new text before behind b l c stand at =
-      let run = completes-follows (Runs g) RunsBatch (StandsAt g) (λ old new stand batch a it one. one.stands stand it) old new stand text before behind b l at c in
+  pub applies : (old new : World S) (text before behind : Option (List ℕ)) (b l : ℕ) → Completes (Runs g) old new text before behind b l → (known : Bool) (stand : Stand) → StandsAt g known old stand → Applies g known stand text before behind old new b l
+  applies old new text before behind b l c known stand at =
+      let run = completes-follows (Runs g) RunsBatch (StandsAt g known) (λ old new stand batch a it one. one.stands known stand it) old new stand text before behind b l at c in
       let wrote = turns_written g old old new [] (items c.given) c.answers (written_none g old) c.turns in
       record {
         new = run.0;
         stands = run.1;
         completes = run.2;
-        crash = crash_leaves g new run.0 (settled new) run.1;
+        crash = crash_leaves g known new run.0 (settled new) run.1;
         clean = wrote.clean;
-        cells = keeps_rest g old new stand (accepted (items c.given) c.answers) wrote at;
+        cells = keeps_rest g known old new stand (accepted (items c.given) c.answers) wrote at;
       }
 
-  pub stops : (old new : World S) (text before behind : Option (List ℕ)) (fault : TextFault) → Halts (Runs g) old new text before behind fault → (stand : Stand) → StandsAt g old stand → Stops g stand text before behind old new fault
-  stops old new text before behind fault h stand at =
-      let run = halts-follows (Runs g) RunsBatch (StandsAt g) (λ old new stand batch a it one. one.stands stand it) old new stand text before behind fault at h in
+  pub stops : (old new : World S) (text before behind : Option (List ℕ)) (fault : TextFault) → Halts (Runs g) old new text before behind fault → (known : Bool) (stand : Stand) → StandsAt g known old stand → Stops g known stand text before behind old new fault
+  stops old new text before behind fault h known stand at =
+      let run = halts-follows (Runs g) RunsBatch (StandsAt g known) (λ old new stand batch a it one. one.stands known stand it) old new stand text before behind fault at h in
       let done = turns_written g old old h.mid [] h.done h.answers (written_none g old) h.turns in
       let wrote = turns_written g old h.mid new (accepted h.done h.answers) h.hand h.last done h.in_hand in
       record {
         new = run.0;
         stands = run.1;
         halts = run.2;
-        crash = crash_leaves g new run.0 (settled new) run.1;
+        crash = crash_leaves g known new run.0 (settled new) run.1;
         clean = wrote.clean;
-        cells = keeps_rest g old new stand (accepted h.done h.answers ++ accepted h.hand h.last) wrote at;
+        cells = keeps_rest g known old new stand (accepted h.done h.answers ++ accepted h.hand h.last) wrote at;
       }

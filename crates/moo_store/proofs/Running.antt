@@ -66,11 +66,11 @@ accepted_is_run s t batch answers e = by (is_due batch.at s.seq) (nat_lt s.seq l
 -- ---- one batch, at a state
 
 -- what running one batch at s leaves
-abbrev pub RunsOne : {S : Type 0} (g : Ghosts S) → World S → State → Batch → Result Reply StoreFault → Type 0
-RunsOne g new s batch (Ok reply) = (next : State) × AnsweredOne s batch reply next × IsAt g new next
-RunsOne g new s batch (Err (Store error)) = HasCleanDisk (store_of g new) → LeftOrNext (store_of g new) s (batch ∷ [])
-RunsOne g new s batch (Err Closed) = IsAt g new s
-RunsOne g new s batch (Err fault) = ⊥
+abbrev pub RunsOne : {S : Type 0} (g : Ghosts S) → Bool → World S → State → Batch → Result Reply StoreFault → Type 0
+RunsOne g known new s batch (Ok reply) = (next : State) × AnsweredOne s batch reply next × IsAt g known new next
+RunsOne g known new s batch (Err (Store error)) = IsTrue known → HasCleanDisk (store_of g new) → LeftOrNext (store_of g new) s (batch ∷ [])
+RunsOne g known new s batch (Err Closed) = IsAt g known new s
+RunsOne g known new s batch (Err fault) = ⊥
 
 -- the World has failed at a fault of the store, and at no other
 abbrev pub FailsAtStore : {T : Type 0} {S : Type 0} (g : Ghosts S) → World S → World S → Result T StoreFault → Type 0
@@ -154,29 +154,29 @@ no_store_failed s t hand (Refused call code) it = let no : StoreFailed t hand �
 no_store_failed s t hand (NoRoom call) it = let no : StoreFailed t hand ≡ Works s = it in absurd cc
 no_store_failed s t hand (Stale seq) it = let no : StoreFailed t hand ≡ Works s = it in absurd cc
 
-replied_at : {S : Type 0} (g : Ghosts S) (new : World S) (s : State) (batch : Batch) (reply : Reply) (next : Stand) → StandsAt g new next → RunsBatch (Works s) batch (answer.Replied reply) next → IsAt g new (state_at next)
-replied_at g new s batch reply (Works t) it ran = it.is_at
-replied_at g new s batch reply (Failed t) it ran = it.1
-replied_at g new s batch reply (StoreFailed t hand) it ran = elim ran [
+replied_at : {S : Type 0} (g : Ghosts S) (known : Bool) (new : World S) (s : State) (batch : Batch) (reply : Reply) (next : Stand) → StandsAt g known new next → RunsBatch (Works s) batch (answer.Replied reply) next → IsAt g known new (state_at next)
+replied_at g known new s batch reply (Works t) it ran = it.is_at
+replied_at g known new s batch reply (Failed t) it ran = it.1
+replied_at g known new s batch reply (StoreFailed t hand) it ran = elim ran [
   | inl none ↦ (let no : StoreFailed t hand ≡ Works s = none.1 in absurd cc)
   | inr on ↦ no_store_failed s t hand (judge s batch) on.1
 ]
 
 -- seen from the states alone
-pub runs_one : {S : Type 0} (g : Ghosts S) (old new : World S) (batch : Batch) (r : Result Reply StoreFault) → FailsAtStore g old new r → StandsBehind g old batch (answer_to r) new → (s : State) → IsAt g old s → RunsOne g new s batch r
-runs_one g old new batch (Ok reply) works stands s it =
-    let one = stands (Works s) (record { works = works; is_at = it }) in
-    (state_at one.0, replied_one s batch reply one.0 one.2, replied_at g new s batch reply one.0 one.1 one.2)
-runs_one g old new batch (Err (Store error)) fails stands s it =
-    let one = stands (Works s) (record { works = fails.0; is_at = it }) in
-    let lost : StandsAt g new (StoreFailed s batch) = subst (StandsAt g new) one.2.1 one.1 in
-    λ clean trees left.
-    let lies = lost.1 clean trees left in
+pub runs_one : {S : Type 0} (g : Ghosts S) (old new : World S) (batch : Batch) (r : Result Reply StoreFault) → FailsAtStore g old new r → StandsBehind g old batch (answer_to r) new → (known : Bool) (s : State) → IsAt g known old s → RunsOne g known new s batch r
+runs_one g old new batch (Ok reply) works stands known s it =
+    let one = stands known (Works s) (record { works = works; is_at = it }) in
+    (state_at one.0, replied_one s batch reply one.0 one.2, replied_at g known new s batch reply one.0 one.1 one.2)
+runs_one g old new batch (Err (Store error)) fails stands known s it =
+    let one = stands known (Works s) (record { works = fails.0; is_at = it }) in
+    let lost : StandsAt g known new (StoreFailed s batch) = subst (StandsAt g known new) one.2.1 one.1 in
+    λ sure clean trees left.
+    let lies = lost.1 sure clean trees left in
     elim lies.1 [ inl same ↦ (0, omega arith, subst (LeavesState trees) same lies.2) | inr on ↦ (1, omega arith, subst (LeavesState trees) on lies.2) ]
-runs_one g old new batch (Err (Damaged kind key)) fails stands s it = absurd fails
-runs_one g old new batch (Err NewerVersion) fails stands s it = absurd fails
-runs_one g old new batch (Err OutOfMemory) fails stands s it = absurd fails
-runs_one g old new batch (Err Closed) fails stands s it = subst (λ w. IsAt g w s) (sym fails.1) it
+runs_one g old new batch (Err (Damaged kind key)) fails stands known s it = absurd fails
+runs_one g old new batch (Err NewerVersion) fails stands known s it = absurd fails
+runs_one g old new batch (Err OutOfMemory) fails stands known s it = absurd fails
+runs_one g old new batch (Err Closed) fails stands known s it = subst (λ w. IsAt g known w s) (sym fails.1) it
 
 -- ---- a list of batches
 
@@ -202,8 +202,8 @@ pub record Progress {S : Type 0} (g : Ghosts S) (old now : World S) (all : List 
   pub new : List Reply
   pub whole : replies ≡ before ++ new
   pub each : length new ≡ count
-  pub answered : (s : State) → IsAt g old s → (end : State) × Answered s (take count all) new end × IsAt g now end
-  pub turned : (stand : Stand) → StandsAt g old stand → (mid : Stand) × StandsAt g now mid × Turns RunsBatch stand (map Whole (take count all)) (map answer.Replied new) mid
+  pub answered : (known : Bool) (s : State) → IsAt g known old s → (end : State) × Answered s (take count all) new end × IsAt g known now end
+  pub turned : (known : Bool) (stand : Stand) → StandsAt g known old stand → (mid : Stand) × StandsAt g known now mid × Turns RunsBatch stand (map Whole (take count all)) (map answer.Replied new) mid
 
 turns-push : (old mid end : Stand) (batches : List Batch) (replies : List Reply) (batch : Batch) (r : Reply) → Turns RunsBatch old (map Whole batches) (map answer.Replied replies) mid → RunsBatch mid batch (answer.Replied r) end
     → Turns RunsBatch old (map Whole (batches ++ batch ∷ [])) (map answer.Replied (replies ++ r ∷ [])) end
@@ -213,23 +213,23 @@ turns-push old mid end (b ∷ bs) [] batch r it one = absurd it
 turns-push old mid end (b ∷ bs) (x ∷ xs) batch r it one = (it.0, it.1, turns-push it.0 mid end bs xs batch r it.2 one)
 
 pub starts : {S : Type 0} (g : Ghosts S) (old : World S) (all : List Batch) (before replies : List Reply) → replies ≡ before → Progress g old old all 0 before replies
-starts g old all before replies same = record { new = []; whole = same ∙ sym (append-nil before); each = refl; answered = λ s it. (s, refl, it); turned = λ stand it. (stand, it, refl) }
+starts g old all before replies same = record { new = []; whole = same ∙ sym (append-nil before); each = refl; answered = λ known s it. (s, refl, it); turned = λ known stand it. (stand, it, refl) }
 
 pub goes_on : {S : Type 0} (g : Ghosts S) (old now next : World S) (all : List Batch) (count : ℕ) (before replies longer : List Reply) (batch : Batch) (r : Reply)
     → count < length all → batch ≡ get_or all count batch → Progress g old now all count before replies → longer ≡ replies ++ r ∷ []
-    → ((s : State) → IsAt g now s → RunsOne g next s batch (Ok r)) → StandsBehind g now batch (answer.Replied r) next → Progress g old next all (count + 1) before longer
+    → ((known : Bool) (s : State) → IsAt g known now s → RunsOne g known next s batch (Ok r)) → StandsBehind g now batch (answer.Replied r) next → Progress g old next all (count + 1) before longer
 goes_on g old now next all count before replies longer batch r low is p pushed runs stands = record {
   new = p.new ++ r ∷ [];
   whole = pushed ∙ ap (λ t. t ++ r ∷ []) p.whole ∙ append_assoc before p.new (r ∷ []);
   each = length-append p.new (r ∷ []) ∙ ap (λ n. n + 1) p.each;
-  answered = λ s it.
-      let done = p.answered s it in
-      let one = runs done.0 done.2 in
+  answered = λ known s it.
+      let done = p.answered known s it in
+      let one = runs known done.0 done.2 in
       let more : take (count + 1) all ≡ take count all ++ batch ∷ [] = take_more all count batch low ∙ ap (λ y. take count all ++ y ∷ []) (sym is) in
       (one.0, subst (λ t. Answered s t (p.new ++ r ∷ []) one.0) (sym more) (answered-push s done.0 one.0 (take count all) p.new batch r done.1 one.1), one.2);
-  turned = λ stand it.
-      let done = p.turned stand it in
-      let one = stands done.0 done.1 in
+  turned = λ known stand it.
+      let done = p.turned known stand it in
+      let one = stands known done.0 done.1 in
       let more : take (count + 1) all ≡ take count all ++ batch ∷ [] = take_more all count batch low ∙ ap (λ y. take count all ++ y ∷ []) (sym is) in
       (one.0, one.1, subst (λ t. Turns RunsBatch stand (map Whole t) (map answer.Replied (p.new ++ r ∷ [])) one.0) (sym more) (turns-push stand done.0 one.0 (take count all) p.new batch r done.2 one.2));
 }
@@ -237,23 +237,23 @@ goes_on g old now next all count before replies longer batch r low is p pushed r
 pub added_is : {S : Type 0} (g : Ghosts S) (old now : World S) (all : List Batch) (count : ℕ) (before replies : List Reply) (p : Progress g old now all count before replies) → added before replies ≡ p.new
 added_is g old now all count before replies p = ap (drop (length before)) p.whole ∙ drop-append_seam before p.new
 
-pub ends_at : {S : Type 0} (g : Ghosts S) (old now : World S) (all : List Batch) (count : ℕ) (before replies : List Reply) (p : Progress g old now all count before replies) (s : State) (it : IsAt g old s)
-    → (p.answered s it).0 ≡ after s (acknowledged all (added before replies))
-ends_at g old now all count before replies p s it =
-    answered_after s (take count all) p.new (p.answered s it).0 (p.answered s it).1
+pub ends_at : {S : Type 0} (g : Ghosts S) (old now : World S) (all : List Batch) (count : ℕ) (before replies : List Reply) (p : Progress g old now all count before replies) (known : Bool) (s : State) (it : IsAt g known old s)
+    → (p.answered known s it).0 ≡ after s (acknowledged all (added before replies))
+ends_at g old now all count before replies p known s it =
+    answered_after s (take count all) p.new (p.answered known s it).0 (p.answered known s it).1
     ∙ ap (after s) (ap (λ n. acknowledged (take n all) p.new) (sym p.each) ∙ acknowledged-take all p.new ∙ ap (acknowledged all) (sym (added_is g old now all count before replies p)))
 
-pub answers : {S : Type 0} (g : Ghosts S) (old now : World S) (all : List Batch) (count : ℕ) (before replies : List Reply) → Progress g old now all count before replies → (s : State) → IsAt g old s
+pub answers : {S : Type 0} (g : Ghosts S) (old now : World S) (all : List Batch) (count : ℕ) (before replies : List Reply) → Progress g old now all count before replies → (known : Bool) (s : State) → IsAt g known old s
     → Answered s (take (length (added before replies)) all) (added before replies) (after s (acknowledged all (added before replies)))
-answers g old now all count before replies p s it =
+answers g old now all count before replies p known s it =
     let is = added_is g old now all count before replies p in
-    subst (λ e. Answered s (take (length (added before replies)) all) (added before replies) e) (ends_at g old now all count before replies p s it)
-    (subst (λ rs. Answered s (take (length rs) all) rs (p.answered s it).0) (sym is)
-    (subst (λ n. Answered s (take n all) p.new (p.answered s it).0) (sym p.each) (p.answered s it).1))
+    subst (λ e. Answered s (take (length (added before replies)) all) (added before replies) e) (ends_at g old now all count before replies p known s it)
+    (subst (λ rs. Answered s (take (length rs) all) rs (p.answered known s it).0) (sym is)
+    (subst (λ n. Answered s (take n all) p.new (p.answered known s it).0) (sym p.each) (p.answered known s it).1))
 
-pub is_at_end : {S : Type 0} (g : Ghosts S) (old now : World S) (all : List Batch) (count : ℕ) (before replies : List Reply) → Progress g old now all count before replies → (s : State) → IsAt g old s
-    → IsAt g now (after s (acknowledged all (added before replies)))
-is_at_end g old now all count before replies p s it = subst (IsAt g now) (ends_at g old now all count before replies p s it) (p.answered s it).2
+pub is_at_end : {S : Type 0} (g : Ghosts S) (old now : World S) (all : List Batch) (count : ℕ) (before replies : List Reply) → Progress g old now all count before replies → (known : Bool) (s : State) → IsAt g known old s
+    → IsAt g known now (after s (acknowledged all (added before replies)))
+is_at_end g old now all count before replies p known s it = subst (IsAt g known now) (ends_at g old now all count before replies p known s it) (p.answered known s it).2
 
 -- the next batch is that in hand
 next_is : (all : List Batch) (count : ℕ) (batch : Batch) (s : State) (more : ℕ) → more ≤ 1 → count < length all → batch ≡ get_or all count batch → after s (take more (batch ∷ [])) ≡ after s (take more (drop count all))
@@ -263,70 +263,70 @@ next_is all count batch s (suc (suc n)) few low is = absurd (omega arith)
 
 -- the batch in hand met a fault
 pub stops : (T : Type 0) {S : Type 0} (g : Ghosts S) (old now new : World S) (all : List Batch) (count : ℕ) (before replies : List Reply) (batch : Batch) (fault : StoreFault)
-    → count < length all → batch ≡ get_or all count batch → Progress g old now all count before replies → ((s : State) → IsAt g now s → RunsOne g new s batch (Err fault)) → (s : State) → IsAt g old s
+    → count < length all → batch ≡ get_or all count batch → Progress g old now all count before replies → ((known : Bool) (s : State) → IsAt g known now s → RunsOne g known new s batch (Err fault)) → (known : Bool) (s : State) → IsAt g known old s
     → let end = after s (acknowledged all (added before replies)) in
-    MatchStore (let r : Result T StoreFault = Err fault in r) (IsAt g new end) (HasCleanDisk (store_of g new) → LeftOrNext (store_of g new) end (drop (length (added before replies)) all))
-stops T g old now new all count before replies batch (Store error) low is p runs s it = λ clean trees left.
+    MatchStore (let r : Result T StoreFault = Err fault in r) (IsAt g known new end) (IsTrue known → HasCleanDisk (store_of g new) → LeftOrNext (store_of g new) end (drop (length (added before replies)) all))
+stops T g old now new all count before replies batch (Store error) low is p runs known s it = λ sure clean trees left.
     let end = after s (acknowledged all (added before replies)) in
-    let lost = runs end (is_at_end g old now all count before replies p s it) clean trees left in
+    let lost = runs known end (is_at_end g old now all count before replies p known s it) sure clean trees left in
     let place : length (added before replies) ≡ count = ap length (added_is g old now all count before replies p) ∙ p.each in
     (lost.0, lost.1, subst (LeavesState trees) (next_is all count batch end lost.0 lost.1 low is ∙ ap (λ n. after end (take lost.0 (drop n all))) (sym place)) lost.2)
-stops T g old now new all count before replies batch (Damaged kind key) low is p runs s it = absurd (runs (after s (acknowledged all (added before replies))) (is_at_end g old now all count before replies p s it))
-stops T g old now new all count before replies batch NewerVersion low is p runs s it = absurd (runs (after s (acknowledged all (added before replies))) (is_at_end g old now all count before replies p s it))
-stops T g old now new all count before replies batch OutOfMemory low is p runs s it = absurd (runs (after s (acknowledged all (added before replies))) (is_at_end g old now all count before replies p s it))
-stops T g old now new all count before replies batch Closed low is p runs s it = runs (after s (acknowledged all (added before replies))) (is_at_end g old now all count before replies p s it)
+stops T g old now new all count before replies batch (Damaged kind key) low is p runs known s it = absurd (runs known (after s (acknowledged all (added before replies))) (is_at_end g old now all count before replies p known s it))
+stops T g old now new all count before replies batch NewerVersion low is p runs known s it = absurd (runs known (after s (acknowledged all (added before replies))) (is_at_end g old now all count before replies p known s it))
+stops T g old now new all count before replies batch OutOfMemory low is p runs known s it = absurd (runs known (after s (acknowledged all (added before replies))) (is_at_end g old now all count before replies p known s it))
+stops T g old now new all count before replies batch Closed low is p runs known s it = runs known (after s (acknowledged all (added before replies))) (is_at_end g old now all count before replies p known s it)
 
 -- where tables show a state, a crash leaves it
-pub left_at : {S T : Type 0} (g : Ghosts S) (new : World S) (end : State) (r : Result T StoreFault) (Q : Type 0) → IsSettled (store_of g new) → MatchStore r (IsAt g new end) Q
+pub left_at : {S T : Type 0} (g : Ghosts S) (new : World S) (end : State) (r : Result T StoreFault) (Q : Type 0) → IsSettled (store_of g new) → MatchStore r (IsAt g true new end) Q
     → MatchStore r (HasCleanDisk (store_of g new) → Left (store_of g new) end) ⊤
-left_at g new end (Ok x) Q settled it = λ clean. left_at_rest (store_of g new) end settled (it.tables clean)
+left_at g new end (Ok x) Q settled it = λ clean. left_at_rest (store_of g new) end settled (it.tables refl clean)
 left_at g new end (Err (Store error)) Q settled it = tt
-left_at g new end (Err (Damaged kind key)) Q settled it = λ clean. left_at_rest (store_of g new) end settled (it.tables clean)
-left_at g new end (Err NewerVersion) Q settled it = λ clean. left_at_rest (store_of g new) end settled (it.tables clean)
-left_at g new end (Err OutOfMemory) Q settled it = λ clean. left_at_rest (store_of g new) end settled (it.tables clean)
-left_at g new end (Err Closed) Q settled it = λ clean. left_at_rest (store_of g new) end settled (it.tables clean)
+left_at g new end (Err (Damaged kind key)) Q settled it = λ clean. left_at_rest (store_of g new) end settled (it.tables refl clean)
+left_at g new end (Err NewerVersion) Q settled it = λ clean. left_at_rest (store_of g new) end settled (it.tables refl clean)
+left_at g new end (Err OutOfMemory) Q settled it = λ clean. left_at_rest (store_of g new) end settled (it.tables refl clean)
+left_at g new end (Err Closed) Q settled it = λ clean. left_at_rest (store_of g new) end settled (it.tables refl clean)
 
 -- ---- where a run stands at its end
 
 -- the turns, of the batches that have a reply
-turns_added : {S : Type 0} (g : Ghosts S) (old now : World S) (all : List Batch) (count : ℕ) (before replies : List Reply) (p : Progress g old now all count before replies) (stand : Stand) (it : StandsAt g old stand)
-    → Turns RunsBatch stand (map Whole (take (length (added before replies)) all)) (map answer.Replied (added before replies)) (p.turned stand it).0
-turns_added g old now all count before replies p stand it =
-    subst (λ rs. Turns RunsBatch stand (map Whole (take (length rs) all)) (map answer.Replied rs) (p.turned stand it).0) (sym (added_is g old now all count before replies p))
-    (subst (λ n. Turns RunsBatch stand (map Whole (take n all)) (map answer.Replied p.new) (p.turned stand it).0) (sym p.each) (p.turned stand it).2)
+turns_added : {S : Type 0} (g : Ghosts S) (old now : World S) (all : List Batch) (count : ℕ) (before replies : List Reply) (p : Progress g old now all count before replies) (known : Bool) (stand : Stand) (it : StandsAt g known old stand)
+    → Turns RunsBatch stand (map Whole (take (length (added before replies)) all)) (map answer.Replied (added before replies)) (p.turned known stand it).0
+turns_added g old now all count before replies p known stand it =
+    subst (λ rs. Turns RunsBatch stand (map Whole (take (length rs) all)) (map answer.Replied rs) (p.turned known stand it).0) (sym (added_is g old now all count before replies p))
+    (subst (λ n. Turns RunsBatch stand (map Whole (take n all)) (map answer.Replied p.new) (p.turned known stand it).0) (sym p.each) (p.turned known stand it).2)
 
 -- no batch met a fault of the store
 pub runs_through : {S : Type 0} (g : Ghosts S) (old now : World S) (all : List Batch) (count : ℕ) (before replies : List Reply) (r : Result (Unit {0}) StoreFault) → ((P Q : Type 0) → P → MatchStore r P Q) → Progress g old now all count before replies
-    → (stand : Stand) → StandsAt g old stand → RunsAll g now stand all (added before replies) r
-runs_through g old now all count before replies r no_store p stand it = record {
-  mid = (p.turned stand it).0;
-  turns = turns_added g old now all count before replies p stand it;
-  new = (p.turned stand it).0;
-  stands = (p.turned stand it).1;
+    → (known : Bool) (stand : Stand) → StandsAt g known old stand → RunsAll g known now stand all (added before replies) r
+runs_through g old now all count before replies r no_store p known stand it = record {
+  mid = (p.turned known stand it).0;
+  turns = turns_added g old now all count before replies p known stand it;
+  new = (p.turned known stand it).0;
+  stands = (p.turned known stand it).1;
   ends = no_store _ _ refl;
 }
 
 -- the batch in hand met a fault
 pub runs_stopped : {S : Type 0} (g : Ghosts S) (old now new : World S) (all : List Batch) (count : ℕ) (before replies : List Reply) (batch : Batch) (fault : StoreFault) → count < length all → batch ≡ get_or all count batch
     → (let r : Result Reply StoreFault = Err fault in FailsAtStore g now new r) → StandsBehind g now batch (answer_to (Err fault)) new → Progress g old now all count before replies
-    → (stand : Stand) → StandsAt g old stand → RunsAll g new stand all (added before replies) (Err fault)
-runs_stopped g old now new all count before replies batch (Store error) low is fails stands p stand it =
-    let done = p.turned stand it in
-    let one = stands done.0 done.1 in
+    → (known : Bool) (stand : Stand) → StandsAt g known old stand → RunsAll g known new stand all (added before replies) (Err fault)
+runs_stopped g old now new all count before replies batch (Store error) low is fails stands p known stand it =
+    let done = p.turned known stand it in
+    let one = stands known done.0 done.1 in
     let place : length (added before replies) ≡ count = ap length (added_is g old now all count before replies p) ∙ p.each in
     record {
       mid = done.0;
-      turns = turns_added g old now all count before replies p stand it;
+      turns = turns_added g old now all count before replies p known stand it;
       new = one.0;
       stands = one.1;
       ends = (batch, drop (suc count) all, ap (λ n. drop n all) place ∙ drop-cons all count batch low ∙ ap (λ b. b ∷ drop (suc count) all) (sym is), one.2);
     }
-runs_stopped g old now new all count before replies batch (Damaged kind key) low is fails stands p stand it = absurd fails
-runs_stopped g old now new all count before replies batch NewerVersion low is fails stands p stand it = absurd fails
-runs_stopped g old now new all count before replies batch OutOfMemory low is fails stands p stand it = absurd fails
-runs_stopped g old now new all count before replies batch Closed low is fails stands p stand it =
+runs_stopped g old now new all count before replies batch (Damaged kind key) low is fails stands p known stand it = absurd fails
+runs_stopped g old now new all count before replies batch NewerVersion low is fails stands p known stand it = absurd fails
+runs_stopped g old now new all count before replies batch OutOfMemory low is fails stands p known stand it = absurd fails
+runs_stopped g old now new all count before replies batch Closed low is fails stands p known stand it =
     let same : now ≡ new = sym fails.1 in
-    subst (λ w. RunsAll g w stand all (added before replies) (Err Closed)) same (runs_through g old now all count before replies (Err Closed) (λ P Q p. p) p stand it)
+    subst (λ w. RunsAll g known w stand all (added before replies) (Err Closed)) same (runs_through g old now all count before replies (Err Closed) (λ P Q p. p) p known stand it)
 
 -- at a fault, fewer batches have a reply than there are
 pub fewer : {S : Type 0} (g : Ghosts S) (old now : World S) (all : List Batch) (count : ℕ) (before replies : List Reply) → count < length all → Progress g old now all count before replies → length (added before replies) < length all

@@ -1,5 +1,5 @@
 -- What the accepted batches of a run leave of the tables, one after another.
-use Rattle.std.proofs.Common.{◌≡◌, ◌⊎◌, inl, inr, ℕ, ◌<◌, List, [], ◌∷◌, ◌++◌, append_assoc, drop, length, get_or, Result, Ok, Err, OnOk, OnErr, IfOk, IfErr, IsTrue, true, false, refl, sym, ap, subst, ◌∙◌, arith}
+use Rattle.std.proofs.Common.{◌≡◌, ◌⊎◌, inl, inr, ℕ, ◌<◌, Bool, List, [], ◌∷◌, ◌++◌, append_assoc, drop, length, get_or, Result, Ok, Err, OnOk, OnErr, IfOk, IfErr, IsTrue, true, false, refl, sym, ap, subst, ◌∙◌, arith}
 use Rattle.std.proofs.lemmas.List.{append-nil}
 use Rattle.std.proofs.Math.Seq.{drop-append_seam}
 use Rattle.std.specs.Prelude.{⊤}
@@ -26,8 +26,8 @@ use Rattle.moo_store.specs.declared.fault.StoreFault.{StoreFault}
 use Rattle.moo_store.specs.declared.fault.StoreFault.TheVariants.{Store, Damaged, NewerVersion, OutOfMemory, Closed}
 
 -- tables that rest in the store of a World that is at a state
-pub is_over : {S : Type 0} (g : Ghosts S) (world : World S) (s : State) (tables : Tables) → IsAt g world s → HasCleanDisk (store_of g world) → Rests (store_of g world) tables → IsOver g world tables
-is_over g world s tables at clean rests = record { rests = rests; shows = λ works. shown_by (store_of g world) world.rows.maps tables (at.shown works clean) rests }
+pub is_over : {S : Type 0} (g : Ghosts S) (known : Bool) (world : World S) (s : State) (tables : Tables) → IsTrue known → IsAt g known world s → HasCleanDisk (store_of g world) → Rests (store_of g world) tables → IsOver g world tables
+is_over g known world s tables sure at clean rests = record { rests = rests; shows = λ works. shown_by (store_of g world) world.rows.maps tables (at.shown sure works clean) rests }
 
 -- what is written in turn is written by the joined list
 writes-append : (rows : Maps) (tables : Tables) (batches : List Batch) (mid : Maps) (between : Tables) (more : List Batch) (end : Maps) (after : Tables)

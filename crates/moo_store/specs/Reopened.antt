@@ -1,5 +1,5 @@
 -- What is found by opening again what a crash left.
-use Rattle.std.specs.Prelude.{◌≡◌, ℕ, ◌≤◌, List, [], ◌∷◌, ◌++◌, take, drop, length}
+use Rattle.std.specs.Prelude.{◌≡◌, ℕ, ◌≤◌, List, [], ◌∷◌, ◌++◌, take, drop, length, true}
 use Rattle.sqlite.specs.Store.{Ghosts}
 use Rattle.moo_world.specs.declared.call.Batch.{Batch}
 use Rattle.moo_world.specs.Judge.{State, after}
@@ -16,7 +16,7 @@ kept_of batches replies more = acknowledged batches replies ++ take more (drop (
 pub record HoldsAcknowledged {S : Type 0} (g : Ghosts S) (world : World S) (s : State) (batches : List Batch) (replies : List Reply) : Type 0 where
   pub more : ℕ
   pub at_most_one : more ≤ 1
-  pub stands : StandsFor g world (after s (kept_of batches replies more))
+  pub stands : StandsFor g true world (after s (kept_of batches replies more))
 
 -- Several runs, each from what the opening after the one before found: the batches that each was given, and its replies.
 abbrev pub RunsInParts : State → List (List Batch × List Reply) → State → Type 0

@@ -33,7 +33,7 @@ answer_to (Err fault) = answer.Fault
 
 -- wherever a World stood, it ran a batch with this answer, and stands as that leaves it
 abbrev pub StandsBehind : {S : Type 0} (g : Ghosts S) → World S → Batch → Answer → World S → Type 0
-StandsBehind g old batch a new = (stand : Stand) → StandsAt g old stand → (next : Stand) × StandsAt g new next × RunsBatch stand batch a next
+StandsBehind g old batch a new = (known : Bool) (stand : Stand) → StandsAt g known old stand → (next : Stand) × StandsAt g known new next × RunsBatch stand batch a next
 
 -- A World ran a batch, and gave this answer.
 pub record Runs {S : Type 0} (g : Ghosts S) (old : World S) (batch : Batch) (a : Answer) (new : World S) : Type 0 where
@@ -45,11 +45,11 @@ pub record Runs {S : Type 0} (g : Ghosts S) (old : World S) (batch : Batch) (a :
   pub fails : old.failed ≡ false → IfErr result (λ fault. ((error : Error) × (fault ≡ Store error)) × (new.failed ≡ true))
 
 -- Each batch that has a reply had its turn; where the store failed, so had the next one.
-pub record RunsAll {S : Type 0} (g : Ghosts S) (world : World S) (old : Stand) (batches : List Batch) (replies : List Reply) (r : Result (Unit {0}) StoreFault) : Type 0 where
+pub record RunsAll {S : Type 0} (g : Ghosts S) (known : Bool) (world : World S) (old : Stand) (batches : List Batch) (replies : List Reply) (r : Result (Unit {0}) StoreFault) : Type 0 where
   pub mid : Stand
   pub turns : Turns RunsBatch old (map Whole (take (length replies) batches)) (map answer.Replied replies) mid
   pub new : Stand
-  pub stands : StandsAt g world new
+  pub stands : StandsAt g known world new
   pub ends : MatchStore r (new ≡ mid) ((batch : Batch) × (left : List Batch) × (drop (length replies) batches ≡ batch ∷ left) × RunsBatch mid batch answer.Fault new)
 
 -- the batch of an item, if it is acknowledged
@@ -69,23 +69,23 @@ KeepsRest g was world batches =
     HasCleanDisk (store_of g world) → (world.failed ≡ false) ⊎ IsTrue (store_of g world).is_open → (tables : Tables) → Rests (store_of g was) tables → HasWritten g was world tables batches
 
 -- The text was run to its end.
-pub record Applies {S : Type 0} (g : Ghosts S) (old : Stand) (text before behind : Option (List ℕ)) (was world : World S) (batches lost : ℕ) : Type 0 where
+pub record Applies {S : Type 0} (g : Ghosts S) (known : Bool) (old : Stand) (text before behind : Option (List ℕ)) (was world : World S) (batches lost : ℕ) : Type 0 where
   pub new : Stand
-  pub stands : StandsAt g world new
+  pub stands : StandsAt g known world new
   pub completes : Completes RunsBatch old new text before behind batches lost
-  pub crash : HasCleanDisk (store_of g world) → CrashLeaves (store_of g world) new
+  pub crash : IsTrue known → HasCleanDisk (store_of g world) → CrashLeaves (store_of g world) new
   pub clean : HasCleanDisk (store_of g world) → HasCleanDisk (store_of g was)
   -- in the tables, each acknowledged batch keeps the cells of the rows that it leaves as they are
-  pub cells : KeepsRest g was world (accepted (items completes.given) completes.answers)
+  pub cells : IsTrue known → KeepsRest g was world (accepted (items completes.given) completes.answers)
 
 -- The run of the text stopped.
-pub record Stops {S : Type 0} (g : Ghosts S) (old : Stand) (text before behind : Option (List ℕ)) (was world : World S) (fault : TextFault) : Type 0 where
+pub record Stops {S : Type 0} (g : Ghosts S) (known : Bool) (old : Stand) (text before behind : Option (List ℕ)) (was world : World S) (fault : TextFault) : Type 0 where
   pub new : Stand
-  pub stands : StandsAt g world new
+  pub stands : StandsAt g known world new
   pub halts : Halts RunsBatch old new text before behind fault
-  pub crash : HasCleanDisk (store_of g world) → CrashLeaves (store_of g world) new
+  pub crash : IsTrue known → HasCleanDisk (store_of g world) → CrashLeaves (store_of g world) new
   pub clean : HasCleanDisk (store_of g world) → HasCleanDisk (store_of g was)
-  pub cells : KeepsRest g was world (accepted halts.done halts.answers ++ accepted halts.hand halts.last)
+  pub cells : IsTrue known → KeepsRest g was world (accepted halts.done halts.answers ++ accepted halts.hand halts.last)
 
 -- ---- where nothing is refused
 

@@ -1,5 +1,5 @@
 -- What a World stands for, and what a crash leaves of it.
-use Rattle.std.specs.Prelude.{◌≡◌, ℕ, ◌≤◌, true, false, List, take, Result, Ok, Err}
+use Rattle.std.specs.Prelude.{◌≡◌, ℕ, ◌≤◌, Bool, true, false, IsTrue, List, take, Result, Ok, Err}
 use Rattle.sqlite.specs.State.{State as Database, HasCleanDisk}
 use Rattle.sqlite.specs.Tree.{Trees}
 use Rattle.sqlite.specs.Store.{Ghosts}
@@ -21,15 +21,18 @@ abbrev pub ShowsItsRows : {S : Type 0} (g : Ghosts S) → World S → Type 0
 ShowsItsRows g world = HasCleanDisk (store_of g world) → KeepsRows (store_of g world) world.rows.maps
 
 -- The tables of the World show s, and so do its rows while it works. A failed World may be at a state too.
-pub record IsAt {S : Type 0} (g : Ghosts S) (world : World S) (s : State) : Type 0 where
-  pub tables : HasCleanDisk (store_of g world) → Keeps (store_of g world) s
+--
+-- `known` says whether its tables are known to be so. Of a file that anybody may have written no query tells in which order its
+-- trees hold the rows, so that nothing can be said of what a change leaves of them; what is said of the rows holds all the same.
+pub record IsAt {S : Type 0} (g : Ghosts S) (known : Bool) (world : World S) (s : State) : Type 0 where
+  pub tables : IsTrue known → HasCleanDisk (store_of g world) → Keeps (store_of g world) s
   pub rows : world.failed ≡ false → state_of world.rows.maps ≡ s
-  pub shown : world.failed ≡ false → ShowsItsRows g world
+  pub shown : IsTrue known → world.failed ≡ false → ShowsItsRows g world
 
 -- the World works, and is at s
-pub record StandsFor {S : Type 0} (g : Ghosts S) (world : World S) (s : State) : Type 0 where
+pub record StandsFor {S : Type 0} (g : Ghosts S) (known : Bool) (world : World S) (s : State) : Type 0 where
   pub works : world.failed ≡ false
-  pub is_at : IsAt g world s
+  pub is_at : IsAt g known world s
 
 -- whatever a crash leaves shows s
 abbrev pub Left : Database → State → Type 0
@@ -44,10 +47,10 @@ abbrev pub CrashLeaves : Database → Stand → Type 0
 CrashLeaves store stand = (trees : Trees) → store.may_leave trees → (t : State) × MayLeave stand t × LeavesState trees t
 
 -- the World stands there: it is at the state, or where its store failed a crash leaves that or the one after the batch in hand
-abbrev pub StandsAt : {S : Type 0} (g : Ghosts S) → World S → Stand → Type 0
-StandsAt g world (Works s) = StandsFor g world s
-StandsAt g world (Failed s) = (world.failed ≡ true) × IsAt g world s
-StandsAt g world (StoreFailed s hand) = (world.failed ≡ true) × (HasCleanDisk (store_of g world) → CrashLeaves (store_of g world) (StoreFailed s hand))
+abbrev pub StandsAt : {S : Type 0} (g : Ghosts S) → Bool → World S → Stand → Type 0
+StandsAt g known world (Works s) = StandsFor g known world s
+StandsAt g known world (Failed s) = (world.failed ≡ true) × IsAt g known world s
+StandsAt g known world (StoreFailed s hand) = (world.failed ≡ true) × (IsTrue known → HasCleanDisk (store_of g world) → CrashLeaves (store_of g world) (StoreFailed s hand))
 
 -- P, or Q where the store failed
 abbrev pub MatchStore : {T : Type 0} → Result T StoreFault → Type 0 → Type 0 → Type 0

@@ -1,10 +1,10 @@
 //! Opening the world that a store holds.
 
-ghost use Rattle.std.specs.Prelude.{◌≡◌, ◌≢◌, ◌⊎◌, IfOk, IfErr, IsErrAnd, IsTrue, false};
+ghost use Rattle.std.specs.Prelude.{◌≡◌, ◌≢◌, ◌⊎◌, IfOk, IfErr, IsErrAnd, IsTrue, false, true};
 ghost use Rattle.sqlite.specs.State.{HasCleanDisk, Survives};
 ghost use Rattle.sqlite.specs.Held.{state};
 ghost use Rattle.moo_world.specs.Rows.{IsGood};
-ghost use Rattle.moo_world.specs.Judge.{State};
+ghost use Rattle.moo_world.specs.Judge.{State, state_of};
 ghost use Rattle.moo_tables.specs.Tables.{Tables, moo_schema};
 ghost use Rattle.moo_tables.specs.Inside.{Rests, RestsAt};
 ghost use Rattle.moo_cells.specs.Shows.{ShowsRows};
@@ -29,7 +29,9 @@ pub fn adopt<S: Alter + Drop>(
 ) -> Result<World<S>, (StoreFault, Connection<S>)>
     requires outside { (state S.Store conn).in_transaction ≡ false }
     // Tables that show a world and a number give a World that stands for these, unless the store fails or memory is refused.
-    ensures stands { (s : State) → Keeps (state S.Store conn) s → IfOk result (λ world. HasCleanDisk (store_of S.Store world) → StandsFor S.Store world s) }
+    ensures stands { (s : State) → Keeps (state S.Store conn) s → IfOk result (λ world. HasCleanDisk (store_of S.Store world) → StandsFor S.Store true world s) }
+    // Whatever is opened, its rows are good, and what is said of rows alone is said of them.
+    ensures rows { IfOk result (λ world. IsGood world.rows.maps × StandsFor S.Store false world (state_of world.rows.maps)) }
     ensures works { IfOk result (λ world. world.failed ≡ false) }
     ensures whole { (s : State) → Keeps (state S.Store conn) s → IfErr result (λ e. HasCleanDisk (state S.Store e.1) → IsOfStore e.0) }
     // Nothing else is opened, and a damage that is answered is that of the tables.

@@ -1,6 +1,6 @@
 //! Running a text of batches.
 
-ghost use Rattle.std.specs.Prelude.{IfOk, IfErr};
+ghost use Rattle.std.specs.Prelude.{Bool, IfOk, IfErr};
 ghost use Rattle.moo_store.specs.Stand.{Stand};
 ghost use Rattle.moo_store.specs.World.{StandsAt};
 ghost use Rattle.moo_store.specs.Text.{Runs, Applies, Stops};
@@ -35,12 +35,12 @@ pub fn apply_text<R: Read + Drop, W: Write, S: Alter + Drop>(
     world: &mut World<S>,
 ) -> Result<Tally, TextFault>
     // The answers of all items of the text that the reader gave are written, and nothing else.
-    ensures applies { IfOk result (λ tally. (stand : Stand) → StandsAt S.Store world.old stand →
-        Applies S.Store stand (R.remaining reader) (W.contents writer.old) (W.contents writer.new) world.old world.new tally.batches tally.lost) }
+    ensures applies { IfOk result (λ tally. (known : Bool) (stand : Stand) → StandsAt S.Store known world.old stand →
+        Applies S.Store known stand (R.remaining reader) (W.contents writer.old) (W.contents writer.new) world.old world.new tally.batches tally.lost) }
 
     // At a fault those of the items that are done, and a front of the next one.
-    ensures stops { IfErr result (λ fault. (stand : Stand) → StandsAt S.Store world.old stand →
-        Stops S.Store stand (R.remaining reader) (W.contents writer.old) (W.contents writer.new) world.old world.new fault) }
+    ensures stops { IfErr result (λ fault. (known : Bool) (stand : Stand) → StandsAt S.Store known world.old stand →
+        Stops S.Store known stand (R.remaining reader) (W.contents writer.old) (W.contents writer.new) world.old world.new fault) }
 {
     answer_all(alloc, reader, writer, world)
 }

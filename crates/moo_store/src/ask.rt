@@ -1,6 +1,6 @@
 //! Asking a text of batches, which changes nothing.
 
-ghost use Rattle.std.specs.Prelude.{◌≡◌, IfOk, IfErr};
+ghost use Rattle.std.specs.Prelude.{◌≡◌, Bool, IfOk, IfErr};
 ghost use Rattle.moo_store.specs.Stand.{Stand, AsksBatch};
 ghost use Rattle.moo_store.specs.Turns.{Completes, Halts};
 ghost use Rattle.moo_store.specs.World.{StandsAt};
@@ -22,7 +22,7 @@ struct Questions<'a, S: Alter> {
 }
 
 impl<'a, S: Alter + Drop> Answering for Questions<'a, S> {
-    ghost answered = { λ old batch a new. (new ≡ old) × ((stand : Stand) → StandsAt S.Store old.world.now stand → AsksBatch stand batch a stand) };
+    ghost answered = { λ old batch a new. (new ≡ old) × ((known : Bool) (stand : Stand) → StandsAt S.Store known old.world.now stand → AsksBatch stand batch a stand) };
 
     fn answer(&mut self, batch: &Batch) -> Answer {
         answered_by(self.world.ask(batch))
@@ -38,11 +38,11 @@ pub fn ask_text<R: Read + Drop, W: Write, S: Alter + Drop>(
     world: &World<S>,
 ) -> Result<Tally, TextFault>
     // The answers of all items of the text that the reader gave are written, and nothing else.
-    ensures asks { IfOk result (λ tally. (stand : Stand) → StandsAt S.Store world.now stand →
+    ensures asks { IfOk result (λ tally. (known : Bool) (stand : Stand) → StandsAt S.Store known world.now stand →
         Completes AsksBatch stand stand (R.remaining reader) (W.contents writer.old) (W.contents writer.new) tally.batches tally.lost) }
 
     // At a fault those of the items that are done, and a front of the next one.
-    ensures stops { IfErr result (λ fault. (stand : Stand) → StandsAt S.Store world.now stand →
+    ensures stops { IfErr result (λ fault. (known : Bool) (stand : Stand) → StandsAt S.Store known world.now stand →
         Halts AsksBatch stand stand (R.remaining reader) (W.contents writer.old) (W.contents writer.new) fault) }
 {
     answer_all(alloc, reader, writer, &mut Questions { world })

@@ -1,6 +1,6 @@
 //! New worlds.
 
-ghost use Rattle.std.specs.Prelude.{◌≡◌, ◌≢◌, ◌⊎◌, ◌<◌, ◌^◌, IfOk, IfErr, IsErrAnd, IsTrue, ◌↔◌, false};
+ghost use Rattle.std.specs.Prelude.{◌≡◌, ◌≢◌, ◌⊎◌, ◌<◌, ◌^◌, IfOk, IfErr, IsErrAnd, IsTrue, ◌↔◌, false, true};
 ghost use Rattle.sqlite.specs.State.{HasCleanDisk, Survives};
 ghost use Rattle.sqlite.specs.Held.{state};
 ghost use Rattle.moo_rows.specs.Maps.{no_maps};
@@ -68,7 +68,7 @@ pub fn create_in<S: Alter + Drop>(
     conn: Connection<S>,
 ) -> Result<World<S>, (StoreFault, Connection<S>)>
     requires outside { (state S.Store conn).in_transaction ≡ false }
-    ensures stands { IfOk result (λ world. StandsFor S.Store world (state_of opening_maps)) }
+    ensures stands { IfOk result (λ world. StandsFor S.Store true world (state_of opening_maps)) }
     // A database that has tables is refused, and comes back as it is; so it does where memory is refused.
     ensures refused { (state S.Store conn).now.schema ≢ no_schema → IsErrAnd result (λ e. (e.0 ≡ StoreFault.Store (Error.SqliteFailure ErrorCode.NameTaken)) × (e.1 ≡ conn)) }
     ensures fault { IfErr result (λ e. ((e.0 ≡ StoreFault.OutOfMemory) × (e.1 ≡ conn)) ⊎ ((error : _) × (e.0 ≡ StoreFault.Store error))) }

@@ -1,6 +1,6 @@
 //! Writing all that a World holds.
 
-ghost use Rattle.std.specs.Prelude.{◌≡◌, ◌≢◌, ℕ, take, false, IsTrue, OnOk, OnErr, IfErr, IsErrOf};
+ghost use Rattle.std.specs.Prelude.{◌≡◌, ◌≢◌, ℕ, take, false, IsTrue, OnOk, OnErr, IfErr, IsErrOf, Bool};
 ghost use Rattle.std.specs.Io.KnownBytes.{Appends};
 ghost use Rattle.moo_dump.specs.Dump.{dump};
 ghost use Rattle.moo_store.specs.World.{StandsFor};
@@ -27,8 +27,8 @@ impl<S: Alter + Drop> World<S> {
     /// Write where the writer fails or takes no bytes, and OutOfMemory: a front of the text is written then. Closed where the
     /// World had failed: nothing is written.
     pub fn dump<W: Write>(&self, output: &mut W) -> Result<(), DumpFault>
-        ensures ok { (s : _) → StandsFor S.Store self.now s → OnOk result (Appends (W.contents output.old) (W.contents output.new) (dump s)) }
-        ensures err { (s : _) → StandsFor S.Store self.now s → OnErr result ((count : ℕ) × Appends (W.contents output.old) (W.contents output.new) (take count (dump s))) }
+        ensures ok { (known : Bool) (s : _) → StandsFor S.Store known self.now s → OnOk result (Appends (W.contents output.old) (W.contents output.new) (dump s)) }
+        ensures err { (known : Bool) (s : _) → StandsFor S.Store known self.now s → OnErr result ((count : ℕ) × Appends (W.contents output.old) (W.contents output.new) (take count (dump s))) }
         ensures closed { IsTrue self.now.failed → IsErrOf result DumpFault.Closed × (output.new ≡ output.old) }
         ensures open { self.now.failed ≡ false → IfErr result (λ fault. fault ≢ DumpFault.Closed) }
     {

@@ -1,6 +1,6 @@
 //! What one object of a World looks like.
 
-ghost use Rattle.std.specs.Prelude.{◌≡◌, false, IfOk, IfErr, IsErrOf, IsTrue};
+ghost use Rattle.std.specs.Prelude.{◌≡◌, false, IfOk, IfErr, IsErrOf, IsTrue, Bool};
 ghost use Rattle.moo_dump.specs.Look.{look_of};
 ghost use Rattle.moo_store.specs.World.{StandsFor};
 
@@ -15,7 +15,7 @@ impl<S: Alter + Drop> World<S> {
     ///
     /// OutOfMemory where memory runs out. Closed where the World had failed.
     pub fn object(&self, x: ObjNo) -> Result<Option<Look>, StoreFault>
-        ensures look { (s : _) → StandsFor S.Store self.now s → IfOk result (λ look. look ≡ look_of s.world x) }
+        ensures look { (known : Bool) (s : _) → StandsFor S.Store known self.now s → IfOk result (λ look. look ≡ look_of s.world x) }
         ensures fault { self.now.failed ≡ false → IfErr result (λ fault. fault ≡ StoreFault.OutOfMemory) }
         ensures closed { IsTrue self.now.failed → IsErrOf result StoreFault.Closed }
     {

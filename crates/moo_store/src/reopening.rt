@@ -1,6 +1,6 @@
 //! The headline: runs, a crash, and the opening of what it left.
 
-ghost use Rattle.std.specs.Prelude.{◌≡◌, List, [], ◌∷◌, ◌++◌, IfOk, IfErr, IfSome, false};
+ghost use Rattle.std.specs.Prelude.{◌≡◌, List, [], ◌∷◌, ◌++◌, IfOk, IfErr, IfSome, false, true};
 ghost use Rattle.sqlite.specs.State.{HasCleanDisk};
 ghost use Rattle.sqlite.specs.Held.{state};
 ghost use Rattle.moo_world.specs.declared.call.Batch.{Batch};
@@ -34,9 +34,9 @@ pub fn run_and_reopen<S: Alter + Drop, T: Alter + Drop>(
     found: Connection<T>,
 ) -> Result<World<T>, (StoreFault, Connection<T>)>
     requires outside { (state T.Store found).in_transaction ≡ false }
-    ensures reopened { (s : _) → StandsFor S.Store world.old s → MayOpenAs (store_of S.Store world.new) (state T.Store found) →
+    ensures reopened { (s : _) → StandsFor S.Store true world.old s → MayOpenAs (store_of S.Store world.new) (state T.Store found) →
         IfOk result (λ again. HasCleanDisk (store_of T.Store again) → HoldsAcknowledged T.Store again s batches.now (added replies.old.items replies.new.items)) }
-    ensures refused { (s : _) → StandsFor S.Store world.old s → MayOpenAs (store_of S.Store world.new) (state T.Store found) →
+    ensures refused { (s : _) → StandsFor S.Store true world.old s → MayOpenAs (store_of S.Store world.new) (state T.Store found) →
         IfErr result (λ e. HasCleanDisk (state T.Store e.1) → IsOfStore e.0) }
 {
     let _stopped = world.run(batches, replies);
@@ -52,9 +52,9 @@ pub fn run_then_crash_then_adopt<S: Alter + Reopen + Drop>(
     batches: &[Batch],
     replies: &mut Vec<Reply>,
 ) -> Option<Result<World<S>, (StoreFault, Connection<S>)>>
-    ensures reopened { (s : _) → StandsFor S.Store world s → IfSome result (λ opened. IfOk opened (λ again.
+    ensures reopened { (s : _) → StandsFor S.Store true world s → IfSome result (λ opened. IfOk opened (λ again.
         HasCleanDisk (store_of S.Store again) → HoldsAcknowledged S.Store again s batches.now (added replies.old.items replies.new.items))) }
-    ensures refused { (s : _) → StandsFor S.Store world s → IfSome result (λ opened. IfErr opened (λ e. HasCleanDisk (state S.Store e.1) → IsOfStore e.0)) }
+    ensures refused { (s : _) → StandsFor S.Store true world s → IfSome result (λ opened. IfErr opened (λ e. HasCleanDisk (state S.Store e.1) → IsOfStore e.0)) }
 {
     let _stopped = world.run(batches, replies);
     match crash_and_open(alloc, world.into_connection()) {
@@ -69,7 +69,7 @@ pub fn run_then_crash_then_adopt<S: Alter + Reopen + Drop>(
 pub fn parts_join<S: Alter + Drop>(world: &World<S>)
     // One part more, from the state that the parts before it left.
     ensures goes_on { (s t : State) (parts : List (List Batch × List Reply)) (batches : List Batch) (replies : List Reply) → RunsInParts s parts t → HoldsAcknowledged S.Store world.now t batches replies →
-        (end : State) × RunsInParts s (parts ++ (batches, replies) ∷ []) end × StandsFor S.Store world.now end }
+        (end : State) × RunsInParts s (parts ++ (batches, replies) ∷ []) end × StandsFor S.Store true world.now end }
     // All parts together: every acknowledged batch of each, and at most one more behind them.
     ensures joins { (s end : State) (parts : List (List Batch × List Reply)) → RunsInParts s parts end → (kept : List Batch) × IsKeptOf kept parts × (end ≡ after s kept) }
 {

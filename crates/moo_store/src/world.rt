@@ -42,7 +42,7 @@ impl<S: Alter> Model for World<S> {
 }
 
 impl<S: Alter + Drop> World<S> {
-    ghost use Rattle.std.specs.Prelude.{◌≡◌, ◌≢◌, ◌⊎◌, ◌<◌, ◌^◌, false, true, IsTrue, [], ◌∷◌, length, take, drop, OnOk, OnErr, IfOk, IfErr, IsErrAnd, IsErrOf, IsOkAnd, ⊤, Ok, Err};
+    ghost use Rattle.std.specs.Prelude.{◌≡◌, ◌≢◌, ◌⊎◌, ◌<◌, ◌^◌, Bool, false, true, IsTrue, [], ◌∷◌, length, take, drop, OnOk, OnErr, IfOk, IfErr, IsErrAnd, IsErrOf, IsOkAnd, ⊤, Ok, Err};
     ghost use Rattle.sqlite.specs.State.{HasCleanDisk};
     ghost use Rattle.sqlite.specs.Held.{state};
     ghost use Rattle.moo_rows.specs.Maps.{Maps};
@@ -68,7 +68,7 @@ impl<S: Alter + Drop> World<S> {
         ensures connection { result.connection ≡ connection }
         ensures rows { result.rows.maps ≡ rows.maps }
         ensures works { result.failed ≡ false }
-        ensures stands { ShowsItsRows S.Store result → StandsFor S.Store result (state_of rows.maps) }
+        ensures stands { (known : Bool) → (IsTrue known → ShowsItsRows S.Store result) → StandsFor S.Store known result (state_of rows.maps) }
     {
         World {
             alloc,
@@ -90,7 +90,7 @@ impl<S: Alter + Drop> World<S> {
         requires limit { cells.now.head.seq < 2 ^ 63 }
         requires changes { (next : Maps) × AreChanges self.old.rows.maps next changes × IsGood next }
         ensures reply { IfOk result (λ reply. reply ≡ Reply.Accepted changes.head.seq answers) }
-        ensures is_at { OnOk result ((next : Maps) → ShowsItsRows S.Store self.old → AreChanges self.old.rows.maps next changes → IsGood next → IsAt S.Store self.new (state_of next)) }
+        ensures is_at { OnOk result ((known : Bool) (next : Maps) → (IsTrue known → ShowsItsRows S.Store self.old) → AreChanges self.old.rows.maps next changes → IsGood next → IsAt S.Store known self.new (state_of next)) }
         ensures rows { OnOk result ((next : Maps) → AreChanges self.old.rows.maps next changes → self.new.failed ≡ false → self.new.rows.maps ≡ next) }
         ensures cells { OnOk result ((next : Maps) (tables : Tables) → AreChanges self.old.rows.maps next changes → HasCleanDisk (store_of S.Store self.new) → Rests (store_of S.Store self.old) tables → ShowsRows tables self.old.rows.maps → (after : Tables) × Rests (store_of S.Store self.new) after × KeepsCells self.old.rows.maps next tables after) }
         ensures undone { OnErr result (HasCleanDisk (store_of S.Store self.new) → IsTrue (store_of S.Store self.new).is_open → (tables : Tables) → Rests (store_of S.Store self.old) tables → Rests (store_of S.Store self.new) tables) }
@@ -145,20 +145,20 @@ impl<S: Alter + Drop> World<S> {
         ensures fewer { self.old.failed ≡ false → IfErr result (λ fault. fault ≢ StoreFault.OutOfMemory → length (added replies.old.items replies.new.items) < length batches.now) }
 
         // Wherever the World stood, each of these batches has its turn. A fault of the store is met by the next one.
-        ensures turns { (stand : Stand) → StandsAt S.Store self.old stand → RunsAll S.Store self.new stand batches.now (added replies.old.items replies.new.items) result }
+        ensures turns { (known : Bool) (stand : Stand) → StandsAt S.Store known self.old stand → RunsAll S.Store known self.new stand batches.now (added replies.old.items replies.new.items) result }
 
         // Each is judged after the accepted batches before it; or, where its calls are run, NoMemory, which changes nothing.
-        ensures replies { (s : _) → IsAt S.Store self.old s →
+        ensures replies { (known : Bool) (s : _) → IsAt S.Store known self.old s →
             let new = added replies.old.items replies.new.items in
             Answered s (take (length new) batches.now) new (after s (acknowledged batches.now new)) }
 
         // Then the World is at the state after the acknowledged batches. Where the store failed, a crash leaves that state,
         // or the one after the batch in hand.
-        ensures world { (s : _) → IsAt S.Store self.old s →
+        ensures world { (known : Bool) (s : _) → IsAt S.Store known self.old s →
             let new = added replies.old.items replies.new.items in
             let end = after s (acknowledged batches.now new) in
-            MatchStore result (IsAt S.Store self.new end) (HasCleanDisk (store_of S.Store self.new) → LeftOrNext (store_of S.Store self.new) end (drop (length new) batches.now)) }
-        ensures left { (s : _) → IsAt S.Store self.old s →
+            MatchStore result (IsAt S.Store known self.new end) (IsTrue known → HasCleanDisk (store_of S.Store self.new) → LeftOrNext (store_of S.Store self.new) end (drop (length new) batches.now)) }
+        ensures left { (s : _) → IsAt S.Store true self.old s →
             let end = after s (acknowledged batches.now (added replies.old.items replies.new.items)) in
             MatchStore result (HasCleanDisk (store_of S.Store self.new) → Left (store_of S.Store self.new) end) ⊤ }
 
@@ -167,7 +167,7 @@ impl<S: Alter + Drop> World<S> {
 
         // In the tables, each acknowledged batch leads from rows that they show to rows that they show, and a row that is the
         // same in both keeps its cells, byte for byte. Where the store failed, the batch in hand wrote nothing.
-        ensures cells { (s : _) → IsAt S.Store self.old s → HasCleanDisk (store_of S.Store self.new) → IsKnown (store_of S.Store self.new) result → (tables : Tables) → Rests (store_of S.Store self.old) tables →
+        ensures cells { (s : _) → IsAt S.Store true self.old s → HasCleanDisk (store_of S.Store self.new) → IsKnown (store_of S.Store self.new) result → (tables : Tables) → Rests (store_of S.Store self.old) tables →
             HasWritten S.Store self.old self.new tables (acknowledged batches.now (added replies.old.items replies.new.items)) }
 
         // Batches of which none is acknowledged change nothing.
@@ -195,8 +195,8 @@ impl<S: Alter + Drop> World<S> {
 
     /// What a batch would come to at present, with the present number. Nothing changes. The only fault is Closed.
     pub fn ask(&self, batch: &Batch) -> Result<Reply, StoreFault>
-        ensures verdict { (s : _) → StandsFor S.Store self.now s → IsOkAnd result (λ reply. (reply ≡ Reply.NoMemory) ⊎ (reply ≡ answer_of s (verdict s batch.now))) }
-        ensures memory { (s : _) → StandsFor S.Store self.now s → IfOk result (λ reply. reply ≡ Reply.NoMemory → IsRun s batch.now) }
+        ensures verdict { (known : Bool) (s : _) → StandsFor S.Store known self.now s → IsOkAnd result (λ reply. (reply ≡ Reply.NoMemory) ⊎ (reply ≡ answer_of s (verdict s batch.now))) }
+        ensures memory { (known : Bool) (s : _) → StandsFor S.Store known self.now s → IfOk result (λ reply. reply ≡ Reply.NoMemory → IsRun s batch.now) }
         ensures closed { IsTrue self.now.failed → IsErrOf result StoreFault.Closed }
     {
         if self.failed {
@@ -219,7 +219,7 @@ impl<S: Alter + Drop> World<S> {
 
     /// A World that works and whose tables show its rows stands for their world. The call does nothing; its contract is what it is for.
     pub fn stands(&self)
-        ensures { self.now.failed ≡ false → ShowsItsRows S.Store self.now → StandsFor S.Store self.now (state_of self.now.rows.maps) }
+        ensures { (known : Bool) → self.now.failed ≡ false → (IsTrue known → ShowsItsRows S.Store self.now) → StandsFor S.Store known self.now (state_of self.now.rows.maps) }
     {
         let _failed = self.failed;
     }
@@ -227,14 +227,14 @@ impl<S: Alter + Drop> World<S> {
     /// What a crash leaves of a World at rest, wherever it stands: the state of one that works. The call does nothing; its contract
     /// is what it is for.
     pub fn leaves(&self)
-        ensures { (stand : Stand) → StandsAt S.Store self.now stand → HasCleanDisk (store_of S.Store self.now) → CrashLeaves (store_of S.Store self.now) stand }
+        ensures { (known : Bool) (stand : Stand) → StandsAt S.Store known self.now stand → IsTrue known → HasCleanDisk (store_of S.Store self.now) → CrashLeaves (store_of S.Store self.now) stand }
     {
         let _failed = self.failed;
     }
 
     /// The number of the batches that were accepted, 0 to 9,223,372,036,854,775,807. The only fault is Closed.
     pub fn seq(&self) -> Result<u64, StoreFault>
-        ensures number { (s : _) → StandsFor S.Store self.now s → result ≡ Ok s.seq }
+        ensures number { (known : Bool) (s : _) → StandsFor S.Store known self.now s → result ≡ Ok s.seq }
         ensures closed { IsTrue self.now.failed → IsErrOf result StoreFault.Closed }
     {
         if self.failed {

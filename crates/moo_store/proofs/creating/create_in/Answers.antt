@@ -1,4 +1,4 @@
-use Rattle.std.proofs.Common.{IsTrue, inr, sym, subst, rules}
+use Rattle.std.proofs.Common.{IsTrue, true, inr, sym, subst, rules}
 use Rattle.sqlite.specs.State.{HasCleanDisk, Survives}
 use Rattle.sqlite.specs.Held.{state}
 use Rattle.moo_world.specs.Rows.{IsGood}
@@ -19,7 +19,7 @@ returns-in-Ok-create_tables-clause-stands g c =
     let shown : ShowsItsRows g.S.Store c.over.result = λ clean.
     subst (KeepsRows (state g.S.Store c.over.result.connection)) (sym c.over.ensures.rows)
     (subst (λ conn. HasCleanDisk (state g.S.Store conn) → KeepsRows (state g.S.Store conn) rows) (sym c.over.ensures.connection) keeps clean) in
-    subst (λ m. StandsFor g.S.Store c.over.result (state_of m)) c.in-Ok.ensures.rows (c.over.ensures.stands shown)
+    subst (λ m. StandsFor g.S.Store true c.over.result (state_of m)) c.in-Ok.ensures.rows (c.over.ensures.stands true (λ _. shown))
 
 pub returns-in-Ok-create_tables-clause-crash : goal.returns-in-Ok-create_tables-clause-crash
 returns-in-Ok-create_tables-clause-crash g c =

@@ -6,4 +6,4 @@ use Rattle.moo_store.proofs.ask.QuestionsAnswering.answer.Goals as goal
 pub returns : goal.returns
 returns g c =
     let world = c.args.self.now.world.now in
-    (refl, λ stand at. subst (λ a. AsksBatch stand c.args.batch.now a stand) (sym c.answered_by.ensures) (asked_one g.S.Store world c.args.batch.now c.ask.result c.ask.ensures.verdict c.ask.ensures.memory c.ask.ensures.closed stand at))
+    (refl, λ known stand at. subst (λ a. AsksBatch stand c.args.batch.now a stand) (sym c.answered_by.ensures) (asked_one g.S.Store world c.args.batch.now c.ask.result c.ask.ensures.verdict c.ask.ensures.memory c.ask.ensures.closed known stand at))

@@ -21,7 +21,7 @@ returns-clause-kept g c =
     c.self.view_is c.check_rows-checked.ensures.kept
 
 pub returns-clause-stands : goal.returns-clause-stands
-returns-clause-stands g c s it works late =
+returns-clause-stands g c known s it works late =
     let old : World _ = record { connection = c.self.inside.connection; rows = c.self.inside.rows; failed = c.self.inside.failed } in
-    stands_on g.S.Store old c.check_rows-checked.new.conn c.has_failed-self-inside.result s (subst (λ w. StandsFor g.S.Store w s) (sym c.self.view_is) it) works c.check_rows-checked.ensures.clean
+    stands_on g.S.Store known old c.check_rows-checked.new.conn c.has_failed-self-inside.result s (subst (λ w. StandsFor g.S.Store known w s) (sym c.self.view_is) it) works c.check_rows-checked.ensures.clean
     (works_on c.check_rows-checked.result c.has_failed-self-inside.result _ c.has_failed-self-inside.ensures works (c.check_rows-checked.ensures.stays late)) late

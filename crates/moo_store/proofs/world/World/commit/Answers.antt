@@ -1,4 +1,4 @@
-use Rattle.std.proofs.Common.{◌≡◌, false, refl, sym, ap, subst}
+use Rattle.std.proofs.Common.{◌≡◌, false, IsTrue, refl, sym, ap, subst}
 use Rattle.sqlite.specs.Held.{state}
 use Rattle.sqlite.specs.State.{HasCleanDisk}
 use Rattle.moo_world.specs.Rows.{IsGood}
@@ -27,20 +27,21 @@ returns-in-Err-clause-crash g c next shown exact good clean =
     (c.commit_cells.ensures.crash c.args.changes rows next c.requires.printed here shows) clean
 
 pub returns-clause-is_at : goal.returns-clause-is_at
-returns-clause-is_at g c next shown exact good =
+returns-clause-is_at g c known next shown exact good =
     let rows = c.self.inside.rows.maps in
     let old = state g.S.Store c.self.inside.connection in
     let new = state g.S.Store c.commit_cells.new.conn in
-    let shows = subst (ShowsItsRows g.S.Store) (sym c.self.view_is) shown in
     let here : AreChanges rows next c.args.changes = subst (λ (w : World _). AreChanges w.rows.maps next c.args.changes) (sym c.self.view_is) exact in
-    let written : HasCleanDisk new → KeepsRows new next = rows_written old new rows next shows
+    let written : IsTrue known → HasCleanDisk new → KeepsRows new next = λ sure.
+    let shows = subst (ShowsItsRows g.S.Store) (sym c.self.view_is) (shown sure) in
+    rows_written old new rows next shows
     (c.commit_cells.ensures.crash c.args.changes rows next c.requires.printed here shows)
     (λ clean. c.in_default.ensures.written clean c.args.changes rows next c.requires.printed here) in
     elim c.if-is_err.branch [
-      | then-is_err w ↦ subst (λ v. IsAt g.S.Store v (state_of next)) (sym w.self-is) (record { tables = λ clean. keeps_state new next (state_of next) good refl (written clean); rows = λ e. cc; shown = λ e. cc })
-      | else-is_err w ↦ subst (λ v. IsAt g.S.Store v (state_of next)) (sym w.self-is)
+      | then-is_err w ↦ subst (λ v. IsAt g.S.Store known v (state_of next)) (sym w.self-is) (record { tables = λ sure clean. keeps_state new next (state_of next) good refl (written sure clean); rows = λ e. cc; shown = λ sure e. cc })
+      | else-is_err w ↦ subst (λ v. IsAt g.S.Store known v (state_of next)) (sym w.self-is)
           (let applied = when_ok c.apply_changes.result w.if-is_err.ensures.value c.apply_changes.ensures next here in
-          record { tables = λ clean. keeps_state new next (state_of next) good refl (written clean); rows = λ e. ap state_of applied; shown = λ e clean. subst (KeepsRows new) (sym applied) (written clean) })
+          record { tables = λ sure clean. keeps_state new next (state_of next) good refl (written sure clean); rows = λ e. ap state_of applied; shown = λ sure e clean. subst (KeepsRows new) (sym applied) (written sure clean) })
     ]
 
 pub invariant_of-self-else-is_err : goal.invariant_of-self-else-is_err

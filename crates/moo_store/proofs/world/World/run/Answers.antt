@@ -1,4 +1,4 @@
-use Rattle.std.proofs.Common.{◌≡◌, ◌+◌, vec_len, refl, arith, Ok, Err}
+use Rattle.std.proofs.Common.{◌≡◌, ◌+◌, vec_len, refl, arith, true, Ok, Err}
 use Rattle.std.specs.Prelude.{⊤}
 use Rattle.moo_store.specs.declared.fault.StoreFault.TheVariants.{OutOfMemory, Closed}
 use Rattle.moo_store.proofs.Running.{when_ok, starts, goes_on, answers, is_at_end, stops, left_at, fails_of, runs_one, runs_through, runs_stopped, fewer}
@@ -9,38 +9,38 @@ use Rattle.moo_store.proofs.world.World.run.Goals as goal
 -- before the first batch
 
 pub returns-then-self-clause-replies : goal.returns-then-self-clause-replies
-returns-then-self-clause-replies g c s it =
+returns-then-self-clause-replies g c known s it =
     let p = starts g.S.Store c.args.self.now c.args.batches.now c.args.replies.now.items c.args.replies.now.items refl in
-    answers g.S.Store c.args.self.now c.args.self.now c.args.batches.now 0 c.args.replies.now.items c.args.replies.now.items p s it
+    answers g.S.Store c.args.self.now c.args.self.now c.args.batches.now 0 c.args.replies.now.items c.args.replies.now.items p known s it
 
 pub returns-then-self-clause-world : goal.returns-then-self-clause-world
-returns-then-self-clause-world g c s it =
+returns-then-self-clause-world g c known s it =
     let p = starts g.S.Store c.args.self.now c.args.batches.now c.args.replies.now.items c.args.replies.now.items refl in
-    is_at_end g.S.Store c.args.self.now c.args.self.now c.args.batches.now 0 c.args.replies.now.items c.args.replies.now.items p s it
+    is_at_end g.S.Store c.args.self.now c.args.self.now c.args.batches.now 0 c.args.replies.now.items c.args.replies.now.items p known s it
 
 pub returns-then-self-clause-left : goal.returns-then-self-clause-left
 returns-then-self-clause-left g c s it =
     let p = starts g.S.Store c.args.self.now c.args.batches.now c.args.replies.now.items c.args.replies.now.items refl in
     left_at {T = Unit {0}} g.S.Store c.args.self.now _ (Err Closed) ⊤ (g.met.S.Store.settled c.args.self.now.connection.store)
-    (is_at_end g.S.Store c.args.self.now c.args.self.now c.args.batches.now 0 c.args.replies.now.items c.args.replies.now.items p s it)
+    (is_at_end g.S.Store c.args.self.now c.args.self.now c.args.batches.now 0 c.args.replies.now.items c.args.replies.now.items p true s it)
 
 -- no room for the replies
 
 pub returns-then-is_err-clause-replies : goal.returns-then-is_err-clause-replies
-returns-then-is_err-clause-replies g c s it =
+returns-then-is_err-clause-replies g c known s it =
     let p = starts g.S.Store c.args.self.now c.args.batches.now c.args.replies.now.items c.reserve.new.self.items c.reserve.ensures.items in
-    answers g.S.Store c.args.self.now c.args.self.now c.args.batches.now 0 c.args.replies.now.items c.reserve.new.self.items p s it
+    answers g.S.Store c.args.self.now c.args.self.now c.args.batches.now 0 c.args.replies.now.items c.reserve.new.self.items p known s it
 
 pub returns-then-is_err-clause-world : goal.returns-then-is_err-clause-world
-returns-then-is_err-clause-world g c s it =
+returns-then-is_err-clause-world g c known s it =
     let p = starts g.S.Store c.args.self.now c.args.batches.now c.args.replies.now.items c.reserve.new.self.items c.reserve.ensures.items in
-    is_at_end g.S.Store c.args.self.now c.args.self.now c.args.batches.now 0 c.args.replies.now.items c.reserve.new.self.items p s it
+    is_at_end g.S.Store c.args.self.now c.args.self.now c.args.batches.now 0 c.args.replies.now.items c.reserve.new.self.items p known s it
 
 pub returns-then-is_err-clause-left : goal.returns-then-is_err-clause-left
 returns-then-is_err-clause-left g c s it =
     let p = starts g.S.Store c.args.self.now c.args.batches.now c.args.replies.now.items c.reserve.new.self.items c.reserve.ensures.items in
     left_at {T = Unit {0}} g.S.Store c.args.self.now _ (Err OutOfMemory) ⊤ (g.met.S.Store.settled c.args.self.now.connection.store)
-    (is_at_end g.S.Store c.args.self.now c.args.self.now c.args.batches.now 0 c.args.replies.now.items c.reserve.new.self.items p s it)
+    (is_at_end g.S.Store c.args.self.now c.args.self.now c.args.batches.now 0 c.args.replies.now.items c.reserve.new.self.items p true s it)
 
 -- one batch after another
 
@@ -61,47 +61,47 @@ loop-batch-preserved g c = record {
 }
 
 pub returns-in-Err-clause-replies : goal.returns-in-Err-clause-replies
-returns-in-Err-clause-replies g c s it = answers g.S.Store c.args.self.now c.loop-batch.self c.args.batches.now c.loop-batch.batch-index c.args.replies.now.items c.loop-batch.replies.items c.loop-batch.invariant.progress s it
+returns-in-Err-clause-replies g c known s it = answers g.S.Store c.args.self.now c.loop-batch.self c.args.batches.now c.loop-batch.batch-index c.args.replies.now.items c.loop-batch.replies.items c.loop-batch.invariant.progress known s it
 
 pub returns-in-Err-clause-world : goal.returns-in-Err-clause-world
-returns-in-Err-clause-world g c s it =
+returns-in-Err-clause-world g c known s it =
     stops (Unit {0}) g.S.Store c.args.self.now c.loop-batch.self c.run_one.new.self c.args.batches.now c.loop-batch.batch-index c.args.replies.now.items c.loop-batch.replies.items c.batch-item.result c.in-Err.fault
-    c.loop-batch-test.true c.batch-item.is c.loop-batch.invariant.progress (runs_one g.S.Store c.loop-batch.self c.run_one.new.self c.batch-item.result (Err c.in-Err.fault) (fails_of g.S.Store c.loop-batch.self c.run_one.new.self (Err c.in-Err.fault) c.in-Err.ensures.closed c.in-Err.ensures.fails) c.in-Err.ensures.stands) s it
+    c.loop-batch-test.true c.batch-item.is c.loop-batch.invariant.progress (runs_one g.S.Store c.loop-batch.self c.run_one.new.self c.batch-item.result (Err c.in-Err.fault) (fails_of g.S.Store c.loop-batch.self c.run_one.new.self (Err c.in-Err.fault) c.in-Err.ensures.closed c.in-Err.ensures.fails) c.in-Err.ensures.stands) known s it
 
 pub returns-in-Err-clause-left : goal.returns-in-Err-clause-left
 returns-in-Err-clause-left g c s it =
     left_at {T = Unit {0}} g.S.Store c.run_one.new.self _ (Err c.in-Err.fault) _ (g.met.S.Store.settled c.run_one.new.self.connection.store)
     (stops (Unit {0}) g.S.Store c.args.self.now c.loop-batch.self c.run_one.new.self c.args.batches.now c.loop-batch.batch-index c.args.replies.now.items c.loop-batch.replies.items c.batch-item.result c.in-Err.fault
-    c.loop-batch-test.true c.batch-item.is c.loop-batch.invariant.progress (runs_one g.S.Store c.loop-batch.self c.run_one.new.self c.batch-item.result (Err c.in-Err.fault) (fails_of g.S.Store c.loop-batch.self c.run_one.new.self (Err c.in-Err.fault) c.in-Err.ensures.closed c.in-Err.ensures.fails) c.in-Err.ensures.stands) s it)
+    c.loop-batch-test.true c.batch-item.is c.loop-batch.invariant.progress (runs_one g.S.Store c.loop-batch.self c.run_one.new.self c.batch-item.result (Err c.in-Err.fault) (fails_of g.S.Store c.loop-batch.self c.run_one.new.self (Err c.in-Err.fault) c.in-Err.ensures.closed c.in-Err.ensures.fails) c.in-Err.ensures.stands) true s it)
 
 pub returns-clause-replies : goal.returns-clause-replies
-returns-clause-replies g c s it = answers g.S.Store c.args.self.now c.loop-batch.self c.args.batches.now c.loop-batch.batch-index c.args.replies.now.items c.loop-batch.replies.items c.loop-batch.invariant.progress s it
+returns-clause-replies g c known s it = answers g.S.Store c.args.self.now c.loop-batch.self c.args.batches.now c.loop-batch.batch-index c.args.replies.now.items c.loop-batch.replies.items c.loop-batch.invariant.progress known s it
 
 pub returns-clause-world : goal.returns-clause-world
-returns-clause-world g c s it = is_at_end g.S.Store c.args.self.now c.loop-batch.self c.args.batches.now c.loop-batch.batch-index c.args.replies.now.items c.loop-batch.replies.items c.loop-batch.invariant.progress s it
+returns-clause-world g c known s it = is_at_end g.S.Store c.args.self.now c.loop-batch.self c.args.batches.now c.loop-batch.batch-index c.args.replies.now.items c.loop-batch.replies.items c.loop-batch.invariant.progress known s it
 
 pub returns-clause-left : goal.returns-clause-left
 returns-clause-left g c s it =
     left_at {T = Unit {0}} g.S.Store c.loop-batch.self _ (Ok tt) ⊤ (g.met.S.Store.settled c.loop-batch.self.connection.store)
-    (is_at_end g.S.Store c.args.self.now c.loop-batch.self c.args.batches.now c.loop-batch.batch-index c.args.replies.now.items c.loop-batch.replies.items c.loop-batch.invariant.progress s it)
+    (is_at_end g.S.Store c.args.self.now c.loop-batch.self c.args.batches.now c.loop-batch.batch-index c.args.replies.now.items c.loop-batch.replies.items c.loop-batch.invariant.progress true s it)
 
 -- what was written
 
 pub returns-then-self-clause-cells : goal.returns-then-self-clause-cells
 returns-then-self-clause-cells g c s it clean known tables rests =
-    (wrote_at_start g.S.Store c.args.self.now c.args.batches.now c.args.replies.now.items c.args.replies.now.items refl).written clean tables (is_over g.S.Store c.args.self.now s tables it clean rests)
+    (wrote_at_start g.S.Store c.args.self.now c.args.batches.now c.args.replies.now.items c.args.replies.now.items refl).written clean tables (is_over g.S.Store true c.args.self.now s tables refl it clean rests)
 
 pub returns-then-is_err-clause-cells : goal.returns-then-is_err-clause-cells
 returns-then-is_err-clause-cells g c s it clean known tables rests =
-    (wrote_at_start g.S.Store c.args.self.now c.args.batches.now c.args.replies.now.items c.reserve.new.self.items c.reserve.ensures.items).written clean tables (is_over g.S.Store c.args.self.now s tables it clean rests)
+    (wrote_at_start g.S.Store c.args.self.now c.args.batches.now c.args.replies.now.items c.reserve.new.self.items c.reserve.ensures.items).written clean tables (is_over g.S.Store true c.args.self.now s tables refl it clean rests)
 
 pub returns-in-Err-clause-cells : goal.returns-in-Err-clause-cells
 returns-in-Err-clause-cells g c s it clean known tables rests =
     wrote_stopped (Unit {0}) g.S.Store c.args.self.now c.loop-batch.self c.run_one.new.self c.args.batches.now (added c.args.replies.now.items c.loop-batch.replies.items) c.batch-item.result c.in-Err.fault c.loop-batch.invariant.cells (fails_of g.S.Store c.loop-batch.self c.run_one.new.self (Err c.in-Err.fault) c.in-Err.ensures.closed c.in-Err.ensures.fails) c.in-Err.ensures.cells
-    clean known tables (is_over g.S.Store c.args.self.now s tables it (c.loop-batch.invariant.cells.clean (c.in-Err.ensures.cells.clean clean)) rests)
+    clean known tables (is_over g.S.Store true c.args.self.now s tables refl it (c.loop-batch.invariant.cells.clean (c.in-Err.ensures.cells.clean clean)) rests)
 
 pub returns-clause-cells : goal.returns-clause-cells
-returns-clause-cells g c s it clean known tables rests = c.loop-batch.invariant.cells.written clean tables (is_over g.S.Store c.args.self.now s tables it (c.loop-batch.invariant.cells.clean clean) rests)
+returns-clause-cells g c s it clean known tables rests = c.loop-batch.invariant.cells.written clean tables (is_over g.S.Store true c.args.self.now s tables refl it (c.loop-batch.invariant.cells.clean clean) rests)
 
 -- where none was acknowledged
 

@@ -32,8 +32,8 @@ returns-in-Ok-clause-stands g c =
     let judged = subst (λ (w : World _). judge (state_of w.rows.maps) c.args.batch.now ≡ Accepted c.in-Accepted.answers (state_of next)) c.self.view_is found.3 in
     accepted_stands g.S.Store c.args.self.now c.commit.new.self c.args.batch.now c.in-Accepted.answers (state_of next) c.commit.result works judged
     (subst (λ n. IfOk c.commit.result (λ r. r ≡ reply.Accepted n c.in-Accepted.answers)) (ap (λ (h : Head). h.seq) found.1.head) c.commit.ensures.reply)
-    (λ s at. at_changed c.commit.result (λ here. here next (at.shown works) exact found.2) c.commit.ensures.is_at) c.commit.ensures.fault c.commit.ensures.failed
-    (λ s at. at_error c.commit.result (λ crash clean trees left. subst (λ t. LeavesState trees t ⊎ LeavesState trees (state_of next)) (at.rows works) (crash next (at.shown works) exact found.2 clean trees left)) c.commit.ensures.crash)
+    (λ known s at. at_changed c.commit.result (λ here. here known next (λ sure. at.shown sure works) exact found.2) c.commit.ensures.is_at) c.commit.ensures.fault c.commit.ensures.failed
+    (λ known s at. at_error c.commit.result (λ crash sure clean trees left. subst (λ t. LeavesState trees t ⊎ LeavesState trees (state_of next)) (at.rows works) (crash next (at.shown sure works) exact found.2 clean trees left)) c.commit.ensures.crash)
 
 pub returns-then-self-clause-stands : goal.returns-then-self-clause-stands
 returns-then-self-clause-stands g c = closed_stands g.S.Store c.args.self.now c.args.batch.now (subst (λ (w : World _). w.failed ≡ true) c.self.view_is c.if-self.true)

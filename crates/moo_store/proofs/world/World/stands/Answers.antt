@@ -1,4 +1,4 @@
-use Rattle.std.proofs.Common.{◌≡◌, false, refl, subst}
+use Rattle.std.proofs.Common.{◌≡◌, Bool, IsTrue, false, refl, subst}
 use Rattle.sqlite.specs.Held.{state}
 use Rattle.moo_world.specs.Judge.{state_of}
 use Rattle.moo_store.specs.Kept.{World}
@@ -9,8 +9,8 @@ use Rattle.moo_store.proofs.world.World.stands.Goals as goal
 pub returns : goal.returns
 returns g c =
     let rows = c.self.inside.rows.maps in
-    subst (λ (w : World _). w.failed ≡ false → ShowsItsRows g.S.Store w → StandsFor g.S.Store w (state_of w.rows.maps)) c.self.view_is
-    (λ works shown. record {
+    subst (λ (w : World _). (known : Bool) → w.failed ≡ false → (IsTrue known → ShowsItsRows g.S.Store w) → StandsFor g.S.Store known w (state_of w.rows.maps)) c.self.view_is
+    (λ known works shown. record {
       works = works;
-      is_at = record { tables = λ clean. keeps_state (state g.S.Store c.self.inside.connection) rows (state_of rows) (c.self.invariant.1 works) refl (shown clean); rows = λ e. refl; shown = λ e. shown };
+      is_at = record { tables = λ sure clean. keeps_state (state g.S.Store c.self.inside.connection) rows (state_of rows) (c.self.invariant.1 works) refl (shown sure clean); rows = λ e. refl; shown = λ sure e. shown sure };
     })
