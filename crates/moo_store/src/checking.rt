@@ -1,6 +1,6 @@
 //! Whether the tables of a World still show its rows.
 
-ghost use Rattle.std.specs.Prelude.{◌≡◌, ◌≢◌, IfOk, IfErr, OnOk, MatchResult, IsErrOf, IsTrue, false, length, Bool, true};
+ghost use Rattle.std.specs.Prelude.{◌≡◌, ◌≢◌, IfOk, IfErr, OnOk, MatchResult, IsErrOf, IsTrue, false, length, Bool};
 ghost use Rattle.sqlite.specs.State.{HasCleanDisk, Survives};
 ghost use Rattle.sqlite.specs.Held.{state};
 ghost use Rattle.moo_world.specs.ObjectLists.{objects_of};
@@ -85,7 +85,7 @@ impl<S: Alter + Drop> World<S> {
         // A damage is answered only as it is said of the tables, or where they show other rows than these.
         ensures fault { HasCleanDisk (store_of S.Store self.new) → IfErr result (λ fault. (tables : Tables) → Rests (store_of S.Store self.old) tables → SaysInCheck self.old.rows.maps tables fault) }
         // A World that stands for a state is checked with no damage, and stands for it as long as it works.
-        ensures whole { (s : _) → StandsFor S.Store true self.old s → HasCleanDisk (store_of S.Store self.new) → IfErr result IsOfStore }
+        ensures whole { (known : Bool) (s : _) → StandsFor S.Store known self.old s → IsTrue known → HasCleanDisk (store_of S.Store self.new) → IfErr result IsOfStore }
         ensures stands { (known : Bool) (s : _) → StandsFor S.Store known self.old s → self.new.failed ≡ false → HasCleanDisk (store_of S.Store self.new) → StandsFor S.Store known self.new s }
         // The rows, the tables and what a crash leaves stay.
         ensures rows { self.new.rows ≡ self.old.rows }
