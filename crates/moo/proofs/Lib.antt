@@ -1,2 +1,3 @@
-mod Stopping
-mod Words
+mod Connections
+mod Reporting
+mod Tasks

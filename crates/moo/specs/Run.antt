@@ -1,81 +1,160 @@
--- What a run of the program writes, and the status that it ends with.
-use Rattle.std.specs.Prelude.{◌≡◌, ◌⊎◌, ◌==◌, ◌||◌, ℕ, Bool, List, [], ◌∷◌, take, Option, if◌then◌else◌, codes, nat_eq}
-use Rattle.std.specs.Cmp.Lexicographic.{pointwise}
+-- What a run of the program writes, the status that it ends with, and what a crash then leaves.
+use Rattle.std.specs.Prelude.{◌≡◌, ◌<◌, ◌⊎◌, ◌==◌, ℕ, Bool, true, List, [], take, length, Option, None, codes, if◌then◌else◌, ⊤, IsTrue, false}
+use Rattle.std.specs.Str.{bytes_eq}
 use Rattle.std.specs.Io.KnownBytes.{Appends}
+use Rattle.sqlite.specs.State.{State as Database, HasCleanDisk}
+use Rattle.sqlite.specs.Tree.{Trees}
+use Rattle.sqlite.specs.Store.{Ghosts}
+use Rattle.moo_world.specs.declared.call.Batch.{Batch}
+use Rattle.moo_rows.specs.Maps.{Maps}
 use Rattle.moo_rows.specs.Opening.{opening_maps}
-use Rattle.moo_world.specs.Judge.{state_of}
+use Rattle.moo_world.specs.Rows.{IsGood}
+use Rattle.moo_world.specs.Judge.{State, state_of}
+use Rattle.moo_world.specs.ObjectLists.{objects_of}
 use Rattle.moo_text.specs.declared.fault.TextFault.{TextFault}
-use Rattle.moo_text.specs.declared.fault.TextFault.TheVariants as text_fault
+use Rattle.moo_text.specs.declared.reply.Answer.{Answer}
+use Rattle.moo_dump.specs.Dump.{dump}
 use Rattle.moo_store.specs.declared.fault.StoreFault.{StoreFault}
-use Rattle.moo_store.specs.declared.fault.StoreFault.TheVariants as store_fault
-use Rattle.moo_store.specs.Stand.{Stand, Works, RunsBatch}
+use Rattle.moo_store.specs.Stand.{Stand, Works, RunsBatch, AsksBatch}
 use Rattle.moo_store.specs.Turns.{Completes, Halts}
+use Rattle.moo_store.specs.Opening.{IsOfStore}
+use Rattle.moo_store.specs.Kept.{World}
+use Rattle.moo_store.specs.World.{store_of, CrashLeaves}
+use Rattle.moo_words.specs.declared.task.Task.{Task}
+use Rattle.moo_words.specs.declared.task.Task.TheVariants.{Init, Apply, Ask, Dump, Check}
+use Rattle.moo_words.specs.Tasks.{NamesTask}
+use Rattle.moo.specs.Lines.{Reports, WritesLine, text_failure, store_failure, created_line, checked_line}
 use Rattle.moo.specs.declared.failure.Failure.{Failure}
-use Rattle.moo.specs.declared.failure.Failure.TheVariants.{Usage, Store, Read, Write, TooLong, NoMemory}
+use Rattle.moo.specs.declared.failure.Failure.TheVariants.{Usage, NoFile, Store, Damaged, NewerVersion, Read, Write, NoMemory}
 
--- ---- the words of the command line
+-- ---- tasks
 
-abbrev pub same_words : List (List ℕ) → List (List ℕ) → Bool
-same_words = pointwise (pointwise nat_eq)
+-- the file of a task
+abbrev pub file_of : Task → List ℕ
+file_of (Init file) = file.now
+file_of (Apply file batches) = file.now
+file_of (Ask file batches) = file.now
+file_of (Dump file) = file.now
+file_of (Check file) = file.now
 
--- they ask for the batches of the input to be run on a new world in memory
-abbrev pub asks_to_apply : List (List ℕ) → Bool
-asks_to_apply words =
-    same_words words (codes "moo" ∷ [])
-    || same_words words (codes "moo" ∷ codes "apply" ∷ codes ":memory:" ∷ codes "-" ∷ [])
+-- the task begins with a new world: `init`, and each task on `:memory:`
+abbrev pub begins_anew : Task → Bool
+begins_anew (Init file) = true
+begins_anew (Apply file batches) = bytes_eq file.now (codes ":memory:")
+begins_anew (Ask file batches) = bytes_eq file.now (codes ":memory:")
+begins_anew (Dump file) = bytes_eq file.now (codes ":memory:")
+begins_anew (Check file) = bytes_eq file.now (codes ":memory:")
 
--- ---- failures
+-- what is known of the text that is given as the batches: that of the input for `-`, and nothing of a file's
+abbrev pub given : List ℕ → Option (List ℕ) → Option (List ℕ)
+given batches input = if bytes_eq batches (codes "-") then input else None
 
--- the line that says so; of a failure of the writer there is none
-abbrev pub line_of : Failure → List ℕ
-line_of Usage = codes "moo: usage\n"
-line_of Store = codes "moo: store fault\n"
-line_of Read = codes "moo: read fault\n"
-line_of Write = []
-line_of TooLong = codes "moo: input too long\n"
-line_of NoMemory = codes "moo: no memory\n"
+-- 1 where an answer is `fault` or `closed`
+abbrev pub lost_status : ℕ → ℕ
+lost_status lost = if lost == 0 then 0 else 1
 
-abbrev pub status_of : Failure → ℕ
-status_of Usage = 2
-status_of Store = 1
-status_of Read = 1
-status_of Write = 1
-status_of TooLong = 1
-status_of NoMemory = 4
+-- ---- a task over a world
 
--- what stops a text, or the making of a world, as a failure
-abbrev pub text_failure : TextFault → Failure
-text_failure text_fault.Read = Read
-text_failure text_fault.Write = Write
-text_failure text_fault.OutOfMemory = NoMemory
-text_failure text_fault.Long = TooLong
+-- a text of batches is run, or asked, to its end
+abbrev pub RunsText : (Stand → Batch → Answer → Stand → Type 0) → State → Stand → Option (List ℕ) → Option (List ℕ) → Option (List ℕ) → ℕ → Type 0
+RunsText step s end text old new status =
+    (batches lost : ℕ) × Completes step (Works s) end text old new batches lost × (status ≡ lost_status lost)
 
-abbrev pub store_failure : StoreFault → Failure
-store_failure (store_fault.Store error) = Store
-store_failure (store_fault.Damaged kind key) = Store
-store_failure store_fault.NewerVersion = Store
-store_failure store_fault.OutOfMemory = NoMemory
-store_failure store_fault.Closed = Store
+-- it stops; or its file can't be opened, and nothing is done
+abbrev pub StopsText : (Stand → Batch → Answer → Stand → Type 0) → State → Stand → Failure → Option (List ℕ) → Option (List ℕ) → Option (List ℕ) → Type 0
+StopsText step s end failure text old new =
+    ((fault : TextFault) × (failure ≡ text_failure fault) × Halts step (Works s) end text old new fault)
+    ⊎ ((failure ≡ Read) × (end ≡ Works s) × (new ≡ old))
 
--- The failure's line is written, and its status answered. Or the writer fails on the way: a front of the line is written, and the
--- status is that of a failed writer.
-abbrev pub Reports : Failure → Option (List ℕ) → Option (List ℕ) → ℕ → Type 0
-Reports failure old new status =
-    (Appends old new (line_of failure) × (status ≡ status_of failure))
-    ⊎ ((count : ℕ) × Appends old new (take count (line_of failure)) × (status ≡ status_of Write))
+-- the task is done
+abbrev pub Done : Task → State → Stand → Option (List ℕ) → Option (List ℕ) → Option (List ℕ) → ℕ → Type 0
+Done (Init file) s end input old new status = (end ≡ Works s) × Appends old new created_line × (status ≡ 0)
+Done (Apply file batches) s end input old new status = RunsText RunsBatch s end (given batches.now input) old new status
+Done (Ask file batches) s end input old new status = (end ≡ Works s) × RunsText AsksBatch s (Works s) (given batches.now input) old new status
+Done (Dump file) s end input old new status = (end ≡ Works s) × Appends old new (dump s) × (status ≡ 0)
+Done (Check file) s end input old new status =
+    (end ≡ Works s) × Appends old new (checked_line s.seq (length (objects_of s.world))) × (status ≡ 0)
 
--- ---- runs
+-- a front of a text is written, since the writer failed or memory ran out
+abbrev pub StopsIn : List ℕ → Failure → Option (List ℕ) → Option (List ℕ) → Type 0
+StopsIn text failure old new = ((failure ≡ Write) ⊎ (failure ≡ NoMemory)) × (count : ℕ) × Appends old new (take count text)
 
--- A run of the text stops, with its answers before that written. Or the store or memory failed before the text was read, and nothing is
--- written.
-abbrev pub StopsText : Option (List ℕ) → Failure → Option (List ℕ) → Option (List ℕ) → Type 0
-StopsText text failure old new =
-    ((fault : TextFault) × (stand : Stand) × (failure ≡ text_failure fault) × Halts RunsBatch (Works (state_of opening_maps)) stand text old new fault)
-    ⊎ (((failure ≡ Store) ⊎ (failure ≡ NoMemory)) × Appends old new [])
+-- It stops with this failure, and so much is written. On a clean disk no check of a world that stands finds a damage.
+abbrev pub Stops : Task → State → Stand → Failure → Type 0 → Option (List ℕ) → Option (List ℕ) → Option (List ℕ) → Type 0
+Stops (Init file) s end failure Clean input old new = (end ≡ Works s) × StopsIn created_line failure old new
+Stops (Apply file batches) s end failure Clean input old new = StopsText RunsBatch s end failure (given batches.now input) old new
+Stops (Ask file batches) s end failure Clean input old new = (end ≡ Works s) × StopsText AsksBatch s (Works s) failure (given batches.now input) old new
+Stops (Dump file) s end failure Clean input old new = (end ≡ Works s) × StopsIn (dump s) failure old new
+Stops (Check file) s end failure Clean input old new =
+    (end ≡ Works s)
+    × (((fault : StoreFault) × (failure ≡ store_failure fault) × (Clean → IsOfStore fault) × (new ≡ old))
+    ⊎ StopsIn (checked_line s.seq (length (objects_of s.world))) failure old new)
 
--- A text is run from the opening world on, at status 1 where an answer is `fault` or `closed`; or its run stops and the failure is
--- reported.
-abbrev pub RunsText : Option (List ℕ) → Option (List ℕ) → Option (List ℕ) → ℕ → Type 0
-RunsText text old new status =
-    ((stand : Stand) × (batches lost : ℕ) × Completes RunsBatch (Works (state_of opening_maps)) stand text old new batches lost × (status ≡ (if lost == 0 then 0 else 1)))
-    ⊎ ((failure : Failure) × (between : Option (List ℕ)) × StopsText text failure old between × Reports failure between new status)
+-- What was done to a World leaves it so: a disk that returns what was written did so before, and what a crash leaves then is known.
+pub record Ends {S : Type 0} (g : Ghosts S) (known : Bool) (was world : World S) (End : Stand → Type 0) : Type 0 where
+  pub end : Stand
+  pub clean : HasCleanDisk (store_of g world) → HasCleanDisk (store_of g was)
+  pub crash : IsTrue known → HasCleanDisk (store_of g world) → CrashLeaves (store_of g world) end
+  pub ends : End end
+
+-- ---- a task over a connection
+
+-- A task runs from a world of this state on: it is done, or stops and the failure is reported. Where the disk is clean a crash then
+-- leaves what its end tells: the state behind the last acknowledged batch, or where the store failed in a batch that or the one behind it.
+pub record Runs (task : Task) (s : State) (input old new : Option (List ℕ)) (status : ℕ) (Clean : Type 0) (Crash : Stand → Type 0) : Type 0 where
+  pub end : Stand
+  pub crash : Clean → Crash end
+  pub writes :
+      Done task s end input old new status
+      ⊎ ((failure : Failure) × (between : Option (List ℕ)) × Stops task s end failure Clean input old between × Reports failure between new status)
+
+-- the same, where nothing is known of the disk
+abbrev pub RunsUnseen : Task → State → Option (List ℕ) → Option (List ℕ) → Option (List ℕ) → ℕ → Type 0
+RunsUnseen task s input old new status = Runs task s input old new status ⊥ (λ _. ⊥)
+
+-- a failure of the store, or want of memory
+abbrev pub IsOpening : Failure → Type 0
+IsOpening (Store error) = ⊤
+IsOpening NoMemory = ⊤
+IsOpening failure = ⊥
+
+-- why a file isn't opened, whatever it holds: there is none, it is damaged or of a later version, or one of these two
+abbrev pub IsRefusal : Failure → Type 0
+IsRefusal NoFile = ⊤
+IsRefusal (Damaged kind key) = ⊤
+IsRefusal NewerVersion = ⊤
+IsRefusal failure = IsOpening failure
+
+abbrev pub RefusesFile : Option (List ℕ) → Option (List ℕ) → ℕ → Type 0
+RefusesFile old new status = (failure : Failure) × IsRefusal failure × Reports failure old new status
+
+-- no world is opened or made, and that alone is reported
+abbrev pub FailsAtOnce : Option (List ℕ) → Option (List ℕ) → ℕ → Type 0
+FailsAtOnce old new status = (failure : Failure) × IsOpening failure × Reports failure old new status
+
+-- a crash leaves nothing that it couldn't leave before
+abbrev pub LeavesAsBefore : Database → Database → Type 0
+LeavesAsBefore old new = (trees : Trees) → new.may_leave trees → old.may_leave trees
+
+-- The words name no task, and what their reader says of that is written, or a front of it: 0 for help, 2 for a mistake, 1 where the
+-- writer fails. Or a line of our own says so.
+abbrev pub EndsUsage : Option (List ℕ) → Option (List ℕ) → ℕ → Type 0
+EndsUsage old new status =
+    ((text : List ℕ) × (known : ℕ) × ((known ≡ 0) ⊎ (known ≡ 2)) × WritesLine text known old new status)
+    ⊎ ((failure : Failure) × ((failure ≡ Usage) ⊎ (failure ≡ NoMemory)) × Reports failure old new status)
+
+-- a file is refused, or the task runs from a well formed world on
+abbrev pub RunsOpened : Task → Option (List ℕ) → Option (List ℕ) → Option (List ℕ) → ℕ → Type 0
+RunsOpened task input old new status = RefusesFile old new status ⊎ ((rows : Maps) × IsGood rows × RunsUnseen task (state_of rows) input old new status)
+
+-- What the words come to. A task that begins with a new world runs from the opening world on, or that world can't be made. Any other
+-- runs from the world on that was found in its file, or the file is refused. (No clause can say what a file holds: that it is the
+-- world which the file's tables show, is `run_over`'s to say.)
+pub record RunsTask (task : Task) (input old new : Option (List ℕ)) (status : ℕ) : Type 0 where
+  pub anew : begins_anew task ≡ true → FailsAtOnce old new status ⊎ RunsUnseen task (state_of opening_maps) input old new status
+  pub opened : begins_anew task ≡ false → RunsOpened task input old new status
+
+abbrev pub RunsWords : List (List ℕ) → Option (List ℕ) → Option (List ℕ) → Option (List ℕ) → ℕ → Type 0
+RunsWords words input old new status =
+    ((task : Task) × NamesTask words task × RunsTask task input old new status)
+    ⊎ ((1 < length words) × EndsUsage old new status)

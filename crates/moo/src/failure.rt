@@ -1,19 +1,28 @@
 //! How a run of the program fails.
 
 ghost use Rattle.std.specs.Prelude.{◌≡◌};
-ghost use Rattle.moo.specs.Run.{line_of, status_of, store_failure, text_failure};
+ghost use Rattle.moo.specs.Lines.{word_of, status_of, text_failure, store_failure, dump_failure};
 
+use moo_damage::{Key, Kind};
+use moo_store::DumpFault;
 use moo_store::fault::StoreFault;
 use moo_text::fault::TextFault;
+use sqlite::{Error, ErrorCode};
 
 /// How a run of the program fails.
 #[derive(Clone, Copy, Debug, PartialEq, Eq)]
 pub enum Failure {
     /// The words are none that the program knows.
     Usage,
-    /// The store failed.
-    Store,
-    /// The reader failed.
+    /// There is no such file.
+    NoFile,
+    /// The store failed, or has other tables than ours.
+    Store(Error),
+    /// The tables show no world.
+    Damaged(Kind, Key),
+    /// The tables are those of a later version.
+    NewerVersion,
+    /// The reader failed, or the file of batches can't be opened.
     Read,
     /// The writer failed, or took no bytes.
     Write,
@@ -24,13 +33,15 @@ pub enum Failure {
 }
 
 impl Failure {
-    /// The line that says so; of a failure of the writer there is none.
-    pub fn line(self) -> &'static str
-        ensures { result.now ≡ line_of self }
+    /// The line that says so, without the kind and the place of a damage; of a failure of the writer there is none.
+    pub fn word(self) -> &'static str
+        ensures { result.now ≡ word_of self }
     {
         match self {
             Failure::Usage => "moo: usage\n",
-            Failure::Store => "moo: store fault\n",
+            Failure::NoFile | Failure::Store(_) => "moo: store fault\n",
+            Failure::Damaged(_, _) => "moo: damaged\n",
+            Failure::NewerVersion => "moo: newer version\n",
             Failure::Read => "moo: read fault\n",
             Failure::Write => "",
             Failure::TooLong => "moo: input too long\n",
@@ -38,13 +49,19 @@ impl Failure {
         }
     }
 
-    /// The exit status: 1 for the store, a stream or a text that is too long, 2 for usage, 4 for want of memory.
+    /// The exit status: 1 for the store, a stream or a text that is too long, 2 for usage, 3 for tables that show no world of
+    /// this version, 4 for want of memory.
     pub fn status(self) -> u8
         ensures { result ≡ status_of self }
     {
         match self {
-            Failure::Store | Failure::Read | Failure::Write | Failure::TooLong => 1,
+            Failure::NoFile
+            | Failure::Store(_)
+            | Failure::Read
+            | Failure::Write
+            | Failure::TooLong => 1,
             Failure::Usage => 2,
+            Failure::Damaged(_, _) | Failure::NewerVersion => 3,
             Failure::NoMemory => 4,
         }
     }
@@ -68,11 +85,23 @@ impl From<StoreFault> for Failure {
 
     fn from(fault: StoreFault) -> Failure {
         match fault {
-            StoreFault::Store(_error) => Failure::Store,
-            StoreFault::Damaged(_kind, _key) => Failure::Store,
-            StoreFault::NewerVersion => Failure::Store,
+            StoreFault::Store(error) => Failure::Store(error),
+            StoreFault::Damaged(kind, key) => Failure::Damaged(kind, key),
+            StoreFault::NewerVersion => Failure::NewerVersion,
             StoreFault::OutOfMemory => Failure::NoMemory,
-            StoreFault::Closed => Failure::Store,
+            StoreFault::Closed => Failure::Store(Error::SqliteFailure(ErrorCode::Closed)),
+        }
+    }
+}
+
+impl From<DumpFault> for Failure {
+    ghost from_gives = { λ fault failure. failure ≡ dump_failure fault };
+
+    fn from(fault: DumpFault) -> Failure {
+        match fault {
+            DumpFault::Write => Failure::Write,
+            DumpFault::OutOfMemory => Failure::NoMemory,
+            DumpFault::Closed => Failure::Store(Error::SqliteFailure(ErrorCode::Closed)),
         }
     }
 }

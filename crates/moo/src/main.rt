@@ -1,13 +1,19 @@
 //! The program `moo`: an object database server with the behaviour of LambdaMOO 1.8.
 #![tactic(auto)]
 
+mod commands;
 mod failure;
+mod files;
+mod output;
+mod over;
 mod run;
 #[cfg(test)]
 mod tests;
 #[cfg(test)]
 mod worked_tests;
 
+use failure::Failure;
+use output::report;
 use run::run_words;
 use std::process::ExitCode;
 use std::{env, io};
@@ -22,9 +28,25 @@ fn command_words(rt: &HostRuntime) -> io::Result<Vec<String>> {
     Ok(words)
 }
 
-fn main(rt: HostRuntime) -> io::Result<ExitCode> {
-    let words = command_words(&rt)?;
+/// Does what the words of the command line say, and answers the exit status. An error where they can't be read.
+fn run_command(rt: &HostRuntime) -> io::Result<u8> {
+    let words = command_words(rt)?;
     let words: Vec<&str> = words.iter().map(|word| word.as_str()).collect(rt.alloc())?;
-    let status = run_words(&rt, &words, rt.stdin(), &mut rt.stdout());
-    Ok(ExitCode::from(status))
+    Ok(run_words(rt, &words, rt.stdin(), &mut rt.stdout()))
+}
+
+/// Why the words can't be read: memory ran out, or one of them isn't UTF-8.
+fn words_failure(error: io::Error) -> Failure {
+    if error.kind() == io::ErrorKind::OutOfMemory {
+        Failure::NoMemory
+    } else {
+        Failure::Usage
+    }
+}
+
+fn main(rt: HostRuntime) -> ExitCode {
+    match run_command(&rt) {
+        Ok(status) => ExitCode::from(status),
+        Err(error) => ExitCode::from(report(&rt, words_failure(error), &mut rt.stdout())),
+    }
 }

@@ -1,80 +1,59 @@
 //! What the words of the command line do.
 
-ghost use Rattle.std.specs.Prelude.{◌≡◌, ℕ, true, false, map, IfOk, IfErr};
-ghost use Rattle.moo_rows.specs.Opening.{opening_maps};
-ghost use Rattle.moo_world.specs.Judge.{state_of};
-ghost use Rattle.moo_store.specs.Stand.{Stand, Works, RunsBatch};
-ghost use Rattle.moo_store.specs.Turns.{Completes};
-ghost use Rattle.moo.specs.Run.{asks_to_apply, Reports, RunsText, StopsText};
+ghost use Rattle.std.specs.Prelude.{map};
+ghost use Rattle.moo.specs.Run.{EndsUsage, RunsWords};
 
 use crate::failure::Failure;
-use moo_store::creating::create_in;
-use moo_store::output::put_all;
-use moo_store::{Tally, apply_text};
-use sqlite::Connection;
-use std::alloc::Global;
+use crate::files::run_task;
+use crate::output::{put_line, report};
+use clap::error::ErrorKind;
+use moo_words::{Usage, read_words};
 use std::io::{Read, Write};
 
-/// Whether the words ask for the one thing that there is so far: `apply :memory: -`, which no words at all ask for too.
-fn asks_to_apply(words: &[&str]) -> bool
-    ensures { result ≡ asks_to_apply (map (λ word. word.now) words.now) }
+/// Writes what the reader of the command line says, and answers its status.
+fn put_usage<W: Write>(rt: &HostRuntime, error: &clap::Error, output: &mut W) -> u8
+    ensures { EndsUsage (W.contents output.old) (W.contents output.new) result }
 {
-    words == ["moo"].as_slice() || words == ["moo", "apply", ":memory:", "-"].as_slice()
+    if error.kind() == ErrorKind::OutOfMemory {
+        return report(rt, Failure::NoMemory, output);
+    }
+    let Ok(text) = error.to_string(rt.alloc()) else {
+        return report(rt, Failure::NoMemory, output);
+    };
+    let status = if error.use_stderr() { 2 } else { 0 };
+    put_line(text.as_str(), status, output)
 }
 
-/// Runs a text of batches on a new world in memory.
-fn apply_in_memory<R: Read + Drop, W: Write>(
-    alloc: Global,
-    input: R,
-    output: &mut W,
-) -> Result<Tally, Failure>
-    ensures answers { IfOk result (λ tally. (stand : Stand) × (batches : ℕ) × Completes RunsBatch (Works (state_of opening_maps)) stand (R.remaining input) (W.contents output.old) (W.contents output.new) batches tally.lost) }
-    ensures stops { IfErr result (λ failure. StopsText (R.remaining input) failure (W.contents output.old) (W.contents output.new)) }
+/// Says why the words name no task.
+fn report_usage<W: Write>(rt: &HostRuntime, usage: &Usage, output: &mut W) -> u8
+    ensures { EndsUsage (W.contents output.old) (W.contents output.new) result }
 {
-    let conn = match Connection::open_in_memory(alloc) {
-        Ok(conn) => conn,
-        Err(_) => return Err(Failure::NoMemory),
-    };
-    let mut world = match create_in(alloc, conn) {
-        Ok(world) => world,
-        Err((fault, _conn)) => return Err(Failure::from(fault)),
-    };
-    match apply_text(alloc, input, output, &mut world) {
-        Ok(tally) => Ok(tally),
-        Err(fault) => Err(Failure::from(fault)),
+    match usage {
+        Usage::Refused(error) => put_usage(rt, error, output),
+        Usage::Absent => report(rt, Failure::Usage, output),
     }
 }
 
-/// Writes the line of a failure, and answers its status.
-fn report<W: Write>(failure: Failure, output: &mut W) -> u8
-    ensures { Reports failure (W.contents output.old) (W.contents output.new) result }
-{
-    match put_all(output, failure.line().as_bytes()) {
-        Ok(()) => failure.status(),
-        Err(_) => Failure::Write.status(),
-    }
-}
-
-/// Does what the words say, which begin with `moo`, and answers the exit status.
+/// Does what the words say, which begin with `moo`, and answers the exit status: `init`, `apply`, `ask`, `dump` or `check` on
+/// a file, or on a new world in memory for `:memory:`; with no other word `apply :memory: -`.
 ///
-/// With no other word, or as `moo apply :memory: -`, it runs the text of batches that the input is on a new world in memory
-/// and writes a reply for each: 0, or 1 where a reply is `fault` or `closed`. A failure is one line on the output: 1 where the
-/// store, the reader or the writer failed or the input is too long, 4 where memory ran out. Any other words are
-/// `moo: usage`, 2.
+/// What the command writes goes to the output, and so does the line of a failure behind it: 1 where the store, the reader or
+/// the writer failed, the text is too long, or an answer is `fault` or `closed`; 3 where the file is damaged or of a newer
+/// version; 4 where memory ran out. Words that name no task give the text of their reader: 2, or 0 for help and the version.
+/// The cause of a store fault goes to standard error, and so does a hint where a batch met one.
+///
+/// At the end of a run the file is closed: it then holds all that was committed, and its log FILE-wal beside it is short. Where
+/// closing fails, and after a kill, the log holds a part of what was committed; the next open reads it, and the status is the same.
 pub fn run_words<R: Read + Drop, W: Write>(
     rt: &HostRuntime,
     words: &[&str],
     input: R,
     output: &mut W,
 ) -> u8
-    ensures runs { asks_to_apply (map (λ word. word.now) words.now) ≡ true → RunsText (R.remaining input) (W.contents output.old) (W.contents output.new) result }
-    ensures usage { asks_to_apply (map (λ word. word.now) words.now) ≡ false → Reports Failure.Usage (W.contents output.old) (W.contents output.new) result }
+    ensures { RunsWords (map (λ word. word.now) words.now) (R.remaining input) (W.contents output.old) (W.contents output.new) result }
 {
-    if !asks_to_apply(words) {
-        return report(Failure::Usage, output);
-    }
-    match apply_in_memory(rt.alloc(), input, output) {
-        Ok(tally) => { if tally.lost == 0 { 0 } else { 1 } }
-        Err(failure) => report(failure, output),
+    match read_words(rt.alloc(), words) {
+        Ok(task) => run_task(rt, task, input, output),
+        Err(usage) => report_usage(rt, &usage, output),
     }
 }

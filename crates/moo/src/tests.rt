@@ -100,12 +100,71 @@ fn a_batch_has_at_most_1000_calls(rt: HostRuntime) -> Result<(), Fail> {
     Ok(())
 }
 
-#[test]
-fn other_words_are_a_usage_fault(rt: HostRuntime) -> Result<(), Fail> {
+/// Whether a run of these words without input ends with this status, and writes this.
+fn ends(rt: &HostRuntime, words: &[&str], status: u8, text: &str) -> bool {
     let mut output = Vec::new(rt.alloc());
     let input: &[u8] = b"";
-    let status = run_words(&rt, &["moo", "apply", "world.db", "-"], input, &mut output);
-    assert_eq!(rt; status, 2);
-    assert!(rt; output.as_slice() == b"moo: usage\n".as_slice());
+    let ended = run_words(rt, words, input, &mut output);
+    ended == status && output.as_slice() == text.as_bytes()
+}
+
+#[test]
+fn a_new_world_is_made_dumped_and_checked(rt: HostRuntime) -> Result<(), Fail> {
+    assert!(rt; ends(&rt, &["moo", "init", ":memory:"], 0, "created\n"));
+    assert!(rt;
+        ends(
+            &rt,
+            &["moo", "check", ":memory:"],
+            0,
+            "ok seq 0 objects 4\n"
+        )
+    );
+    let dump = "seq 0
+top #3
+object {#0, \"System Object\", #3, #1, #-1, 0, 0, 0, 0, 0, 0, 0}
+object {#1, \"Root Class\", #3, #-1, #-1, 0, 0, 0, 0, 0, 1, 0}
+object {#2, \"The First Room\", #3, #1, #-1, 0, 0, 0, 0, 0, 0, {#1}}
+object {#3, \"Wizard\", #3, #1, #2, 1, 1, 1, 0, 0, 0, 0}
+end
+";
+    assert!(rt; ends(&rt, &["moo", "dump", ":memory:"], 0, dump));
+    Ok(())
+}
+
+#[test]
+fn a_question_changes_nothing(rt: HostRuntime) -> Result<(), Fail> {
+    let batch = "batch as #3\ncreate(#1)\nend\n";
+    let reply = "accepted 0\n#4\nend\n";
+    let words = ["moo", "ask", ":memory:", "-"];
+    let mut text = String::from_str(rt.alloc(), batch)?;
+    text.push_str(batch)?;
+    let mut replies = String::from_str(rt.alloc(), reply)?;
+    replies.push_str(reply)?;
+    assert!(rt; answers(&rt, &words, text.as_bytes(), replies.as_str()));
+    Ok(())
+}
+
+#[test]
+fn batches_that_are_not_there_are_a_read_fault(rt: HostRuntime) -> Result<(), Fail> {
+    for command in ["apply", "ask"] {
+        let words = ["moo", command, ":memory:", "no/such/batches"];
+        assert!(rt; ends(&rt, &words, 1, "moo: read fault\n"));
+    }
+    Ok(())
+}
+
+#[test]
+fn words_that_name_no_command_end_with_2_and_help_with_0(rt: HostRuntime) -> Result<(), Fail> {
+    for (words, status) in [
+        (["moo", "sing"].as_slice(), 2),
+        (["moo", "apply", ":memory:"].as_slice(), 2),
+        (["moo", "--help"].as_slice(), 0),
+        (["moo", "--version"].as_slice(), 0),
+    ] {
+        let mut output = Vec::new(rt.alloc());
+        let input: &[u8] = b"";
+        assert_eq!(rt; run_words(&rt, words, input, &mut output), status);
+        assert!(rt; !output.is_empty());
+    }
     Ok(())
 }
