@@ -15,3 +15,4 @@ pub mod Lacking
 pub mod Differing
 pub mod Soundly
 pub mod Searched
+pub mod Noting

@@ -20,7 +20,8 @@ use Rattle.moo_rows.proofs.Orders.{object_total, prop_total, slot_total}
 use Rattle.moo_world.specs.Objects.{same_text, folded, same_text-Decides}
 use Rattle.moo_world.proofs.PairLists.{some_of}
 use Rattle.moo_props.proofs.Walked.{any_held}
-use Rattle.moo_damage.specs.Local.{has_slot, comes_down, is_named_as, is_named_again, lacks_one_of, AreLocal}
+use Rattle.moo_damage.specs.Apart.{NamesApart}
+use Rattle.moo_damage.specs.Local.{has_slot, comes_down, lacks_one_of, AreLocal}
 
 not_false : (b : Bool) → not b ≡ false → b ≡ true
 not_false true e = refl
@@ -59,35 +60,31 @@ module _ (m : Maps) where
           ap (λ o. is_lt (ordering_then o (prop_cmp (record { 0 = 0 }) id))) (tied_itself object_total x)
           ∙ ap is_lt (sym (nat_cmp_is 0 id.0 Less low))
 
+  -- a slot of x that passes is met
+  pub met : (x : ObjNo) (test : (ObjNo × PropId) × SlotRow → Bool) (id : PropId) (s : SlotRow) → 0 < id.0 → get m.slots (x, id) ≡ Some s → test ((x, id), s) ≡ true → list_any test (slots_of_left x (record { 0 = 0 }) m) ≡ true
+  met x test id s low e h = by (list_any test (slots_of_left x (record { 0 = 0 }) m)) refl
+    where
+      by : (b : Bool) → list_any test (slots_of_left x (record { 0 = 0 }) m) ≡ b → b ≡ true
+      by true g = refl
+      by false g = sym (none_walked x test id s low e g) ∙ h
+
   pub local : ((id : PropId) (p : PropRow) → get m.props id ≡ Some p → 0 < id.0)
       → list_any (λ e. not (has_slot m e.1.definer e.0)) (entries m.props) ≡ false
       → list_any (λ e. not (comes_down m e.0)) (entries m.slots) ≡ false
       → list_any (λ e. lacks_one_of m e.0 e.1.parent) (entries m.objects) ≡ false
-      → list_any (λ e. is_named_again m e.0 e.1) (entries m.props) ≡ false
+      → ((id : PropId) (p : PropRow) → get m.props id ≡ Some p → NamesApart m p.definer)
       → AreLocal m
   local ids a b c d = record {
     numbered = ids;
-    own = λ id p e. not_false (has_slot m p.definer id) (none_held prop_cmp prop_total prop_exact m.props (λ e. not (has_slot m e.1.definer e.0)) id p e a);
+    own = λ id p e. has_own id p e;
     from = λ key s e. not_false (comes_down m key) (none_held slot_cmp slot_total slot_exact m.slots (λ e. not (comes_down m e.0)) key s e b);
     down = λ x row e id low u.
         let s = some_of (get m.slots (row.parent, id)) u in
         not_false (has_slot m x id)
         (none_walked row.parent (λ e. not (has_slot m x e.0.1)) id s.0 low s.1
         (none_held _ object_total object_exact m.objects (λ e. lacks_one_of m e.0 e.1.parent) x row e c));
-    apart = λ i j p q e f u n.
-        let s = some_of (get m.slots (p.definer, j)) u in
-        by i j (nat_eq j.0 i.0) refl
-        (none_walked p.definer (λ e. not (nat_eq e.0.1.0 i.0) && is_named_as m p e.0.1) j s.0 (ids j q f) s.1
-        (none_held prop_cmp prop_total prop_exact m.props (λ e. is_named_again m e.0 e.1) i p e d))
-        (named p q j f n);
+    apart = λ i j p q e f u n. d i p e i j p q e f (ids i p e) (ids j q f) (has_own i p e) u n;
   }
     where
-      named : (p q : PropRow) (j : PropId) → get m.props j ≡ Some q → folded p.name ≡ folded q.name → is_named_as m p j ≡ true
-      named p q j f n = ap (λ o. unwrap_or (option_map (λ (r : PropRow). same_text (folded p.name) (folded r.name)) o) false) f ∙ (same_text-Decides (folded p.name) (folded q.name)).1 n
-
-      number : (a b : ℕ) → nat_eq a b ≡ true → b ≡ a
-      number a b e = grind (arith, nat_tests)
-
-      by : {c : Bool} (i j : PropId) (b : Bool) → nat_eq j.0 i.0 ≡ b → (not b && c) ≡ false → c ≡ true → i ≡ j
-      by i j true e h k = λ t. record { 0 = number j.0 i.0 e t }
-      by {c = c} i j false e h k = absurd (both_ways c h k)
+      has_own : (id : PropId) (p : PropRow) → get m.props id ≡ Some p → has_slot m p.definer id ≡ true
+      has_own id p e = not_false (has_slot m p.definer id) (none_held prop_cmp prop_total prop_exact m.props (λ e. not (has_slot m e.1.definer e.0)) id p e a)

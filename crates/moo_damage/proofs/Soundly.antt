@@ -20,7 +20,7 @@ use Rattle.moo_rows.proofs.Orders.{object_total, prop_total, slot_total}
 use Rattle.moo_world.specs.Objects.{same_text, folded, same_text-Decides}
 use Rattle.moo_world.specs.Rows.{IsGood}
 use Rattle.moo_world.proofs.PairLists.{some_of}
-use Rattle.moo_damage.specs.Local.{has_slot, comes_down, is_named_as, is_named_again, lacks_one_of, AreLocal}
+use Rattle.moo_damage.specs.Local.{has_slot, comes_down, lacks_one_of, AreLocal}
 use Rattle.moo_damage.proofs.Apart.{one_passing}
 use Rattle.moo_damage.proofs.Clean.{clean}
 use Rattle.moo_damage.proofs.Firsts.{held_entries}
@@ -73,23 +73,3 @@ module _ (m : Maps) (g : IsGood m) where
       (λ id s h.
       let above = (g.sound.props_below id.0 (g.sound.slots row.parent id.0 (ap is_some h)).1).0 in
       ap not (are_local.down x row e id above (ap is_some h))))
-
-  pub none_named_again : list_any (λ e. is_named_again m e.0 e.1) (entries m.props) ≡ false
-  none_named_again =
-      any_none prop_total prop_exact m.props _
-      (λ id p e. walk_none m p.definer (λ e. not (nat_eq e.0.1.0 id.0) && is_named_as m p e.0.1)
-      (λ j s h.
-      let q = some_of (get m.props j) (g.sound.slots p.definer j.0 (ap is_some h)).1 in
-      by id p e j s h q.0 q.1 (same_text (folded p.name) (folded q.0.name)) refl))
-    where
-      by : (id : PropId) (p : PropRow) → get m.props id ≡ Some p → (j : PropId) (s : SlotRow) → get m.slots (p.definer, j) ≡ Some s → (q : PropRow) → get m.props j ≡ Some q → (b : Bool) → same_text (folded p.name) (folded q.name) ≡ b → (not (nat_eq j.0 id.0) && is_named_as m p j) ≡ false
-      by id p e j s h q f false k = ap (λ b. not (nat_eq j.0 id.0) && b) (ap (λ o. unwrap_or (option_map (λ (r : PropRow). same_text (folded p.name) (folded r.name)) o) false) f ∙ k) ∙ last (not (nat_eq j.0 id.0))
-        where
-          last : (b : Bool) → (b && false) ≡ false
-          last true = refl
-          last false = refl
-      by id p e j s h q f true k =
-          let same : id ≡ j = are_local.apart id j p q e f (ap is_some h) ((same_text-Decides (folded p.name) (folded q.name)).0 k) in
-          let number : id.0 ≡ j.0 = ap (λ (z : PropId). z.0) same in
-          let equal : nat_eq j.0 id.0 ≡ true = grind (arith, nat_tests) in
-          ap (λ b. not b && is_named_as m p j) equal

@@ -1,3 +1,4 @@
+pub mod Apart
 pub mod Damage
 pub mod Differences
 pub mod First

@@ -29,14 +29,6 @@ has_slot m x id = is_some (get m.slots (x, id))
 abbrev pub comes_down : Maps → ObjNo × PropId → Bool
 comes_down m key = unwrap_or (option_map (λ row. defines m key.0 key.1 || has_slot m row.parent key.1) (get m.objects key.0)) false
 
--- the property of this number has this name
-abbrev pub is_named_as : Maps → PropRow → PropId → Bool
-is_named_as m p id = unwrap_or (option_map (λ q. same_text (folded p.name) (folded q.name)) (get m.props id)) false
-
--- another slot of the definer is of a property of this name
-abbrev pub is_named_again : Maps → PropId → PropRow → Bool
-is_named_again m id p = list_any (λ e. not (nat_eq e.0.1.0 id.0) && is_named_as m p e.0.1) (slots_of_left p.definer (record { 0 = 0 }) m)
-
 -- a slot of y, of a property that x has no slot of
 abbrev pub lacks_one_of : Maps → ObjNo → ObjNo → Bool
 lacks_one_of m x y = list_any (λ e. not (has_slot m x e.0.1)) (slots_of_left y (record { 0 = 0 }) m)

@@ -114,7 +114,7 @@ pub fn damage_of<R: Rows>(alloc: Global, rows: &R) -> Result<Option<(Kind, Key)>
     if let Some(damage) = wrong_link(alloc, rows, Link::Place)? {
         return Ok(Some(damage));
     }
-    let hold = slots_hold(rows);
+    let hold = slots_hold(alloc, rows)?;
     if let Some(damage) = wrong_prop(rows, hold) {
         return Ok(Some(damage));
     }

@@ -7,6 +7,7 @@ mod differences;
 mod kind;
 mod laws;
 mod local;
+mod names;
 mod trees;
 
 pub use damage::damage_of;

@@ -1,6 +1,6 @@
 //! Tests of each row and its neighbours, from which the slots are just those that are owed.
 
-ghost use Rattle.std.specs.Prelude.{◌≡◌, ◌<◌, true, false, not, Some};
+ghost use Rattle.std.specs.Prelude.{◌≡◌, ◌<◌, true, false, not, IfOk, Some};
 ghost use Rattle.std.specs.List.{list_any};
 ghost use Rattle.std.specs.FinMap.{entries, get};
 ghost use Rattle.moo_rows.specs.declared.row.PropRow.{PropRow};
@@ -9,14 +9,15 @@ ghost use Rattle.moo_world.specs.World.{IsTree};
 ghost use Rattle.moo_damage.specs.First.{IsFirst};
 ghost use Rattle.moo_damage.specs.Damage.{is_double, is_strange};
 ghost use Rattle.moo_damage.specs.Missing.{IsFirstMissing};
-ghost use Rattle.moo_damage.specs.Local.{SlotsHold, has_slot, comes_down, is_named_as, is_named_again, lacks_one_of};
+ghost use Rattle.moo_damage.specs.Local.{SlotsHold, has_slot, comes_down, lacks_one_of};
 
 use crate::checks::{defines, first_double, first_missing, first_strange};
-use moo_rows::row::{PropId, PropRow};
+use crate::names::names_apart;
+use moo_rows::row::PropId;
 use moo_rows::rows::Rows;
 use moo_rows::walk::{each_object, each_prop, each_slot, each_slot_of};
-use moo_value::text::same_name;
 use moo_value::value::ObjNo;
+use std::alloc::{AllocError, Global};
 
 fn has_slot<R: Rows>(rows: &R, x: ObjNo, id: PropId) -> bool
     ensures { result ≡ has_slot (R.held rows.now).maps x id }
@@ -87,64 +88,25 @@ fn any_lacks_one<R: Rows>(rows: &R) -> bool
     false
 }
 
-/// Whether a property has the name of this one.
-fn is_named_as<R: Rows>(rows: &R, row: &PropRow, id: PropId) -> bool
-    ensures { result ≡ is_named_as (R.held rows.now).maps row.now id }
-{
-    match rows.prop(id) {
-        None => false,
-        Some(other) => same_name(&row.name, &other.name),
-    }
-}
-
-/// Whether the definer has a slot of another property of this name.
-fn is_named_again<R: Rows>(rows: &R, id: PropId, row: &PropRow) -> bool
-    ensures { result ≡ is_named_again (R.held rows.now).maps id row.now }
-{
-    for (key, _slot) in each_slot_of(rows, row.definer, PropId(0)) {
-        if key.1.0 != id.0 {
-            if is_named_as(rows, row, key.1) {
-                return true;
-            }
-        }
-    }
-    false
-}
-
-/// Whether a definer has slots of two properties of one name, one of them its own.
-fn any_named_again<R: Rows>(rows: &R) -> bool
-    ensures { result ≡ list_any (λ e. is_named_again (R.held rows.now).maps e.0 e.1) (entries (R.held rows.now).maps.props) }
-{
-    for (id, row) in each_prop(rows) {
-        if is_named_again(rows, id, row) {
-            return true;
-        }
-    }
-    false
-}
-
 /// Whether the slots are seen to be just those that are owed, by a look at each slot, its object and the parent's slots. Those of good rows always are.
 ///
-/// No chain is climbed: along chains that end, what each object has of its parent it has of all ancestors.
-pub(crate) fn slots_hold<R: Rows>(rows: &R) -> bool
+/// No chain is climbed: along chains that end, what each object has of its parent it has of all ancestors. An `Err` is want of memory.
+pub(crate) fn slots_hold<R: Rows>(alloc: Global, rows: &R) -> Result<bool, AllocError>
     requires tree { IsTree (world_of (R.held rows.now).maps) }
     requires numbered { (id : PropId) (p : PropRow) → get (R.held rows.now).maps.props id ≡ Some p → 0 < id.0 }
-    ensures hold { result ≡ true → SlotsHold (R.held rows.now).maps }
-    ensures good { IsGood (R.held rows.now).maps → result ≡ true }
+    ensures hold { IfOk result (λ hold. hold ≡ true → SlotsHold (R.held rows.now).maps) }
+    ensures good { IsGood (R.held rows.now).maps → IfOk result (λ hold. hold ≡ true) }
 {
     if any_lacks_own(rows) {
-        return false;
+        return Ok(false);
     }
     if any_from_nowhere(rows) {
-        return false;
+        return Ok(false);
     }
     if any_lacks_one(rows) {
-        return false;
+        return Ok(false);
     }
-    if any_named_again(rows) {
-        return false;
-    }
-    true
+    names_apart(alloc, rows)
 }
 
 /// The least property whose name one of lesser number has, or none: not looked for where the slots are known to hold.

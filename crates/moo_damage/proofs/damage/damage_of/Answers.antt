@@ -11,8 +11,8 @@ weaker : {T : Type 0} (o : Option T) (A B : Type 0) → (A → B) → IfNone o A
 weaker None A B f a = f a
 weaker (Some x) A B f a = a
 
-pub slots_hold-hold-requires-clause-tree : goal.slots_hold-hold-requires-clause-tree
-slots_hold-hold-requires-clause-tree g c =
+pub slots_hold-requires-clause-tree : goal.slots_hold-requires-clause-tree
+slots_hold-requires-clause-tree g c =
     let m = (g.R.Rows.held c.args.rows.now).maps in
     tree_of m c.in_default.ensures.given (subst (λ o. IfNone o (LinksEnd Parent m)) c.in_default-2.is c.in_ok-damage.ensures.ends)
     (subst (λ o. IfNone o (LinksEnd Place m)) c.in_default-3.is c.in_ok-damage-2.ensures.ends)
@@ -29,8 +29,8 @@ wrong_slot-requires-clause-tree g c =
     tree_of m c.in_default.ensures.given (subst (λ o. IfNone o (LinksEnd Parent m)) c.in_default-2.is c.in_ok-damage.ensures.ends)
     (subst (λ o. IfNone o (LinksEnd Place m)) c.in_default-3.is c.in_ok-damage-2.ensures.ends)
 
-pub slots_hold-hold-requires-clause-numbered : goal.slots_hold-hold-requires-clause-numbered
-slots_hold-hold-requires-clause-numbered g c id p e = (c.requires.props id p e).0
+pub slots_hold-requires-clause-numbered : goal.slots_hold-requires-clause-numbered
+slots_hold-requires-clause-numbered g c id p e = (c.requires.props id p e).0
 
 pub returns-clause-good : goal.returns-clause-good
 returns-clause-good g c =

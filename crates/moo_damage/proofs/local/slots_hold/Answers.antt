@@ -1,8 +1,13 @@
-use Rattle.std.proofs.Common.{Bool, true, false, sym, ◌∙◌, ◌≡◌}
+use Rattle.std.proofs.Common.{Bool, true, false, Some, Ok, Err, IfOk, sym, ◌∙◌, ◌≡◌}
+use Rattle.std.specs.FinMap.{get}
 use Rattle.std.proofs.lemmas.Bool.{both_ways}
+use Rattle.moo_rows.specs.declared.row.PropId.{PropId}
+use Rattle.moo_rows.specs.declared.row.PropRow.{PropRow}
+use Rattle.moo_damage.specs.Apart.{NamesApart}
+use Rattle.moo_damage.specs.Local.{SlotsHold}
 use Rattle.moo_damage.proofs.Locally.{slots_hold}
 use Rattle.moo_damage.proofs.Nearby.{local}
-use Rattle.moo_damage.proofs.Soundly.{each_has_own, each_comes_down, none_lacks_one, none_named_again}
+use Rattle.moo_damage.proofs.Soundly.{each_has_own, each_comes_down, none_lacks_one}
 use Rattle.moo_damage.proofs.local.slots_hold.Goals as goal
 
 -- what a test found is not found of good rows
@@ -18,12 +23,13 @@ returns-then-any_from_nowhere-clause-good g c sound = never _ _ c.any_from_nowhe
 pub returns-then-any_lacks_one-clause-good : goal.returns-then-any_lacks_one-clause-good
 returns-then-any_lacks_one-clause-good g c sound = never _ _ c.any_lacks_one.ensures c.if-any_lacks_one.true (none_lacks_one ((g.R.Rows.held c.args.rows.now).maps) sound)
 
-pub returns-then-any_named_again-clause-good : goal.returns-then-any_named_again-clause-good
-returns-then-any_named_again-clause-good g c sound = never _ _ c.any_named_again.ensures c.if-any_named_again.true (none_named_again ((g.R.Rows.held c.args.rows.now).maps) sound)
-
 pub returns-clause-hold : goal.returns-clause-hold
-returns-clause-hold g c e =
+returns-clause-hold g c =
     let m = (g.R.Rows.held c.args.rows.now).maps in
-    slots_hold m c.requires.tree
-    (local m c.requires.numbered (sym c.any_lacks_own.ensures ∙ c.if-any_lacks_own.false) (sym c.any_from_nowhere.ensures ∙ c.if-any_from_nowhere.false)
-    (sym c.any_lacks_one.ensures ∙ c.if-any_lacks_one.false) (sym c.any_named_again.ensures ∙ c.if-any_named_again.false))
+    elim c.names_apart.result as (λ r. IfOk r (λ apart. apart ≡ true → (id : PropId) (p : PropRow) → get m.props id ≡ Some p → NamesApart m p.definer) → IfOk r (λ hold. hold ≡ true → SlotsHold m)) [
+      | Ok b ↦ λ h e.
+          slots_hold m c.requires.tree
+          (local m c.requires.numbered (sym c.any_lacks_own.ensures ∙ c.if-any_lacks_own.false) (sym c.any_from_nowhere.ensures ∙ c.if-any_from_nowhere.false)
+          (sym c.any_lacks_one.ensures ∙ c.if-any_lacks_one.false) (h e))
+      | Err e ↦ λ h. h
+    ] c.names_apart.ensures.apart

@@ -1,0 +1,17 @@
+use Rattle.std.specs.FinMap.{entries}
+use Rattle.moo_rows.specs.Maps.{object_cmp}
+use Rattle.moo_rows.specs.Ordered.{contents}
+use Rattle.moo_rows.specs.Walk.{props_left}
+use Rattle.moo_damage.specs.Apart.{AreApart, NamesApart}
+use Rattle.moo_damage.proofs.Firsts.{FirstLeft}
+use Rattle.moo_damage.proofs.names.names_apart.Given as goal
+
+-- what holds of those that are left holds of all
+abbrev pub invariant-loop-id : goal.invariant-loop-id
+invariant-loop-id g l =
+    let m = (g.R.Rows.held l.rows).maps in
+    let left = props_left l._id-iterator.last (g.R.Rows.held l._id-iterator.rows.now).maps in
+    record {
+      apart : FirstLeft (λ id p. NamesApart m p.definer) (λ id p. ⊥) left (entries m.props);
+      known : AreApart m (contents object_cmp l.known);
+    }

@@ -1,0 +1,21 @@
+use Rattle.std.proofs.Common.{rules, ◌≡◌, true, sym, subst}
+use Rattle.std.specs.Prelude.{is_some}
+use Rattle.std.specs.FinMap.{get}
+use Rattle.moo_rows.specs.Maps.{object_cmp}
+use Rattle.moo_rows.specs.Ordered.{contents}
+use Rattle.moo_world.proofs.PairLists.{some_of}
+use Rattle.moo_damage.specs.Apart.{AreApart, NamesApart}
+use Rattle.moo_damage.proofs.Noting.{AreApart-noted}
+use Rattle.moo_damage.proofs.names.seen_apart.Goals as goal
+
+pub returns-then-is_some-clause-apart : goal.returns-then-is_some-clause-apart
+returns-then-is_some-clause-apart g c _ =
+    let known = contents object_cmp c.args.known.now in
+    let there : is_some (get known c.args.x) ≡ true = search rules in
+    c.requires c.args.x (some_of (get known c.args.x) there).1
+
+pub returns-clause-known : goal.returns-clause-known
+returns-clause-known g c =
+    let m = (g.R.Rows.held c.args.rows.now).maps in
+    let apart : NamesApart m c.args.x = c.in_ok-apart.ensures.apart (search rules) in
+    subst (AreApart m) (sym c.in_ok-put.ensures.ok) (AreApart-noted m (contents object_cmp c.args.known.now) c.args.x apart c.requires)

@@ -1,0 +1,105 @@
+//! Whether names stand once on the objects that define properties, in time that grows with the slots of these objects.
+
+ghost use Rattle.std.specs.Prelude.{◌≡◌, IfOk, OnOk, true, Some, if◌then◌else◌};
+ghost use Rattle.std.specs.FinMap.{get};
+ghost use Rattle.moo_rows.specs.declared.row.PropId.{PropId};
+ghost use Rattle.moo_rows.specs.declared.row.PropRow.{PropRow};
+ghost use Rattle.moo_rows.specs.Maps.{object_cmp};
+ghost use Rattle.moo_rows.specs.Ordered.{contents};
+ghost use Rattle.moo_world.specs.Objects.{Name, same_text, folded};
+ghost use Rattle.moo_world.specs.Rows.{IsSound};
+ghost use Rattle.moo_damage.specs.Apart.{AreApart, NamesApart, NotesProp, is_alone, noted_as};
+
+use moo_rows::ordered;
+use moo_rows::row::PropId;
+use moo_rows::rows::Rows;
+use moo_rows::walk::{each_prop, each_slot_of};
+use moo_value::text::MooStr;
+use moo_value::value::ObjNo;
+use std::alloc::{AllocError, Global};
+use std::collections::BTreeMap;
+
+/// Notes a property under its name, and answers whether no other was noted there. An `Err` is want of memory.
+fn note_name(
+    alloc: Global,
+    noted: &mut BTreeMap<Vec<u8>, PropId>,
+    name: &MooStr,
+    id: PropId,
+) -> Result<bool, AllocError>
+    ensures noted { OnOk result ((n : Name) → noted_as noted.new n ≡ (if same_text n (folded name.now) then Some id else noted_as noted.old n)) }
+    ensures alone { IfOk result (λ alone. alone ≡ is_alone (noted_as noted.old (folded name.now)) id) }
+{
+    let key = name.bytes().to_ascii_lowercase(alloc)?;
+    match noted.insert(key, id)? {
+        None => Ok(true),
+        Some(other) => Ok(other.0 == id.0),
+    }
+}
+
+/// Notes the property of a number, if there is one, and answers whether no other of its name was noted. An `Err` is want of memory.
+fn note_prop<R: Rows>(
+    alloc: Global,
+    rows: &R,
+    noted: &mut BTreeMap<Vec<u8>, PropId>,
+    id: PropId,
+) -> Result<bool, AllocError>
+    ensures { IfOk result (NotesProp (get (R.held rows.now).maps.props id) id noted.old noted.new) }
+{
+    match rows.prop(id) {
+        None => Ok(true),
+        Some(row) => note_name(alloc, noted, &row.name, id),
+    }
+}
+
+/// Whether no two properties that x has slots of have one name. An `Err` is want of memory.
+fn names_apart_on<R: Rows>(alloc: Global, rows: &R, x: ObjNo) -> Result<bool, AllocError>
+    ensures apart { IfOk result (λ apart. apart ≡ true → NamesApart (R.held rows.now).maps x) }
+    ensures sound { IsSound (R.held rows.now).maps → IfOk result (λ apart. apart ≡ true) }
+{
+    let mut noted = BTreeMap::new(alloc);
+    for (key, _slot) in each_slot_of(rows, x, PropId(0)) {
+        let alone = note_prop(alloc, rows, &mut noted, key.1)?;
+        if !alone {
+            return Ok(false);
+        }
+    }
+    Ok(true)
+}
+
+/// The same, of an object that is looked at once: those of which it's known are noted. An `Err` is want of memory.
+fn seen_apart<R: Rows>(
+    alloc: Global,
+    rows: &R,
+    known: &mut BTreeMap<ObjNo, ()>,
+    x: ObjNo,
+) -> Result<bool, AllocError>
+    requires { AreApart (R.held rows.now).maps (contents object_cmp known.old) }
+    ensures known { OnOk result (AreApart (R.held rows.now).maps (contents object_cmp known.new)) }
+    ensures apart { IfOk result (λ apart. apart ≡ true → NamesApart (R.held rows.now).maps x) }
+    ensures sound { IsSound (R.held rows.now).maps → IfOk result (λ apart. apart ≡ true) }
+{
+    if ordered::get(known, x).is_some() {
+        return Ok(true);
+    }
+    let apart = names_apart_on(alloc, rows, x)?;
+    if !apart {
+        return Ok(false);
+    }
+    ordered::put(known, x, ())?;
+    Ok(true)
+}
+
+/// Whether no two properties have one name on an object that defines a property. An `Err` is want of memory.
+pub(crate) fn names_apart<R: Rows>(alloc: Global, rows: &R) -> Result<bool, AllocError>
+    ensures apart { IfOk result (λ apart. apart ≡ true → (id : PropId) (p : PropRow) → get (R.held rows.now).maps.props id ≡ Some p → NamesApart (R.held rows.now).maps p.definer) }
+    ensures sound { IsSound (R.held rows.now).maps → IfOk result (λ apart. apart ≡ true) }
+{
+    let mut known = BTreeMap::new(alloc);
+    for (_id, row) in each_prop(rows) {
+        let apart = seen_apart(alloc, rows, &mut known, row.definer)?;
+        if !apart {
+            return Ok(false);
+        }
+    }
+    Ok(true)
+}
