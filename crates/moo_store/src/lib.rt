@@ -12,6 +12,8 @@ mod dumping;
 pub mod fault;
 pub mod laws;
 mod looking;
+#[cfg(test)]
+mod mismatch_tests;
 pub mod output;
 mod printing;
 mod reading;
