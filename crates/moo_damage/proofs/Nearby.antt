@@ -1,13 +1,12 @@
 -- What the tests of all rows say of each.
-use Rattle.std.proofs.Common.{◌≡◌, ℕ, ◌<◌, Bool, true, false, ◌&&◌, ◌||◌, cond, Some, List, [], ◌∷◌, Ordering, Less, refl, sym, ap, ◌∙◌, arith}
-use Rattle.std.specs.Prelude.{not, unwrap_or, nat_eq}
+use Rattle.std.proofs.Common.{◌≡◌, ◌<◌, Bool, true, false, ◌&&◌, ◌||◌, cond, Some, List, [], ◌∷◌, Ordering, Less, refl, sym, ap, ◌∙◌}
+use Rattle.std.specs.Prelude.{not}
 use Rattle.std.specs.Cmp.{IsTotalOrder, tied_itself, nat_cmp_is}
-use Rattle.std.specs.Option.{option_map}
 use Rattle.std.specs.Ordering.{is_lt, int_eq, ordering_then}
 use Rattle.std.specs.List.{list_any, filter}
 use Rattle.std.specs.FinMap.{FinMap, get, entries, get-entries}
 use Rattle.std.proofs.lemmas.Bool.{false≢true, both_ways}
-use Rattle.std.proofs.lemmas.Bool.Decides.{Decides-int_eq, nat_tests}
+use Rattle.std.proofs.lemmas.Bool.Decides.{Decides-int_eq}
 use Rattle.std.proofs.lemmas.Map.Lookups.{CmpEqualImpliesEq}
 use Rattle.moo_value.specs.declared.value.ObjNo.{ObjNo}
 use Rattle.moo_rows.specs.declared.row.PropId.{PropId}
@@ -17,7 +16,6 @@ use Rattle.moo_rows.specs.Exact.{object_exact, prop_exact, slot_exact}
 use Rattle.moo_rows.specs.Maps.{Maps, prop_cmp, slot_cmp}
 use Rattle.moo_rows.specs.Walk.{slots_of_left, is_past}
 use Rattle.moo_rows.proofs.Orders.{object_total, prop_total, slot_total}
-use Rattle.moo_world.specs.Objects.{same_text, folded, same_text-Decides}
 use Rattle.moo_world.proofs.PairLists.{some_of}
 use Rattle.moo_props.proofs.Walked.{any_held}
 use Rattle.moo_damage.specs.Apart.{NamesApart}

@@ -1,5 +1,5 @@
 -- What each slot and its neighbours must be so that the slots are just those that are owed.
-use Rattle.std.specs.Prelude.{◌≡◌, ◌<◌, Bool, true, false, not, ◌&&◌, ◌||◌, Some, is_some, unwrap_or, nat_eq}
+use Rattle.std.specs.Prelude.{◌≡◌, ◌<◌, Bool, true, false, not, ◌||◌, Some, is_some, unwrap_or}
 use Rattle.std.specs.Option.{option_map}
 use Rattle.std.specs.List.{list_any}
 use Rattle.std.specs.FinMap.{get}
@@ -10,7 +10,7 @@ use Rattle.moo_rows.specs.declared.row.PropRow.{PropRow}
 use Rattle.moo_rows.specs.declared.row.SlotRow.{SlotRow}
 use Rattle.moo_rows.specs.Maps.{Maps}
 use Rattle.moo_rows.specs.Walk.{slots_of_left}
-use Rattle.moo_world.specs.Objects.{same_text, folded}
+use Rattle.moo_world.specs.Objects.{folded}
 use Rattle.moo_world.specs.Rows.{world_of}
 use Rattle.moo_world.specs.World.{IsTree}
 use Rattle.moo_props.specs.Names.{defines}
