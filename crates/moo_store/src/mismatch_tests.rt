@@ -80,7 +80,11 @@ fn a_check_tells_the_first_row_that_differs(rt: HostRuntime) -> Result<(), Fail>
     ];
     for (own, tables, expected) in cases.iter() {
         let (first, second) = said(rt.alloc(), own, tables)?;
-        assert_eq!(rt; first.as_str(), *expected, "rows after {own}, tables after {tables}");
+        assert_eq!(rt;
+            first.as_str(),
+            *expected,
+            "rows after {own}, tables after {tables}"
+        );
         assert_eq!(rt; second.as_str(), "the world has failed");
     }
     Ok(())
@@ -89,6 +93,9 @@ fn a_check_tells_the_first_row_that_differs(rt: HostRuntime) -> Result<(), Fail>
 #[test]
 fn a_check_of_its_own_tables_counts_the_objects(rt: HostRuntime) -> Result<(), Fail> {
     let (first, second) = said(rt.alloc(), "create(#1)", "create(#1)")?;
-    assert_eq!(rt; (first.as_str(), second.as_str()), ("5 objects", "5 objects"));
+    assert_eq!(rt;
+        (first.as_str(), second.as_str()),
+        ("5 objects", "5 objects")
+    );
     Ok(())
 }
