@@ -47,7 +47,7 @@ impl Routes {
     }
 
     /// The endpoint that a path names.
-    pub fn find(&self, path: &str) -> Option<Endpoint>
+    pub(crate) fn find(&self, path: &str) -> Option<Endpoint>
         ensures { result ≡ endpoint_of path.now }
     {
         match self.router.at(path) {
