@@ -2,7 +2,8 @@
 use Rattle.std.proofs.Common.{◌≡◌, ◌⊎◌, inl, inr, ◌<◌, ℕ, List, [], ◌∷◌, ◌++◌, Option, Some, None, length, arith, sym, ap, subst, ◌∙◌, ◌≢◌}
 use Rattle.std.specs.Prelude.{option_and_then}
 use Rattle.httparse.specs.Grammar.{RequestHead, print_blank, ReadsRequest}
-use Rattle.httparse.proofs.GrammarLemmas.{request_unique, print_request-append}
+use Rattle.httparse.proofs.GrammarLemmas.{request_unique}
+use Rattle.moo_request.proofs.HeadLemmas.{no_empty_head}
 use Rattle.moo_request.specs.declared.asked.Asked.{Asked}
 use Rattle.moo_request.specs.declared.asked.Mode.{Mode}
 use Rattle.moo_request.specs.declared.plan.Plan.{Plan}
@@ -27,15 +28,6 @@ plan-once (Body mode n) rest a b (inl (fits, x)) (inl (fit, y)) = body-once mode
 plan-once (Body mode n) rest a b (inl (fits, x)) (inr (short, e)) = absurd (omega (arith, fits, short))
 plan-once (Body mode n) rest a b (inr (short, e)) (inl (fits, x)) = absurd (omega (arith, fits, short))
 plan-once (Body mode n) rest a b (inr (short, e)) (inr (brief, f)) = e ∙ sym f
-
-not_empty : (xs ys zs : List ℕ) → 0 < length ys → [] ≢ xs ++ (ys ++ zs)
-not_empty [] [] zs h e = omega (arith, h)
-not_empty [] (y ∷ ys) zs h e = cc
-not_empty (x ∷ xs) ys zs h e = cc
-
--- no head is empty
-no_empty_head : (head : RequestHead) (rest : List ℕ) → ¬ (ReadsRequest [] head rest)
-no_empty_head head rest h = not_empty (print_blank head.blank) head.method _ h.0.method.0 (h.1 ∙ print_request-append head rest)
 
 requests-once : (input : List ℕ) (x y : RequestHead) (t u : List ℕ) (a b : Asked) → ReadsRequest input x t → ReadsRequest input y u
     → PlanAsks (plan_by x) t a → PlanAsks (plan_by y) u b → Request (is_head x) a ≡ Request (is_head y) b

@@ -1,5 +1,5 @@
 -- What was found of a head.
-use Rattle.std.specs.Prelude.{◌≡◌, ◌≢◌, ◌<◌, ◌≤◌, ℕ, List, [], ◌∷◌, ◌++◌, length, drop, Option}
+use Rattle.std.specs.Prelude.{◌≡◌, ◌≢◌, ◌<◌, ◌+◌, ℕ, List, [], ◌∷◌, ◌++◌, length, drop, Option, ⊤}
 use Rattle.std.specs.Io.KnownBytes.{IsAtEnd}
 use Rattle.httparse.specs.Grammar.{RequestHead}
 use Rattle.httparse.specs.Spans.{IsRequestAt, IsRequestWithin}
@@ -39,3 +39,9 @@ abbrev pub ShowsHead : List ℕ → HeadRead → Type 0
 ShowsHead bytes (Whole found) = StandsAt bytes found
 ShowsHead bytes Refused = (more : List ℕ) → Lacks (bytes ++ more)
 ShowsHead bytes Empty = ⊥
+
+-- a head ends in the last piece, which has at most 1,024 bytes
+abbrev pub IsClose : List ℕ → HeadRead → Type 0
+IsClose bytes (Whole found) = length bytes < found.spans.len + 1024
+IsClose bytes Refused = ⊤
+IsClose bytes Empty = ⊤

@@ -1,5 +1,5 @@
 -- What the bytes of a connection ask.
-use Rattle.std.specs.Prelude.{◌≡◌, ◌≢◌, ◌⊎◌, ◌≤◌, ◌<◌, ◌+◌, ℕ, List, [], length, take, Option, false}
+use Rattle.std.specs.Prelude.{◌≡◌, ◌≢◌, ◌⊎◌, ◌≤◌, ◌<◌, ◌+◌, ℕ, List, [], length, take, Option, false, max}
 use Rattle.std.specs.Io.KnownBytes.{Consumes}
 use Rattle.httparse.specs.Grammar.{RequestHead, print_request}
 use Rattle.moo_request.specs.declared.asked.Asked.{Asked}
@@ -40,11 +40,12 @@ pub record Gives (old new : Option (List ℕ)) (given : List ℕ) : Type 0 where
   pub known : Consumes old new given
   pub sparing : IsSparing given
 
--- The reader gave some bytes, and this is received of them.
+-- The reader gave some bytes, and this is received of them. Behind a head stand fewer than the 1,024 bytes of a piece, but for its body.
 pub record Takes (old new : Option (List ℕ)) (received : Received) : Type 0 where
   pub given : List ℕ
   pub gives : Gives old new given
   pub settles : Settles new given (λ input. Receives input received)
+  pub behind : (head : RequestHead) (rest : List ℕ) → BeginsWithHead given head rest → length rest ≤ max 1023 (body_size (plan_by head))
 
 -- The reader gave some bytes, and there reading stopped.
 pub record BreaksOff (old new : Option (List ℕ)) : Type 0 where

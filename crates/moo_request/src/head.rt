@@ -3,7 +3,7 @@
 ghost use Rattle.std.specs.Prelude.{◌≡◌, ◌≤◌, ◌<◌, [], length, None, IfOk, OnOk, OnErr, IfSome};
 ghost use Rattle.std.specs.Io.KnownBytes.{Consumes};
 ghost use Rattle.httparse.specs.Grammar.{HasNoRequest};
-ghost use Rattle.moo_request.specs.Found.{FindsHead, ShowsHead};
+ghost use Rattle.moo_request.specs.Found.{FindsHead, ShowsHead, IsClose};
 ghost use Rattle.moo_request.specs.Given.{TakesAtMost};
 
 use crate::fault::ReadFault;
@@ -54,6 +54,7 @@ pub fn read_head<R: Read>(reader: &mut R, bytes: &mut Vec<u8>) -> Result<HeadRea
     ensures takes { OnOk result (Consumes (R.remaining reader.old) (R.remaining reader.new) bytes.new.items) }
     ensures head { IfOk result (FindsHead (R.remaining reader.new) bytes.new.items) }
     ensures few { OnOk result (length bytes.new.items ≤ 8192) }
+    ensures close { IfOk result (IsClose bytes.new.items) }
     ensures breaks { OnErr result (TakesAtMost 8192 (R.remaining reader.old) (R.remaining reader.new)) }
 {
     if !read_more(reader, bytes, MAX_HEAD)? {

@@ -1,6 +1,6 @@
 //! Bytes of a connection, read in pieces and no further than a limit.
 
-ghost use Rattle.std.specs.Prelude.{◌≡◌, ◌≤◌, ◌<◌, ◌-◌, max, length, true, false, IfOk, OnOk, OnErr};
+ghost use Rattle.std.specs.Prelude.{◌≡◌, ◌≤◌, ◌<◌, ◌+◌, ◌-◌, max, length, true, false, IfOk, OnOk, OnErr};
 ghost use Rattle.std.specs.Io.KnownBytes.{IsAtEnd};
 ghost use Rattle.moo_request.specs.Given.{Grows, TakesAtMost};
 
@@ -19,6 +19,7 @@ pub(crate) fn read_more<R: Read>(
     ensures grows { OnOk result (Grows (R.remaining reader.old) (R.remaining reader.new) bytes.old.items bytes.new.items) }
     ensures more { IfOk result (λ more. more ≡ true →
         (length bytes.old.items < length bytes.new.items) × (length bytes.new.items ≤ limit)) }
+    ensures piece { OnOk result (length bytes.new.items ≤ length bytes.old.items + 1024) }
     ensures end { IfOk result (λ more. more ≡ false →
         (bytes.new.items ≡ bytes.old.items) × IsAtEnd (R.remaining reader.new)) }
     ensures breaks { OnErr result (TakesAtMost (limit - length bytes.old.items) (R.remaining reader.old) (R.remaining reader.new)) }
