@@ -1,7 +1,7 @@
 -- What is received of bytes is determined by them.
-use Rattle.std.proofs.Common.{◌≡◌, ◌⊎◌, inl, inr, ◌<◌, ℕ, List, [], ◌∷◌, ◌++◌, Option, Some, None, length, arith, sym, ap, subst, ◌∙◌, ◌≢◌}
+use Rattle.std.proofs.Common.{◌≡◌, inl, inr, ℕ, List, Some, None, arith, sym, ap, subst, ◌∙◌}
 use Rattle.std.specs.Prelude.{option_and_then}
-use Rattle.httparse.specs.Grammar.{RequestHead, print_blank, ReadsRequest}
+use Rattle.httparse.specs.Grammar.{RequestHead, ReadsRequest}
 use Rattle.httparse.proofs.GrammarLemmas.{request_unique}
 use Rattle.moo_request.proofs.HeadLemmas.{no_empty_head}
 use Rattle.moo_request.specs.declared.asked.Asked.{Asked}

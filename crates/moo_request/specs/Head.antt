@@ -1,5 +1,5 @@
 -- The head of a request, within the limits of the service.
-use Rattle.std.specs.Prelude.{◌≡◌, ◌≤◌, ℕ, List, length}
+use Rattle.std.specs.Prelude.{◌≤◌, ℕ, List, length}
 use Rattle.httparse.specs.Grammar.{RequestHead, ReadsRequest, print_request}
 
 -- the input is that head, within the limits, and then rest

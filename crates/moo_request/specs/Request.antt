@@ -4,7 +4,6 @@ use Rattle.std.specs.Io.KnownBytes.{Consumes}
 use Rattle.httparse.specs.Grammar.{RequestHead, print_request}
 use Rattle.moo_request.specs.declared.asked.Asked.{Asked}
 use Rattle.moo_request.specs.declared.asked.Asked.TheVariants.{Refused}
-use Rattle.moo_request.specs.declared.asked.Mode.{Mode}
 use Rattle.moo_request.specs.declared.asked.Refusal.TheVariants.{BadRequest}
 use Rattle.moo_request.specs.declared.plan.Plan.{Plan}
 use Rattle.moo_request.specs.declared.plan.Plan.TheVariants.{Decided, Body}

@@ -1,5 +1,5 @@
 -- What the code's own types show.
-use Rattle.std.specs.Prelude.{◌≡◌, map}
+use Rattle.std.specs.Prelude.{map}
 use Rattle.moo_request.specs.Calls as calls
 use Rattle.moo_request.specs.Shape as parts
 use Rattle.moo_request.specs.declared.body.CallsRead.{CallsRead}

@@ -23,6 +23,7 @@ pub enum Plan {
     Body(Mode, u64),
 }
 
+/// The target before its first question mark.
 fn path(target: &str) -> &str
     ensures { result.now ≡ path_of target.now }
 {
@@ -32,6 +33,7 @@ fn path(target: &str) -> &str
     }
 }
 
+/// The method of a route.
 fn method_for(endpoint: Endpoint) -> Method
     ensures { result ≡ method_of endpoint }
 {
@@ -41,6 +43,7 @@ fn method_for(endpoint: Endpoint) -> Method
     }
 }
 
+/// Whether a method is the one that is wanted.
 fn is_method(method: &[u8], wanted: Method) -> bool
     ensures { result ≡ bytes_eq method.now (method_text wanted) }
 {
@@ -50,6 +53,7 @@ fn is_method(method: &[u8], wanted: Method) -> bool
     }
 }
 
+/// The stated length of the body; none where it isn't stated once, in 1 to 10 digits, or a coding stands beside it.
 fn body_length(bytes: &[u8], lines: &[HeaderSpan]) -> Option<u64>
     requires within { All (IsHeaderWithin (length bytes.now)) lines.now }
     ensures { result ≡ length_of (map (header_bytes bytes.now) lines.now) }
@@ -66,6 +70,7 @@ fn body_length(bytes: &[u8], lines: &[HeaderSpan]) -> Option<u64>
     }
 }
 
+/// A body says it, unless its length isn't stated or is over the limit.
 fn plan_body(mode: Mode, length: Option<u64>) -> Plan
     ensures value { result ≡ body_plan mode length }
     ensures bound { IsBounded result }
@@ -82,6 +87,7 @@ fn plan_body(mode: Mode, length: Option<u64>) -> Plan
     }
 }
 
+/// The number of an object stands behind `/object/`.
 fn plan_object(path: &[u8]) -> Plan
     ensures value { result ≡ object_plan (number_of (drop 8 path.now)) }
     ensures bound { IsBounded result }
@@ -97,6 +103,7 @@ fn plan_object(path: &[u8]) -> Plan
     }
 }
 
+/// What a route of the right method needs.
 fn plan_endpoint(endpoint: Endpoint, path: &[u8], bytes: &[u8], lines: &[HeaderSpan]) -> Plan
     requires within { All (IsHeaderWithin (length bytes.now)) lines.now }
     ensures value { result ≡ endpoint_plan endpoint path.now (map (header_bytes bytes.now) lines.now) }
@@ -110,6 +117,7 @@ fn plan_endpoint(endpoint: Endpoint, path: &[u8], bytes: &[u8], lines: &[HeaderS
     }
 }
 
+/// First the route, then its method, then what it needs.
 fn plan_route(
     endpoint: Option<Endpoint>,
     method: &[u8],

@@ -25,6 +25,7 @@ pub enum Received {
     Request { is_head: bool, asked: Asked },
 }
 
+/// Whether the method of a head is HEAD.
 fn is_head(bytes: &[u8], head: &Head) -> bool
     requires within { IsRequestWithin bytes.now head.now.headers head.now.spans }
     ensures { (parts : RequestHead) → IsRequestAt bytes.now head.now.headers head.now.spans parts → result ≡ is_head_of parts }

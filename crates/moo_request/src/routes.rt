@@ -22,6 +22,7 @@ pub struct Routes {
     ghost known: { ∥ router ≡ service_rows ∥₁ },
 }
 
+/// Adds a route. AllocError where memory runs out, since each text is a route and no two clash.
 fn add_route(
     router: &mut Router<Endpoint>,
     text: &str,
