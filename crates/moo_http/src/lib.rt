@@ -1,0 +1,4 @@
+//! The service: one request, one answer.
+#![tactic(auto)]
+
+mod limits;
