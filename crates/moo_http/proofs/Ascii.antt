@@ -29,10 +29,10 @@ tested [] all = IsAscii-nil
 tested (c ∷ cs) all = let h = both (nat_lt c 128) (list_all (λ c. nat_lt c 128) cs) all in behind c cs (grind (arith, h.0)) (tested cs h.1)
 
 fits : (n : ℕ) → InRange (pos n) → n < 2 ^ 64
-fits n h = ?
+fits n h = omega (arith, h)
 
 fits_negative : (n : ℕ) → InRange (negsuc n) → suc n < 2 ^ 64
-fits_negative n h = ?
+fits_negative n h = omega (arith, h)
 
 number_ascii : (n : ℤ) → InRange n → IsAscii (signed_decimal n)
 number_ascii (pos n) h = IsAscii-decimal n (fits n h)
@@ -88,8 +88,8 @@ items_ascii : (first : Bool) (vs : Values) → HoldInside InRange IsText vs → 
 items_ascii first no_values h = tested (125 ∷ []) refl
 items_ascii first (int n vs) h = IsAscii-append _ _ (comma_ascii first) (IsAscii-append _ _ (number_ascii n h.0) (items_ascii false vs h.1))
 items_ascii first (object n vs) h = IsAscii-append _ _ (comma_ascii first) (IsAscii-append (35 ∷ signed_decimal n) _ (behind 35 _ (omega arith) (number_ascii n h.0)) (items_ascii false vs h.1))
-items_ascii first (string s vs) h = IsAscii-append _ _ (comma_ascii first) (IsAscii-append _ _ (string_ascii s h.0) (items_ascii false vs h.1))
-items_ascii first (error e vs) h = IsAscii-append _ _ (comma_ascii first) (IsAscii-append _ _ (name_ascii e) (items_ascii false vs h))
+items_ascii first (string s vs) h = IsAscii-append _ _ (comma_ascii first) (IsAscii-append (print_string s) _ (string_ascii s h.0) (items_ascii false vs h.1))
+items_ascii first (error e vs) h = IsAscii-append _ _ (comma_ascii first) (IsAscii-append (name e) _ (name_ascii e) (items_ascii false vs h))
 items_ascii first (list us vs) h = IsAscii-append _ _ (comma_ascii first) (IsAscii-append (123 ∷ print_items true us) _ (behind 123 _ (omega arith) (items_ascii true us h.0)) (items_ascii false vs h.1))
 
 value_ascii : (v : Value) → HoldIn InRange IsText v → IsAscii (print v)

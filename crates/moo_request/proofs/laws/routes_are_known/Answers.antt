@@ -1,0 +1,8 @@
+use Rattle.std.proofs.Common.{refl}
+use Rattle.matchit.proofs.OnLiterals.{matchit_on_literals}
+use Rattle.moo_request.specs.Routes.{service_rows}
+use Rattle.moo_request.proofs.laws.routes_are_known.Goals as goal
+
+pub returns : goal.returns
+unfolding matchit_on_literals service_rows
+returns c = record { batch = refl; ask = refl; seq = refl; object = refl; deeper = refl; bare = refl; unknown = refl; root = refl; empty = refl }

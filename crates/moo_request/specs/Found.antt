@@ -1,0 +1,41 @@
+-- What was found of a head.
+use Rattle.std.specs.Prelude.{◌≡◌, ◌≢◌, ◌<◌, ◌≤◌, ℕ, List, [], ◌∷◌, ◌++◌, length, drop, Option}
+use Rattle.std.specs.Io.KnownBytes.{IsAtEnd}
+use Rattle.httparse.specs.Grammar.{RequestHead}
+use Rattle.httparse.specs.Spans.{IsRequestAt, IsRequestWithin}
+use Rattle.moo_request.specs.Head.{BeginsWithHead, HasNoHead}
+use Rattle.moo_request.specs.Settled.{Settles}
+use Rattle.moo_request.specs.declared.head.Head.{Head}
+use Rattle.moo_request.specs.declared.head.HeadRead.{HeadRead}
+use Rattle.moo_request.specs.declared.head.HeadRead.TheVariants.{Whole, Refused, Empty}
+use Rattle.moo_request.specs.declared.lines.Found.{Found}
+use Rattle.moo_request.specs.declared.lines.Found.TheVariants as line
+
+-- the values of the lines of a name
+abbrev pub IsFound : List (List ℕ) → Found → Type 0
+IsFound values line.Nothing = values ≡ []
+IsFound values (line.One value) = values ≡ value.now ∷ []
+IsFound values line.Several = 1 < length values
+
+-- a head stands at the front of the bytes, whatever follows, and its parts lie where they were found
+pub record StandsAt (bytes : List ℕ) (found : Head) : Type 0 where
+  pub head : RequestHead
+  pub begins : (more : List ℕ) → BeginsWithHead (bytes ++ more) head (drop found.spans.len bytes ++ more)
+  pub at : IsRequestAt bytes found.headers found.spans head
+  pub within : IsRequestWithin bytes found.headers found.spans
+
+-- an input that isn't empty begins with no head
+abbrev pub Lacks : List ℕ → Type 0
+Lacks input = (input ≢ []) × HasNoHead input
+
+-- what the bytes that were given say of the head
+abbrev pub FindsHead : Option (List ℕ) → List ℕ → HeadRead → Type 0
+FindsHead left given (Whole found) = StandsAt given found
+FindsHead left given Refused = Settles left given Lacks
+FindsHead left given Empty = (given ≡ []) × IsAtEnd left
+
+-- what bytes say of the head by themselves, whatever follows
+abbrev pub ShowsHead : List ℕ → HeadRead → Type 0
+ShowsHead bytes (Whole found) = StandsAt bytes found
+ShowsHead bytes Refused = (more : List ℕ) → Lacks (bytes ++ more)
+ShowsHead bytes Empty = ⊥

@@ -1,0 +1,14 @@
+pub mod Body
+pub mod Calls
+pub mod Found
+pub mod Given
+pub mod Head
+pub mod Lengths
+pub mod Numbers
+pub mod Plan
+pub mod Planned
+pub mod Request
+pub mod Routes
+pub mod Settled
+pub mod Shape
+pub mod Shown

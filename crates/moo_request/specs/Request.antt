@@ -1,0 +1,52 @@
+-- What the bytes of a connection ask.
+use Rattle.std.specs.Prelude.{◌≡◌, ◌≢◌, ◌⊎◌, ◌≤◌, ◌<◌, ◌+◌, ℕ, List, [], length, take, Option, false}
+use Rattle.std.specs.Io.KnownBytes.{Consumes}
+use Rattle.httparse.specs.Grammar.{RequestHead, print_request}
+use Rattle.moo_request.specs.declared.asked.Asked.{Asked}
+use Rattle.moo_request.specs.declared.asked.Asked.TheVariants.{Refused}
+use Rattle.moo_request.specs.declared.asked.Mode.{Mode}
+use Rattle.moo_request.specs.declared.asked.Refusal.TheVariants.{BadRequest}
+use Rattle.moo_request.specs.declared.plan.Plan.{Plan}
+use Rattle.moo_request.specs.declared.plan.Plan.TheVariants.{Decided, Body}
+use Rattle.moo_request.specs.declared.request.Received.{Received}
+use Rattle.moo_request.specs.declared.request.Received.TheVariants.{Nothing, Request}
+use Rattle.moo_request.specs.Body.{BodyAsks}
+use Rattle.moo_request.specs.Head.{BeginsWithHead, HasNoHead}
+use Rattle.moo_request.specs.Plan.{plan_by, is_head}
+use Rattle.moo_request.specs.Settled.{Settles}
+
+-- What is planned, done with what follows the head: a body of n bytes is its first n, and without so many the request is cut off.
+abbrev pub PlanAsks : Plan → List ℕ → Asked → Type 0
+PlanAsks (Decided decided) rest asked = asked ≡ decided
+PlanAsks (Body mode n) rest asked =
+    ((n ≤ length rest) × BodyAsks mode (take n rest) asked) ⊎ ((length rest < n) × (asked ≡ Refused BadRequest))
+
+-- What the bytes of a connection ask: nothing where there are none; a bad request where they begin with no head; else what the one
+-- head and the bytes behind it ask.
+pub data Receives (input : List ℕ) (received : Received) : Type 0 where
+  nothing : input ≡ [] → received ≡ Nothing → Receives input received
+  no_head : input ≢ [] → HasNoHead input → received ≡ Request false (Refused BadRequest) → Receives input received
+  request : (head : RequestHead) (rest : List ℕ) (asked : Asked) → BeginsWithHead input head rest → PlanAsks (plan_by head) rest asked
+      → received ≡ Request (is_head head) asked → Receives input received
+
+-- So many bytes are taken at most: 8,192; more only where they begin with a head that plans a body, and then none behind that body.
+pub data IsSparing (given : List ℕ) : Type 0 where
+  small : length given ≤ 8192 → IsSparing given
+  body : (head : RequestHead) (rest : List ℕ) (mode : Mode) (n : ℕ) → BeginsWithHead given head rest → plan_by head ≡ Body mode n
+      → length given ≤ length (print_request head) + n → IsSparing given
+
+-- From old to new the reader gave these bytes, no more than are needed. Where it tells its bytes they stood in front and are gone.
+pub record Gives (old new : Option (List ℕ)) (given : List ℕ) : Type 0 where
+  pub known : Consumes old new given
+  pub sparing : IsSparing given
+
+-- The reader gave some bytes, and this is received of them.
+pub record Takes (old new : Option (List ℕ)) (received : Received) : Type 0 where
+  pub given : List ℕ
+  pub gives : Gives old new given
+  pub settles : Settles new given (λ input. Receives input received)
+
+-- The reader gave some bytes, and there reading stopped.
+pub record BreaksOff (old new : Option (List ℕ)) : Type 0 where
+  pub given : List ℕ
+  pub gives : Gives old new given

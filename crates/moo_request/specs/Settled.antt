@@ -1,0 +1,9 @@
+-- What the first bytes of an input say, whatever follows them.
+use Rattle.std.specs.Prelude.{◌≡◌, ℕ, List, [], ◌++◌, Bool, true, Option}
+use Rattle.std.specs.Io.KnownBytes.{IsAtEnd}
+
+-- P holds of the bytes that were given, whatever the reader may give behind them; or it has ended, and nothing is left.
+pub record Settles (left : Option (List ℕ)) (given : List ℕ) (P : List ℕ → Type 0) : Type 0 where
+  pub ended : Bool
+  pub at_end : ended ≡ true → IsAtEnd left
+  pub holds : (rest : List ℕ) → (ended ≡ true → rest ≡ []) → P (given ++ rest)

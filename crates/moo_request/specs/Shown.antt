@@ -1,0 +1,14 @@
+-- What the code's own types show.
+use Rattle.std.specs.Prelude.{◌≡◌, map}
+use Rattle.moo_request.specs.Calls as calls
+use Rattle.moo_request.specs.Shape as parts
+use Rattle.moo_request.specs.declared.body.CallsRead.{CallsRead}
+use Rattle.moo_request.specs.declared.body.CallsRead.TheVariants.{Whole, Bad}
+use Rattle.moo_request.specs.declared.shape.Shape.{Shape}
+
+abbrev pub shape_shown : Shape → parts.Shape
+shape_shown shape = record { programmer = shape.programmer; calls = map (λ text. text.now) shape.calls.items; at = shape.at }
+
+abbrev pub calls_shown : CallsRead → calls.Calls
+calls_shown (Whole read) = calls.Whole read.items
+calls_shown (Bad n) = calls.Bad n

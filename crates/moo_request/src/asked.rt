@@ -1,0 +1,46 @@
+//! What a request asks.
+
+use moo_value::value::ObjNo;
+use moo_world::call::Batch;
+
+/// The method that a route has.
+#[derive(Clone, Copy, Debug, PartialEq, Eq, Drop)]
+pub enum Method {
+    Get,
+    Post,
+}
+
+/// Why a request is refused before the World is asked.
+#[derive(Clone, Copy, Debug, PartialEq, Eq, Drop)]
+pub enum Refusal {
+    /// No head within the limits, no stated length, or no body of the shape.
+    BadRequest,
+    /// The path has no route.
+    NotFound,
+    /// The route has this method, and not the request's.
+    NotAllowed(Method),
+    /// The stated length is over 1,048,576 bytes.
+    TooLarge,
+    /// The number, from 1, of the first text under `calls` that is no call.
+    Malformed(u32),
+}
+
+/// Whether a batch is to be run, or only asked what it would answer.
+#[derive(Clone, Copy, Debug, PartialEq, Eq, Drop)]
+pub enum Mode {
+    Run,
+    Ask,
+}
+
+/// What a request asks.
+#[derive(Drop)]
+pub enum Asked {
+    /// Nothing: it is refused.
+    Refused(Refusal),
+    /// A batch.
+    Calls(Mode, Batch),
+    /// The number of accepted batches.
+    Seq,
+    /// One object.
+    Object(ObjNo),
+}

@@ -1,0 +1,101 @@
+//! What a body asks.
+
+ghost use Rattle.std.specs.Prelude.{◌≡◌, ◌≤◌, ◌+◌, ◌-◌, Some, length, drop, map, max, IfOk, OnOk, OnErr};
+ghost use Rattle.moo_request.specs.Body.{shape_asked, BodyAsks};
+ghost use Rattle.moo_request.specs.Calls.{calls_from};
+ghost use Rattle.moo_request.specs.Given.{Grows, TakesAtMost};
+ghost use Rattle.moo_request.specs.Request.{PlanAsks};
+ghost use Rattle.moo_request.specs.Settled.{Settles};
+ghost use Rattle.moo_request.specs.Shown.{shape_shown, calls_shown};
+
+use crate::asked::{Asked, Mode, Refusal};
+use crate::fault::ReadFault;
+use crate::input::read_until;
+use crate::plan::Plan;
+use crate::shape::{Shape, read_json, shape_in};
+use moo_text::call_text::call_in;
+use moo_world::call::{Batch, Call, Calls};
+use std::alloc::{AllocError, Global};
+use std::io::Read;
+
+/// The calls of texts.
+#[derive(Drop)]
+pub enum CallsRead {
+    /// Each text is a call.
+    Whole(Vec<Call>),
+    /// The number, from 1, of the first text that is none.
+    Bad(u32),
+}
+
+/// The calls of texts.
+fn read_calls(alloc: Global, texts: &[&str]) -> Result<CallsRead, AllocError>
+    requires { length texts.now ≤ 1000 }
+    ensures calls { IfOk result (λ read. calls_shown read ≡ calls_from 1 (map (λ text. text.now) texts.now)) }
+{
+    let mut calls = Vec::new(alloc);
+    let mut number = 0;
+    for text in texts {
+        number += 1;
+        match call_in(alloc, text.as_bytes())? {
+            Some(call) => calls.push(call)?,
+            None => return Ok(CallsRead::Bad(number)),
+        }
+    }
+    Ok(CallsRead::Whole(calls))
+}
+
+/// What a shape asks.
+fn ask_shape(alloc: Global, mode: Mode, shape: &Shape<'_>) -> Result<Asked, AllocError>
+    requires { length shape.now.calls.items ≤ 1000 }
+    ensures { IfOk result (λ asked. asked ≡ shape_asked mode (Some (shape_shown shape.now))) }
+{
+    match read_calls(alloc, &shape.calls)? {
+        CallsRead::Whole(calls) => Ok(Asked::Calls(
+            mode,
+            Batch {
+                programmer: shape.programmer,
+                at: shape.at,
+                calls: Calls::from_vec(calls),
+            },
+        )),
+        CallsRead::Bad(number) => Ok(Asked::Refused(Refusal::Malformed(number))),
+    }
+}
+
+/// What a body asks.
+fn ask_body(alloc: Global, mode: Mode, body: &[u8]) -> Result<Asked, AllocError>
+    ensures { IfOk result (BodyAsks mode body.now) }
+{
+    let Some(value) = read_json(alloc, body)? else {
+        return Ok(Asked::Refused(Refusal::BadRequest));
+    };
+    match shape_in(alloc, &value)? {
+        Some(shape) => ask_shape(alloc, mode, &shape),
+        None => Ok(Asked::Refused(Refusal::BadRequest)),
+    }
+}
+
+/// What a body of this size asks, which begins at `start` of the bytes and goes on in the reader.
+pub(crate) fn read_body<R: Read>(
+    alloc: Global,
+    reader: &mut R,
+    bytes: &mut Vec<u8>,
+    start: usize,
+    mode: Mode,
+    size: u64,
+) -> Result<Asked, ReadFault>
+    requires inside { start ≤ length bytes.old.items }
+    requires bound { start + size ≤ 1056768 }
+    ensures grows { OnOk result (Grows (R.remaining reader.old) (R.remaining reader.new) bytes.old.items bytes.new.items) }
+    ensures asks { IfOk result (λ asked. Settles (R.remaining reader.new) bytes.new.items
+        (λ input. PlanAsks (Plan.Body mode size) (drop start input) asked)) }
+    ensures few { OnOk result (length bytes.new.items ≤ max (length bytes.old.items) (start + size)) }
+    ensures breaks { OnErr result (TakesAtMost ((start + size) - length bytes.old.items) (R.remaining reader.old) (R.remaining reader.new)) }
+{
+    let end = start + size as usize;
+    if !read_until(reader, bytes, end)? {
+        return Ok(Asked::Refused(Refusal::BadRequest));
+    }
+    let asked = ask_body(alloc, mode, &bytes[start..end])?;
+    Ok(asked)
+}

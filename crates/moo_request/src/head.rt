@@ -1,0 +1,73 @@
+//! The head of a request, read in pieces.
+
+ghost use Rattle.std.specs.Prelude.{◌≡◌, ◌≤◌, ◌<◌, [], length, None, IfOk, OnOk, OnErr, IfSome};
+ghost use Rattle.std.specs.Io.KnownBytes.{Consumes};
+ghost use Rattle.httparse.specs.Grammar.{HasNoRequest};
+ghost use Rattle.moo_request.specs.Found.{FindsHead, ShowsHead};
+ghost use Rattle.moo_request.specs.Given.{TakesAtMost};
+
+use crate::fault::ReadFault;
+use crate::input::read_more;
+use httparse::Status;
+use httparse::spans::{EMPTY_HEADER_SPAN, HeaderSpan, RequestSpans, parse_request};
+use std::io::Read;
+
+const MAX_HEAD: usize = 8192;
+
+const MAX_LINES: usize = 32;
+
+/// Where the parts of a head are in the bytes.
+#[derive(Clone, Copy, Drop)]
+pub struct Head {
+    pub spans: RequestSpans,
+    pub headers: [HeaderSpan; MAX_LINES],
+}
+
+/// What the input begins with.
+#[derive(Drop)]
+pub enum HeadRead {
+    /// A head within the limits.
+    Whole(Head),
+    /// No head within the limits.
+    Refused,
+    /// Nothing: the input is empty.
+    Empty,
+}
+
+/// What the bytes say of the head, whatever follows them. `None` where it may go on behind them.
+fn parse_head(bytes: &[u8]) -> Option<HeadRead>
+    requires { (0 < length bytes.now) × (length bytes.now ≤ 8192) }
+    ensures found { IfSome result (ShowsHead bytes.now) }
+    ensures partial { result ≡ None → HasNoRequest bytes.now }
+{
+    let mut headers = [EMPTY_HEADER_SPAN; MAX_LINES];
+    match parse_request(bytes, &mut headers) {
+        Ok(Status::Complete(spans)) => Some(HeadRead::Whole(Head { spans, headers })),
+        Ok(Status::Partial) => None,
+        Err(_) => Some(HeadRead::Refused),
+    }
+}
+
+/// Reads the head of a request, and no further once it is whole.
+pub fn read_head<R: Read>(reader: &mut R, bytes: &mut Vec<u8>) -> Result<HeadRead, ReadFault>
+    requires { bytes.old.items ≡ [] }
+    ensures takes { OnOk result (Consumes (R.remaining reader.old) (R.remaining reader.new) bytes.new.items) }
+    ensures head { IfOk result (FindsHead (R.remaining reader.new) bytes.new.items) }
+    ensures few { OnOk result (length bytes.new.items ≤ 8192) }
+    ensures breaks { OnErr result (TakesAtMost 8192 (R.remaining reader.old) (R.remaining reader.new)) }
+{
+    if !read_more(reader, bytes, MAX_HEAD)? {
+        return Ok(HeadRead::Empty);
+    }
+    'pieces: loop {
+        if let Some(read) = parse_head(bytes) {
+            return Ok(read);
+        }
+        if bytes.len() == MAX_HEAD {
+            return Ok(HeadRead::Refused);
+        }
+        if !read_more(reader, bytes, MAX_HEAD)? {
+            return Ok(HeadRead::Refused);
+        }
+    }
+}

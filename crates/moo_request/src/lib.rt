@@ -1,0 +1,21 @@
+//! What a request asks, from the bytes of a connection: its head, read in pieces, its route, and its body only where the head asks for one.
+#![tactic(auto)]
+
+mod asked;
+mod body;
+mod fault;
+mod head;
+mod input;
+mod laws;
+mod lines;
+mod numbers;
+mod plan;
+mod request;
+mod routes;
+mod shape;
+
+pub use asked::{Asked, Method, Mode, Refusal};
+pub use fault::ReadFault;
+pub use laws::{received_once, routes_are_known};
+pub use request::{Received, read_request};
+pub use routes::Routes;

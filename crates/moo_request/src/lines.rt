@@ -1,0 +1,58 @@
+//! The lines of a head.
+
+ghost use Rattle.std.specs.Prelude.{◌≡◌, ◌==◌, ◌≤◌, ℕ, length, map, codes, All, option_map};
+ghost use Rattle.httparse.specs.Spans.{IsHeaderWithin, header_bytes};
+ghost use Rattle.moo_request.specs.Lengths.{is_named, values_of, length_text};
+ghost use Rattle.moo_request.specs.Found.{IsFound};
+
+use httparse::spans::HeaderSpan;
+
+/// The value of the lines of a name.
+#[derive(Clone, Copy, Drop)]
+pub enum Found<'b> {
+    /// No line has it.
+    Nothing,
+    /// One line has it.
+    One(&'b [u8]),
+    /// More than one line has it.
+    Several,
+}
+
+/// Whether a line has a name, in any case.
+fn has_name(bytes: &[u8], line: HeaderSpan, name: &[u8]) -> bool
+    requires within { IsHeaderWithin (length bytes.now) line }
+    ensures { result ≡ is_named name.now (header_bytes bytes.now line) }
+{
+    line.name.of(bytes).eq_ignore_ascii_case(name)
+}
+
+/// The value of the lines of a name.
+fn find<'b>(bytes: &'b [u8], lines: &[HeaderSpan], name: &[u8]) -> Found<'b>
+    requires within { All (IsHeaderWithin (length bytes.now)) lines.now }
+    ensures { IsFound (values_of name.now (map (header_bytes bytes.entry.now) lines.now)) result }
+{
+    let mut found = Found::Nothing;
+    for line in lines {
+        if has_name(bytes, *line, name) {
+            found = match found {
+                Found::Nothing => Found::One(line.value.of(bytes)),
+                _ => Found::Several,
+            };
+        }
+    }
+    found
+}
+
+/// The one stated length of the body, as it is written.
+pub fn stated_length<'b>(bytes: &'b [u8], lines: &[HeaderSpan]) -> Option<&'b [u8]>
+    requires within { All (IsHeaderWithin (length bytes.now)) lines.now }
+    ensures { option_map (λ text. text.now) result ≡ length_text (map (header_bytes bytes.entry.now) lines.now) }
+{
+    let Found::Nothing = find(bytes, lines, b"transfer-encoding") else {
+        return None;
+    };
+    match find(bytes, lines, b"content-length") {
+        Found::One(text) => Some(text),
+        _ => None,
+    }
+}

@@ -1,0 +1,141 @@
+//! What the head of a request alone decides.
+
+ghost use Rattle.std.specs.Prelude.{◌≡◌, All, IsUtf8, length, map, bytes_eq, drop};
+ghost use Rattle.httparse.specs.Spans.{IsHeaderWithin, header_bytes};
+ghost use Rattle.moo_request.specs.Numbers.{number_of};
+ghost use Rattle.moo_request.specs.Plan.{path_of, method_of, method_text, length_of, body_plan, object_plan, endpoint_plan, routed_plan, plan_of};
+ghost use Rattle.moo_request.specs.Planned.{IsBounded};
+
+use crate::asked::{Asked, Method, Mode, Refusal};
+use crate::lines::stated_length;
+use crate::numbers::{bounded, number_in};
+use crate::routes::{Endpoint, Routes};
+use httparse::spans::HeaderSpan;
+use moo_value::value::ObjNo;
+use std::str;
+
+const MAX_BODY: u64 = 1_048_576;
+
+/// What the head of a request decides: what is asked, or that a body says it, with its length.
+#[derive(Drop)]
+pub enum Plan {
+    Decided(Asked),
+    Body(Mode, u64),
+}
+
+fn path(target: &str) -> &str
+    ensures { result.now ≡ path_of target.now }
+{
+    match target.split_once('?') {
+        Some((path, _)) => path,
+        None => target,
+    }
+}
+
+fn method_for(endpoint: Endpoint) -> Method
+    ensures { result ≡ method_of endpoint }
+{
+    match endpoint {
+        Endpoint::Batch | Endpoint::Ask => Method::Post,
+        Endpoint::Seq | Endpoint::Object => Method::Get,
+    }
+}
+
+fn is_method(method: &[u8], wanted: Method) -> bool
+    ensures { result ≡ bytes_eq method.now (method_text wanted) }
+{
+    match wanted {
+        Method::Get => method == b"GET".as_slice(),
+        Method::Post => method == b"POST".as_slice(),
+    }
+}
+
+fn body_length(bytes: &[u8], lines: &[HeaderSpan]) -> Option<u64>
+    requires within { All (IsHeaderWithin (length bytes.now)) lines.now }
+    ensures { result ≡ length_of (map (header_bytes bytes.now) lines.now) }
+{
+    match stated_length(bytes, lines) {
+        Some(text) => {
+            if text.len() <= 10 {
+                bounded(text, 9_999_999_999)
+            } else {
+                None
+            }
+        }
+        None => None,
+    }
+}
+
+fn plan_body(mode: Mode, length: Option<u64>) -> Plan
+    ensures value { result ≡ body_plan mode length }
+    ensures bound { IsBounded result }
+{
+    match length {
+        Some(length) => {
+            if MAX_BODY < length {
+                Plan::Decided(Asked::Refused(Refusal::TooLarge))
+            } else {
+                Plan::Body(mode, length)
+            }
+        }
+        None => Plan::Decided(Asked::Refused(Refusal::BadRequest)),
+    }
+}
+
+fn plan_object(path: &[u8]) -> Plan
+    ensures value { result ≡ object_plan (number_of (drop 8 path.now)) }
+    ensures bound { IsBounded result }
+{
+    let number = if path.len() < 8 { None } else { number_in(&path[8..]) };
+    match number {
+        Some(number) => Plan::Decided(Asked::Object(ObjNo(number))),
+        None => Plan::Decided(Asked::Refused(Refusal::NotFound)),
+    }
+}
+
+fn plan_endpoint(endpoint: Endpoint, path: &[u8], bytes: &[u8], lines: &[HeaderSpan]) -> Plan
+    requires within { All (IsHeaderWithin (length bytes.now)) lines.now }
+    ensures value { result ≡ endpoint_plan endpoint path.now (map (header_bytes bytes.now) lines.now) }
+    ensures bound { IsBounded result }
+{
+    match endpoint {
+        Endpoint::Batch => plan_body(Mode::Run, body_length(bytes, lines)),
+        Endpoint::Ask => plan_body(Mode::Ask, body_length(bytes, lines)),
+        Endpoint::Seq => Plan::Decided(Asked::Seq),
+        Endpoint::Object => plan_object(path),
+    }
+}
+
+fn plan_route(endpoint: Option<Endpoint>, method: &[u8], path: &[u8], bytes: &[u8], lines: &[HeaderSpan]) -> Plan
+    requires within { All (IsHeaderWithin (length bytes.now)) lines.now }
+    ensures value { result ≡ routed_plan endpoint method.now path.now (map (header_bytes bytes.now) lines.now) }
+    ensures bound { IsBounded result }
+{
+    match endpoint {
+        Some(endpoint) => {
+            let wanted = method_for(endpoint);
+            if is_method(method, wanted) {
+                plan_endpoint(endpoint, path, bytes, lines)
+            } else {
+                Plan::Decided(Asked::Refused(Refusal::NotAllowed(wanted)))
+            }
+        }
+        None => Plan::Decided(Asked::Refused(Refusal::NotFound)),
+    }
+}
+
+/// What the parts of a head decide.
+pub(crate) fn make_plan(routes: &Routes, method: &[u8], target: &[u8], bytes: &[u8], lines: &[HeaderSpan]) -> Plan
+    requires within { All (IsHeaderWithin (length bytes.now)) lines.now }
+    requires text { IsUtf8 target.now }
+    ensures value { result ≡ plan_of method.now target.now (map (header_bytes bytes.now) lines.now) }
+    ensures bound { IsBounded result }
+{
+    match str::from_utf8(target) {
+        Ok(target) => {
+            let path = path(target);
+            plan_route(routes.find(path), method, path.as_bytes(), bytes, lines)
+        }
+        Err(_) => unreachable!(),
+    }
+}

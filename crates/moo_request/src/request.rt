@@ -1,0 +1,75 @@
+//! What the bytes of a connection ask.
+
+ghost use Rattle.std.specs.Prelude.{◌≡◌, IfOk, OnErr};
+ghost use Rattle.httparse.specs.Grammar.{RequestHead};
+ghost use Rattle.httparse.specs.Spans.{IsRequestAt, IsRequestWithin, IsRequestOf};
+ghost use Rattle.moo_request.specs.Plan.{plan_by, is_head as is_head_of};
+ghost use Rattle.moo_request.specs.Planned.{IsBounded};
+ghost use Rattle.moo_request.specs.Request.{Takes, BreaksOff};
+
+use crate::asked::{Asked, Refusal};
+use crate::body::read_body;
+use crate::fault::ReadFault;
+use crate::head::{Head, HeadRead, read_head};
+use crate::plan::{Plan, make_plan};
+use crate::routes::Routes;
+use std::alloc::Global;
+use std::io::Read;
+
+/// What the bytes of a connection ask.
+#[derive(Drop)]
+pub enum Received {
+    /// There are none.
+    Nothing,
+    /// There are some; whether their method is HEAD, and what they ask.
+    Request { is_head: bool, asked: Asked },
+}
+
+fn is_head(bytes: &[u8], head: &Head) -> bool
+    requires within { IsRequestWithin bytes.now head.now.headers head.now.spans }
+    ensures { (parts : RequestHead) → IsRequestAt bytes.now head.now.headers head.now.spans parts → result ≡ is_head_of parts }
+{
+    head.spans.method.of(bytes) == b"HEAD".as_slice()
+}
+
+/// What a head decides.
+fn plan_head(routes: &Routes, bytes: &[u8], head: &Head) -> Plan
+    requires within { IsRequestWithin bytes.now head.now.headers head.now.spans }
+    requires found { IsRequestOf bytes.now head.now.headers head.now.spans }
+    ensures value { (parts : RequestHead) → IsRequestAt bytes.now head.now.headers head.now.spans parts → result ≡ plan_by parts }
+    ensures bound { IsBounded result }
+{
+    make_plan(
+        routes,
+        head.spans.method.of(bytes),
+        head.spans.path.of(bytes),
+        bytes,
+        &head.headers[..head.spans.headers],
+    )
+}
+
+/// Reads what a connection asks: its head, of at most 8,192 bytes and 32 lines, and its body only where the head asks for one, of the
+/// stated length, which is at most 1,048,576 bytes. Memory is taken as the bytes come, and not by the stated length. Read where the reader
+/// fails; OutOfMemory where memory runs out.
+pub fn read_request<R: Read>(alloc: Global, routes: &Routes, reader: &mut R) -> Result<Received, ReadFault>
+    ensures takes { IfOk result (Takes (R.remaining reader.old) (R.remaining reader.new)) }
+    ensures breaks { OnErr result (BreaksOff (R.remaining reader.old) (R.remaining reader.new)) }
+{
+    let mut bytes = Vec::new(alloc);
+    let head = match read_head(reader, &mut bytes)? {
+        HeadRead::Empty => return Ok(Received::Nothing),
+        HeadRead::Refused => {
+            return Ok(Received::Request {
+                is_head: false,
+                asked: Asked::Refused(Refusal::BadRequest),
+            });
+        }
+        HeadRead::Whole(head) => head,
+    };
+    let is_head = is_head(&bytes, &head);
+    let asked = match plan_head(routes, &bytes, &head) {
+        Plan::Decided(asked) => asked,
+        Plan::Body(mode, size) => read_body(alloc, reader, &mut bytes, head.spans.len, mode, size)?,
+    };
+    Ok(Received::Request { is_head, asked })
+}

@@ -1,0 +1,58 @@
+//! The routes of the service.
+
+ghost use Rattle.std.specs.Prelude.{◌≡◌, OnOk};
+ghost use Rattle.moo_request.specs.Routes.{service_rows, with_route, endpoint_of};
+
+use matchit::Router;
+use std::alloc::{AllocError, Global};
+
+/// What a path names.
+#[derive(Clone, Copy, Debug, PartialEq, Eq, Drop)]
+pub enum Endpoint {
+    Batch,
+    Ask,
+    Seq,
+    Object,
+}
+
+/// The router of the service.
+#[derive(Drop)]
+pub struct Routes {
+    router: Router<Endpoint>,
+    ghost known: { ∥ router ≡ service_rows ∥₁ },
+}
+
+fn add_route(
+    router: &mut Router<Endpoint>,
+    text: &str,
+    endpoint: Endpoint,
+) -> Result<(), AllocError>
+    ensures { OnOk result (router.new ≡ with_route text.now endpoint router.old) }
+{
+    match router.insert(text, endpoint) {
+        Ok(()) => Ok(()),
+        Err(_) => Err(AllocError),
+    }
+}
+
+impl Routes {
+    /// The router of the four routes. AllocError where memory runs out.
+    pub fn new(alloc: Global) -> Result<Routes, AllocError> {
+        let mut router = Router::new(alloc);
+        add_route(&mut router, "/batch", Endpoint::Batch)?;
+        add_route(&mut router, "/ask", Endpoint::Ask)?;
+        add_route(&mut router, "/seq", Endpoint::Seq)?;
+        add_route(&mut router, "/object/{n}", Endpoint::Object)?;
+        Ok(Routes { router })
+    }
+
+    /// The endpoint that a path names.
+    pub fn find(&self, path: &str) -> Option<Endpoint>
+        ensures { result ≡ endpoint_of path.now }
+    {
+        match self.router.at(path) {
+            Ok(found) => Some(*found.value),
+            Err(_) => None,
+        }
+    }
+}

@@ -1,0 +1,111 @@
+//! The JSON of a body, and its shape.
+
+ghost use Rattle.std.specs.Prelude.{◌≡◌, Some, None, map, option_map, IfOk, MatchOption, IsUtf8, nat_le, length};
+ghost use Rattle.std.specs.List.{list_all};
+ghost use Rattle.serde_json.specs.Data.{Data};
+ghost use Rattle.serde_json.specs.Read.{read};
+ghost use Rattle.serde_json.specs.View.{view, items_view};
+ghost use Rattle.moo_request.specs.Shape.{texts_of, at_of, are_within, shape_of};
+ghost use Rattle.moo_request.specs.Shown.{shape_shown};
+
+use moo_text::header::object_of;
+use moo_value::value::ObjNo;
+use serde_json::Value;
+use std::alloc::{AllocError, Global};
+
+const MAX_CALLS: usize = 1000;
+
+const MAX_CALL: usize = 262_144;
+
+/// Who asks, the texts of the calls, and the number that the batch is for.
+#[derive(Drop)]
+pub struct Shape<'a> {
+    pub programmer: ObjNo,
+    pub calls: Vec<&'a str>,
+    pub at: Option<u64>,
+}
+
+/// The texts of an array of strings. `None` is another array.
+fn texts_in<'a>(alloc: Global, items: &'a [Value]) -> Result<Option<Vec<&'a str>>, AllocError>
+    ensures { IfOk result (λ found. option_map (λ texts. map (λ text. text.now) texts.items) found
+        ≡ texts_of (items_view items.now)) }
+{
+    let mut texts = Vec::new(alloc);
+    for item in items {
+        let Some(text) = item.as_str() else {
+            return Ok(None);
+        };
+        texts.push(text)?;
+    }
+    Ok(Some(texts))
+}
+
+/// The number under `at`, which may be absent or null. `None` is another value.
+fn at_in(found: Option<&Value>) -> Option<Option<u64>>
+    ensures { result ≡ at_of (option_map (λ value. view value.now) found.entry) }
+{
+    let Some(value) = found else {
+        return Some(None);
+    };
+    if value.is_null() {
+        return Some(None);
+    }
+    match value.as_u64() {
+        Some(seq) if seq < 1 << 63 => Some(Some(seq)),
+        _ => None,
+    }
+}
+
+fn all_short(texts: &[&str]) -> bool
+    ensures { result ≡ list_all (λ text. nat_le (length text.now) 262144) texts.now }
+{
+    texts.iter().all(|text| text.len() <= MAX_CALL)
+}
+
+fn are_short(texts: &[&str]) -> bool
+    ensures { result ≡ are_within (map (λ text. text.now) texts.now) }
+{
+    texts.len() <= MAX_CALLS && all_short(texts)
+}
+
+/// The JSON that the bytes are. `None` is none.
+pub fn read_json(alloc: Global, bytes: &[u8]) -> Result<Option<Value>, AllocError>
+    ensures { IfOk result (λ found. MatchOption found
+        (IsUtf8 bytes.now → read bytes.now ≡ None)
+        (λ value. IsUtf8 bytes.now × (read bytes.now ≡ Some (view value)))) }
+{
+    match Value::from_slice(alloc, bytes) {
+        Ok(value) => Ok(Some(value)),
+        Err(error) if error.is_memory() => Err(AllocError),
+        Err(_) => Ok(None),
+    }
+}
+
+/// The shape that the JSON has. `None` is another shape.
+pub fn shape_in(alloc: Global, value: &Value) -> Result<Option<Shape<'_>>, AllocError>
+    ensures { IfOk result (λ found. option_map shape_shown found ≡ shape_of (view value.now)) }
+{
+    let Some(text) = value.get("as").and_then(Value::as_str) else {
+        return Ok(None);
+    };
+    let Some(programmer) = object_of(alloc, text.as_bytes())? else {
+        return Ok(None);
+    };
+    let Some(items) = value.get("calls").and_then(Value::as_array) else {
+        return Ok(None);
+    };
+    let Some(calls) = texts_in(alloc, items)? else {
+        return Ok(None);
+    };
+    let Some(at) = at_in(value.get("at")) else {
+        return Ok(None);
+    };
+    if !are_short(&calls) {
+        return Ok(None);
+    }
+    Ok(Some(Shape {
+        programmer,
+        calls,
+        at,
+    }))
+}
