@@ -1,4 +1,6 @@
 //! The service: one request, one answer.
 #![tactic(auto)]
 
+mod bodies;
 mod limits;
+mod look_body;
