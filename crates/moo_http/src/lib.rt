@@ -4,3 +4,4 @@
 mod bodies;
 mod limits;
 mod look_body;
+mod response;
