@@ -2,6 +2,12 @@
 #![tactic(auto)]
 
 mod bodies;
+mod fault;
 mod limits;
 mod look_body;
+mod outcome;
+mod respond;
 mod response;
+
+pub use fault::ServeFault;
+pub use outcome::Outcome;
