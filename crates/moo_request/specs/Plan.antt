@@ -65,5 +65,10 @@ plan_of method target lines = routed_plan (endpoint_of (path_of target)) method 
 abbrev pub plan_by : RequestHead → Plan
 plan_by head = plan_of head.method head.target (map name_and_value head.fields)
 
+-- the bytes that are read behind the head
+abbrev pub body_size : Plan → ℕ
+body_size (Decided asked) = 0
+body_size (Body mode n) = n
+
 abbrev pub is_head : RequestHead → Bool
 is_head head = bytes_eq head.method (codes "HEAD")

@@ -12,7 +12,7 @@ use Rattle.moo_request.specs.declared.request.Received.{Received}
 use Rattle.moo_request.specs.declared.request.Received.TheVariants.{Nothing, Request}
 use Rattle.moo_request.specs.Body.{BodyAsks}
 use Rattle.moo_request.specs.Head.{BeginsWithHead, HasNoHead}
-use Rattle.moo_request.specs.Plan.{plan_by, is_head}
+use Rattle.moo_request.specs.Plan.{plan_by, body_size, is_head}
 use Rattle.moo_request.specs.Settled.{Settles}
 
 -- What is planned, done with what follows the head: a body of n bytes is its first n, and without so many the request is cut off.
@@ -29,11 +29,11 @@ pub data Receives (input : List ℕ) (received : Received) : Type 0 where
   request : (head : RequestHead) (rest : List ℕ) (asked : Asked) → BeginsWithHead input head rest → PlanAsks (plan_by head) rest asked
       → received ≡ Request (is_head head) asked → Receives input received
 
--- So many bytes are taken at most: 8,192; more only where they begin with a head that plans a body, and then none behind that body.
+-- No more bytes are taken than are needed: 8,192 at most; or they begin with a head, and none stands behind the body that it plans.
 pub data IsSparing (given : List ℕ) : Type 0 where
   small : length given ≤ 8192 → IsSparing given
-  body : (head : RequestHead) (rest : List ℕ) (mode : Mode) (n : ℕ) → BeginsWithHead given head rest → plan_by head ≡ Body mode n
-      → length given ≤ length (print_request head) + n → IsSparing given
+  body : (head : RequestHead) (rest : List ℕ) → BeginsWithHead given head rest → length given ≤ length (print_request head) + body_size (plan_by head)
+      → IsSparing given
 
 -- From old to new the reader gave these bytes, no more than are needed. Where it tells its bytes they stood in front and are gone.
 pub record Gives (old new : Option (List ℕ)) (given : List ℕ) : Type 0 where

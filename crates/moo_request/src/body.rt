@@ -2,10 +2,14 @@
 
 ghost use Rattle.std.specs.Prelude.{◌≡◌, ◌≤◌, ◌+◌, ◌-◌, Some, length, drop, map, max, IfOk, OnOk, OnErr};
 ghost use Rattle.moo_request.specs.Body.{shape_asked, BodyAsks};
+ghost use Rattle.serde_json.specs.View.{view};
 ghost use Rattle.moo_request.specs.Calls.{calls_from};
 ghost use Rattle.moo_request.specs.Given.{Grows, TakesAtMost};
+ghost use Rattle.moo_request.specs.Plan.{body_size};
+ghost use Rattle.moo_request.specs.Planned.{IsBounded};
 ghost use Rattle.moo_request.specs.Request.{PlanAsks};
 ghost use Rattle.moo_request.specs.Settled.{Settles};
+ghost use Rattle.moo_request.specs.Shape.{shape_of};
 ghost use Rattle.moo_request.specs.Shown.{shape_shown, calls_shown};
 
 use crate::asked::{Asked, Mode, Refusal};
@@ -15,6 +19,7 @@ use crate::plan::Plan;
 use crate::shape::{Shape, read_json, shape_in};
 use moo_text::call_text::call_in;
 use moo_world::call::{Batch, Call, Calls};
+use serde_json::Value;
 use std::alloc::{AllocError, Global};
 use std::io::Read;
 
@@ -30,7 +35,7 @@ pub enum CallsRead {
 /// The calls of texts.
 fn read_calls(alloc: Global, texts: &[&str]) -> Result<CallsRead, AllocError>
     requires { length texts.now ≤ 1000 }
-    ensures calls { IfOk result (λ read. calls_shown read ≡ calls_from 1 (map (λ text. text.now) texts.now)) }
+    ensures { IfOk result (λ read. calls_shown read ≡ calls_from 1 (map (λ text. text.now) texts.now)) }
 {
     let mut calls = Vec::new(alloc);
     let mut number = 0;
@@ -62,21 +67,28 @@ fn ask_shape(alloc: Global, mode: Mode, shape: &Shape<'_>) -> Result<Asked, Allo
     }
 }
 
-/// What a body asks.
-fn ask_body(alloc: Global, mode: Mode, body: &[u8]) -> Result<Asked, AllocError>
-    ensures { IfOk result (BodyAsks mode body.now) }
+/// What a JSON asks.
+fn ask_json(alloc: Global, mode: Mode, value: &Value) -> Result<Asked, AllocError>
+    ensures { IfOk result (λ asked. asked ≡ shape_asked mode (shape_of (view value.now))) }
 {
-    let Some(value) = read_json(alloc, body)? else {
-        return Ok(Asked::Refused(Refusal::BadRequest));
-    };
-    match shape_in(alloc, &value)? {
+    match shape_in(alloc, value)? {
         Some(shape) => ask_shape(alloc, mode, &shape),
         None => Ok(Asked::Refused(Refusal::BadRequest)),
     }
 }
 
+/// What a body asks.
+fn ask_body(alloc: Global, mode: Mode, body: &[u8]) -> Result<Asked, AllocError>
+    ensures { IfOk result (BodyAsks mode body.now) }
+{
+    match read_json(alloc, body)? {
+        Some(value) => ask_json(alloc, mode, &value),
+        None => Ok(Asked::Refused(Refusal::BadRequest)),
+    }
+}
+
 /// What a body of this size asks, which begins at `start` of the bytes and goes on in the reader.
-pub(crate) fn read_body<R: Read>(
+fn read_body<R: Read>(
     alloc: Global,
     reader: &mut R,
     bytes: &mut Vec<u8>,
@@ -98,4 +110,26 @@ pub(crate) fn read_body<R: Read>(
     }
     let asked = ask_body(alloc, mode, &bytes[start..end])?;
     Ok(asked)
+}
+
+/// What a plan comes to, whose head ends at `start` of the bytes. Nothing is read where it is decided.
+pub(crate) fn follow_plan<R: Read>(
+    alloc: Global,
+    reader: &mut R,
+    bytes: &mut Vec<u8>,
+    start: usize,
+    plan: Plan,
+) -> Result<Asked, ReadFault>
+    requires inside { start ≤ length bytes.old.items }
+    requires short { start ≤ 8192 }
+    requires bound { IsBounded plan }
+    ensures grows { OnOk result (Grows (R.remaining reader.old) (R.remaining reader.new) bytes.old.items bytes.new.items) }
+    ensures asks { IfOk result (λ asked. Settles (R.remaining reader.new) bytes.new.items (λ input. PlanAsks plan (drop start input) asked)) }
+    ensures few { OnOk result (length bytes.new.items ≤ max (length bytes.old.items) (start + body_size plan)) }
+    ensures breaks { OnErr result (TakesAtMost ((start + body_size plan) - length bytes.old.items) (R.remaining reader.old) (R.remaining reader.new)) }
+{
+    match plan {
+        Plan::Decided(asked) => Ok(asked),
+        Plan::Body(mode, size) => read_body(alloc, reader, bytes, start, mode, size),
+    }
 }

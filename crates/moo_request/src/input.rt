@@ -10,7 +10,11 @@ use std::io::Read;
 const PIECE: usize = 1024;
 
 /// Reads a piece behind the bytes, which stay within the limit. `false` is the end of the input.
-pub(crate) fn read_more<R: Read>(reader: &mut R, bytes: &mut Vec<u8>, limit: usize) -> Result<bool, ReadFault>
+pub(crate) fn read_more<R: Read>(
+    reader: &mut R,
+    bytes: &mut Vec<u8>,
+    limit: usize,
+) -> Result<bool, ReadFault>
     requires { length bytes.old.items < limit }
     ensures grows { OnOk result (Grows (R.remaining reader.old) (R.remaining reader.new) bytes.old.items bytes.new.items) }
     ensures more { IfOk result (λ more. more ≡ true →
@@ -29,7 +33,11 @@ pub(crate) fn read_more<R: Read>(reader: &mut R, bytes: &mut Vec<u8>, limit: usi
 }
 
 /// Reads on until so many bytes are there, and no more. `false` is an input that ends before.
-pub(crate) fn read_until<R: Read>(reader: &mut R, bytes: &mut Vec<u8>, limit: usize) -> Result<bool, ReadFault>
+pub(crate) fn read_until<R: Read>(
+    reader: &mut R,
+    bytes: &mut Vec<u8>,
+    limit: usize,
+) -> Result<bool, ReadFault>
     ensures grows { OnOk result (Grows (R.remaining reader.old) (R.remaining reader.new) bytes.old.items bytes.new.items) }
     ensures few { OnOk result (length bytes.new.items ≤ max (length bytes.old.items) limit) }
     ensures whole { IfOk result (λ whole. whole ≡ true → limit ≤ length bytes.new.items) }

@@ -86,7 +86,11 @@ fn plan_object(path: &[u8]) -> Plan
     ensures value { result ≡ object_plan (number_of (drop 8 path.now)) }
     ensures bound { IsBounded result }
 {
-    let number = if path.len() < 8 { None } else { number_in(&path[8..]) };
+    let number = if path.len() < 8 {
+        None
+    } else {
+        number_in(&path[8..])
+    };
     match number {
         Some(number) => Plan::Decided(Asked::Object(ObjNo(number))),
         None => Plan::Decided(Asked::Refused(Refusal::NotFound)),
@@ -106,7 +110,13 @@ fn plan_endpoint(endpoint: Endpoint, path: &[u8], bytes: &[u8], lines: &[HeaderS
     }
 }
 
-fn plan_route(endpoint: Option<Endpoint>, method: &[u8], path: &[u8], bytes: &[u8], lines: &[HeaderSpan]) -> Plan
+fn plan_route(
+    endpoint: Option<Endpoint>,
+    method: &[u8],
+    path: &[u8],
+    bytes: &[u8],
+    lines: &[HeaderSpan],
+) -> Plan
     requires within { All (IsHeaderWithin (length bytes.now)) lines.now }
     ensures value { result ≡ routed_plan endpoint method.now path.now (map (header_bytes bytes.now) lines.now) }
     ensures bound { IsBounded result }
@@ -125,7 +135,13 @@ fn plan_route(endpoint: Option<Endpoint>, method: &[u8], path: &[u8], bytes: &[u
 }
 
 /// What the parts of a head decide.
-pub(crate) fn make_plan(routes: &Routes, method: &[u8], target: &[u8], bytes: &[u8], lines: &[HeaderSpan]) -> Plan
+pub(crate) fn make_plan(
+    routes: &Routes,
+    method: &[u8],
+    target: &[u8],
+    bytes: &[u8],
+    lines: &[HeaderSpan],
+) -> Plan
     requires within { All (IsHeaderWithin (length bytes.now)) lines.now }
     requires text { IsUtf8 target.now }
     ensures value { result ≡ plan_of method.now target.now (map (header_bytes bytes.now) lines.now) }

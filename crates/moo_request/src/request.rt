@@ -8,7 +8,7 @@ ghost use Rattle.moo_request.specs.Planned.{IsBounded};
 ghost use Rattle.moo_request.specs.Request.{Takes, BreaksOff};
 
 use crate::asked::{Asked, Refusal};
-use crate::body::read_body;
+use crate::body::follow_plan;
 use crate::fault::ReadFault;
 use crate::head::{Head, HeadRead, read_head};
 use crate::plan::{Plan, make_plan};
@@ -51,7 +51,11 @@ fn plan_head(routes: &Routes, bytes: &[u8], head: &Head) -> Plan
 /// Reads what a connection asks: its head, of at most 8,192 bytes and 32 lines, and its body only where the head asks for one, of the
 /// stated length, which is at most 1,048,576 bytes. Memory is taken as the bytes come, and not by the stated length. Read where the reader
 /// fails; OutOfMemory where memory runs out.
-pub fn read_request<R: Read>(alloc: Global, routes: &Routes, reader: &mut R) -> Result<Received, ReadFault>
+pub fn read_request<R: Read>(
+    alloc: Global,
+    routes: &Routes,
+    reader: &mut R,
+) -> Result<Received, ReadFault>
     ensures takes { IfOk result (Takes (R.remaining reader.old) (R.remaining reader.new)) }
     ensures breaks { OnErr result (BreaksOff (R.remaining reader.old) (R.remaining reader.new)) }
 {
@@ -67,9 +71,7 @@ pub fn read_request<R: Read>(alloc: Global, routes: &Routes, reader: &mut R) -> 
         HeadRead::Whole(head) => head,
     };
     let is_head = is_head(&bytes, &head);
-    let asked = match plan_head(routes, &bytes, &head) {
-        Plan::Decided(asked) => asked,
-        Plan::Body(mode, size) => read_body(alloc, reader, &mut bytes, head.spans.len, mode, size)?,
-    };
+    let plan = plan_head(routes, &bytes, &head);
+    let asked = follow_plan(alloc, reader, &mut bytes, head.spans.len, plan)?;
     Ok(Received::Request { is_head, asked })
 }

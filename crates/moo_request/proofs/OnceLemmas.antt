@@ -1,0 +1,59 @@
+-- What is received of bytes is determined by them.
+use Rattle.std.proofs.Common.{◌≡◌, ◌⊎◌, inl, inr, ◌<◌, ℕ, List, [], ◌∷◌, ◌++◌, Option, Some, None, length, arith, sym, ap, subst, ◌∙◌, ◌≢◌}
+use Rattle.std.specs.Prelude.{option_and_then}
+use Rattle.httparse.specs.Grammar.{RequestHead, print_blank, ReadsRequest}
+use Rattle.httparse.proofs.GrammarLemmas.{request_unique, print_request-append}
+use Rattle.moo_request.specs.declared.asked.Asked.{Asked}
+use Rattle.moo_request.specs.declared.asked.Mode.{Mode}
+use Rattle.moo_request.specs.declared.plan.Plan.{Plan}
+use Rattle.moo_request.specs.declared.plan.Plan.TheVariants.{Decided, Body}
+use Rattle.moo_request.specs.declared.request.Received.{Received}
+use Rattle.moo_request.specs.declared.request.Received.TheVariants.{Request}
+use Rattle.moo_request.specs.Body.{BodyAsks, shape_asked}
+use Rattle.moo_request.specs.Plan.{plan_by, is_head}
+use Rattle.moo_request.specs.Request.{PlanAsks, Receives, nothing, no_head, request}
+use Rattle.moo_request.specs.Shape.{shape_of}
+
+body-once : (mode : Mode) (bytes : List ℕ) (a b : Asked) → BodyAsks mode bytes a → BodyAsks mode bytes b → a ≡ b
+body-once mode bytes a b (None, j, e) (None, k, f) = e ∙ sym f
+body-once mode bytes a b (None, j, e) (Some d, k, f) = let none = j k.0 in let some = k.1 in cc
+body-once mode bytes a b (Some d, j, e) (None, k, f) = let none = k j.0 in let some = j.1 in cc
+body-once mode bytes a b (Some d, j, e) (Some x, k, f) =
+    e ∙ ap (λ json. shape_asked mode (option_and_then shape_of json)) (sym j.1 ∙ k.1) ∙ sym f
+
+plan-once : (plan : Plan) (rest : List ℕ) (a b : Asked) → PlanAsks plan rest a → PlanAsks plan rest b → a ≡ b
+plan-once (Decided d) rest a b p q = p ∙ sym q
+plan-once (Body mode n) rest a b (inl (fits, x)) (inl (fit, y)) = body-once mode _ a b x y
+plan-once (Body mode n) rest a b (inl (fits, x)) (inr (short, e)) = absurd (omega (arith, fits, short))
+plan-once (Body mode n) rest a b (inr (short, e)) (inl (fits, x)) = absurd (omega (arith, fits, short))
+plan-once (Body mode n) rest a b (inr (short, e)) (inr (brief, f)) = e ∙ sym f
+
+not_empty : (xs ys zs : List ℕ) → 0 < length ys → [] ≢ xs ++ (ys ++ zs)
+not_empty [] [] zs h e = omega (arith, h)
+not_empty [] (y ∷ ys) zs h e = cc
+not_empty (x ∷ xs) ys zs h e = cc
+
+-- no head is empty
+no_empty_head : (head : RequestHead) (rest : List ℕ) → ¬ (ReadsRequest [] head rest)
+no_empty_head head rest h = not_empty (print_blank head.blank) head.method _ h.0.method.0 (h.1 ∙ print_request-append head rest)
+
+requests-once : (input : List ℕ) (x y : RequestHead) (t u : List ℕ) (a b : Asked) → ReadsRequest input x t → ReadsRequest input y u
+    → PlanAsks (plan_by x) t a → PlanAsks (plan_by y) u b → Request (is_head x) a ≡ Request (is_head y) b
+requests-once input x y t u a b p q asks others =
+    let same = request_unique input x y t u p q in
+    let here : PlanAsks (plan_by y) u a = subst (λ rest. PlanAsks (plan_by y) rest a) same.1 (subst (λ head. PlanAsks (plan_by head) t a) same.0 asks) in
+    ap (λ head. Request (is_head head) a) same.0 ∙ ap (Request (is_head y)) (plan-once (plan_by y) u a b here others)
+
+pub received-once : (input : List ℕ) (r q : Received) → Receives input r → Receives input q → r ≡ q
+received-once input r q (nothing e f) (nothing x y) = f ∙ sym y
+received-once input r q (nothing e f) (no_head x none y) = absurd (x e)
+received-once input r q (nothing e f) (request head rest asked b p y) =
+    absurd (no_empty_head head rest (subst (λ i. ReadsRequest i head rest) e b.reads))
+received-once input r q (no_head x none y) (nothing e f) = absurd (x e)
+received-once input r q (no_head x none y) (no_head e missing f) = y ∙ sym f
+received-once input r q (no_head x none y) (request head rest asked b p f) = absurd (none head rest b)
+received-once input r q (request head rest asked b p y) (nothing e f) =
+    absurd (no_empty_head head rest (subst (λ i. ReadsRequest i head rest) e b.reads))
+received-once input r q (request head rest asked b p y) (no_head x none f) = absurd (none head rest b)
+received-once input r q (request head rest asked b p y) (request other more asks d o f) =
+    y ∙ requests-once input head other rest more asked asks b.reads d.reads p o ∙ sym f
