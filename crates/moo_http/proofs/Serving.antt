@@ -1,0 +1,60 @@
+-- What serving a request comes to.
+use Rattle.std.proofs.Common.{◌≡◌, ◌≢◌, inl, inr, ℕ, Bool, List, [], ◌∷◌, ◌++◌, Option, Some, None, refl, sym, append-nil}
+use Rattle.std.specs.Prelude.{Result, Ok, Err, IfErr}
+use Rattle.std.specs.Io.KnownBytes.{Appends}
+use Rattle.sqlite.specs.Store.{Ghosts}
+use Rattle.moo_store.specs.Stand.{Stand}
+use Rattle.moo_store.specs.Kept.{World}
+use Rattle.moo_store.specs.World.{StandsAt}
+use Rattle.moo_request.specs.Request.{Takes}
+use Rattle.moo_request.specs.declared.asked.Asked.{Asked}
+use Rattle.moo_request.specs.declared.fault.ReadFault.{ReadFault}
+use Rattle.moo_request.specs.declared.fault.ReadFault.TheVariants as read
+use Rattle.moo_request.specs.declared.request.Received.{Received}
+use Rattle.moo_request.specs.declared.request.Received.TheVariants.{Nothing, Request}
+use Rattle.moo_http.specs.declared.fault.ServeFault.{ServeFault}
+use Rattle.moo_http.specs.declared.fault.ServeFault.TheVariants.{Read, Write, OutOfMemory}
+use Rattle.moo_http.specs.declared.outcome.Outcome.{Outcome}
+use Rattle.moo_http.specs.Answers.{Consulted}
+use Rattle.moo_http.specs.Faults.{fault_of}
+use Rattle.moo_http.specs.Responses.{response_of, response_text}
+use Rattle.moo_http.specs.Serves.{Serves, Stays, Written, Served}
+
+appends_nothing : (before : Option (List ℕ)) → Appends before before []
+appends_nothing None = tt
+appends_nothing (Some bytes) = sym (append-nil bytes)
+
+-- ---- the request wasn't read
+
+pub unread : {S : Type 0} (g : Ghosts S) (fault : ReadFault) (old : Stand) (was : World S) (left rest before : Option (List ℕ)) → Stays g old was was → Served g (Err (fault_of fault)) old was was left rest before before
+unread g read.Read old was left rest before stays = (stays, refl)
+unread g read.OutOfMemory old was left rest before stays = (refl, inl stays)
+
+-- ---- nothing came
+
+pub nothing : {S : Type 0} (g : Ghosts S) (old : Stand) (was : World S) (left rest before : Option (List ℕ)) (done : Unit {0}) → Takes left rest Nothing → StandsAt g was old → Stays g old was was → Served g (Ok done) old was was left rest before before
+nothing g old was left rest before done takes at stays =
+    ([], record { received = Nothing; takes = takes; new = old; gets = (refl, refl); stands = at; crash = stays.crash }, appends_nothing before)
+
+-- ---- a request came
+
+answered : {S : Type 0} (g : Ghosts S) (old : Stand) (world : World S) (left rest : Option (List ℕ)) (is_head : Bool) (asked : Asked) (o : Outcome) → Takes left rest (Request is_head asked) → Consulted g old world asked o
+    → Serves g old left rest world (response_text is_head (response_of o))
+answered g old world left rest is_head asked o takes consulted = record {
+  received = Request is_head asked;
+  takes = takes;
+  new = consulted.new;
+  gets = (o, consulted.answers, refl);
+  stands = consulted.stands;
+  crash = consulted.crash;
+}
+
+pub served : {S : Type 0} (g : Ghosts S) (r : Result (Unit {0}) ServeFault) (old : Stand) (was world : World S) (left rest before behind : Option (List ℕ)) (is_head : Bool) (asked : Asked) (o : Outcome)
+    → Takes left rest (Request is_head asked) → Consulted g old world asked o → Written r before behind (response_text is_head (response_of o)) → IfErr r (λ fault. fault ≢ Read) → Served g r old was world left rest before behind
+served g (Ok done) old was world left rest before behind is_head asked o takes consulted written other =
+    (response_text is_head (response_of o), answered g old world left rest is_head asked o takes consulted, written)
+served g (Err Write) old was world left rest before behind is_head asked o takes consulted written other =
+    (response_text is_head (response_of o), answered g old world left rest is_head asked o takes consulted, written.0, written.1)
+served g (Err Read) old was world left rest before behind is_head asked o takes consulted written other = absurd (other refl)
+served g (Err OutOfMemory) old was world left rest before behind is_head asked o takes consulted written other =
+    (written, inr (response_text is_head (response_of o), answered g old world left rest is_head asked o takes consulted))
