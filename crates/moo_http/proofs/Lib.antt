@@ -1,3 +1,5 @@
 pub mod Nesting
 pub mod Ascii
 pub mod BodyLemmas
+pub mod Consulting
+pub mod Serving

@@ -4,3 +4,7 @@ pub mod Bytes
 pub mod Responses
 pub mod Shown
 pub mod Faults
+pub mod Answers
+pub mod Settled
+pub mod Serves
+pub mod Lines
