@@ -75,8 +75,8 @@ no_other : {S : Type 0} (g : Ghosts S) (was new : World S) (stand : Stand) (batc
 no_other g was new stand batch o ended at works then same failed =
     let still = still_works g was new stand at works (subst (StandsAt g new) same then) in absurd cc
 
-of_err : (fault other : StoreFault) → IsErrOf (Err {A = Unit {0}} fault) other → fault ≡ other
-of_err fault other e = cc
+of_err : (r : Result (Unit {0}) StoreFault) (fault other : StoreFault) → r ≡ Err fault → IsErrOf r other → fault ≡ other
+of_err r fault other e f = cc
 
 faulted : {S : Type 0} (g : Ghosts S) (was new : World S) (stand : Stand) (batch : Batch) (fault : StoreFault) → StandsAt g was stand → was.failed ≡ false → Ran g was new stand (batch ∷ []) [] (Err fault) → Behind g new stand batch (lost_by fault)
 faulted g was new stand batch OutOfMemory at works ran = (stand, subst (λ w. StandsAt g w stand) (sym (ran.memory refl)) at, inr (tt, refl, refl))
@@ -113,7 +113,7 @@ settled g was new stand batch replies (Ok x) o at ran settles =
     subst (Behind g new stand batch) (sym settles.2) (replied g was new stand batch settles.0 x one)
 settled g was new stand batch replies (Err fault) o at ran settles =
     let there : Behind g new stand batch (lost_by fault) = elim (either was.failed) [
-      | inl failed ↦ let c = ran.closed failed in closed_before g was new stand batch fault at failed (of_err fault Closed c.0, c.1)
+      | inl failed ↦ let c = ran.closed failed in closed_before g was new stand batch fault at failed (of_err (Err fault) fault Closed refl c.0, c.1)
       | inr works ↦ stopped g was new stand batch replies fault at works ran
     ] in subst (Behind g new stand batch) (sym settles) there
 
@@ -162,3 +162,10 @@ pub seen : {S : Type 0} (g : Ghosts S) (world : World S) (n : ObjNo) (r : Result
 seen g world n r look fault closed (Works s) at = look_told g world n s r (look s at) (fault at.works)
 seen g world n r look fault closed (Failed s) at = inl (ap told_look (closed at.0), refl)
 seen g world n r look fault closed (StoreFailed s hand) at = inl (ap told_look (closed at.0), refl)
+
+-- ---- the one reply
+
+pub one_reply : (r : Result (Unit {0}) StoreFault) (batch : Batch) (all : List Batch) (old replies : List Reply) → all ≡ batch ∷ [] → old ≡ [] → OnOk r (length (added old replies) ≡ length all) → OnOk r (length replies ≡ 1)
+one_reply (Ok x) batch all old replies one none e =
+    ap (λ (rs : List Reply). length rs) (sym (ap (λ (before : List Reply). added before replies) none)) ∙ e ∙ ap (λ (bs : List Batch). length bs) one
+one_reply (Err fault) batch all old replies one none e = tt

@@ -1,6 +1,6 @@
 -- What serving a request comes to.
-use Rattle.std.proofs.Common.{◌≡◌, ◌≢◌, inl, inr, ℕ, Bool, List, [], ◌∷◌, ◌++◌, Option, Some, None, refl, sym, append-nil}
-use Rattle.std.specs.Prelude.{Result, Ok, Err, IfErr}
+use Rattle.std.proofs.Common.{◌≡◌, ◌≢◌, inl, inr, ℕ, Bool, List, [], ◌∷◌, ◌++◌, Option, Some, None, refl, sym, subst, ap, ◌∙◌, append_assoc, append-nil}
+use Rattle.std.specs.Prelude.{Result, Ok, Err, IfErr, IsErrAnd}
 use Rattle.std.specs.Io.KnownBytes.{Appends}
 use Rattle.sqlite.specs.Store.{Ghosts}
 use Rattle.moo_store.specs.Stand.{Stand}
@@ -24,11 +24,21 @@ appends_nothing : (before : Option (List ℕ)) → Appends before before []
 appends_nothing None = tt
 appends_nothing (Some bytes) = sym (append-nil bytes)
 
+pub appends_both : (a b c : Option (List ℕ)) (bs cs : List ℕ) → Appends a b bs → Appends b c cs → Appends a c (bs ++ cs)
+appends_both None b c bs cs p q = tt
+appends_both (Some x) None c bs cs p q = absurd p
+appends_both (Some x) (Some y) None bs cs p q = absurd q
+appends_both (Some x) (Some y) (Some z) bs cs p q = q ∙ ap (λ l. l ++ cs) p ∙ append_assoc x bs cs
+
 -- ---- the request wasn't read
 
 pub unread : {S : Type 0} (g : Ghosts S) (fault : ReadFault) (old : Stand) (was : World S) (left rest before : Option (List ℕ)) → Stays g old was was → Served g (Err (fault_of fault)) old was was left rest before before
 unread g read.Read old was left rest before stays = (stays, refl)
 unread g read.OutOfMemory old was left rest before stays = (refl, inl stays)
+
+pub unread_at : {S : Type 0} (g : Ghosts S) (r : Result (Unit {0}) ServeFault) (fault : ReadFault) (old : Stand) (was : World S) (left rest before : Option (List ℕ)) → IsErrAnd r (λ e. e ≡ fault_of fault) → Stays g old was was → Served g r old was was left rest before before
+unread_at g (Ok x) fault old was left rest before is stays = absurd is
+unread_at g (Err e) fault old was left rest before is stays = subst (λ e. Served g (Err e) old was was left rest before before) (sym is) (unread g fault old was left rest before stays)
 
 -- ---- nothing came
 

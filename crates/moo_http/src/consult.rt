@@ -3,10 +3,11 @@
 ghost use Rattle.std.specs.Prelude.{◌≡◌, ◌∷◌, [], length, OnOk};
 ghost use Rattle.moo_store.specs.Stand.{Stand};
 ghost use Rattle.moo_store.specs.World.{StandsAt};
-ghost use Rattle.moo_http.specs.Answers.{Answers, Consulted};
+ghost use Rattle.moo_http.specs.Answers.{Answers, Consulted, looked};
 ghost use Rattle.moo_http.specs.Settled.{Settles, lost_by};
 
 use crate::outcome::Outcome;
+use moo_dump::Look;
 use moo_request::{Asked, Mode};
 use moo_store::fault::StoreFault;
 use moo_store::world::World;
@@ -75,12 +76,21 @@ fn ask_seq<S: Alter + Drop>(world: &World<S>) -> Outcome
     }
 }
 
+/// What comes of a look, which shows nothing where there is no object.
+fn show(look: Option<Look>) -> Outcome
+    ensures { result ≡ looked look }
+{
+    match look {
+        Some(look) => Outcome::Object(look),
+        None => Outcome::NoObject,
+    }
+}
+
 fn look_at<S: Alter + Drop>(world: &World<S>, number: ObjNo) -> Outcome
     ensures { (stand : Stand) → StandsAt S.Store world.now stand → Answers stand (Asked.Object number) result stand }
 {
     match world.object(number) {
-        Ok(Some(look)) => Outcome::Object(look),
-        Ok(None) => Outcome::NoObject,
+        Ok(look) => show(look),
         Err(fault) => lost(fault),
     }
 }

@@ -36,10 +36,9 @@ fn listening_text(alloc: Global, port: u16) -> Result<String, AllocError>
     format!(in alloc; "listening 127.0.0.1:{port}\n")
 }
 
-fn served_text(alloc: Global, served: Served) -> Result<String, AllocError>
-    ensures { IfOk result (λ text. string_bytes text ≡ served_line served.answered served.failed) }
+fn served_text(alloc: Global, answered: u32, failed: u32) -> Result<String, AllocError>
+    ensures { IfOk result (λ text. string_bytes text ≡ served_line answered failed) }
 {
-    let Served { answered, failed } = served;
     format!(in alloc; "served {answered} failed {failed}\n")
 }
 
@@ -51,6 +50,20 @@ fn say<W: Write>(output: &mut W, text: &str) -> Result<(), ServiceFault>
         return Err(ServiceFault::Write);
     }
     Ok(())
+}
+
+fn say_listening<W: Write>(alloc: Global, output: &mut W, port: u16) -> Result<(), ServiceFault>
+    ensures { OnOk result (Appends (W.contents output.old) (W.contents output.new) (listening_line port)) }
+{
+    let line = listening_text(alloc, port)?;
+    say(output, line.as_str())
+}
+
+fn say_served<W: Write>(alloc: Global, output: &mut W, served: Served) -> Result<(), ServiceFault>
+    ensures { OnOk result (Appends (W.contents output.old) (W.contents output.new) (served_line served.answered served.failed)) }
+{
+    let line = served_text(alloc, served.answered, served.failed)?;
+    say(output, line.as_str())
 }
 
 /// Binds a port of 127.0.0.1, and no other address; says so, serves so many connections, and says how many were answered.
@@ -70,9 +83,7 @@ pub fn serve_port<S: Alter + Drop, W: Write>(
     let Ok(listener) = TcpListener::bind(rt, (Ipv4Addr::LOCALHOST, port)) else {
         return Err(ServiceFault::Port);
     };
-    let line = listening_text(alloc, port)?;
-    say(output, &line)?;
+    say_listening(alloc, output, port)?;
     let served = serve_on(alloc, &routes, &listener, world, count);
-    let line = served_text(alloc, served)?;
-    say(output, &line)
+    say_served(alloc, output, served)
 }
