@@ -1,7 +1,6 @@
 -- Strings and printed literals are ASCII.
-use Rattle.std.proofs.Common.{◌≡◌, ℕ, zero, suc, ℤ, pos, negsuc, ◌<◌, ◌≤◌, ◌^◌, Bool, true, false, ◌&&◌, ◌||◌, ◌==◌, nat_lt, List, [], ◌∷◌, ◌++◌, codes, refl, arith, IsTrue}
-use Rattle.std.specs.Prelude.{FitsSigned, if◌then◌else◌}
-use Rattle.std.specs.Int.{w32}
+use Rattle.std.proofs.Common.{◌≡◌, ℕ, zero, suc, ℤ, pos, negsuc, ◌<◌, ◌^◌, Bool, true, false, ◌&&◌, ◌||◌, ◌==◌, nat_lt, List, [], ◌∷◌, refl, arith}
+use Rattle.std.specs.Prelude.{if◌then◌else◌}
 use Rattle.std.specs.Fmt.{signed_decimal}
 use Rattle.std.specs.List.{list_all, flat_map}
 use Rattle.std.specs.Str.{IsAscii, IsUtf8}
@@ -48,8 +47,8 @@ bytes_ascii (c ∷ s) all = let h = both (is_allowed c) (list_all is_allowed s) 
 escape_ascii : (c : ℕ) → c < 128 → IsAscii (escape c)
 escape_ascii c h =
     elim ((c == 34) || (c == 92)) as (λ b. IsAscii (if b then 92 ∷ c ∷ [] else c ∷ [])) [
-    | true ↦ behind 92 (c ∷ []) (omega arith) (behind c [] h IsAscii-nil)
-    | false ↦ behind c [] h IsAscii-nil
+      | true ↦ behind 92 (c ∷ []) (omega arith) (behind c [] h IsAscii-nil)
+      | false ↦ behind c [] h IsAscii-nil
     ]
 
 escaped_ascii : (s : List ℕ) → list_all is_allowed s ≡ true → IsAscii (flat_map escape s)

@@ -1,12 +1,11 @@
 -- What a run of one batch, and a question, say of a World wherever it stands.
-use Rattle.std.proofs.Common.{◌≡◌, ◌≢◌, inl, inr, ℕ, ◌≤◌, ◌<◌, List, [], ◌∷◌, length, take, drop, map, refl, sym, ap, subst, ◌∙◌, arith, Bool, true, false}
-use Rattle.std.specs.Prelude.{◌⊎◌, Result, Ok, Err, IsTrue, IsErrOf, IfOk, IfErr, OnOk, Option, Some, None, ⊤}
+use Rattle.std.proofs.Common.{◌≡◌, ◌≢◌, inl, inr, ℕ, ◌<◌, List, [], ◌∷◌, length, refl, sym, ap, subst, ◌∙◌, arith, Bool, true, false}
+use Rattle.std.specs.Prelude.{◌⊎◌, Result, Ok, Err, IsTrue, IsErrOf, IfOk, IfErr, OnOk, Option}
 use Rattle.std.specs.Result.{IsOkAnd}
 use Rattle.sqlite.specs.Store.{Ghosts}
 use Rattle.moo_world.specs.declared.call.Batch.{Batch}
 use Rattle.moo_world.specs.Judge.{State, judge}
 use Rattle.moo_value.specs.declared.value.ObjNo.{ObjNo}
-use Rattle.moo_text.specs.declared.reply.Answer.{Answer}
 use Rattle.moo_text.specs.declared.reply.Answer.TheVariants as answered
 use Rattle.moo_text.specs.declared.reply.Reply.{Reply}
 use Rattle.moo_text.specs.declared.reply.Reply.TheVariants.{NoMemory}
@@ -20,8 +19,7 @@ use Rattle.moo_store.specs.World.{StandsFor, StandsAt}
 use Rattle.moo_store.specs.declared.fault.StoreFault.{StoreFault}
 use Rattle.moo_store.specs.declared.fault.StoreFault.TheVariants.{Store, Damaged, NewerVersion, OutOfMemory, Closed}
 use Rattle.moo_store.proofs.Asking.{asked_one}
-use Rattle.moo_request.specs.declared.asked.Asked.{Asked}
-use Rattle.moo_request.specs.declared.asked.Asked.TheVariants.{Refused, Calls, Seq, Object}
+use Rattle.moo_request.specs.declared.asked.Asked.TheVariants.{Calls, Seq, Object}
 use Rattle.moo_request.specs.declared.asked.Mode.TheVariants.{Run, Ask}
 use Rattle.moo_http.specs.declared.outcome.Outcome.{Outcome}
 use Rattle.moo_http.specs.declared.outcome.Outcome.TheVariants as outcome

@@ -3,3 +3,4 @@ pub mod Ascii
 pub mod BodyLemmas
 pub mod Consulting
 pub mod Serving
+pub mod Defined

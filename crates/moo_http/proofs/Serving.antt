@@ -1,5 +1,5 @@
 -- What serving a request comes to.
-use Rattle.std.proofs.Common.{◌≡◌, ◌≢◌, inl, inr, ℕ, Bool, List, [], ◌∷◌, ◌++◌, Option, Some, None, refl, sym, subst, ap, ◌∙◌, append_assoc, append-nil}
+use Rattle.std.proofs.Common.{◌≡◌, ◌≢◌, inl, inr, ℕ, Bool, List, [], ◌++◌, Option, Some, None, refl, sym, subst, ap, ◌∙◌, append_assoc, append-nil}
 use Rattle.std.specs.Prelude.{Result, Ok, Err, IfErr, IsErrAnd}
 use Rattle.std.specs.Io.KnownBytes.{Appends}
 use Rattle.sqlite.specs.Store.{Ghosts}
@@ -10,7 +10,6 @@ use Rattle.moo_request.specs.Request.{Takes}
 use Rattle.moo_request.specs.declared.asked.Asked.{Asked}
 use Rattle.moo_request.specs.declared.fault.ReadFault.{ReadFault}
 use Rattle.moo_request.specs.declared.fault.ReadFault.TheVariants as read
-use Rattle.moo_request.specs.declared.request.Received.{Received}
 use Rattle.moo_request.specs.declared.request.Received.TheVariants.{Nothing, Request}
 use Rattle.moo_http.specs.declared.fault.ServeFault.{ServeFault}
 use Rattle.moo_http.specs.declared.fault.ServeFault.TheVariants.{Read, Write, OutOfMemory}

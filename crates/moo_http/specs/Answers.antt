@@ -1,5 +1,5 @@
 -- What is answered at a state, and what a World that is asked answers and does.
-use Rattle.std.specs.Prelude.{◌≡◌, ◌⊎◌, Option, Some, None, List, [], ℕ, ⊤}
+use Rattle.std.specs.Prelude.{◌≡◌, ◌⊎◌, Option, Some, None, ⊤}
 use Rattle.sqlite.specs.State.{HasCleanDisk}
 use Rattle.sqlite.specs.Store.{Ghosts}
 use Rattle.moo_text.specs.declared.reply.Answer.{Answer}

@@ -106,7 +106,11 @@ fn accepted_value(alloc: Global, answers: &[Literal], seq: u64) -> Result<Value,
 }
 
 /// The answers of a batch, each as its printed literal, and the number.
-pub(crate) fn accepted_text(alloc: Global, answers: &[Literal], seq: u64) -> Result<String, AllocError>
+pub(crate) fn accepted_text(
+    alloc: Global,
+    answers: &[Literal],
+    seq: u64,
+) -> Result<String, AllocError>
     ensures { IfOk result (λ text. string_bytes text ≡ compact_text (accepted_body answers.now seq)) }
 {
     let value = accepted_value(alloc, answers, seq)?;

@@ -4,6 +4,7 @@
 mod bodies;
 mod consult;
 mod fault;
+mod laws;
 mod limits;
 mod listen;
 mod look_body;
@@ -15,6 +16,7 @@ mod service;
 mod write;
 
 pub use fault::ServeFault;
+pub use laws::answers_are_defined;
 pub use listen::{Served, serve_on};
 pub use outcome::Outcome;
 pub use serve::serve_one;

@@ -38,28 +38,48 @@ fn name_in(alloc: Global, name: &MooStr) -> Result<String, AllocError>
     Ok(String::from_utf8(bytes).unwrap())
 }
 
-fn put_objects(fields: &mut Map<String, Value>, alloc: Global, key: &str, objects: &[ObjNo]) -> Result<(), AllocError>
+fn put_objects(
+    fields: &mut Map<String, Value>,
+    alloc: Global,
+    key: &str,
+    objects: &[ObjNo],
+) -> Result<(), AllocError>
     ensures { OnOk result (members_view fields.new.entries ≡ insert key.now (objects_of objects.now) (members_view fields.old.entries)) }
 {
     let list = objects_in(alloc, objects)?;
     put(fields, alloc, key, Value::Array(list))
 }
 
-fn put_object(fields: &mut Map<String, Value>, alloc: Global, key: &str, x: ObjNo) -> Result<(), AllocError>
+fn put_object(
+    fields: &mut Map<String, Value>,
+    alloc: Global,
+    key: &str,
+    x: ObjNo,
+) -> Result<(), AllocError>
     ensures { OnOk result (members_view fields.new.entries ≡ insert key.now (string (object_text x)) (members_view fields.old.entries)) }
 {
     let text = object_in(alloc, x)?;
     put(fields, alloc, key, Value::String(text))
 }
 
-fn put_name(fields: &mut Map<String, Value>, alloc: Global, key: &str, name: &MooStr) -> Result<(), AllocError>
+fn put_name(
+    fields: &mut Map<String, Value>,
+    alloc: Global,
+    key: &str,
+    name: &MooStr,
+) -> Result<(), AllocError>
     ensures { OnOk result (members_view fields.new.entries ≡ insert key.now (string name.now) (members_view fields.old.entries)) }
 {
     let text = name_in(alloc, name)?;
     put(fields, alloc, key, Value::String(text))
 }
 
-fn put_flag(fields: &mut Map<String, Value>, alloc: Global, key: &str, set: bool) -> Result<(), AllocError>
+fn put_flag(
+    fields: &mut Map<String, Value>,
+    alloc: Global,
+    key: &str,
+    set: bool,
+) -> Result<(), AllocError>
     ensures { OnOk result (members_view fields.new.entries ≡ insert key.now (flag set) (members_view fields.old.entries)) }
 {
     put(fields, alloc, key, Value::from(u64::from(set)))

@@ -38,7 +38,12 @@ fn error(alloc: Global, status: StatusCode, word: &str) -> Result<Response, Allo
 }
 
 /// A call, and what befell it.
-fn call_error(alloc: Global, status: StatusCode, call: u32, word: &str) -> Result<Response, AllocError>
+fn call_error(
+    alloc: Global,
+    status: StatusCode,
+    call: u32,
+    word: &str,
+) -> Result<Response, AllocError>
     ensures { IfOk result (λ r. Shows r (plain status (call_body call word.now))) }
 {
     let body = call_text(alloc, call, word)?;

@@ -59,7 +59,12 @@ fn add_allow(text: &mut String, allow: Option<&str>) -> Result<(), AllocError>
 }
 
 #[tactic(auto, unfolding(crate::specs::Bytes::head_text))]
-fn print_head(alloc: Global, status: StatusCode, allow: Option<&str>, size: usize) -> Result<String, AllocError>
+fn print_head(
+    alloc: Global,
+    status: StatusCode,
+    allow: Option<&str>,
+    size: usize,
+) -> Result<String, AllocError>
     ensures { IfOk result (λ text. string_bytes text ≡ head_text status (option_map (λ method. method.now) allow.entry) size) }
 {
     let mut text = print_status(alloc, status)?;

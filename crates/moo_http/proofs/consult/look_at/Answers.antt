@@ -1,6 +1,5 @@
 use Rattle.std.proofs.Common.{sym, subst}
-use Rattle.moo_request.specs.declared.asked.Asked.TheVariants.{Calls, Seq, Object}
-use Rattle.moo_request.specs.declared.asked.Mode.TheVariants.{Ask}
+use Rattle.moo_request.specs.declared.asked.Asked.TheVariants.{Object}
 use Rattle.moo_http.specs.Answers.{Answers}
 use Rattle.moo_http.proofs.Consulting.{seen, told_look}
 use Rattle.moo_http.proofs.consult.look_at.Goals as goal

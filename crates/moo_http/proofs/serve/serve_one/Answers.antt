@@ -4,7 +4,7 @@ use Rattle.moo_http.proofs.Serving.{unread_at, nothing, served}
 use Rattle.moo_http.proofs.serve.serve_one.Goals as goal
 
 pub returns-in_err-read_request-clause-served : goal.returns-in_err-read_request-clause-served
-returns-in_err-read_request-clause-served g c stand at = 
+returns-in_err-read_request-clause-served g c stand at =
     unread_at g.S.Store c.from_residual.result c.in_err-read_request.field-0.0 stand c.args.world.now _ _ _ c.from_residual.ensures.1 (record { same = refl; crash = c.leaves.ensures stand at })
 
 pub returns-in-Nothing-clause-served : goal.returns-in-Nothing-clause-served
