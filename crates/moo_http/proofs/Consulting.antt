@@ -1,0 +1,169 @@
+-- What a run of one batch, and a question, say of a World wherever it stands.
+use Rattle.std.proofs.Common.{◌≡◌, ◌≢◌, inl, inr, ℕ, ◌<◌, List, [], ◌∷◌, length, refl, sym, ap, subst, ◌∙◌, arith, Bool, true, false}
+use Rattle.std.specs.Prelude.{◌⊎◌, Result, Ok, Err, IsTrue, IsErrOf, IfOk, IfErr, OnOk, Option}
+use Rattle.std.specs.Result.{IsOkAnd}
+use Rattle.sqlite.specs.Store.{Ghosts}
+use Rattle.moo_world.specs.declared.call.Batch.{Batch}
+use Rattle.moo_world.specs.Judge.{State, judge}
+use Rattle.moo_value.specs.declared.value.ObjNo.{ObjNo}
+use Rattle.moo_text.specs.declared.reply.Answer.TheVariants as answered
+use Rattle.moo_text.specs.declared.reply.Reply.{Reply}
+use Rattle.moo_text.specs.declared.reply.Reply.TheVariants.{NoMemory}
+use Rattle.moo_dump.specs.declared.seen.Look.{Look}
+use Rattle.moo_dump.specs.Look.{look_of}
+use Rattle.moo_store.specs.Answered.{answer_of, IsRun, added}
+use Rattle.moo_store.specs.Stand.{Stand, Works, Failed, StoreFailed, RunsBatch}
+use Rattle.moo_store.specs.Kept.{World}
+use Rattle.moo_store.specs.Text.{RunsAll}
+use Rattle.moo_store.specs.World.{StandsFor, StandsAt}
+use Rattle.moo_store.specs.declared.fault.StoreFault.{StoreFault}
+use Rattle.moo_store.specs.declared.fault.StoreFault.TheVariants.{Store, Damaged, NewerVersion, OutOfMemory, Closed}
+use Rattle.moo_store.proofs.Asking.{asked_one}
+use Rattle.moo_request.specs.declared.asked.Asked.TheVariants.{Calls, Seq, Object}
+use Rattle.moo_request.specs.declared.asked.Mode.TheVariants.{Run, Ask}
+use Rattle.moo_http.specs.declared.outcome.Outcome.{Outcome}
+use Rattle.moo_http.specs.declared.outcome.Outcome.TheVariants as outcome
+use Rattle.moo_http.specs.Answers.{Answers, looked}
+use Rattle.moo_http.specs.Settled.{Settles, lost_by}
+
+-- ---- where a World stands, by whether it failed
+
+failed_stands : {S : Type 0} (g : Ghosts S) (known : Bool) (world : World S) (stand : Stand) → StandsAt g known world stand → world.failed ≡ true → (batch : Batch) → RunsBatch stand batch answered.Closed stand
+failed_stands g known world (Works s) at failed batch = let works = at.works in absurd cc
+failed_stands g known world (Failed s) at failed batch = (refl, refl)
+failed_stands g known world (StoreFailed s hand) at failed batch = (refl, refl)
+
+-- a World that works and stands as it did has not failed
+still_works : {S : Type 0} (g : Ghosts S) (known : Bool) (was new : World S) (stand : Stand) → StandsAt g known was stand → was.failed ≡ false → StandsAt g known new stand → new.failed ≡ false
+still_works g known was new (Works s) at works then = then.works
+still_works g known was new (Failed s) at works then = let failed = at.0 in absurd cc
+still_works g known was new (StoreFailed s hand) at works then = let failed = at.0 in absurd cc
+
+-- ---- a run of one batch
+
+-- what a run of these batches says
+pub record Ran {S : Type 0} (g : Ghosts S) (known : Bool) (was new : World S) (stand : Stand) (all : List Batch) (replies : List Reply) (r : Result (Unit {0}) StoreFault) : Type 0 where
+  pub runs : RunsAll g known new stand all replies r
+  pub fewer : was.failed ≡ false → IfErr r (λ fault. fault ≢ OutOfMemory → length replies < length all)
+  pub memory : IsErrOf r OutOfMemory → new ≡ was
+  pub closed : IsTrue was.failed → IsErrOf r Closed × (new ≡ was)
+  pub failed : IfErr r (λ fault. (fault ≡ OutOfMemory) ⊎ IsTrue new.failed)
+
+-- the World stands somewhere, and this is what came of the batch
+abbrev pub Behind : {S : Type 0} (g : Ghosts S) → Bool → World S → Stand → Batch → Outcome → Type 0
+Behind g known new stand batch o = (next : Stand) × StandsAt g known new next × Answers stand (Calls Run batch) o next
+
+no_reply : (replies : List Reply) → length replies < 1 → replies ≡ []
+no_reply [] few = refl
+no_reply (reply ∷ replies) few = absurd (omega arith)
+
+replied : {S : Type 0} (g : Ghosts S) (known : Bool) (was new : World S) (stand : Stand) (batch : Batch) (reply : Reply) (x : Unit {0}) → Ran g known was new stand (batch ∷ []) (reply ∷ []) (Ok x) → Behind g known new stand batch (outcome.Replied reply)
+replied g known was new stand batch reply x ran =
+    let turn = ran.runs.turns in
+    let here = ran.runs.ends ∙ turn.2 in
+    (ran.runs.new, ran.runs.stands, inl (answered.Replied reply, subst (RunsBatch stand batch (answered.Replied reply)) (sym here) turn.1, refl))
+
+-- a World that had failed is closed
+closed_before : {S : Type 0} (g : Ghosts S) (known : Bool) (was new : World S) (stand : Stand) (batch : Batch) (fault : StoreFault) → StandsAt g known was stand → was.failed ≡ true → (fault ≡ Closed) × (new ≡ was) → Behind g known new stand batch (lost_by fault)
+closed_before g known was new stand batch fault at failed closed =
+    (stand, subst (λ w. StandsAt g known w stand) (sym closed.1) at, inl (answered.Closed, failed_stands g known was stand at failed batch, ap lost_by closed.0))
+
+-- without a fault of the store, one that worked has not failed
+no_other : {S : Type 0} (g : Ghosts S) (known : Bool) (was new : World S) (stand : Stand) (batch : Batch) (o : Outcome) (ended : Stand) → StandsAt g known was stand → was.failed ≡ false → StandsAt g known new ended → ended ≡ stand → IsTrue new.failed → Behind g known new stand batch o
+no_other g known was new stand batch o ended at works then same failed =
+    let still = still_works g known was new stand at works (subst (StandsAt g known new) same then) in absurd cc
+
+of_err : (r : Result (Unit {0}) StoreFault) (fault other : StoreFault) → r ≡ Err fault → IsErrOf r other → fault ≡ other
+of_err r fault other e f = cc
+
+faulted : {S : Type 0} (g : Ghosts S) (known : Bool) (was new : World S) (stand : Stand) (batch : Batch) (fault : StoreFault) → StandsAt g known was stand → was.failed ≡ false → Ran g known was new stand (batch ∷ []) [] (Err fault) → Behind g known new stand batch (lost_by fault)
+faulted g known was new stand batch OutOfMemory at works ran = (stand, subst (λ w. StandsAt g known w stand) (sym (ran.memory refl)) at, inr (tt, refl, refl))
+faulted g known was new stand batch Closed at works ran =
+    no_other g known was new stand batch outcome.Closed ran.runs.new at works ran.runs.stands (ran.runs.ends ∙ ran.runs.turns) (elim ran.failed [ inl e ↦ absurd cc | inr e ↦ e ])
+faulted g known was new stand batch (Damaged kind key) at works ran =
+    no_other g known was new stand batch outcome.Fault ran.runs.new at works ran.runs.stands (ran.runs.ends ∙ ran.runs.turns) (elim ran.failed [ inl e ↦ absurd cc | inr e ↦ e ])
+faulted g known was new stand batch NewerVersion at works ran =
+    no_other g known was new stand batch outcome.Fault ran.runs.new at works ran.runs.stands (ran.runs.ends ∙ ran.runs.turns) (elim ran.failed [ inl e ↦ absurd cc | inr e ↦ e ])
+faulted g known was new stand batch (Store error) at works ran =
+    let hand = ran.runs.ends in
+    let same : batch ≡ hand.0 = let e = hand.2 in cc in
+    let at_mid = subst (λ b. RunsBatch ran.runs.mid b answered.Fault ran.runs.new) (sym same) hand.3 in
+    (ran.runs.new, ran.runs.stands, inl (answered.Fault, subst (λ mid. RunsBatch mid batch answered.Fault ran.runs.new) ran.runs.turns at_mid, refl))
+
+ran_none : {S : Type 0} (g : Ghosts S) (known : Bool) (was new : World S) (stand : Stand) (batch : Batch) (replies : List Reply) (fault : StoreFault) → fault ≢ OutOfMemory → was.failed ≡ false → Ran g known was new stand (batch ∷ []) replies (Err fault) → Ran g known was new stand (batch ∷ []) [] (Err fault)
+ran_none g known was new stand batch replies fault other works ran = subst (λ rs. Ran g known was new stand (batch ∷ []) rs (Err fault)) (no_reply replies (ran.fewer works other)) ran
+
+stopped : {S : Type 0} (g : Ghosts S) (known : Bool) (was new : World S) (stand : Stand) (batch : Batch) (replies : List Reply) (fault : StoreFault) → StandsAt g known was stand → was.failed ≡ false → Ran g known was new stand (batch ∷ []) replies (Err fault) → Behind g known new stand batch (lost_by fault)
+stopped g known was new stand batch replies OutOfMemory at works ran = (stand, subst (λ w. StandsAt g known w stand) (sym (ran.memory refl)) at, inr (tt, refl, refl))
+stopped g known was new stand batch replies Closed at works ran = faulted g known was new stand batch Closed at works (ran_none g known was new stand batch replies Closed (λ e. cc) works ran)
+stopped g known was new stand batch replies (Damaged kind key) at works ran = faulted g known was new stand batch (Damaged kind key) at works (ran_none g known was new stand batch replies (Damaged kind key) (λ e. cc) works ran)
+stopped g known was new stand batch replies NewerVersion at works ran = faulted g known was new stand batch NewerVersion at works (ran_none g known was new stand batch replies NewerVersion (λ e. cc) works ran)
+stopped g known was new stand batch replies (Store error) at works ran = faulted g known was new stand batch (Store error) at works (ran_none g known was new stand batch replies (Store error) (λ e. cc) works ran)
+
+either : (b : Bool) → (b ≡ true) ⊎ (b ≡ false)
+either true = inl refl
+either false = inr refl
+
+settled : {S : Type 0} (g : Ghosts S) (known : Bool) (was new : World S) (stand : Stand) (batch : Batch) (replies : List Reply) (r : Result (Unit {0}) StoreFault) (o : Outcome)
+    → StandsAt g known was stand → Ran g known was new stand (batch ∷ []) replies r → Settles r replies o → Behind g known new stand batch o
+settled g known was new stand batch replies (Ok x) o at ran settles =
+    let one = subst (λ rs. Ran g known was new stand (batch ∷ []) rs (Ok x)) settles.1 ran in
+    subst (Behind g known new stand batch) (sym settles.2) (replied g known was new stand batch settles.0 x one)
+settled g known was new stand batch replies (Err fault) o at ran settles =
+    let there : Behind g known new stand batch (lost_by fault) = elim (either was.failed) [
+      | inl failed ↦ let c = ran.closed failed in closed_before g known was new stand batch fault at failed (of_err (Err fault) fault Closed refl c.0, c.1)
+      | inr works ↦ stopped g known was new stand batch replies fault at works ran
+    ] in subst (Behind g known new stand batch) (sym settles) there
+
+pub ran_one : {S : Type 0} (g : Ghosts S) (known : Bool) (was new : World S) (stand : Stand) (batch : Batch) (all : List Batch) (old replies : List Reply) (r : Result (Unit {0}) StoreFault) (o : Outcome)
+    → all ≡ batch ∷ [] → old ≡ [] → StandsAt g known was stand → Ran g known was new stand all (added old replies) r → Settles r replies o → Behind g known new stand batch o
+ran_one g known was new stand batch all old replies r o one none at ran settles =
+    let none_before : added old replies ≡ replies = ap (λ (rs : List Reply). added rs replies) none in
+    let plain = subst (λ (rs : List Reply). Ran g known was new stand all rs r) none_before ran in
+    settled g known was new stand batch replies r o at (subst (λ (bs : List Batch). Ran g known was new stand bs replies r) one plain) settles
+
+-- ---- questions
+
+-- what asking one batch comes to
+abbrev pub came_of : Result Reply StoreFault → Outcome
+came_of (Ok reply) = outcome.Replied reply
+came_of (Err fault) = lost_by fault
+
+pub asked : {S : Type 0} (g : Ghosts S) (known : Bool) (world : World S) (batch : Batch) (r : Result Reply StoreFault)
+    → ((known : Bool) (s : State) → StandsFor g known world s → IsOkAnd r (λ reply. (reply ≡ NoMemory) ⊎ (reply ≡ answer_of s (judge s batch)))) → ((known : Bool) (s : State) → StandsFor g known world s → IfOk r (λ reply. reply ≡ NoMemory → IsRun s batch))
+    → (IsTrue world.failed → r ≡ Err Closed) → (stand : Stand) → StandsAt g known world stand → Answers stand (Calls Ask batch) (came_of r) stand
+asked g known world batch (Ok reply) judged run closed stand at = inl (answered.Replied reply, asked_one g world batch (Ok reply) judged run closed known stand at, refl)
+asked g known world batch (Err fault) judged run closed (Works s) at = absurd (judged known s at)
+asked g known world batch (Err fault) judged run closed (Failed s) at = inl (answered.Closed, (refl, refl), ap came_of (closed at.0))
+asked g known world batch (Err fault) judged run closed (StoreFailed s hand) at = inl (answered.Closed, (refl, refl), ap came_of (closed at.0))
+
+abbrev pub told_seq : Result ℕ StoreFault → Outcome
+told_seq (Ok seq) = outcome.Seq seq
+told_seq (Err fault) = lost_by fault
+
+pub numbered : {S : Type 0} (g : Ghosts S) (known : Bool) (world : World S) (r : Result ℕ StoreFault) → ((known : Bool) (s : State) → StandsFor g known world s → r ≡ Ok s.seq) → (IsTrue world.failed → r ≡ Err Closed)
+    → (stand : Stand) → StandsAt g known world stand → Answers stand Seq (told_seq r) stand
+numbered g known world r number closed (Works s) at = inl (ap told_seq (number known s at), refl)
+numbered g known world r number closed (Failed s) at = inl (ap told_seq (closed at.0), refl)
+numbered g known world r number closed (StoreFailed s hand) at = inl (ap told_seq (closed at.0), refl)
+
+abbrev pub told_look : Result (Option Look) StoreFault → Outcome
+told_look (Ok look) = looked look
+told_look (Err fault) = lost_by fault
+
+look_told : {S : Type 0} (g : Ghosts S) (known : Bool) (world : World S) (n : ObjNo) (s : State) (r : Result (Option Look) StoreFault) → IfOk r (λ look. look ≡ look_of s.world n) → IfErr r (λ fault. fault ≡ OutOfMemory) → Answers (Works s) (Object n) (told_look r) (Works s)
+look_told g known world n s (Ok look) is fault = inl (ap looked is, refl)
+look_told g known world n s (Err why) is fault = inr (tt, ap lost_by fault, refl)
+
+pub seen : {S : Type 0} (g : Ghosts S) (known : Bool) (world : World S) (n : ObjNo) (r : Result (Option Look) StoreFault) → ((known : Bool) (s : State) → StandsFor g known world s → IfOk r (λ look. look ≡ look_of s.world n))
+    → (world.failed ≡ false → IfErr r (λ fault. fault ≡ OutOfMemory)) → (IsTrue world.failed → r ≡ Err Closed) → (stand : Stand) → StandsAt g known world stand → Answers stand (Object n) (told_look r) stand
+seen g known world n r look fault closed (Works s) at = look_told g known world n s r (look known s at) (fault at.works)
+seen g known world n r look fault closed (Failed s) at = inl (ap told_look (closed at.0), refl)
+seen g known world n r look fault closed (StoreFailed s hand) at = inl (ap told_look (closed at.0), refl)
+
+-- ---- the one reply
+
+pub one_reply : (r : Result (Unit {0}) StoreFault) (batch : Batch) (all : List Batch) (old replies : List Reply) → all ≡ batch ∷ [] → old ≡ [] → OnOk r (length (added old replies) ≡ length all) → OnOk r (length replies ≡ 1)
+one_reply (Ok x) batch all old replies one none e =
+    ap (λ (rs : List Reply). length rs) (sym (ap (λ (before : List Reply). added before replies) none)) ∙ e ∙ ap (λ (bs : List Batch). length bs) one
+one_reply (Err fault) batch all old replies one none e = tt

@@ -1,0 +1,6 @@
+pub mod Nesting
+pub mod Ascii
+pub mod BodyLemmas
+pub mod Consulting
+pub mod Serving
+pub mod Defined

@@ -1,0 +1,69 @@
+-- What serving a request comes to.
+use Rattle.std.proofs.Common.{◌≡◌, ◌≢◌, inl, inr, ℕ, Bool, List, [], ◌++◌, Option, Some, None, refl, sym, subst, ap, ◌∙◌, append_assoc, append-nil}
+use Rattle.std.specs.Prelude.{Result, Ok, Err, IfErr, IsErrAnd}
+use Rattle.std.specs.Io.KnownBytes.{Appends}
+use Rattle.sqlite.specs.Store.{Ghosts}
+use Rattle.moo_store.specs.Stand.{Stand}
+use Rattle.moo_store.specs.Kept.{World}
+use Rattle.moo_store.specs.World.{StandsAt}
+use Rattle.moo_request.specs.Request.{Takes}
+use Rattle.moo_request.specs.declared.asked.Asked.{Asked}
+use Rattle.moo_request.specs.declared.fault.ReadFault.{ReadFault}
+use Rattle.moo_request.specs.declared.fault.ReadFault.TheVariants as read
+use Rattle.moo_request.specs.declared.request.Received.TheVariants.{Nothing, Request}
+use Rattle.moo_http.specs.declared.fault.ServeFault.{ServeFault}
+use Rattle.moo_http.specs.declared.fault.ServeFault.TheVariants.{Read, Write, OutOfMemory}
+use Rattle.moo_http.specs.declared.outcome.Outcome.{Outcome}
+use Rattle.moo_http.specs.Answers.{Consulted}
+use Rattle.moo_http.specs.Faults.{fault_of}
+use Rattle.moo_http.specs.Responses.{response_of, response_text}
+use Rattle.moo_http.specs.Serves.{Serves, Stays, Written, Served}
+
+appends_nothing : (before : Option (List ℕ)) → Appends before before []
+appends_nothing None = tt
+appends_nothing (Some bytes) = sym (append-nil bytes)
+
+pub appends_both : (a b c : Option (List ℕ)) (bs cs : List ℕ) → Appends a b bs → Appends b c cs → Appends a c (bs ++ cs)
+appends_both None b c bs cs p q = tt
+appends_both (Some x) None c bs cs p q = absurd p
+appends_both (Some x) (Some y) None bs cs p q = absurd q
+appends_both (Some x) (Some y) (Some z) bs cs p q = q ∙ ap (λ l. l ++ cs) p ∙ append_assoc x bs cs
+
+-- ---- the request wasn't read
+
+pub unread : {S : Type 0} (g : Ghosts S) (known : Bool) (fault : ReadFault) (old : Stand) (was : World S) (left rest before : Option (List ℕ)) → Stays g known old was was → Served g known (Err (fault_of fault)) old was was left rest before before
+unread g known read.Read old was left rest before stays = (stays, refl)
+unread g known read.OutOfMemory old was left rest before stays = (refl, inl stays)
+
+pub unread_at : {S : Type 0} (g : Ghosts S) (known : Bool) (r : Result (Unit {0}) ServeFault) (fault : ReadFault) (old : Stand) (was : World S) (left rest before : Option (List ℕ)) → IsErrAnd r (λ e. e ≡ fault_of fault) → Stays g known old was was → Served g known r old was was left rest before before
+unread_at g known (Ok x) fault old was left rest before is stays = absurd is
+unread_at g known (Err e) fault old was left rest before is stays = subst (λ e. Served g known (Err e) old was was left rest before before) (sym is) (unread g known fault old was left rest before stays)
+
+-- ---- nothing came
+
+pub nothing : {S : Type 0} (g : Ghosts S) (known : Bool) (old : Stand) (was : World S) (left rest before : Option (List ℕ)) (done : Unit {0}) → Takes left rest Nothing → StandsAt g known was old → Stays g known old was was → Served g known (Ok done) old was was left rest before before
+nothing g known old was left rest before done takes at stays =
+    ([], record { received = Nothing; takes = takes; new = old; gets = (refl, refl); stands = at; crash = stays.crash }, appends_nothing before)
+
+-- ---- a request came
+
+answered : {S : Type 0} (g : Ghosts S) (known : Bool) (old : Stand) (world : World S) (left rest : Option (List ℕ)) (is_head : Bool) (asked : Asked) (o : Outcome) → Takes left rest (Request is_head asked) → Consulted g known old world asked o
+    → Serves g known old left rest world (response_text is_head (response_of o))
+answered g known old world left rest is_head asked o takes consulted = record {
+  received = Request is_head asked;
+  takes = takes;
+  new = consulted.new;
+  gets = (o, consulted.answers, refl);
+  stands = consulted.stands;
+  crash = consulted.crash;
+}
+
+pub served : {S : Type 0} (g : Ghosts S) (known : Bool) (r : Result (Unit {0}) ServeFault) (old : Stand) (was world : World S) (left rest before behind : Option (List ℕ)) (is_head : Bool) (asked : Asked) (o : Outcome)
+    → Takes left rest (Request is_head asked) → Consulted g known old world asked o → Written r before behind (response_text is_head (response_of o)) → IfErr r (λ fault. fault ≢ Read) → Served g known r old was world left rest before behind
+served g known (Ok done) old was world left rest before behind is_head asked o takes consulted written other =
+    (response_text is_head (response_of o), answered g known old world left rest is_head asked o takes consulted, written)
+served g known (Err Write) old was world left rest before behind is_head asked o takes consulted written other =
+    (response_text is_head (response_of o), answered g known old world left rest is_head asked o takes consulted, written.0, written.1)
+served g known (Err Read) old was world left rest before behind is_head asked o takes consulted written other = absurd (other refl)
+served g known (Err OutOfMemory) old was world left rest before behind is_head asked o takes consulted written other =
+    (written, inr (response_text is_head (response_of o), answered g known old world left rest is_head asked o takes consulted))

@@ -1,0 +1,19 @@
+use Rattle.std.proofs.Common.{refl, subst}
+use Rattle.moo_request.specs.Request.{Takes}
+use Rattle.moo_http.proofs.Serving.{unread_at, nothing, served}
+use Rattle.moo_http.proofs.serve.serve_one.Goals as goal
+
+pub returns-in_err-read_request-clause-served : goal.returns-in_err-read_request-clause-served
+returns-in_err-read_request-clause-served g c known stand at =
+    unread_at g.S.Store known c.from_residual.result c.in_err-read_request.field-0.0 stand c.args.world.now _ _ _ c.from_residual.ensures.1 (record { same = refl; crash = c.leaves.ensures known stand at })
+
+pub returns-in-Nothing-clause-served : goal.returns-in-Nothing-clause-served
+returns-in-Nothing-clause-served g c known stand at =
+    nothing g.S.Store known stand c.args.world.now _ _ _ tt (subst (λ r. Takes (g.R.Read.remaining c.args.reader.now) (g.R.Read.remaining c.read_request.new.reader) r) c.in-Nothing.is c.in_ok-read_request.ensures.takes) at
+    (record { same = refl; crash = c.leaves.ensures known stand at })
+
+pub returns-in-Request-clause-served : goal.returns-in-Request-clause-served
+returns-in-Request-clause-served g c known stand at =
+    let done = c.serve_asked.ensures.answered known stand at in
+    served g.S.Store known c.serve_asked.result stand c.args.world.now c.serve_asked.new.world _ _ _ _ c.in-Request.is_head c.in-Request.asked done.0
+    (subst (λ r. Takes (g.R.Read.remaining c.args.reader.now) (g.R.Read.remaining c.read_request.new.reader) r) c.in-Request.is c.in_ok-read_request.ensures.takes) done.1 done.2 c.serve_asked.ensures.fault

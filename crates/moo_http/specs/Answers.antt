@@ -1,0 +1,74 @@
+-- What is answered at a state, and what a World that is asked answers and does.
+use Rattle.std.specs.Prelude.{◌≡◌, ◌⊎◌, Option, Some, None, ⊤, Bool, IsTrue}
+use Rattle.sqlite.specs.State.{HasCleanDisk}
+use Rattle.sqlite.specs.Store.{Ghosts}
+use Rattle.moo_text.specs.declared.reply.Answer.{Answer}
+use Rattle.moo_text.specs.declared.reply.Answer.TheVariants as answered
+use Rattle.moo_world.specs.Judge.{State, judge}
+use Rattle.moo_dump.specs.declared.seen.Look.{Look}
+use Rattle.moo_dump.specs.Look.{look_of}
+use Rattle.moo_store.specs.Answered.{reply_of, answer_of, next_of}
+use Rattle.moo_store.specs.Stand.{Stand, Works, Failed, StoreFailed, RunsBatch, AsksBatch}
+use Rattle.moo_store.specs.Kept.{World}
+use Rattle.moo_store.specs.World.{store_of, CrashLeaves, StandsAt}
+use Rattle.moo_request.specs.declared.asked.Asked.{Asked}
+use Rattle.moo_request.specs.declared.asked.Asked.TheVariants.{Refused, Calls, Seq, Object}
+use Rattle.moo_request.specs.declared.asked.Mode.TheVariants.{Run, Ask}
+use Rattle.moo_request.specs.declared.asked.Refusal.TheVariants.{BadRequest, Malformed}
+use Rattle.moo_http.specs.declared.outcome.Outcome.{Outcome}
+use Rattle.moo_http.specs.declared.outcome.Outcome.TheVariants as outcome
+
+abbrev pub looked : Option Look → Outcome
+looked None = outcome.NoObject
+looked (Some look) = outcome.Object look
+
+-- what comes of what is asked at a state, and the state that it leaves
+abbrev pub answer : State → Asked → Outcome × State
+answer s (Refused refusal) = (outcome.Refused refusal, s)
+answer s (Calls Run batch) = (outcome.Replied (reply_of (judge s batch)), next_of s batch)
+answer s (Calls Ask batch) = (outcome.Replied (answer_of s (judge s batch)), s)
+answer s Seq = (outcome.Seq s.seq, s)
+answer s (Object n) = (looked (look_of s.world n), s)
+
+-- ---- a World that stands somewhere
+
+-- what comes of a batch by its answer
+abbrev pub outcome_of : Answer → Outcome
+outcome_of (answered.Replied reply) = outcome.Replied reply
+outcome_of answered.Fault = outcome.Fault
+outcome_of answered.Closed = outcome.Closed
+outcome_of (answered.Malformed number) = outcome.Refused (Malformed number)
+outcome_of answered.Truncated = outcome.Refused BadRequest
+
+-- a World that works tells what holds at its state; one that failed is closed
+abbrev pub tell : (State → Outcome) → Stand → Outcome
+tell told (Works s) = told s
+tell told (Failed s) = outcome.Closed
+tell told (StoreFailed s hand) = outcome.Closed
+
+-- What comes of what is asked of a World that stands there, and where it stands then. A batch is run or asked as that of a text.
+abbrev pub Comes : Stand → Asked → Outcome → Stand → Type 0
+Comes old (Refused refusal) o new = (o ≡ outcome.Refused refusal) × (new ≡ old)
+Comes old (Calls Run batch) o new = (a : Answer) × RunsBatch old batch a new × (o ≡ outcome_of a)
+Comes old (Calls Ask batch) o new = (a : Answer) × AsksBatch old batch a new × (o ≡ outcome_of a)
+Comes old Seq o new = (o ≡ tell (λ s. outcome.Seq s.seq) old) × (new ≡ old)
+Comes old (Object n) o new = (o ≡ tell (λ s. looked (look_of s.world n)) old) × (new ≡ old)
+
+-- the World takes memory for what it hands out
+abbrev pub TakesMemory : Asked → Type 0
+TakesMemory (Refused refusal) = ⊥
+TakesMemory (Calls Run batch) = ⊤
+TakesMemory (Calls Ask batch) = ⊥
+TakesMemory Seq = ⊥
+TakesMemory (Object n) = ⊤
+
+-- So it comes; or memory for what is handed out is refused, and nothing changes.
+abbrev pub Answers : Stand → Asked → Outcome → Stand → Type 0
+Answers old asked o new = Comes old asked o new ⊎ (TakesMemory asked × (o ≡ outcome.NoMemory) × (new ≡ old))
+
+-- A World that stood there was asked. It stands where the answer leaves it, and so does whatever a crash leaves.
+pub record Consulted {S : Type 0} (g : Ghosts S) (known : Bool) (old : Stand) (world : World S) (asked : Asked) (o : Outcome) : Type 0 where
+  pub new : Stand
+  pub stands : StandsAt g known world new
+  pub answers : Answers old asked o new
+  pub crash : IsTrue known → HasCleanDisk (store_of g world) → CrashLeaves (store_of g world) new

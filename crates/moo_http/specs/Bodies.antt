@@ -1,0 +1,56 @@
+-- The bodies of answers, as JSON. The members stand in the order of their keys.
+use Rattle.std.specs.Prelude.{ℕ, Bool, List, map, codes, cond}
+use Rattle.serde_json.specs.Data.{Data, unsigned, number, string, array, object, Items, member, no_members}
+use Rattle.serde_json.specs.View.{items_of}
+use Rattle.moo_value.specs.declared.value.ObjNo.{ObjNo}
+use Rattle.moo_value.specs.declared.value.Value.{Value}
+use Rattle.moo_value.specs.declared.value.Value.TheVariants.{Obj}
+use Rattle.moo_value.specs.Literal.{print}
+use Rattle.moo_dump.specs.declared.seen.Look.{Look}
+
+-- an array of texts
+abbrev pub strings : List (List ℕ) → Items
+strings texts = items_of (map string texts)
+
+abbrev pub error_body : List ℕ → Data
+error_body word = object (member (codes "error") (string word) no_members)
+
+-- a call, by its number, and what befell it
+abbrev pub call_body : ℕ → List ℕ → Data
+call_body call word = object (member (codes "call") (number (unsigned call)) (member (codes "error") (string word) no_members))
+
+abbrev pub stale_body : ℕ → Data
+stale_body seq = object (member (codes "error") (string (codes "stale")) (member (codes "seq") (number (unsigned seq)) no_members))
+
+abbrev pub seq_body : ℕ → Data
+seq_body seq = object (member (codes "seq") (number (unsigned seq)) no_members)
+
+-- each answer as its printed literal, and the number
+abbrev pub accepted_body : List Value → ℕ → Data
+accepted_body answers seq = object (member (codes "answers") (array (strings (map print answers))) (member (codes "seq") (number (unsigned seq)) no_members))
+
+-- an object as its printed literal, such as #3
+abbrev pub object_text : ObjNo → List ℕ
+object_text x = print (Obj x)
+
+abbrev pub objects : List ObjNo → Data
+objects xs = array (strings (map object_text xs))
+
+abbrev pub flag : Bool → Data
+flag set = number (unsigned (cond set 1 0))
+
+-- the fields of an object, its children and what lies in it
+abbrev pub look_body : Look → Data
+look_body l = object
+    (member (codes "children") (objects l.children)
+    (member (codes "contents") (objects l.contents)
+    (member (codes "f") (flag l.f)
+    (member (codes "location") (string (object_text l.location))
+    (member (codes "name") (string l.name)
+    (member (codes "owner") (string (object_text l.owner))
+    (member (codes "parent") (string (object_text l.parent))
+    (member (codes "player") (flag l.player)
+    (member (codes "programmer") (flag l.programmer)
+    (member (codes "r") (flag l.r)
+    (member (codes "w") (flag l.w)
+    (member (codes "wizard") (flag l.wizard) no_members))))))))))))

@@ -1,0 +1,9 @@
+-- The fault of a connection whose request was not read.
+use Rattle.moo_request.specs.declared.fault.ReadFault.{ReadFault}
+use Rattle.moo_request.specs.declared.fault.ReadFault.TheVariants as read
+use Rattle.moo_http.specs.declared.fault.ServeFault.{ServeFault}
+use Rattle.moo_http.specs.declared.fault.ServeFault.TheVariants.{Read, OutOfMemory}
+
+abbrev pub fault_of : ReadFault → ServeFault
+fault_of read.Read = Read
+fault_of read.OutOfMemory = OutOfMemory

@@ -1,0 +1,10 @@
+pub mod Bodies
+pub mod Fields
+pub mod Bytes
+pub mod Responses
+pub mod Shown
+pub mod Faults
+pub mod Answers
+pub mod Settled
+pub mod Serves
+pub mod Lines

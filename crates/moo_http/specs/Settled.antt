@@ -1,0 +1,18 @@
+-- What came of a call on a World.
+use Rattle.std.specs.Prelude.{◌≡◌, List, [], ◌∷◌, Result, Ok, Err}
+use Rattle.moo_text.specs.declared.reply.Reply.{Reply}
+use Rattle.moo_store.specs.declared.fault.StoreFault.{StoreFault}
+use Rattle.moo_store.specs.declared.fault.StoreFault.TheVariants as fault
+use Rattle.moo_http.specs.declared.outcome.Outcome.{Outcome}
+use Rattle.moo_http.specs.declared.outcome.Outcome.TheVariants as outcome
+
+-- by the fault of a call
+abbrev pub lost_by : StoreFault → Outcome
+lost_by fault.OutOfMemory = outcome.NoMemory
+lost_by fault.Closed = outcome.Closed
+lost_by other = outcome.Fault
+
+-- by the result of a run of one batch and its reply
+abbrev pub Settles : Result (Unit {0}) StoreFault → List Reply → Outcome → Type 0
+Settles (Ok done) replies o = (reply : Reply) × (replies ≡ reply ∷ []) × (o ≡ outcome.Replied reply)
+Settles (Err why) replies o = o ≡ lost_by why

@@ -1,0 +1,33 @@
+//! The limits that the types of a value keep.
+
+ghost use Rattle.moo_value.specs.Text.{IsText};
+ghost use Rattle.moo_value.specs.Literal.{HoldIn, HoldInside, InRange};
+
+use moo_value::value::{ObjNo, Value, ValueList};
+
+/// Reads the numbers and strings of a value, since the limits that their types keep are known only of what was read. The call does
+/// nothing else; its contract is what it is for.
+#[cycle(limits)]
+pub(crate) fn read_limits(value: &Value)
+    ensures { HoldIn InRange IsText value.now }
+{
+    match value {
+        Value::Int(number) | Value::Obj(ObjNo(number)) => {
+            let _number = *number;
+        }
+        Value::Str(text) => {
+            let _bytes = text.bytes();
+        }
+        Value::Error(_) => {}
+        Value::List(list) => read_limits_in(list),
+    }
+}
+
+#[cycle(limits)]
+fn read_limits_in(list: &ValueList)
+    ensures { HoldInside InRange IsText list.now }
+{
+    for value in list.items() {
+        read_limits(value);
+    }
+}

@@ -1,0 +1,74 @@
+//! One request, answered.
+
+ghost use Rattle.std.specs.Prelude.{◌≡◌, ◌≢◌, IfOk, IfErr, string_bytes, Bool};
+ghost use Rattle.moo_store.specs.Stand.{Stand};
+ghost use Rattle.moo_store.specs.World.{StandsAt};
+ghost use Rattle.moo_http.specs.declared.outcome.Outcome.{Outcome as AnOutcome};
+ghost use Rattle.moo_http.specs.Answers.{Consulted};
+ghost use Rattle.moo_http.specs.Responses.{response_of, response_text};
+ghost use Rattle.moo_http.specs.Serves.{Written, Served};
+
+use crate::consult::consult;
+use crate::fault::ServeFault;
+use crate::outcome::Outcome;
+use crate::respond::respond;
+use crate::response::print_response;
+use crate::write::write_out;
+use moo_request::{Asked, Received, Routes, read_request};
+use moo_store::world::World;
+use sqlite::Alter;
+use std::alloc::{AllocError, Global};
+use std::io::{Read, Write};
+
+/// The bytes of the answer.
+fn answer_text(alloc: Global, outcome: &Outcome, is_head: bool) -> Result<String, AllocError>
+    ensures { IfOk result (λ text. string_bytes text ≡ response_text is_head (response_of outcome.now)) }
+{
+    let response = respond(alloc, outcome)?;
+    print_response(alloc, &response, is_head)
+}
+
+/// Does what is asked, and writes the answer.
+fn serve_asked<S: Alter + Drop, W: Write>(
+    alloc: Global,
+    asked: &Asked,
+    is_head: bool,
+    writer: &mut W,
+    world: &mut World<S>,
+) -> Result<(), ServeFault>
+    ensures answered { (known : Bool) (stand : Stand) → StandsAt S.Store known world.old stand → (o : AnOutcome) × Consulted S.Store known stand world.new asked.now o
+        × Written result (W.contents writer.old) (W.contents writer.new) (response_text is_head (response_of o)) }
+    ensures unwritten { IfErr result (λ fault. fault ≢ ServeFault.Write → writer.new ≡ writer.old) }
+    ensures fault { IfErr result (λ fault. fault ≢ ServeFault.Read) }
+{
+    let outcome = consult(alloc, world, asked);
+    let text = answer_text(alloc, &outcome, is_head)?;
+    write_out(writer, text.as_bytes())
+}
+
+/// Reads the one request of a connection, does what it asks, and writes the answer. Nothing is written where no byte comes, and that is
+/// no fault.
+///
+/// The faults: Read where the reader fails, and the World is as it was; Write where the writer fails or takes no bytes, and what was
+/// asked is done; OutOfMemory where memory runs out before the World is asked or behind it. An answer 200 to a batch is written behind
+/// its commit.
+pub fn serve_one<S: Alter + Drop, R: Read, W: Write>(
+    alloc: Global,
+    routes: &Routes,
+    reader: &mut R,
+    writer: &mut W,
+    world: &mut World<S>,
+) -> Result<(), ServeFault>
+    // Wherever the World stood, the answer to the bytes that the reader gave is written, and nothing else, and the World stands where
+    // it leaves it; by the result.
+    ensures served { (known : Bool) (stand : Stand) → StandsAt S.Store known world.old stand →
+        Served S.Store known result stand world.old world.new (R.remaining reader.old) (R.remaining reader.new) (W.contents writer.old) (W.contents writer.new) }
+    ensures unwritten { IfErr result (λ fault. fault ≢ ServeFault.Write → writer.new ≡ writer.old) }
+    ensures unread { IfErr result (λ fault. fault ≡ ServeFault.Read → world.new ≡ world.old) }
+{
+    world.leaves();
+    match read_request(alloc, routes, reader)? {
+        Received::Nothing => Ok(()),
+        Received::Request { is_head, asked } => serve_asked(alloc, &asked, is_head, writer, world),
+    }
+}

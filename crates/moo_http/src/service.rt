@@ -1,0 +1,89 @@
+//! The service on a port of this machine, from binding to its last line.
+
+ghost use Rattle.std.specs.Prelude.{◌≡◌, ◌+◌, ◌++◌, ℕ, IfOk, IfErr, OnOk, string_bytes};
+ghost use Rattle.std.specs.Io.KnownBytes.{Appends};
+ghost use Rattle.moo_http.specs.Lines.{listening_line, served_line};
+
+use crate::listen::{Served, serve_on};
+use moo_request::Routes;
+use moo_store::output::put_all;
+use moo_store::world::World;
+use sqlite::Alter;
+use std::alloc::{AllocError, Global};
+use std::io::Write;
+use std::net::{Ipv4Addr, TcpListener};
+
+/// Why the service ended before its last line.
+#[derive(Clone, Copy, Debug, PartialEq, Eq, Drop)]
+pub enum ServiceFault {
+    /// The port can't be bound; nothing is written.
+    Port,
+    /// The output failed.
+    Write,
+    /// Memory ran out.
+    OutOfMemory,
+}
+
+impl From<AllocError> for ServiceFault {
+    fn from(_: AllocError) -> ServiceFault {
+        ServiceFault::OutOfMemory
+    }
+}
+
+fn listening_text(alloc: Global, port: u16) -> Result<String, AllocError>
+    ensures { IfOk result (λ text. string_bytes text ≡ listening_line port) }
+{
+    format!(in alloc; "listening 127.0.0.1:{port}\n")
+}
+
+fn served_text(alloc: Global, answered: u32, failed: u32) -> Result<String, AllocError>
+    ensures { IfOk result (λ text. string_bytes text ≡ served_line answered failed) }
+{
+    format!(in alloc; "served {answered} failed {failed}\n")
+}
+
+/// Writes a text, and has it seen at once.
+fn say<W: Write>(output: &mut W, text: &str) -> Result<(), ServiceFault>
+    ensures { OnOk result (Appends (W.contents output.old) (W.contents output.new) text.now) }
+{
+    if put_all(output, text.as_bytes()).is_err() || output.flush().is_err() {
+        return Err(ServiceFault::Write);
+    }
+    Ok(())
+}
+
+fn say_listening<W: Write>(alloc: Global, output: &mut W, port: u16) -> Result<(), ServiceFault>
+    ensures { OnOk result (Appends (W.contents output.old) (W.contents output.new) (listening_line port)) }
+{
+    let line = listening_text(alloc, port)?;
+    say(output, line.as_str())
+}
+
+fn say_served<W: Write>(alloc: Global, output: &mut W, served: Served) -> Result<(), ServiceFault>
+    ensures { OnOk result (Appends (W.contents output.old) (W.contents output.new) (served_line served.answered served.failed)) }
+{
+    let line = served_text(alloc, served.answered, served.failed)?;
+    say(output, line.as_str())
+}
+
+/// Binds a port of 127.0.0.1, and no other address; says so, serves so many connections, and says how many were answered.
+///
+/// The faults: Port where the port can't be bound; Write where the output fails; OutOfMemory.
+pub fn serve_port<S: Alter + Drop, W: Write>(
+    rt: &HostRuntime,
+    world: &mut World<S>,
+    port: u16,
+    count: u32,
+    output: &mut W,
+) -> Result<(), ServiceFault>
+    ensures { OnOk result ((answered failed : ℕ) × (answered + failed ≡ count) × Appends (W.contents output.old) (W.contents output.new) (listening_line port ++ served_line answered failed)) }
+{
+    let alloc = rt.alloc();
+    let routes = Routes::new(alloc)?;
+    let Ok(listener) = TcpListener::bind(rt, (Ipv4Addr::LOCALHOST, port)) else {
+        return Err(ServiceFault::Port);
+    };
+    say_listening(alloc, output, port)?;
+    let served = serve_on(alloc, &routes, &listener, world, count);
+    say_served(alloc, output, served)
+}
