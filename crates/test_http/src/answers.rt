@@ -111,11 +111,7 @@ fn batches_are_run(rt: HostRuntime) -> Result<(), Fail> {
             "200 OK",
             r##"{"answers":["1"],"seq":6}"##,
         ),
-        (
-            "{",
-            "400 Bad Request",
-            r##"{"error":"bad request"}"##,
-        ),
+        ("{", "400 Bad Request", r##"{"error":"bad request"}"##),
     ];
     expect_posts(&rt, rt.alloc(), &mut world, "/batch", &rows)
 }
@@ -185,12 +181,36 @@ fn an_object_is_shown(rt: HostRuntime) -> Result<(), Fail> {
 fn refusals_come_in_their_order(rt: HostRuntime) -> Result<(), Fail> {
     let mut world = new_world(rt.alloc())?;
     let rows: [(&str, &str, &str); 8] = [
-        ("GARBAGE\r\n\r\n", "400 Bad Request", r##"{"error":"bad request"}"##),
-        ("POST /nothing HTTP/1.1\r\n\r\n", "404 Not Found", r##"{"error":"not found"}"##),
-        ("GET / HTTP/1.1\r\n\r\n", "404 Not Found", r##"{"error":"not found"}"##),
-        ("GET /object/x HTTP/1.1\r\n\r\n", "404 Not Found", r##"{"error":"not found"}"##),
-        ("GET /object/2147483648 HTTP/1.1\r\n\r\n", "404 Not Found", r##"{"error":"not found"}"##),
-        ("POST /batch HTTP/1.1\r\n\r\n", "400 Bad Request", r##"{"error":"bad request"}"##),
+        (
+            "GARBAGE\r\n\r\n",
+            "400 Bad Request",
+            r##"{"error":"bad request"}"##,
+        ),
+        (
+            "POST /nothing HTTP/1.1\r\n\r\n",
+            "404 Not Found",
+            r##"{"error":"not found"}"##,
+        ),
+        (
+            "GET / HTTP/1.1\r\n\r\n",
+            "404 Not Found",
+            r##"{"error":"not found"}"##,
+        ),
+        (
+            "GET /object/x HTTP/1.1\r\n\r\n",
+            "404 Not Found",
+            r##"{"error":"not found"}"##,
+        ),
+        (
+            "GET /object/2147483648 HTTP/1.1\r\n\r\n",
+            "404 Not Found",
+            r##"{"error":"not found"}"##,
+        ),
+        (
+            "POST /batch HTTP/1.1\r\n\r\n",
+            "400 Bad Request",
+            r##"{"error":"bad request"}"##,
+        ),
         (
             "POST /batch HTTP/1.1\r\ncontent-length: 1048577\r\n\r\n",
             "413 Payload Too Large",

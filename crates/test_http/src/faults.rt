@@ -86,11 +86,15 @@ fn a_writer_that_fails_has_a_front(rt: HostRuntime) -> Result<(), Fail> {
         };
         let result = serve_one(rt.alloc(), &routes, &mut reader, &mut writer, &mut world);
         assert!(rt; matches!(&result, Err(ServeFault::Write)), "at {calls}");
-        assert_eq!(rt; taken.as_slice(), &want.as_bytes()[..3 * calls], "at {calls}");
+        assert_eq!(rt; taken.len(), 3 * calls, "at {calls}");
+        assert!(rt; want.as_bytes().starts_with(&taken), "at {calls}");
         // The batch is committed: only a number can make its retry safe.
         assert!(rt; matches!(world.seq(), Ok(1)), "at {calls}");
         let again = answer(rt.alloc(), &mut world, b"GET /seq HTTP/1.1\r\n\r\n")?;
-        assert_eq!(rt; again.as_str(), whole(rt.alloc(), "200 OK", r##"{"seq":1}"##)?.as_str());
+        assert_eq!(rt;
+            again.as_str(),
+            whole(rt.alloc(), "200 OK", r##"{"seq":1}"##)?.as_str()
+        );
     }
     Ok(())
 }

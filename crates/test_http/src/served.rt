@@ -32,13 +32,15 @@ pub(crate) fn answer(
 /// A POST of a body.
 pub(crate) fn post(alloc: Global, path: &str, body: &str) -> Result<String, Fail> {
     let size = body.len();
-    Ok(format!(in alloc; "POST {path} HTTP/1.1\r\nhost: a\r\ncontent-length: {size}\r\n\r\n{body}")?)
+    Ok(format!(in alloc;
+        "POST {path} HTTP/1.1\r\nhost: a\r\ncontent-length: {size}\r\n\r\n{body}"
+    )?)
 }
 
 /// An answer of this status line and body.
 pub(crate) fn whole(alloc: Global, status: &str, body: &str) -> Result<String, Fail> {
     let size = body.len();
-    Ok(
-        format!(in alloc; "HTTP/1.1 {status}\r\ncontent-type: application/json\r\ncontent-length: {size}\r\nconnection: close\r\n\r\n{body}")?,
-    )
+    Ok(format!(in alloc;
+        "HTTP/1.1 {status}\r\ncontent-type: application/json\r\ncontent-length: {size}\r\nconnection: close\r\n\r\n{body}"
+    )?)
 }

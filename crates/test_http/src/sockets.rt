@@ -16,7 +16,9 @@ fn clients_are_served_in_turn(rt: HostRuntime) -> Result<(), Fail> {
     let listener = TcpListener::bind(&rt, "127.0.0.1:0")?;
     let at = listener.local_addr()?;
     let mut first = TcpStream::connect(&rt, at)?;
-    first.write_all(b"POST /batch HTTP/1.1\r\ncontent-length: 34\r\n\r\n{\"as\":\"#3\",\"calls\":[\"create(#1)\"]}")?;
+    first.write_all(
+        b"POST /batch HTTP/1.1\r\ncontent-length: 34\r\n\r\n{\"as\":\"#3\",\"calls\":[\"create(#1)\"]}",
+    )?;
     let mut second = TcpStream::connect(&rt, at)?;
     second.write_all(b"GET /seq HTTP/1.1\r\n\r\n")?;
     let served = serve_on(rt.alloc(), &routes, &listener, &mut world, 2);
@@ -33,7 +35,10 @@ fn clients_are_served_in_turn(rt: HostRuntime) -> Result<(), Fail> {
         whole(rt.alloc(), "200 OK", r##"{"answers":["#4"],"seq":1}"##)?.as_str()
     );
     let said = io::read_to_string(rt.alloc(), second)?;
-    assert_eq!(rt; said.as_str(), whole(rt.alloc(), "200 OK", r##"{"seq":1}"##)?.as_str());
+    assert_eq!(rt;
+        said.as_str(),
+        whole(rt.alloc(), "200 OK", r##"{"seq":1}"##)?.as_str()
+    );
     Ok(())
 }
 
