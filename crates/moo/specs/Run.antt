@@ -2,6 +2,9 @@
 use Rattle.std.specs.Prelude.{◌≡◌, ◌<◌, ◌⊎◌, ◌==◌, ℕ, Bool, true, List, [], take, length, Option, None, codes, if◌then◌else◌, ⊤, IsTrue, false}
 use Rattle.std.specs.Str.{bytes_eq}
 use Rattle.std.specs.Io.KnownBytes.{Appends}
+use Rattle.clap.specs.Kinds.{Kinds, IsAmong}
+use Rattle.clap.specs.declared.error.kind.ErrorKind.{ErrorKind}
+use Rattle.clap.specs.declared.error.kind.ErrorKind.TheVariants.{DisplayHelp, DisplayVersion}
 use Rattle.sqlite.specs.State.{State as Database, HasCleanDisk}
 use Rattle.sqlite.specs.Tree.{Trees}
 use Rattle.sqlite.specs.Store.{Ghosts}
@@ -22,7 +25,7 @@ use Rattle.moo_store.specs.Kept.{World}
 use Rattle.moo_store.specs.World.{store_of, CrashLeaves}
 use Rattle.moo_words.specs.declared.task.Task.{Task}
 use Rattle.moo_words.specs.declared.task.Task.TheVariants.{Init, Apply, Ask, Dump, Check}
-use Rattle.moo_words.specs.Tasks.{NamesTask}
+use Rattle.moo_words.specs.Tasks.{NamesTask, mistakes}
 use Rattle.moo.specs.Lines.{Reports, WritesLine, text_failure, store_failure, created_line, checked_line}
 use Rattle.moo.specs.declared.failure.Failure.{Failure}
 use Rattle.moo.specs.declared.failure.Failure.TheVariants.{Usage, NoFile, Store, Damaged, NewerVersion, Read, Write, NoMemory}
@@ -136,12 +139,19 @@ FailsAtOnce old new status = (failure : Failure) × IsOpening failure × Reports
 abbrev pub LeavesAsBefore : Database → Database → Type 0
 LeavesAsBefore old new = (trees : Trees) → new.may_leave trees → old.may_leave trees
 
--- The words name no task, and what their reader says of that is written, or a front of it: 0 for help, 2 for a mistake, 1 where the
--- writer fails. Or a line of our own says so.
-abbrev pub EndsUsage : Option (List ℕ) → Option (List ℕ) → ℕ → Type 0
-EndsUsage old new status =
-    ((text : List ℕ) × (known : ℕ) × ((known ≡ 0) ⊎ (known ≡ 2)) × WritesLine text known old new status)
-    ⊎ ((failure : Failure) × ((failure ≡ Usage) ⊎ (failure ≡ NoMemory)) × Reports failure old new status)
+-- the status of a mistake in the words: asking for help or the version is none
+abbrev pub mistake_status : ErrorKind → ℕ
+mistake_status DisplayHelp = 0
+mistake_status DisplayVersion = 0
+mistake_status mistake = 2
+
+-- The words have one of these mistakes, and what their reader says of it is written, with its status. Or a line of our own says that
+-- memory ran out, or that they have none and yet name no task.
+abbrev pub EndsUsage : Kinds → Option (List ℕ) → Option (List ℕ) → ℕ → Type 0
+EndsUsage found old new status =
+    ((mistake : ErrorKind) × IsAmong mistake found × (text : List ℕ) × WritesLine text (mistake_status mistake) old new status)
+    ⊎ Reports NoMemory old new status
+    ⊎ ((found ≡ []) × Reports Usage old new status)
 
 -- a file is refused, or the task runs from a well formed world on
 abbrev pub RunsOpened : Task → Option (List ℕ) → Option (List ℕ) → Option (List ℕ) → ℕ → Type 0
@@ -157,4 +167,4 @@ pub record RunsTask (task : Task) (input old new : Option (List ℕ)) (status : 
 abbrev pub RunsWords : List (List ℕ) → Option (List ℕ) → Option (List ℕ) → Option (List ℕ) → ℕ → Type 0
 RunsWords words input old new status =
     ((task : Task) × NamesTask words task × RunsTask task input old new status)
-    ⊎ ((1 < length words) × EndsUsage old new status)
+    ⊎ ((1 < length words) × EndsUsage (mistakes words) old new status)

@@ -1,7 +1,9 @@
 //! What the words of the command line do.
 
-ghost use Rattle.std.specs.Prelude.{map};
-ghost use Rattle.moo.specs.Run.{EndsUsage, RunsWords};
+ghost use Rattle.std.specs.Prelude.{◌≡◌, ℕ, List, map};
+ghost use Rattle.clap.specs.Kinds.{Kinds, HasKind};
+ghost use Rattle.moo_words.specs.Tasks.{IsRefusal, mistakes};
+ghost use Rattle.moo.specs.Run.{mistake_status, EndsUsage, RunsWords};
 
 use crate::failure::Failure;
 use crate::files::run_task;
@@ -10,26 +12,36 @@ use clap::error::ErrorKind;
 use moo_words::{Usage, read_words};
 use std::io::{Read, Write};
 
-/// Writes what the reader of the command line says, and answers its status.
-fn put_usage<W: Write>(rt: &HostRuntime, error: &clap::Error, output: &mut W) -> u8
-    ensures { EndsUsage (W.contents output.old) (W.contents output.new) result }
+/// The status of what the reader of the words says: 0 for help and the version, 2 for a mistake.
+fn mistake_status(kind: ErrorKind) -> u8
+    ensures { result ≡ mistake_status kind }
 {
-    if error.kind() == ErrorKind::OutOfMemory {
+    match kind {
+        ErrorKind::DisplayHelp | ErrorKind::DisplayVersion => 0,
+        _ => 2,
+    }
+}
+
+/// Writes what the reader of the words says, and answers its status.
+fn put_mistake<W: Write>(rt: &HostRuntime, error: &clap::Error, output: &mut W) -> u8
+    ensures { (found : Kinds) → HasKind found error.now → EndsUsage found (W.contents output.old) (W.contents output.new) result }
+{
+    let kind = error.kind();
+    if kind == ErrorKind::OutOfMemory {
         return report(rt, Failure::NoMemory, output);
     }
     let Ok(text) = error.to_string(rt.alloc()) else {
         return report(rt, Failure::NoMemory, output);
     };
-    let status = if error.use_stderr() { 2 } else { 0 };
-    put_line(text.as_str(), status, output)
+    put_line(text.as_str(), mistake_status(kind), output)
 }
 
 /// Says why the words name no task.
 fn report_usage<W: Write>(rt: &HostRuntime, usage: &Usage, output: &mut W) -> u8
-    ensures { EndsUsage (W.contents output.old) (W.contents output.new) result }
+    ensures { (words : List (List ℕ)) → IsRefusal words usage.now → EndsUsage (mistakes words) (W.contents output.old) (W.contents output.new) result }
 {
     match usage {
-        Usage::Refused(error) => put_usage(rt, error, output),
+        Usage::Refused(error) => put_mistake(rt, error, output),
         Usage::Absent => report(rt, Failure::Usage, output),
     }
 }

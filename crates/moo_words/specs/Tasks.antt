@@ -1,10 +1,14 @@
 -- The task that words name, by the matches of the program's command.
-use Rattle.std.specs.Prelude.{◌≡◌, ◌<◌, ◌≤◌, ◌⊎◌, List, Some, codes, length}
+use Rattle.std.specs.Prelude.{◌≡◌, ◌<◌, ◌≤◌, ◌⊎◌, List, [], Some, codes, length}
 use Rattle.clap.specs.Walk.{Row, Text, first_of}
 use Rattle.clap.specs.Simple.{subcommand_of}
+use Rattle.clap.specs.Kinds.{Kinds, HasKind}
+use Rattle.clap.specs.Faults.{fault_of}
 use Rattle.moo_words.specs.Commands.{moo_app}
 use Rattle.moo_words.specs.declared.task.Task.{Task}
 use Rattle.moo_words.specs.declared.task.Task.TheVariants.{Init, Apply, Ask, Dump, Check}
+use Rattle.moo_words.specs.declared.task.Usage.{Usage}
+use Rattle.moo_words.specs.declared.task.Usage.TheVariants.{Refused, Absent}
 
 -- the argument of that name is this text
 abbrev pub HasText : List Row → Text → Text → Type 0
@@ -28,8 +32,18 @@ IsDefault (Ask file batches) = ⊥
 IsDefault (Dump file) = ⊥
 IsDefault (Check file) = ⊥
 
+-- what is wrong with the words, by clap's rules for the program: the kinds of error that they give, help and the version among these;
+-- none where they are those of a command
+unfoldable pub mistakes : List Text → Kinds
+mistakes words = fault_of moo_app words
+
 -- the task that the words name, the program's name first
 abbrev pub NamesTask : List Text → Task → Type 0
 NamesTask words task =
     ((length words ≤ 1) × IsDefault task)
-    ⊎ ((1 < length words) × (found : Text × List Row) × (subcommand_of moo_app words ≡ Some found) × IsTask found task)
+    ⊎ ((1 < length words) × (mistakes words ≡ []) × (found : Text × List Row) × (subcommand_of moo_app words ≡ Some found) × IsTask found task)
+
+-- The words name no task: they have a mistake of this kind, or memory ran out. Absent says that they have none.
+abbrev pub IsRefusal : List Text → Usage → Type 0
+IsRefusal words (Refused error) = HasKind (mistakes words) error
+IsRefusal words Absent = mistakes words ≡ []

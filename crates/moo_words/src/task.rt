@@ -1,8 +1,8 @@
 //! The task that the words of the command line name.
-ghost use Rattle.std.specs.Prelude.{◌≡◌, ◌<◌, Some, map, IfOk, IsErr, IfSome, codes, length};
+ghost use Rattle.std.specs.Prelude.{◌≡◌, ◌<◌, Some, map, IfOk, IfErr, IsErr, IfSome, codes, length};
 ghost use Rattle.clap.specs.Walk.{rows_of};
 ghost use Rattle.clap.specs.Matches.{found_of};
-ghost use Rattle.moo_words.specs.Tasks.{HasText, IsTask, NamesTask};
+ghost use Rattle.moo_words.specs.Tasks.{HasText, IsRefusal, IsTask, NamesTask};
 
 use crate::commands::moo_command;
 use clap::{ArgMatches, Error};
@@ -74,6 +74,7 @@ fn task_in<'a>(name: &str, matches: &ArgMatches<'a>) -> Option<Task<'a>>
 /// too, or memory runs out; Absent where its matches lack an entry.
 pub fn read_words<'a>(alloc: Global, words: &'a [&'a str]) -> Result<Task<'a>, Usage>
     ensures task { IfOk result (NamesTask (map (λ word. word.now) words.entry.now)) }
+    ensures refused { IfErr result (IsRefusal (map (λ word. word.now) words.entry.now)) }
     ensures more { IsErr result → 1 < length words.entry.now }
 {
     if words.len() <= 1 {

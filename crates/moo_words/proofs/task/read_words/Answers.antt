@@ -1,14 +1,32 @@
 use Rattle.std.proofs.lemmas.List.{length-map}
-use Rattle.std.proofs.Common.{inr, arith, length, ◌<◌, ap, ap₂, sym, ◌∙◌, refl, true, ◌≡◌, map}
-use Rattle.clap.specs.Simple.{is_simple, subcommand_of, subcommand_rows_of}
+use Rattle.std.proofs.Common.{inr, arith, length, ◌<◌, ap, ap₂, sym, subst, ◌∙◌, refl, true, ◌≡◌, map, List, []}
+use Rattle.clap.specs.Walk.{Text}
+use Rattle.clap.specs.Simple.{App, is_simple, subcommand_of, subcommand_rows_of}
+use Rattle.clap.specs.Kinds.{HasKind}
+use Rattle.clap.specs.Faults.{fault_of, is_simple_and_free}
+use Rattle.clap.specs.declared.error.Error.{Error}
 use Rattle.clap.proofs.OnLiterals.{clap_on_literals}
 use Rattle.moo_words.proofs.MatchLemmas.{name_is, pair_given}
 use Rattle.moo_words.specs.Commands.{moo_app}
+use Rattle.moo_words.specs.Tasks.{mistakes}
 use Rattle.moo_words.proofs.task.read_words.Goals as goal
 
 moo_simple : is_simple moo_app ≡ true
 unfolding clap_on_literals
 moo_simple = refl
+
+moo_free : is_simple_and_free moo_app ≡ true
+unfolding clap_on_literals
+moo_free = refl
+
+-- what clap says of the kinds of error, of the program's command
+no_mistake : (app : App) (words : List Text) → app ≡ moo_app → (is_simple_and_free app ≡ true → fault_of app words ≡ []) → mistakes words ≡ []
+unfolding mistakes
+no_mistake app words is none = ap (λ a. fault_of a words) (sym is) ∙ none (ap is_simple_and_free is ∙ moo_free)
+
+has_mistake : (app : App) (words : List Text) (error : Error) → app ≡ moo_app → (is_simple_and_free app ≡ true → HasKind (fault_of app words) error) → HasKind (mistakes words) error
+unfolding mistakes
+has_mistake app words error is has = subst (λ a. HasKind (fault_of a words) error) is (has (ap is_simple_and_free is ∙ moo_free))
 
 pub returns-in-Some-task_in-clause-task : goal.returns-in-Some-task_in-clause-task
 returns-in-Some-task_in-clause-task c =
@@ -16,4 +34,11 @@ returns-in-Some-task_in-clause-task c =
     let found = pair_given (subcommand_rows_of c.in-Ok-try_get_matches_from.matches) c.in-Some.name.now _ (c.in-Some.ensures.name ∙ name_is c.in-Ok-try_get_matches_from.matches) c.in-Some.ensures.rows in
     let many : 1 < length (map (λ word. word.now) c.args.words.now) =
     omega (arith, c.if-words-le1.false, length-map c.args.words.now (λ word. word.now)) in
-    inr (many, _, ap₂ subcommand_of (sym c.in-Ok.ensures) refl ∙ sym parsed.1 ∙ found, c.in-Some-task_in.ensures)
+    let none = no_mistake _ _ c.in-Ok.ensures c.in-Ok-try_get_matches_from.ensures.kinds in
+    inr (many, none, _, ap₂ subcommand_of (sym c.in-Ok.ensures) refl ∙ sym parsed.1 ∙ found, c.in-Some-task_in.ensures)
+
+pub returns-in-Err-try_get_matches_from-clause-refused : goal.returns-in-Err-try_get_matches_from-clause-refused
+returns-in-Err-try_get_matches_from-clause-refused c = has_mistake _ _ c.in-Err-try_get_matches_from.error c.in-Ok.ensures c.in-Err-try_get_matches_from.ensures.kinds
+
+pub returns-clause-refused : goal.returns-clause-refused
+returns-clause-refused c = no_mistake _ _ c.in-Ok.ensures c.in-Ok-try_get_matches_from.ensures.kinds
