@@ -41,3 +41,23 @@ else
     failed "the world opens again as it was acknowledged" "acknowledged $last, found $found"
 fi
 expect "and goes on" 0 "accepted $((found + 1))\n#5\nend\n" 'batch as #3\ncreate(#1)\nend\n' apply world.db -
+
+# A limit on memory, in KB, that leaves room for the program and none for the world.
+python3 -c '
+print("batch as #3\ncreate(#1)\nend")
+for number in range(40):
+    text = "x" * 60000
+    print(f"batch as #3\nadd_property(#4, \"p{number}\", \"{text}\", {{#3, \"rc\"}})\nend")' >large.txt
+"$MOO" init large.db >/dev/null
+"$MOO" apply large.db large.txt >/dev/null
+(
+    ulimit -v 9000
+    "$MOO" check large.db >written 2>complaint
+    echo $? >status
+)
+if [ "$(cat status)" -eq 4 ] && [ "$(cat written)" = "moo: no memory" ]; then
+    passed "want of memory is said, status 4"
+else
+    failed "want of memory is said, status 4" "status $(cat status), $(head -c 200 written) $(head -c 200 complaint)"
+fi
+expect "and the world is whole" 0 'ok seq 41 objects 5\n' '' check large.db
