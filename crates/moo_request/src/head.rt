@@ -49,7 +49,7 @@ fn parse_head(bytes: &[u8]) -> Option<HeadRead>
 }
 
 /// Reads the head of a request, and no further once it is whole.
-pub fn read_head<R: Read>(reader: &mut R, bytes: &mut Vec<u8>) -> Result<HeadRead, ReadFault>
+pub(crate) fn read_head<R: Read>(reader: &mut R, bytes: &mut Vec<u8>) -> Result<HeadRead, ReadFault>
     requires { bytes.old.items ≡ [] }
     ensures takes { OnOk result (Consumes (R.remaining reader.old) (R.remaining reader.new) bytes.new.items) }
     ensures head { IfOk result (FindsHead (R.remaining reader.new) bytes.new.items) }

@@ -44,7 +44,7 @@ fn find<'b>(bytes: &'b [u8], lines: &[HeaderSpan], name: &[u8]) -> Found<'b>
 }
 
 /// The one stated length of the body, as it is written.
-pub fn stated_length<'b>(bytes: &'b [u8], lines: &[HeaderSpan]) -> Option<&'b [u8]>
+pub(crate) fn stated_length<'b>(bytes: &'b [u8], lines: &[HeaderSpan]) -> Option<&'b [u8]>
     requires within { All (IsHeaderWithin (length bytes.now)) lines.now }
     ensures { option_map (λ text. text.now) result ≡ length_text (map (header_bytes bytes.entry.now) lines.now) }
 {

@@ -69,7 +69,7 @@ fn are_short(texts: &[&str]) -> bool
 }
 
 /// The JSON that the bytes are. `None` is none.
-pub fn read_json(alloc: Global, bytes: &[u8]) -> Result<Option<Value>, AllocError>
+pub(crate) fn read_json(alloc: Global, bytes: &[u8]) -> Result<Option<Value>, AllocError>
     ensures { IfOk result (λ found. MatchOption found
         (IsUtf8 bytes.now → read bytes.now ≡ None)
         (λ value. IsUtf8 bytes.now × (read bytes.now ≡ Some (view value)))) }
@@ -82,7 +82,7 @@ pub fn read_json(alloc: Global, bytes: &[u8]) -> Result<Option<Value>, AllocErro
 }
 
 /// The shape that the JSON has. `None` is another shape.
-pub fn shape_in(alloc: Global, value: &Value) -> Result<Option<Shape<'_>>, AllocError>
+pub(crate) fn shape_in(alloc: Global, value: &Value) -> Result<Option<Shape<'_>>, AllocError>
     ensures { IfOk result (λ found. option_map shape_shown found ≡ shape_of (view value.now)) }
 {
     let Some(text) = value.get("as").and_then(Value::as_str) else {
