@@ -19,7 +19,7 @@ use Rattle.moo_http.specs.Faults.{fault_of}
 use Rattle.moo_http.specs.Responses.{response_of, response_text}
 use Rattle.moo_http.specs.Serves.{Serves, Stays, Written, Served}
 
-appends_nothing : (before : Option (List ℕ)) → Appends before before []
+pub appends_nothing : (before : Option (List ℕ)) → Appends before before []
 appends_nothing None = tt
 appends_nothing (Some bytes) = sym (append-nil bytes)
 

@@ -8,3 +8,4 @@ pub mod Answers
 pub mod Settled
 pub mod Serves
 pub mod Lines
+pub mod Connections

@@ -2,7 +2,8 @@
 
 ghost use Rattle.std.specs.Prelude.{◌≡◌, ◌∷◌, [], length, OnOk, Bool};
 ghost use Rattle.moo_store.specs.Stand.{Stand};
-ghost use Rattle.moo_store.specs.World.{StandsAt};
+ghost use Rattle.sqlite.specs.State.{HasCleanDisk};
+ghost use Rattle.moo_store.specs.World.{store_of, StandsAt};
 ghost use Rattle.moo_http.specs.Answers.{Answers, Consulted, looked};
 ghost use Rattle.moo_http.specs.Settled.{Settles, lost_by};
 
@@ -51,7 +52,8 @@ fn settle(ran: Result<(), StoreFault>, replies: Vec<Reply>) -> Outcome
 }
 
 fn run_batch<S: Alter + Drop>(alloc: Global, world: &mut World<S>, batch: &Batch) -> Outcome
-    ensures { (known : Bool) (stand : Stand) → StandsAt S.Store known world.old stand → (new : Stand) × StandsAt S.Store known world.new new × Answers stand (Asked.Calls Mode.Run batch.now) result new }
+    ensures clean { HasCleanDisk (store_of S.Store world.new) → HasCleanDisk (store_of S.Store world.old) }
+    ensures comes { (known : Bool) (stand : Stand) → StandsAt S.Store known world.old stand → (new : Stand) × StandsAt S.Store known world.new new × Answers stand (Asked.Calls Mode.Run batch.now) result new }
 {
     let mut replies = Vec::new(alloc);
     let ran = world.run(slice::from_ref(batch), &mut replies);
@@ -102,7 +104,8 @@ fn take_batch<S: Alter + Drop>(
     mode: Mode,
     batch: &Batch,
 ) -> Outcome
-    ensures { (known : Bool) (stand : Stand) → StandsAt S.Store known world.old stand → (new : Stand) × StandsAt S.Store known world.new new × Answers stand (Asked.Calls mode batch.now) result new }
+    ensures clean { HasCleanDisk (store_of S.Store world.new) → HasCleanDisk (store_of S.Store world.old) }
+    ensures comes { (known : Bool) (stand : Stand) → StandsAt S.Store known world.old stand → (new : Stand) × StandsAt S.Store known world.new new × Answers stand (Asked.Calls mode batch.now) result new }
 {
     match mode {
         Mode::Run => run_batch(alloc, world, batch),
@@ -111,7 +114,8 @@ fn take_batch<S: Alter + Drop>(
 }
 
 fn answer<S: Alter + Drop>(alloc: Global, world: &mut World<S>, asked: &Asked) -> Outcome
-    ensures { (known : Bool) (stand : Stand) → StandsAt S.Store known world.old stand → (new : Stand) × StandsAt S.Store known world.new new × Answers stand asked.now result new }
+    ensures clean { HasCleanDisk (store_of S.Store world.new) → HasCleanDisk (store_of S.Store world.old) }
+    ensures comes { (known : Bool) (stand : Stand) → StandsAt S.Store known world.old stand → (new : Stand) × StandsAt S.Store known world.new new × Answers stand asked.now result new }
 {
     match asked {
         Asked::Refused(refusal) => Outcome::Refused(*refusal),
@@ -127,7 +131,8 @@ pub(crate) fn consult<S: Alter + Drop>(
     world: &mut World<S>,
     asked: &Asked,
 ) -> Outcome
-    ensures { (known : Bool) (stand : Stand) → StandsAt S.Store known world.old stand → Consulted S.Store known stand world.new asked.now result }
+    ensures clean { HasCleanDisk (store_of S.Store world.new) → HasCleanDisk (store_of S.Store world.old) }
+    ensures comes { (known : Bool) (stand : Stand) → StandsAt S.Store known world.old stand → Consulted S.Store known stand world.new asked.now result }
 {
     let outcome = answer(alloc, world, asked);
     world.leaves();

@@ -1,6 +1,10 @@
 //! Connections, served in turn.
 
-ghost use Rattle.std.specs.Prelude.{◌≡◌, ◌+◌};
+ghost use Rattle.std.specs.Prelude.{◌≡◌, ◌+◌, Bool};
+ghost use Rattle.sqlite.specs.State.{HasCleanDisk};
+ghost use Rattle.moo_store.specs.Stand.{Stand};
+ghost use Rattle.moo_store.specs.World.{store_of, StandsAt};
+ghost use Rattle.moo_http.specs.Connections.{Moves, AfterConnections, Reaches};
 
 use crate::serve::serve_one;
 use moo_request::Routes;
@@ -32,14 +36,22 @@ fn serve_next<S: Alter + Drop>(
     routes: &Routes,
     listener: &TcpListener,
     world: &mut World<S>,
-) -> bool {
+) -> bool
+    ensures moves { (known : Bool) (stand : Stand) → StandsAt S.Store known world.old stand → Reaches S.Store known world.new (λ end. Moves stand end) }
+    ensures clean { HasCleanDisk (store_of S.Store world.new) → HasCleanDisk (store_of S.Store world.old) }
+{
+    world.leaves();
     let Ok((stream, _)) = listener.accept() else {
         return false;
     };
-    limit_waits(&stream) && serve_one(alloc, routes, &mut &stream, &mut &stream, world).is_ok()
+    if !limit_waits(&stream) {
+        return false;
+    }
+    serve_one(alloc, routes, &mut &stream, &mut &stream, world).is_ok()
 }
 
-/// Serves this many connections, one after another. One that failed doesn't stop the next.
+/// Serves this many connections, one after another: how many were answered, and how many failed, since they couldn't be taken, or
+/// `serve_one` met a fault. One that failed doesn't stop the next.
 pub fn serve_on<S: Alter + Drop>(
     alloc: Global,
     routes: &Routes,
@@ -47,8 +59,12 @@ pub fn serve_on<S: Alter + Drop>(
     world: &mut World<S>,
     count: u32,
 ) -> Served
-    ensures { result.answered + result.failed ≡ count }
+    ensures count { result.answered + result.failed ≡ count }
+    // Each may have asked one thing of the World, which stands where the last one left it.
+    ensures serves { (known : Bool) (stand : Stand) → StandsAt S.Store known world.old stand → Reaches S.Store known world.new (λ end. AfterConnections count stand end) }
+    ensures clean { HasCleanDisk (store_of S.Store world.new) → HasCleanDisk (store_of S.Store world.old) }
 {
+    world.leaves();
     let mut served = Served {
         answered: 0,
         failed: 0,

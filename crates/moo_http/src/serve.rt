@@ -2,7 +2,8 @@
 
 ghost use Rattle.std.specs.Prelude.{◌≡◌, ◌≢◌, IfOk, IfErr, string_bytes, Bool};
 ghost use Rattle.moo_store.specs.Stand.{Stand};
-ghost use Rattle.moo_store.specs.World.{StandsAt};
+ghost use Rattle.sqlite.specs.State.{HasCleanDisk};
+ghost use Rattle.moo_store.specs.World.{store_of, StandsAt};
 ghost use Rattle.moo_http.specs.declared.outcome.Outcome.{Outcome as AnOutcome};
 ghost use Rattle.moo_http.specs.Answers.{Consulted};
 ghost use Rattle.moo_http.specs.Responses.{response_of, response_text};
@@ -40,6 +41,7 @@ fn serve_asked<S: Alter + Drop, W: Write>(
         × Written result (W.contents writer.old) (W.contents writer.new) (response_text is_head (response_of o)) }
     ensures unwritten { IfErr result (λ fault. fault ≢ ServeFault.Write → writer.new ≡ writer.old) }
     ensures fault { IfErr result (λ fault. fault ≢ ServeFault.Read) }
+    ensures clean { HasCleanDisk (store_of S.Store world.new) → HasCleanDisk (store_of S.Store world.old) }
 {
     let outcome = consult(alloc, world, asked);
     let text = answer_text(alloc, &outcome, is_head)?;
@@ -65,6 +67,8 @@ pub fn serve_one<S: Alter + Drop, R: Read, W: Write>(
         Served S.Store known result stand world.old world.new (R.remaining reader.old) (R.remaining reader.new) (W.contents writer.old) (W.contents writer.new) }
     ensures unwritten { IfErr result (λ fault. fault ≢ ServeFault.Write → writer.new ≡ writer.old) }
     ensures unread { IfErr result (λ fault. fault ≡ ServeFault.Read → world.new ≡ world.old) }
+    // A disk that returns what was written did so before.
+    ensures clean { HasCleanDisk (store_of S.Store world.new) → HasCleanDisk (store_of S.Store world.old) }
 {
     world.leaves();
     match read_request(alloc, routes, reader)? {

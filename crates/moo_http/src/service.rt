@@ -1,8 +1,13 @@
 //! The service on a port of this machine, from binding to its last line.
 
-ghost use Rattle.std.specs.Prelude.{◌≡◌, ◌+◌, ◌++◌, ℕ, IfOk, IfErr, OnOk, string_bytes};
+ghost use Rattle.std.specs.Prelude.{◌≡◌, ◌≢◌, IfOk, IfErr, OnOk, OnErr, Bool, string_bytes};
+ghost use Rattle.sqlite.specs.State.{HasCleanDisk};
+ghost use Rattle.moo_store.specs.Stand.{Stand};
+ghost use Rattle.moo_store.specs.World.{store_of, StandsAt};
+ghost use Rattle.moo_http.specs.declared.service.ServiceFault.TheVariants.{OutOfMemory};
 ghost use Rattle.std.specs.Io.KnownBytes.{Appends};
 ghost use Rattle.moo_http.specs.Lines.{listening_line, served_line};
+ghost use Rattle.moo_http.specs.Connections.{Reaches, ServesPort, WritesFront};
 
 use crate::listen::{Served, serve_on};
 use moo_request::Routes;
@@ -18,13 +23,15 @@ use std::net::{Ipv4Addr, TcpListener};
 pub enum ServiceFault {
     /// The port can't be bound; nothing is written.
     Port,
-    /// The output failed.
+    /// The output failed, before the first connection or behind the last.
     Write,
-    /// Memory ran out.
+    /// Memory ran out, before the first connection or behind the last.
     OutOfMemory,
 }
 
 impl From<AllocError> for ServiceFault {
+    ghost from_gives = { λ _ fault. fault ≡ OutOfMemory };
+
     fn from(_: AllocError) -> ServiceFault {
         ServiceFault::OutOfMemory
     }
@@ -44,23 +51,32 @@ fn served_text(alloc: Global, answered: u32, failed: u32) -> Result<String, Allo
 
 /// Writes a text, and has it seen at once.
 fn say<W: Write>(output: &mut W, text: &str) -> Result<(), ServiceFault>
-    ensures { OnOk result (Appends (W.contents output.old) (W.contents output.new) text.now) }
+    ensures ok { OnOk result (Appends (W.contents output.old) (W.contents output.new) text.now) }
+    ensures err { OnErr result (WritesFront text.now (W.contents output.old) (W.contents output.new)) }
+    ensures fault { IfErr result (λ fault. fault ≢ ServiceFault.Port) }
 {
-    if put_all(output, text.as_bytes()).is_err() || output.flush().is_err() {
+    if put_all(output, text.as_bytes()).is_err() {
+        return Err(ServiceFault::Write);
+    }
+    if output.flush().is_err() {
         return Err(ServiceFault::Write);
     }
     Ok(())
 }
 
 fn say_listening<W: Write>(alloc: Global, output: &mut W, port: u16) -> Result<(), ServiceFault>
-    ensures { OnOk result (Appends (W.contents output.old) (W.contents output.new) (listening_line port)) }
+    ensures ok { OnOk result (Appends (W.contents output.old) (W.contents output.new) (listening_line port)) }
+    ensures err { OnErr result (WritesFront (listening_line port) (W.contents output.old) (W.contents output.new)) }
+    ensures fault { IfErr result (λ fault. fault ≢ ServiceFault.Port) }
 {
     let line = listening_text(alloc, port)?;
     say(output, line.as_str())
 }
 
 fn say_served<W: Write>(alloc: Global, output: &mut W, served: Served) -> Result<(), ServiceFault>
-    ensures { OnOk result (Appends (W.contents output.old) (W.contents output.new) (served_line served.answered served.failed)) }
+    ensures ok { OnOk result (Appends (W.contents output.old) (W.contents output.new) (served_line served.answered served.failed)) }
+    ensures err { OnErr result (WritesFront (served_line served.answered served.failed) (W.contents output.old) (W.contents output.new)) }
+    ensures fault { IfErr result (λ fault. fault ≢ ServiceFault.Port) }
 {
     let line = served_text(alloc, served.answered, served.failed)?;
     say(output, line.as_str())
@@ -68,7 +84,8 @@ fn say_served<W: Write>(alloc: Global, output: &mut W, served: Served) -> Result
 
 /// Binds a port of 127.0.0.1, and no other address; says so, serves so many connections, and says how many were answered.
 ///
-/// The faults: Port where the port can't be bound; Write where the output fails; OutOfMemory.
+/// The faults: Port where the port can't be bound, and nothing is written; Write where the output fails, and OutOfMemory, with a front
+/// of the two lines written: then no connection was taken, or all of them were. A connection that fails is no fault.
 pub fn serve_port<S: Alter + Drop, W: Write>(
     rt: &HostRuntime,
     world: &mut World<S>,
@@ -76,8 +93,12 @@ pub fn serve_port<S: Alter + Drop, W: Write>(
     count: u32,
     output: &mut W,
 ) -> Result<(), ServiceFault>
-    ensures { OnOk result ((answered failed : ℕ) × (answered + failed ≡ count) × Appends (W.contents output.old) (W.contents output.new) (listening_line port ++ served_line answered failed)) }
+    ensures serves { (known : Bool) (stand : Stand) → StandsAt S.Store known world.old stand →
+        Reaches S.Store known world.new (λ end. ServesPort result port count stand end (W.contents output.old) (W.contents output.new)) }
+    // A disk that returns what was written did so before.
+    ensures clean { HasCleanDisk (store_of S.Store world.new) → HasCleanDisk (store_of S.Store world.old) }
 {
+    world.leaves();
     let alloc = rt.alloc();
     let routes = Routes::new(alloc)?;
     let Ok(listener) = TcpListener::bind(rt, (Ipv4Addr::LOCALHOST, port)) else {

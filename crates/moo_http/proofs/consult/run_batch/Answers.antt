@@ -6,8 +6,8 @@ settle-requires g c =
     one_reply c.run-ran.result c.args.batch.now c.from_ref.result.now c.new-replies.result.items c.run-ran.new.replies.items
     c.from_ref.ensures.value c.new-replies.ensures.items c.run-ran.ensures.each
 
-pub returns : goal.returns
-returns g c known stand at =
+pub returns-clause-comes : goal.returns-clause-comes
+returns-clause-comes g c known stand at =
     ran_one g.S.Store known c.args.world.now c.run-ran.new.self stand c.args.batch.now c.from_ref.result.now c.new-replies.result.items c.run-ran.new.replies.items c.run-ran.result c.settle.result
     c.from_ref.ensures.value c.new-replies.ensures.items at
     (record {
