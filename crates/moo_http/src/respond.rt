@@ -1,6 +1,6 @@
 //! The status and the body of what came of a request.
 
-ghost use Rattle.std.specs.Prelude.{◌≡◌, IfOk};
+ghost use Rattle.std.specs.Prelude.{◌≡◌, None, IfOk};
 ghost use Rattle.moo_http.specs.Responses.{plain, method_name, refusal_response, reply_response, response_of};
 ghost use Rattle.moo_http.specs.Bodies.{error_body, call_body, stale_body, seq_body, accepted_body, look_body};
 ghost use Rattle.moo_http.specs.Shown.{Shows};
@@ -25,16 +25,25 @@ fn name_of(method: Method) -> &'static str
     }
 }
 
+/// A response that names no method.
+fn with_body(status: StatusCode, body: String) -> Response
+    ensures status { result.status ≡ status }
+    ensures allow { result.allow ≡ None }
+    ensures body { result.body ≡ body }
+{
+    Response {
+        status,
+        allow: None,
+        body,
+    }
+}
+
 /// A word under `error`.
 fn error(alloc: Global, status: StatusCode, word: &str) -> Result<Response, AllocError>
     ensures { IfOk result (λ r. Shows r (plain status (error_body word.now))) }
 {
     let body = error_text(alloc, word)?;
-    Ok(Response {
-        status,
-        allow: None,
-        body,
-    })
+    Ok(with_body(status, body))
 }
 
 /// A call, and what befell it.
@@ -47,55 +56,35 @@ fn call_error(
     ensures { IfOk result (λ r. Shows r (plain status (call_body call word.now))) }
 {
     let body = call_text(alloc, call, word)?;
-    Ok(Response {
-        status,
-        allow: None,
-        body,
-    })
+    Ok(with_body(status, body))
 }
 
 fn stale(alloc: Global, seq: u64) -> Result<Response, AllocError>
     ensures { IfOk result (λ r. Shows r (plain 409 (stale_body seq))) }
 {
     let body = stale_text(alloc, seq)?;
-    Ok(Response {
-        status: StatusCode::CONFLICT,
-        allow: None,
-        body,
-    })
+    Ok(with_body(StatusCode::CONFLICT, body))
 }
 
 fn number(alloc: Global, seq: u64) -> Result<Response, AllocError>
     ensures { IfOk result (λ r. Shows r (plain 200 (seq_body seq))) }
 {
     let body = seq_text(alloc, seq)?;
-    Ok(Response {
-        status: StatusCode::OK,
-        allow: None,
-        body,
-    })
+    Ok(with_body(StatusCode::OK, body))
 }
 
 fn accepted(alloc: Global, answers: &Answers, seq: u64) -> Result<Response, AllocError>
     ensures { IfOk result (λ r. Shows r (plain 200 (accepted_body answers.now seq))) }
 {
     let body = accepted_text(alloc, answers.items(), seq)?;
-    Ok(Response {
-        status: StatusCode::OK,
-        allow: None,
-        body,
-    })
+    Ok(with_body(StatusCode::OK, body))
 }
 
 fn object(alloc: Global, look: &Look) -> Result<Response, AllocError>
     ensures { IfOk result (λ r. Shows r (plain 200 (look_body look.now))) }
 {
     let body = look_text(alloc, look)?;
-    Ok(Response {
-        status: StatusCode::OK,
-        allow: None,
-        body,
-    })
+    Ok(with_body(StatusCode::OK, body))
 }
 
 fn not_allowed(alloc: Global, method: Method) -> Result<Response, AllocError>
