@@ -1,6 +1,6 @@
 -- Connections, taken in turn.
-use Rattle.std.proofs.Common.{◌≡◌, ◌≢◌, inl, inr, ◌⊎◌, ℕ, suc, zero, ◌+◌, Bool, IsTrue, List, [], ◌++◌, length, take, Option, Some, None, refl, sym, subst, ap, ◌∙◌}
-use Rattle.std.specs.Prelude.{Result, Ok, Err, OnOk, OnErr, IfErr}
+use Rattle.std.proofs.Common.{◌≡◌, ◌≢◌, inl, inr, ℕ, suc, zero, ◌+◌, Bool, IsTrue, List, ◌++◌, length, take, Option, Some, None, refl, sym, subst, ◌∙◌}
+use Rattle.std.specs.Prelude.{Result, Ok, Err, OnOk, OnErr, IfErr, IsErrAnd}
 use Rattle.std.specs.Io.KnownBytes.{Appends, Keeps}
 use Rattle.std.proofs.Math.Seq.{take-append-add, take-length}
 use Rattle.sqlite.specs.State.{HasCleanDisk}
@@ -14,7 +14,7 @@ use Rattle.moo_http.specs.declared.fault.ServeFault.{ServeFault}
 use Rattle.moo_http.specs.declared.fault.ServeFault.TheVariants.{Read, Write, OutOfMemory}
 use Rattle.moo_http.specs.declared.service.ServiceFault.{ServiceFault}
 use Rattle.moo_http.specs.declared.service.ServiceFault.TheVariants as service
-use Rattle.moo_http.specs.Connections.{Moves, AfterConnections, Reaches, WritesFront, ServesAll, ServesPort}
+use Rattle.moo_http.specs.Connections.{Moves, AfterConnections, Reaches, WritesFront, ServesPort}
 use Rattle.moo_http.specs.Lines.{listening_line, served_line}
 use Rattle.moo_http.specs.Serves.{Gets, Serves, Stays, Served}
 use Rattle.moo_http.proofs.Serving.{appends_nothing, appends_both}
@@ -34,7 +34,7 @@ module _ {S : Type 0} (g : Ghosts S) (known : Bool) (old : Stand) (was world : W
 
   pub moves : (r : Result (Unit {0}) ServeFault) (left rest before behind : Option (List ℕ)) → StandsAt g known was old → Served g known r old was world left rest before behind → Reaches g known world (λ end. Moves old end)
   moves (Ok done) left rest before behind at (output, serves, wrote) = served_moves left rest output serves
-  moves (Err Write) left rest before behind at (output, serves, front) = served_moves left rest output serves
+  moves (Err Write) left rest before behind at (output, serves, sent, wrote) = served_moves left rest output serves
   moves (Err Read) left rest before behind at (stays, same) = stays_moves at stays
   moves (Err OutOfMemory) left rest before behind at (same, inl stays) = stays_moves at stays
   moves (Err OutOfMemory) left rest before behind at (same, inr (output, serves)) = served_moves left rest output serves
@@ -62,25 +62,22 @@ one_more g known stand mid world count moves before =
     let after = moves before.end before.stands in
     record { end = after.end; stands = after.stands; crash = after.crash; ends = (before.end, before.ends, after.ends) }
 
-pub taken_on : {S : Type 0} (g : Ghosts S) (was mid world : World S) (count : ℕ) → Taken g was mid count
+pub taken_on : {S : Type 0} (g : Ghosts S) (was mid world : World S) (count next : ℕ) → next ≡ suc count → Taken g was mid count
     → ((known : Bool) (stand : Stand) → StandsAt g known mid stand → Reaches g known world (λ end. Moves stand end)) → (HasCleanDisk (store_of g world) → HasCleanDisk (store_of g mid))
-    → Taken g was world (suc count)
-taken_on g was mid world count before moves clean = record {
-  reaches = λ known stand at. one_more g known stand mid world count (moves known) (before.reaches known stand at);
+    → Taken g was world next
+taken_on g was mid world count next is before moves clean = record {
+  reaches = λ known stand at. subst (λ n. Reaches g known world (λ end. AfterConnections n stand end)) (sym is) (one_more g known stand mid world count (moves known) (before.reaches known stand at));
   clean = λ now. before.clean (clean now);
 }
 
 -- ---- what the service says
 
-appends_kept : (a b c : Option (List ℕ)) (bs : List ℕ) → Appends a b bs → Keeps b c → Appends a c bs
+-- known bytes that grew and then stayed
+pub appends_kept : (a b c : Option (List ℕ)) (bs : List ℕ) → Appends a b bs → Keeps b c → Appends a c bs
 appends_kept None b c bs p kept = tt
 appends_kept (Some x) None c bs p kept = absurd p
 appends_kept (Some x) (Some y) None bs p kept = absurd kept
 appends_kept (Some x) (Some y) (Some z) bs p kept = kept ∙ p
-
--- a text that is written whole
-pub whole : (text : List ℕ) (before between behind : Option (List ℕ)) → Appends before between text → Keeps between behind → Appends before behind text
-whole text before between behind = appends_kept before between behind text
 
 pub whole_front : (text : List ℕ) (before behind : Option (List ℕ)) → Appends before behind text → WritesFront text before behind
 whole_front text before behind it = (length text, subst (λ bs. Appends before behind bs) (sym (take-length text)) it)
@@ -94,10 +91,16 @@ front_behind first second before between behind all (sent, it) =
     (length first + sent, subst (λ bs. Appends before behind bs) (sym (take-append-add first second sent)) (appends_both before between behind first (take sent second) all it))
 
 -- memory ran out, or the output failed, before the first connection
-pub fails_before : (fault : ServiceFault) (port count : ℕ) (stand : Stand) (before behind : Option (List ℕ)) → fault ≢ service.Port → WritesFront (listening_line port) before behind → ServesPort (Err fault) port count stand stand before behind
+fails_before : (fault : ServiceFault) (port count : ℕ) (stand : Stand) (before behind : Option (List ℕ)) → fault ≢ service.Port → WritesFront (listening_line port) before behind → ServesPort (Err fault) port count stand stand before behind
 fails_before service.Port port count stand before behind other front = absurd (other refl)
 fails_before service.Write port count stand before behind other front = inl (refl, front)
 fails_before service.OutOfMemory port count stand before behind other front = inl (refl, front)
+
+pub fails_early : (r : Result (Unit {0}) ServiceFault) (fault : ServiceFault) (port count : ℕ) (stand : Stand) (before behind : Option (List ℕ)) → IsErrAnd r (λ e. e ≡ fault) → fault ≢ service.Port → WritesFront (listening_line port) before behind
+    → ServesPort r port count stand stand before behind
+fails_early (Ok done) fault port count stand before behind is other front = absurd is
+fails_early (Err e) fault port count stand before behind is other front =
+    subst (λ f. ServesPort (Err f) port count stand stand before behind) (sym is) (fails_before fault port count stand before behind other front)
 
 -- behind the last one
 pub ends_port : (r : Result (Unit {0}) ServiceFault) (port count answered failed : ℕ) (old new : Stand) (before between behind : Option (List ℕ)) → answered + failed ≡ count → AfterConnections count old new
