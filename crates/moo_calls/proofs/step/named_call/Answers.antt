@@ -1,5 +1,0 @@
-use Rattle.moo_world.proofs.FormArguments.{accept_list_numbered}
-use Rattle.moo_calls.proofs.step.named_call.Goals as goal
-
-pub set_accept-requires-clause-numbers : goal.set_accept-requires-clause-numbers
-set_accept-requires-clause-numbers g c = accept_list_numbered c.args.args.now _ c.in_ok-x-in-SetAccept.ensures c.requires.fit

@@ -1,0 +1,118 @@
+//! The calls on verbs, by what they are given. What a call is given is held where it may end early, so that each has a
+//! function of its own.
+
+ghost use Rattle.std.specs.Prelude.{OnOk};
+ghost use Rattle.moo_rights.specs.Outcomes.{world_in, ComesTo, Answers};
+ghost use Rattle.moo_world.specs.Keeps.{Keeps};
+ghost use Rattle.moo_world.specs.Rows.{IsGood};
+ghost use Rattle.moo_world.specs.Step.{named_call};
+ghost use Rattle.moo_world.specs.declared.name.CallName.TheVariants.{Verbs, VerbInfo, VerbArgs, AddVerb, DeleteVerb, SetVerbInfo, SetVerbArgs};
+
+use moo_rights::args::one_object;
+use moo_rights::fault::Fault;
+use moo_rights::verb_args::{new_verb, new_verb_args, new_verb_info, object_and_desc};
+use moo_rows::rows::Rows;
+use moo_value::value::{ObjNo, Value};
+use moo_verb_calls::{adding, changing, reading};
+use std::alloc::Global;
+
+/// `verbs`, by what it is given.
+pub(crate) fn verbs<R: Rows>(
+    rows: &R,
+    alloc: Global,
+    programmer: ObjNo,
+    args: &[Value],
+) -> Result<Value, Fault>
+    requires { IsGood (R.held rows.now).maps }
+    ensures { Answers (named_call (world_in (R.held rows.now)) programmer Verbs args.now) (R.held rows.now) result }
+{
+    reading::verbs(rows, alloc, programmer, one_object(args)?)
+}
+
+/// `verb_info`, by what it is given.
+pub(crate) fn verb_info<R: Rows>(
+    rows: &R,
+    alloc: Global,
+    programmer: ObjNo,
+    args: &[Value],
+) -> Result<Value, Fault>
+    requires { IsGood (R.held rows.now).maps }
+    ensures { Answers (named_call (world_in (R.held rows.now)) programmer VerbInfo args.now) (R.held rows.now) result }
+{
+    let (x, desc) = object_and_desc(alloc, args)?;
+    reading::verb_info(rows, alloc, programmer, x, &desc)
+}
+
+/// `verb_args`, by what it is given.
+pub(crate) fn verb_args<R: Rows>(
+    rows: &R,
+    alloc: Global,
+    programmer: ObjNo,
+    args: &[Value],
+) -> Result<Value, Fault>
+    requires { IsGood (R.held rows.now).maps }
+    ensures { Answers (named_call (world_in (R.held rows.now)) programmer VerbArgs args.now) (R.held rows.now) result }
+{
+    let (x, desc) = object_and_desc(alloc, args)?;
+    reading::verb_args(rows, alloc, programmer, x, &desc)
+}
+
+/// `add_verb`, by what it is given.
+pub(crate) fn add_verb<R: Rows>(
+    rows: &mut R,
+    alloc: Global,
+    programmer: ObjNo,
+    args: &[Value],
+) -> Result<Value, Fault>
+    requires { IsGood (R.held rows.old).maps }
+    ensures comes { ComesTo (named_call (world_in (R.held rows.old)) programmer AddVerb args.now) (R.held rows.old) (R.held rows.new) result }
+    ensures kept { OnOk result (Keeps (R.held rows.old) (R.held rows.new)) }
+{
+    let new = new_verb(args)?;
+    adding::add_verb(rows, alloc, programmer, new.object, new.verb, new.args)
+}
+
+/// `delete_verb`, by what it is given.
+pub(crate) fn delete_verb<R: Rows>(
+    rows: &mut R,
+    alloc: Global,
+    programmer: ObjNo,
+    args: &[Value],
+) -> Result<Value, Fault>
+    requires { IsGood (R.held rows.old).maps }
+    ensures comes { ComesTo (named_call (world_in (R.held rows.old)) programmer DeleteVerb args.now) (R.held rows.old) (R.held rows.new) result }
+    ensures kept { OnOk result (Keeps (R.held rows.old) (R.held rows.new)) }
+{
+    let (x, desc) = object_and_desc(alloc, args)?;
+    changing::delete_verb(rows, programmer, x, &desc)
+}
+
+/// `set_verb_info`, by what it is given.
+pub(crate) fn set_verb_info<R: Rows>(
+    rows: &mut R,
+    alloc: Global,
+    programmer: ObjNo,
+    args: &[Value],
+) -> Result<Value, Fault>
+    requires { IsGood (R.held rows.old).maps }
+    ensures comes { ComesTo (named_call (world_in (R.held rows.old)) programmer SetVerbInfo args.now) (R.held rows.old) (R.held rows.new) result }
+    ensures kept { OnOk result (Keeps (R.held rows.old) (R.held rows.new)) }
+{
+    let new = new_verb_info(alloc, args)?;
+    changing::set_verb_info(rows, alloc, programmer, new.object, &new.desc, new.verb)
+}
+
+/// `set_verb_args`, by what it is given.
+pub(crate) fn set_verb_args<R: Rows>(
+    rows: &mut R,
+    alloc: Global,
+    programmer: ObjNo,
+    args: &[Value],
+) -> Result<Value, Fault>
+    requires { IsGood (R.held rows.old).maps }
+    ensures comes { ComesTo (named_call (world_in (R.held rows.old)) programmer SetVerbArgs args.now) (R.held rows.old) (R.held rows.new) result }
+    ensures kept { OnOk result (Keeps (R.held rows.old) (R.held rows.new)) }
+{
+    let new = new_verb_args(alloc, args)?;
+    changing::set_verb_args(rows, alloc, programmer, new.object, &new.desc, new.args)
+}
