@@ -1,17 +1,21 @@
 //! Defining properties.
 
-ghost use Rattle.std.specs.Prelude.{◌≡◌, true, is_some, nat_lt, Some, IfSome, IfOk, IfErr, OnOk};
+ghost use Rattle.std.specs.Prelude.{◌≡◌, true, is_some, nat_lt, Some, Err, IfSome, IfOk, IfErr, OnOk};
 ghost use Rattle.moo_rows.specs.Bits.{bits_of};
 ghost use Rattle.moo_rows.specs.declared.row.Bits.{Bits};
+ghost use Rattle.moo_rows.specs.declared.row.SlotState.TheVariants.{Set};
+ghost use Rattle.moo_value.specs.declared.value.Value.{Value};
 ghost use Rattle.moo_world.specs.Arguments.{fits};
 ghost use Rattle.moo_world.specs.Keeps.{Keeps};
 ghost use Rattle.moo_world.specs.PropertyCalls.{add_property, defines, may_define};
 ghost use Rattle.moo_world.specs.Rows.{IsGood};
 ghost use Rattle.moo_world.specs.Objects.{folded};
-ghost use Rattle.moo_world.specs.Outcomes.{Outcome, Failed};
+ghost use Rattle.moo_world.specs.Answers.{zero};
+ghost use Rattle.moo_world.specs.Changes.{defined};
+ghost use Rattle.moo_world.specs.Outcomes.{Outcome, Done, Failed};
 ghost use Rattle.moo_world.specs.World.{is_object, is_property_name};
 ghost use Rattle.moo_props.specs.Names.{defines as defines_property, name_of};
-ghost use Rattle.moo_rights.specs.Outcomes.{world_in, ComesTo};
+ghost use Rattle.moo_rights.specs.Outcomes.{world_in, ComesTo, Answers};
 ghost use Rattle.moo_property_calls.specs.Checks.{taking_info};
 
 use moo_props::clashing::clashes;
@@ -95,6 +99,41 @@ fn has_number_left<R: Rows>(rows: &R) -> bool
     rows.head().next_prop < u32::MAX
 }
 
+/// The rights of the property that the programmer may define on x, or the first error of `add_property`.
+fn bits_to_define<R: Rows>(
+    rows: &R,
+    programmer: ObjNo,
+    x: ObjNo,
+    name: &MooStr,
+    info: Info<'_>,
+) -> Result<Bits, Fault>
+    requires { IsGood (R.held rows.now).maps }
+    ensures ok { IfOk result (λ bits. (v : Value) → add_property (world_in (R.held rows.now)) programmer x name.now v (info.entry.owner, info.entry.perms.now)
+        ≡ Done zero (defined (world_in (R.held rows.now)) x name.now (record { definer = x; owner = info.entry.owner; bits = bits; state = Set v }))) }
+    ensures err { IfErr result (λ fault. (v : Value) → Answers (add_property (world_in (R.held rows.now)) programmer x name.now v (info.entry.owner, info.entry.perms.now)) (R.held rows.now) (Err fault)) }
+    ensures there { OnOk result (is_object (world_in (R.held rows.now)) x ≡ true) }
+    ensures free { OnOk result (may_define (world_in (R.held rows.now)) x name.now ≡ true) }
+    ensures left { OnOk result (nat_lt (world_in (R.held rows.now)).next_prop 4294967295 ≡ true) }
+{
+    if !valid(rows, x) {
+        return Err(Fault::Moo(Code::InvalidArgument));
+    }
+    let bits = bits_taken(rows, info)?;
+    if !rights::may_write_object(rows, programmer, x) {
+        return Err(Fault::Moo(Code::Permission));
+    }
+    if !rights::may_own(rows, programmer, info.owner) {
+        return Err(Fault::Moo(Code::Permission));
+    }
+    if !may_define(rows, x, name) {
+        return Err(Fault::Moo(Code::InvalidArgument));
+    }
+    if !has_number_left(rows) {
+        return Err(Fault::Full);
+    }
+    Ok(bits)
+}
+
 /// `add_property(object, name, value, {owner, perms})`: defines a property on the object, with the value; each descendant
 /// gets it clear. The answer is 0. E_INVARG where the object is none, then where the owner is none, then where a letter of
 /// perms is none of `r`, `w` and `c`; E_PERM where the programmer may not write the object, then where it is neither the
@@ -115,22 +154,7 @@ pub fn add_property<R: Rows>(
     ensures comes { ComesTo (add_property (world_in (R.held rows.old)) programmer x name.now value.now (info.entry.owner, info.entry.perms.now)) (R.held rows.old) (R.held rows.new) result }
     ensures kept { OnOk result (Keeps (R.held rows.old) (R.held rows.new)) }
 {
-    if !valid(rows, x) {
-        return Err(Fault::Moo(Code::InvalidArgument));
-    }
-    let bits = bits_taken(rows, info)?;
-    if !rights::may_write_object(rows, programmer, x) {
-        return Err(Fault::Moo(Code::Permission));
-    }
-    if !rights::may_own(rows, programmer, info.owner) {
-        return Err(Fault::Moo(Code::Permission));
-    }
-    if !may_define(rows, x, name) {
-        return Err(Fault::Moo(Code::InvalidArgument));
-    }
-    if !has_number_left(rows) {
-        return Err(Fault::Full);
-    }
+    let bits = bits_to_define(rows, programmer, x, name, info)?;
     let name = name.copy(alloc)?;
     let value = value.copy(alloc)?;
     define(alloc, rows, x, name, value, info.owner, bits)?;

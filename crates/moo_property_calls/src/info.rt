@@ -1,15 +1,17 @@
 //! Changing the owner, the rights and the name of a property.
 
-ghost use Rattle.std.specs.Prelude.{◌≡◌, ◌||◌, true, is_some, option_map, IfOk, OnOk};
+ghost use Rattle.std.specs.Prelude.{◌≡◌, ◌||◌, true, is_some, option_map, Err, IfOk, IfErr, OnOk};
 ghost use Rattle.std.specs.FinMap.{get};
+ghost use Rattle.moo_world.specs.Answers.{zero};
 ghost use Rattle.moo_world.specs.Changes.{info_set};
 ghost use Rattle.moo_world.specs.Keeps.{Keeps};
-ghost use Rattle.moo_world.specs.Objects.{same_object};
+ghost use Rattle.moo_world.specs.Objects.{folded, same_object};
+ghost use Rattle.moo_world.specs.Outcomes.{Done};
 ghost use Rattle.moo_world.specs.PropertyCalls.{may_rename, renamed_to, set_property_info};
 ghost use Rattle.moo_world.specs.Rights.{is_wizard};
 ghost use Rattle.moo_world.specs.Rows.{world_of, IsGood};
-ghost use Rattle.moo_props.specs.Names.{spelling_of};
-ghost use Rattle.moo_rights.specs.Outcomes.{world_in, ComesTo};
+ghost use Rattle.moo_props.specs.Names.{name_of, spelling_of};
+ghost use Rattle.moo_rights.specs.Outcomes.{world_in, ComesTo, Answers};
 
 use crate::definitions::{bits_taken, defines, may_define};
 use crate::slots::may_write;
@@ -81,6 +83,42 @@ fn change_info<R: Rows>(
     Ok(())
 }
 
+/// The property of a name on x and the rights that the programmer may give it, or the first error of `set_property_info`.
+fn property_to_change<R: Rows>(
+    rows: &R,
+    programmer: ObjNo,
+    x: ObjNo,
+    name: &MooStr,
+    info: Info<'_>,
+    new_name: Option<&MooStr>,
+) -> Result<(PropId, Bits), Fault>
+    requires { IsGood (R.held rows.now).maps }
+    ensures ok { IfOk result (λ found. set_property_info (world_in (R.held rows.now)) programmer x name.now (info.entry.owner, info.entry.perms.now) (option_map (λ n. n.now) new_name.entry)
+        ≡ Done zero (renamed_to (info_set (world_in (R.held rows.now)) x name.now info.entry.owner found.1) x name.now (option_map (λ n. n.now) new_name.entry))) }
+    ensures err { IfErr result (λ fault. Answers (set_property_info (world_in (R.held rows.now)) programmer x name.now (info.entry.owner, info.entry.perms.now) (option_map (λ n. n.now) new_name.entry)) (R.held rows.now) (Err fault)) }
+    ensures held { IfOk result (λ found. is_some (get (R.held rows.now).maps.slots (x, found.0)) ≡ true) }
+    ensures named { IfOk result (λ found. name_of (R.held rows.now).maps found.0 ≡ folded name.now) }
+    ensures may { OnOk result (may_rename (world_in (R.held rows.now)) x name.now (option_map (λ n. n.now) new_name.entry) ≡ true) }
+{
+    if !valid(rows, x) {
+        return Err(Fault::Moo(Code::InvalidArgument));
+    }
+    let Some(found) = slot_of(rows, x, name) else {
+        return Err(Fault::Moo(Code::PropertyNotFound));
+    };
+    let bits = bits_taken(rows, info)?;
+    if !may_write(rows, programmer, found) {
+        return Err(Fault::Moo(Code::Permission));
+    }
+    if !may_give(rows, programmer, info.owner, found.slot.owner) {
+        return Err(Fault::Moo(Code::Permission));
+    }
+    if !may_rename(rows, x, name, new_name) {
+        return Err(Fault::Moo(Code::InvalidArgument));
+    }
+    Ok((found.id, bits))
+}
+
 /// `set_property_info(object, name, {owner, perms})` and `(object, name, {owner, perms, new-name})`: sets the owner and the
 /// rights of the property on that object alone, and gives the property the new name everywhere. The answer is 0. E_INVARG
 /// where the object is none; E_PROPNF where it has no property of the name; E_INVARG where the owner is none, then where a
@@ -102,23 +140,7 @@ pub fn set_property_info<R: Rows>(
     ensures comes { ComesTo (set_property_info (world_in (R.held rows.old)) programmer x name.now (info.entry.owner, info.entry.perms.now) (option_map (λ n. n.now) new_name.entry)) (R.held rows.old) (R.held rows.new) result }
     ensures kept { OnOk result (Keeps (R.held rows.old) (R.held rows.new)) }
 {
-    if !valid(rows, x) {
-        return Err(Fault::Moo(Code::InvalidArgument));
-    }
-    let Some(found) = slot_of(rows, x, name) else {
-        return Err(Fault::Moo(Code::PropertyNotFound));
-    };
-    let bits = bits_taken(rows, info)?;
-    if !may_write(rows, programmer, found) {
-        return Err(Fault::Moo(Code::Permission));
-    }
-    if !may_give(rows, programmer, info.owner, found.slot.owner) {
-        return Err(Fault::Moo(Code::Permission));
-    }
-    if !may_rename(rows, x, name, new_name) {
-        return Err(Fault::Moo(Code::InvalidArgument));
-    }
-    let id = found.id;
+    let (id, bits) = property_to_change(rows, programmer, x, name, info, new_name)?;
     let new = copy_of(alloc, new_name)?;
     change_info(rows, alloc, x, id, info.owner, bits, new)?;
     Ok(ZERO)

@@ -1,4 +1,4 @@
-use Rattle.std.proofs.Common.{rules, ◌≡◌, sym, ap, ◌∙◌}
+use Rattle.std.proofs.Common.{rules, ◌≡◌, ap, ◌∙◌}
 use Rattle.std.specs.Option.{option_map}
 use Rattle.moo_world.specs.Changes.{info_set}
 use Rattle.moo_world.specs.Objects.{same_object}
@@ -14,17 +14,17 @@ pub change_info-requires-clause-may : goal.change_info-requires-clause-may
 change_info-requires-clause-may g c =
     let m = (g.R.Rows.held c.args.rows.now).maps in
     let w = world_in (g.R.Rows.held c.args.rows.now) in
-    ap (may_rename w c.args.x (spelling_of m c.in-Some.found.id)) c.in_ok-new.ensures
-    ∙ may_rename_named w c.args.x (spelling_of m c.in-Some.found.id) c.args.name.now (folded_spelling m c.in-Some.found.id ∙ c.in-Some.ensures.named) (option_map (λ n. n.now) c.args.new_name)
-    ∙ sym c.may_rename.ensures ∙ c.if-not-may_rename.false
+    ap (may_rename w c.args.x (spelling_of m c.in_ok-id.id)) c.in_ok-new.ensures
+    ∙ may_rename_named w c.args.x (spelling_of m c.in_ok-id.id) c.args.name.now (folded_spelling m c.in_ok-id.id ∙ c.in_ok-id.ensures.named) (option_map (λ n. n.now) c.args.new_name)
+    ∙ c.in_ok-id.ensures.may
 
 pub returns-clause-comes : goal.returns-clause-comes
 unfolding same_object world_shown
 returns-clause-comes g c =
     let m = (g.R.Rows.held c.args.rows.now).maps in
     let w = world_in (g.R.Rows.held c.args.rows.now) in
-    let left : world_in (g.R.Rows.held c.change_info.new.rows) ≡ renamed_to (info_set w c.args.x c.args.name.now c.args.info.owner c.in_ok-bits.bits) c.args.x c.args.name.now (option_map (λ n. n.now) c.args.new_name) =
+    let left : world_in (g.R.Rows.held c.change_info.new.rows) ≡ renamed_to (info_set w c.args.x c.args.name.now c.args.info.owner c.in_ok-id.bits) c.args.x c.args.name.now (option_map (λ n. n.now) c.args.new_name) =
     c.in_ok-change_info.ensures.world
-    ∙ info_named c.args.x (spelling_of m c.in-Some.found.id) c.args.name.now (folded_spelling m c.in-Some.found.id ∙ c.in-Some.ensures.named) w c.args.info.owner c.in_ok-bits.bits c.in_ok-new.new
-    ∙ ap (renamed_to (info_set w c.args.x c.args.name.now c.args.info.owner c.in_ok-bits.bits) c.args.x c.args.name.now) c.in_ok-new.ensures
+    ∙ info_named c.args.x (spelling_of m c.in_ok-id.id) c.args.name.now (folded_spelling m c.in_ok-id.id ∙ c.in_ok-id.ensures.named) w c.args.info.owner c.in_ok-id.bits c.in_ok-new.new
+    ∙ ap (renamed_to (info_set w c.args.x c.args.name.now c.args.info.owner c.in_ok-id.bits) c.args.x c.args.name.now) c.in_ok-new.ensures
     in search rules
