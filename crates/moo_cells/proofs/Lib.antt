@@ -2,9 +2,11 @@ pub mod Columns
 pub mod Texts
 pub mod Exits
 pub mod Table
+pub mod Beside
 pub mod Keys
 pub mod HeadLemmas
 pub mod RowsLemmas
+pub mod Compared
 pub mod OneRows
 pub mod GoodRows
 pub mod CellsLemmas

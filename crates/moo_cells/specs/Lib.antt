@@ -3,6 +3,8 @@ pub mod Reading
 pub mod Columns
 pub mod Unread
 pub mod Holding
+pub mod Each
+pub mod Compared
 pub mod Head
 pub mod HeadCells
 pub mod Damage

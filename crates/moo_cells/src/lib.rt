@@ -6,6 +6,7 @@
 
 mod cell;
 mod cells;
+mod comparing;
 mod fault;
 mod head;
 mod laws;
@@ -18,6 +19,7 @@ mod tables;
 mod verb;
 
 pub use cells::read_cells;
+pub use comparing::compare_cells;
 pub use fault::{CellFault, RowFault};
 pub use head::read_head;
 pub use laws::{one_damage, one_set_of_rows, shown_without_damage};

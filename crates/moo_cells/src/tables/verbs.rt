@@ -1,9 +1,10 @@
 //! The table of verbs.
 
-ghost use Rattle.std.specs.Prelude.{◌≡◌, IfErr, OnOk};
-ghost use Rattle.std.specs.FinMap.{empty, insert};
+ghost use Rattle.std.specs.Prelude.{◌≡◌, true, IfOk, IfErr, OnOk};
+ghost use Rattle.std.specs.FinMap.{empty, entries, insert};
 ghost use Rattle.moo_tables.specs.Listing.{begins_with, ArePaired};
 ghost use Rattle.moo_cells.specs.Reading.{ReadsVerb, IsRead};
+ghost use Rattle.moo_cells.specs.Each.{ShowEach};
 ghost use Rattle.moo_cells.specs.Holding.{verb_number, verb_key, IsPairLess, HoldsTable, SaysUnread, Takes};
 ghost use Rattle.moo_cells.specs.declared.fault.RowFault.TheVariants.{Unreadable};
 
@@ -12,9 +13,13 @@ use crate::fault::{CellFault, RowFault};
 use crate::verb::read_verb;
 use moo_damage::{Key, Kind};
 use moo_rows::flat::Flat;
+use moo_rows::ordered::Row as _;
+use moo_rows::row::{VerbId, VerbRow};
 use moo_rows::rows::Rows;
+use moo_rows::walk::each_verb;
+use moo_value::value::ObjNo;
 use sqlite::Row;
-use std::alloc::Global;
+use std::alloc::{AllocError, Global};
 
 /// Puts the verb that these cells show.
 fn take_verb(alloc: Global, cells: &Row, rows: &mut Flat) -> Result<(), RowFault>
@@ -48,4 +53,38 @@ pub(crate) fn read_verbs(alloc: Global, cells: &[Row], rows: &mut Flat) -> Resul
         }
     }
     Ok(())
+}
+
+/// Whether these cells show this verb. An `Err` is want of memory.
+fn shows_verb(
+    alloc: Global,
+    cells: &Row,
+    key: (ObjNo, VerbId),
+    row: &VerbRow,
+) -> Result<bool, AllocError>
+    ensures { IfOk result (λ shows. shows ≡ true → ReadsVerb key cells.now row.now) }
+{
+    match read_verb(alloc, cells) {
+        Ok((number, read)) => Ok(number == key && read.equals(row)),
+        Err(RowFault::Unreadable) => Ok(false),
+        Err(RowFault::OutOfMemory) => Err(AllocError),
+    }
+}
+
+/// Whether the rows of the table show the verbs, one for one. An `Err` is want of memory.
+pub(crate) fn show_verbs(alloc: Global, cells: &[Row], rows: &Flat) -> Result<bool, AllocError>
+    ensures { IfOk result (λ show. show ≡ true → ShowEach ReadsVerb cells.now (entries rows.now.maps.verbs)) }
+{
+    let mut left = each_verb(rows);
+    for row in cells {
+        match left.next() {
+            None => return Ok(false),
+            Some((key, held)) => {
+                if !shows_verb(alloc, row, key, held)? {
+                    return Ok(false);
+                }
+            }
+        }
+    }
+    Ok(left.next().is_none())
 }

@@ -1,0 +1,43 @@
+-- Tables beside rows that were known before.
+use Rattle.std.proofs.Common.{find, Option, None, Some}
+use Rattle.std.specs.Prelude.{IfSome}
+use Rattle.std.specs.FinMap.{entries}
+use Rattle.sqlite.specs.Order.{Row}
+use Rattle.sqlite.specs.Tree.{has_rowid}
+use Rattle.moo_rows.specs.Maps.{Maps}
+use Rattle.moo_rows.specs.Exact.{object_exact, prop_exact, slot_exact, verb_exact}
+use Rattle.moo_rows.proofs.Orders.{object_total, prop_total, slot_total, verb_total}
+use Rattle.moo_world.specs.Rows.{IsGood}
+use Rattle.moo_tables.specs.declared.reading.CellLists.{CellLists}
+use Rattle.moo_tables.specs.Listing.{tables_of}
+use Rattle.moo_tables.specs.Tables.{Tables}
+use Rattle.moo_damage.specs.declared.kind.Key.{Key}
+use Rattle.moo_damage.specs.Differences.{IsFirstDifference}
+use Rattle.moo_cells.specs.Compared.{IsMismatch}
+use Rattle.moo_cells.specs.Damage.{version}
+use Rattle.moo_cells.specs.Each.{ShowEach}
+use Rattle.moo_cells.specs.Head.{HeadIs, ReadsHead}
+use Rattle.moo_cells.specs.Reading.{ReadsObject, ReadsProp, ReadsSlot, ReadsVerb}
+use Rattle.moo_cells.specs.Shows.{ShowsRows}
+use Rattle.moo_cells.proofs.Beside.{each_held}
+use Rattle.moo_cells.proofs.Keys.{objects_bear, props_bear, slots_bear, verbs_bear}
+use Rattle.moo_cells.proofs.RowsLemmas.{rows_shown}
+
+-- tables whose rows show a head and the entries of four maps show these rows
+pub all_shown : (lists : CellLists) (m : Maps) → (cells : Row) × HeadIs (λ n. find (has_rowid n) lists.head.items) cells × ReadsHead version m.head cells
+    → ShowEach ReadsObject lists.object.items (entries m.objects) → ShowEach ReadsProp lists.prop.items (entries m.props) → ShowEach ReadsSlot lists.slot.items (entries m.slots) → ShowEach ReadsVerb lists.verb.items (entries m.verbs)
+    → ShowsRows (tables_of lists) m
+all_shown lists m head objects props slots verbs = rows_shown lists m (record {
+  cells = head.0;
+  head_is = head.1;
+  head_read = head.2;
+  objects = each_held objects_bear object_total object_exact lists.object.items m.objects objects;
+  props = each_held props_bear prop_total prop_exact lists.prop.items m.props props;
+  slots = each_held slots_bear slot_total slot_exact lists.slot.items m.slots slots;
+  verbs = each_held verbs_bear verb_total verb_exact lists.verb.items m.verbs verbs;
+})
+
+-- a difference from the rows of a world that the tables show is one from the tables
+pub mismatch : (own found : Maps) (t : Tables) → ShowsRows t found → IsGood found → (o : Option Key) → IfSome o (IsFirstDifference own found) → IfSome o (IsMismatch own t)
+mismatch own found t shows good None first = tt
+mismatch own found t shows good (Some key) first = record { found = found; shows = shows; good = good; first = first }

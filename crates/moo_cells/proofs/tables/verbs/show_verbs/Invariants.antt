@@ -1,0 +1,10 @@
+use Rattle.std.proofs.Common.{drop}
+use Rattle.std.specs.FinMap.{entries}
+use Rattle.moo_rows.specs.Walk.{verbs_left}
+use Rattle.moo_cells.specs.Reading.{ReadsVerb}
+use Rattle.moo_cells.proofs.Beside.{ShowRest}
+use Rattle.moo_cells.proofs.tables.verbs.show_verbs.Given as goal
+
+-- what is left of both
+abbrev pub invariant-loop-row : goal.invariant-loop-row
+invariant-loop-row l = ShowRest ReadsVerb (drop l.row-index l.cells) l.cells (verbs_left l.left.last l.left.rows.now.maps) (entries l.rows.maps.verbs)

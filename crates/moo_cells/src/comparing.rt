@@ -1,0 +1,76 @@
+//! The tables, beside rows that were known before.
+
+ghost use Rattle.std.specs.Prelude.{◌≡◌, true, pos, find, IfOk, IfErr, IfSome, IfNone};
+ghost use Rattle.sqlite.specs.Tree.{has_rowid};
+ghost use Rattle.moo_world.specs.Rows.{IsGood};
+ghost use Rattle.moo_tables.specs.Inside.{AreKeyed};
+ghost use Rattle.moo_tables.specs.Listing.{AreListed, tables_of};
+ghost use Rattle.moo_cells.specs.Head.{HeadIs, ReadsHead};
+ghost use Rattle.moo_cells.specs.Shows.{ShowsRows};
+ghost use Rattle.moo_cells.specs.Damage.{SaysOfCells};
+ghost use Rattle.moo_cells.specs.Compared.{IsMismatch};
+
+use crate::cells::read_cells;
+use crate::fault::CellFault;
+use crate::head::read_head;
+use crate::tables::{show_objects, show_props, show_slots, show_verbs};
+use moo_damage::{Key, first_difference};
+use moo_rows::flat::Flat;
+use moo_rows::row::Head;
+use moo_rows::rows::Rows;
+use moo_tables::CellLists as Cells;
+use sqlite::Row;
+use std::alloc::{AllocError, Global};
+
+/// Whether the table of the head shows this one.
+fn shows_head(rows: &[Row], head: Head) -> bool
+    requires { AreKeyed rows.now }
+    ensures { result ≡ true → (cells : _) × HeadIs (λ n. find (has_rowid n) rows.now) cells × ReadsHead (pos 1) head cells }
+{
+    match read_head(rows) {
+        Ok(read) => read == head,
+        Err(_) => false,
+    }
+}
+
+/// Whether the tables are seen to show these rows, by a look at each row of a table and its own beside it. An `Err` is want of memory.
+fn show_rows(alloc: Global, lists: &Cells, rows: &Flat) -> Result<bool, AllocError>
+    requires { AreListed lists.now }
+    ensures { IfOk result (λ show. show ≡ true → ShowsRows (tables_of lists.now) rows.now.maps) }
+{
+    if !shows_head(&lists.head, rows.head()) {
+        return Ok(false);
+    }
+    if !show_objects(alloc, &lists.object, rows)? {
+        return Ok(false);
+    }
+    if !show_props(alloc, &lists.prop, rows)? {
+        return Ok(false);
+    }
+    if !show_slots(alloc, &lists.slot, rows)? {
+        return Ok(false);
+    }
+    show_verbs(alloc, &lists.verb, rows)
+}
+
+/// The first row in which the tables differ from the rows of a world, in the order of `first_difference`, or none where they show these.
+///
+/// Errors: those of `read_cells`, where the tables show no world. Rows that are shown are compared where they stand, and only
+/// where one differs are all read anew.
+pub fn compare_cells(alloc: Global, lists: &Cells, own: &Flat) -> Result<Option<Key>, CellFault>
+    requires listed { AreListed lists.now }
+    requires good { IsGood own.now.maps }
+    ensures same { IfOk result (λ o. IfNone o (ShowsRows (tables_of lists.now) own.now.maps)) }
+    ensures differs { IfOk result (λ o. IfSome o (IsMismatch own.now.maps (tables_of lists.now))) }
+    ensures fault { IfErr result (SaysOfCells (tables_of lists.now)) }
+    // Tables that show these rows are found to, unless memory runs out.
+    ensures whole { ShowsRows (tables_of lists.now) own.now.maps → IfOk result (λ o. o ≡ None) }
+    ensures memory { ShowsRows (tables_of lists.now) own.now.maps → IfErr result (λ fault. fault ≡ CellFault.OutOfMemory) }
+{
+    let shown = show_rows(alloc, lists, own)?;
+    if shown {
+        return Ok(None);
+    }
+    let found = read_cells(alloc, lists)?;
+    Ok(first_difference(own, &found))
+}
