@@ -170,6 +170,12 @@ says_nothing t m shown good (Damaged kind key) says = absurd (none_met t m shown
 says_nothing t m shown good NewerVersion says = absurd (not_newer t m shown good says)
 says_nothing t m shown good OutOfMemory says = refl
 
+-- nor of tables of a known version in which no kind is met
+pub says_no_damage : (t : Tables) → ¬ (IsNewer t) → ((kind : Kind) (key : Key) → ¬ (IsMet t kind key)) → (fault : CellFault) → SaysOfCells t fault → fault ≡ OutOfMemory
+says_no_damage t known none (Damaged kind key) says = absurd (none kind key says.1.1.0)
+says_no_damage t known none NewerVersion says = absurd (known says)
+says_no_damage t known none OutOfMemory says = refl
+
 -- good rows that tables show are the only ones
 pub one_good : (t : Tables) (rows m : Maps) → ShowsRows t rows → AreWithin rows → ShowsRows t m → IsGood m → rows ≡ m
 one_good t rows m shown within other good = one_rows t rows m shown within other (good_within m good)

@@ -5,7 +5,9 @@ ghost use Rattle.moo_rows.specs.Maps.{Maps};
 ghost use Rattle.moo_world.specs.Rows.{IsGood};
 ghost use Rattle.moo_tables.specs.Listing.{AreListed, tables_of};
 ghost use Rattle.moo_cells.specs.Shows.{ShowsRows};
-ghost use Rattle.moo_cells.specs.Damage.{SaysOfCells};
+ghost use Rattle.moo_cells.specs.Damage.{IsMet, IsNewer, SaysOfCells};
+ghost use Rattle.moo_damage.specs.declared.kind.Kind.{Kind};
+ghost use Rattle.moo_damage.specs.declared.kind.Key.{Key};
 
 use crate::fault::CellFault;
 use crate::rows::read_rows;
@@ -29,6 +31,8 @@ pub fn read_cells(alloc: Global, lists: &Cells) -> Result<Flat, CellFault>
     ensures fault { IfErr result (SaysOfCells (tables_of lists.now)) }
     // Tables that show good rows are read, unless memory runs out.
     ensures whole { (m : Maps) → ShowsRows (tables_of lists.now) m → IsGood m → IfErr result (λ fault. fault ≡ CellFault.OutOfMemory) }
+    // So are tables of a known version in which no kind of damage is met: these are the ones that show good rows.
+    ensures undamaged { ¬ (IsNewer (tables_of lists.now)) → ((kind : Kind) (key : Key) → ¬ (IsMet (tables_of lists.now) kind key)) → IfErr result (λ fault. fault ≡ CellFault.OutOfMemory) }
 {
     let rows = read_rows(alloc, lists)?;
     let damage = damage_of(alloc, &rows)?;

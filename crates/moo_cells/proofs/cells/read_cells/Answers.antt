@@ -6,7 +6,7 @@ use Rattle.moo_damage.specs.Kinds.{IsFirstInRows}
 use Rattle.std.proofs.lemmas.Result.{err_from_is_err_and}
 use Rattle.moo_tables.specs.Listing.{tables_of}
 use Rattle.moo_cells.specs.Damage.{SaysOfCells}
-use Rattle.moo_cells.proofs.CellsLemmas.{rows_damage, none_met, says_nothing, one_good}
+use Rattle.moo_cells.proofs.CellsLemmas.{rows_damage, none_met, says_nothing, says_no_damage, one_good}
 use Rattle.moo_cells.proofs.cells.read_cells.Goals as goal
 
 pub returns-in_err-rows-clause-fault : goal.returns-in_err-rows-clause-fault
@@ -18,6 +18,17 @@ pub returns-in_err-rows-clause-whole : goal.returns-in_err-rows-clause-whole
 returns-in_err-rows-clause-whole c m shown good =
     let p = err_from_is_err_and c.from_residual.result c.from_residual.ensures.1 in
     rw p.1 (says_nothing (tables_of c.args.lists.now) m shown good p.0 (subst (SaysOfCells (tables_of c.args.lists.now)) (sym p.2) c.in_err-rows.ensures.fault))
+
+pub returns-in_err-rows-clause-undamaged : goal.returns-in_err-rows-clause-undamaged
+returns-in_err-rows-clause-undamaged c known none =
+    let p = err_from_is_err_and c.from_residual.result c.from_residual.ensures.1 in
+    rw p.1 (says_no_damage (tables_of c.args.lists.now) known none p.0 (subst (SaysOfCells (tables_of c.args.lists.now)) (sym p.2) c.in_err-rows.ensures.fault))
+
+pub returns-in-Some-clause-undamaged : goal.returns-in-Some-clause-undamaged
+returns-in-Some-clause-undamaged c known none =
+    let first = subst (λ (o : Option (Kind × Key)). IfSome o (λ d. IsFirstInRows c.in_ok-rows.rows.maps d.0 d.1)) c.in-Some.is c.in_ok-damage.ensures.first in
+    let t = tables_of c.args.lists.now in
+    absurd (none c.in-Some.kind c.in-Some.key (rows_damage t c.in_ok-rows.rows.maps c.in_ok-rows.ensures.shown c.in_ok-rows.ensures.within c.in_ok-rows.ensures.read c.in-Some.kind c.in-Some.key first).1.1.0)
 
 pub returns-in-Some-clause-fault : goal.returns-in-Some-clause-fault
 returns-in-Some-clause-fault c =
