@@ -3,7 +3,7 @@ use Rattle.std.proofs.Common.{◌≡◌, ◌⊎◌, inl, inr, ◌≤◌, ◌≤�
 use Rattle.std.proofs.lemmas.List.{length-map}
 use Rattle.std.proofs.lemmas.List.Sums.{count_by-le-length, length-filter}
 use Rattle.std.proofs.lemmas.Int.{ints}
-use Rattle.std.specs.Prelude.{MatchResult}
+use Rattle.std.specs.Prelude.{IfErr, MatchResult}
 use Rattle.std.specs.FinMap.{entries}
 use Rattle.sqlite.specs.declared.error.Error.{Error}
 use Rattle.sqlite.specs.State.{HasCleanDisk}
@@ -22,11 +22,12 @@ use Rattle.moo_tables.proofs.ReadLemmas.{rests_on}
 use Rattle.moo_damage.specs.declared.kind.Key.{Key}
 use Rattle.moo_damage.specs.declared.kind.Key.TheVariants.{Head, Object, Prop, Slot, Verb}
 use Rattle.moo_damage.specs.Differences.{AgreeAt}
+use Rattle.moo_cells.specs.Shows.{ShowsRows}
 use Rattle.moo_store.specs.States.{KeepsRows}
 use Rattle.moo_store.specs.Kept.{World}
 use Rattle.moo_store.specs.World.{store_of, StandsFor}
 use Rattle.moo_store.specs.Checked.{Fails, SaysInCheck}
-use Rattle.moo_store.specs.Opening.{Says}
+use Rattle.moo_store.specs.Opening.{Says, IsOfStore}
 use Rattle.moo_store.specs.declared.fault.StoreFault.{StoreFault}
 use Rattle.moo_store.specs.declared.fault.StoreFault.TheVariants.{Store, Damaged, NewerVersion, OutOfMemory, Closed}
 
@@ -47,6 +48,12 @@ says_in_check own tables (Damaged kind key) it = inl it
 says_in_check own tables NewerVersion it = it
 says_in_check own tables OutOfMemory it = tt
 says_in_check own tables Closed it = tt
+
+-- what the rows of the cells that were read say is said of the tables that rest
+pub whole_here : {A : Type 0} (cells : Tables) (Known : Tables → Type 0) (own : Maps) (r : Result A StoreFault) → (ShowsRows cells own → IfErr r IsOfStore) → ((t : Tables) → Known t → cells ≡ t)
+    → IfErr r (λ fault. (t : Tables) → Known t → ShowsRows t own → IsOfStore fault)
+whole_here cells Known own (Ok count) whole is = tt
+whole_here cells Known own (Err fault) whole is = λ t known shows. whole (subst (λ t. ShowsRows t own) (sym (is t known)) shows)
 
 -- a World that works on was answered Ok, or OutOfMemory
 pub works_on : (r : Result ℕ StoreFault) (failed : Bool) (P : Type 0) → Fails r failed → failed ≡ false → MatchResult r (λ _. P) (λ fault. fault ≡ OutOfMemory → P) → P

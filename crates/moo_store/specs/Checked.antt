@@ -1,22 +1,13 @@
 -- What a check of a World's tables may answer.
 use Rattle.std.specs.Prelude.{◌≡◌, ◌⊎◌, Bool, true, false, ⊤, ℕ, Result, Ok, Err}
 use Rattle.moo_rows.specs.Maps.{Maps}
-use Rattle.moo_world.specs.Rows.{IsGood}
 use Rattle.moo_damage.specs.declared.kind.Kind.TheVariants.{Mismatch}
 use Rattle.moo_damage.specs.declared.kind.Key.{Key}
-use Rattle.moo_damage.specs.Differences.{IsFirstDifference}
 use Rattle.moo_tables.specs.Tables.{Tables}
-use Rattle.moo_cells.specs.Shows.{ShowsRows}
+use Rattle.moo_cells.specs.Compared.{IsMismatch}
 use Rattle.moo_cells.specs.Damage.{Damage, IsNewer}
 use Rattle.moo_store.specs.declared.fault.StoreFault.{StoreFault}
 use Rattle.moo_store.specs.declared.fault.StoreFault.TheVariants.{Store, Damaged, NewerVersion, OutOfMemory, Closed}
-
--- the tables show a world whose rows differ from these first at the key
-pub record IsMismatch (own : Maps) (tables : Tables) (key : Key) : Type 0 where
-  pub found : Maps
-  pub shows : ShowsRows tables found
-  pub good : IsGood found
-  pub first : IsFirstDifference own found key
 
 -- what a fault of a check says of the tables and of the World's own rows
 abbrev pub SaysInCheck : Maps → Tables → StoreFault → Type 0

@@ -7,19 +7,22 @@ ghost use Rattle.moo_world.specs.ObjectLists.{objects_of};
 ghost use Rattle.moo_world.specs.Rows.{IsGood, world_of};
 ghost use Rattle.moo_tables.specs.Tables.{Tables};
 ghost use Rattle.moo_tables.specs.Inside.{Rests};
+ghost use Rattle.moo_tables.specs.Listing.{tables_of};
 ghost use Rattle.moo_cells.specs.Shows.{ShowsRows};
 ghost use Rattle.moo_store.specs.Opening.{IsOfStore};
 ghost use Rattle.moo_store.specs.Checked.{SaysInCheck, Fails};
 ghost use Rattle.moo_store.specs.World.{store_of, StandsFor};
 
 use crate::fault::StoreFault;
-use crate::reading::read_rows;
+use crate::reading::{read_lists, test_tables};
 use crate::world::World;
-use moo_damage::{Kind, first_difference};
+use moo_cells::{CellFault, compare_cells};
+use moo_damage::Kind;
 use moo_rows::flat::Flat;
 use moo_rows::rows::Rows;
 use moo_rows::walk::each_object;
-use sqlite::{Alter, Connection};
+use moo_tables::{CellLists, are_listed};
+use sqlite::{Alter, Connection, Error, ErrorCode};
 use std::alloc::Global;
 
 /// The number of objects. Takes no memory.
@@ -32,6 +35,27 @@ fn object_count<R: Rows>(rows: &R) -> u64
         count += 1;
     }
     count
+}
+
+/// The number of objects, where the cells of the tables show these rows.
+fn compare_lists(alloc: Global, lists: &CellLists, own: &Flat) -> Result<u64, StoreFault>
+    requires good { IsGood own.now.maps }
+    ensures shown { OnOk result (ShowsRows (tables_of lists.now) own.now.maps) }
+    ensures count { IfOk result (λ count. count ≡ length (objects_of (world_of own.now.maps))) }
+    ensures fault { IfErr result (SaysInCheck own.now.maps (tables_of lists.now)) }
+    ensures whole { ShowsRows (tables_of lists.now) own.now.maps → IfErr result IsOfStore }
+    ensures open { IfErr result (λ fault. fault ≢ StoreFault.Closed) }
+{
+    if !are_listed(lists) {
+        return Err(StoreFault::Store(Error::SqliteFailure(ErrorCode::DatabaseCorrupt)));
+    }
+    match compare_cells(alloc, lists, own) {
+        Ok(None) => Ok(object_count(own)),
+        Ok(Some(key)) => Err(StoreFault::Damaged(Kind::Mismatch, key)),
+        Err(CellFault::Damaged(kind, key)) => Err(StoreFault::Damaged(kind, key)),
+        Err(CellFault::NewerVersion) => Err(StoreFault::NewerVersion),
+        Err(CellFault::OutOfMemory) => Err(StoreFault::OutOfMemory),
+    }
 }
 
 /// The number of objects, where the tables of a connection show these rows. Nothing is written.
@@ -53,11 +77,12 @@ fn check_rows<S: Alter>(
     ensures crash { Survives (state S.Store conn.old) (state S.Store conn.new) (λ _. ⊥) }
     ensures open { IfErr result (λ fault. fault ≢ StoreFault.Closed) }
 {
-    match read_rows(alloc, conn) {
-        Ok(found) => match first_difference(own, &found) {
-            Some(key) => Err(StoreFault::Damaged(Kind::Mismatch, key)),
-            None => Ok(object_count(own)),
-        },
+    match test_tables(alloc, conn) {
+        Ok(()) => {}
+        Err(fault) => return Err(fault),
+    }
+    match read_lists(conn) {
+        Ok(lists) => compare_lists(alloc, &lists, own),
         Err(fault) => Err(fault),
     }
 }

@@ -38,7 +38,7 @@ fn rows_of(alloc: Global, lists: &CellLists) -> Result<Flat, StoreFault>
 }
 
 /// The cells of our tables.
-fn read_lists<S: Alter>(conn: &mut Connection<S>) -> Result<CellLists, StoreFault>
+pub(crate) fn read_lists<S: Alter>(conn: &mut Connection<S>) -> Result<CellLists, StoreFault>
     requires outside { (state S.Store conn.old).in_transaction ≡ false }
     ensures outside { (state S.Store conn.new).in_transaction ≡ false }
     ensures read { OnOk result (Reads moo_schema (state S.Store conn.old) (state S.Store conn.new)) }
@@ -53,7 +53,7 @@ fn read_lists<S: Alter>(conn: &mut Connection<S>) -> Result<CellLists, StoreFaul
 }
 
 /// Tests that the tables are ours; a fault where they aren't, or where memory is refused.
-fn test_tables<S: Alter>(alloc: Global, conn: &Connection<S>) -> Result<(), StoreFault>
+pub(crate) fn test_tables<S: Alter>(alloc: Global, conn: &Connection<S>) -> Result<(), StoreFault>
     ensures ours { OnOk result (HasTables moo_schema (state S.Store conn.now)) }
     ensures fault { IfErr result IsOfStore }
     ensures settled { IsTrue (state S.Store conn.now).is_open → (state S.Store conn.now).in_transaction ≡ false → (state S.Store conn.now).now ≡ (state S.Store conn.now).committed }

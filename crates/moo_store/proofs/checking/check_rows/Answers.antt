@@ -1,20 +1,22 @@
-use Rattle.std.proofs.Common.{inr, refl, sym, subst}
-use Rattle.moo_damage.specs.Differences.{AgreeAt}
-use Rattle.moo_store.proofs.CheckLemmas.{agrees_itself, says_in_check, rests_without_memory}
+use Rattle.std.proofs.Common.{subst}
+use Rattle.std.proofs.lemmas.Result.{on_ok_weaker}
+use Rattle.sqlite.specs.Held.{state}
+use Rattle.moo_tables.specs.Inside.{Rests}
+use Rattle.moo_tables.specs.Listing.{tables_of}
+use Rattle.moo_cells.specs.Shows.{ShowsRows}
+use Rattle.moo_store.specs.Checked.{SaysInCheck}
+use Rattle.moo_store.proofs.AdoptLemmas.{on_each_err}
+use Rattle.moo_store.proofs.CheckLemmas.{whole_here}
 use Rattle.moo_store.proofs.checking.check_rows.Goals as goal
 
-pub returns-in-Some-clause-fault : goal.returns-in-Some-clause-fault
-returns-in-Some-clause-fault g c clean tables rests =
-    inr (refl, record { found = c.in-Ok.found.maps; shows = c.in-Ok.ensures.rows clean tables rests; good = c.in-Ok.ensures.good; first = c.in-Some.ensures.differs })
+pub returns-in-Ok-read_lists-clause-shown : goal.returns-in-Ok-read_lists-clause-shown
+returns-in-Ok-read_lists-clause-shown g c =
+    on_ok_weaker c.compare_lists.result (λ shows clean tables rests. subst (λ t. ShowsRows t c.args.own.now.maps) (c.in-Ok-read_lists.ensures.listed clean tables rests) shows) c.compare_lists.ensures.shown
 
-pub returns-in-Some-clause-whole : goal.returns-in-Some-clause-whole
-returns-in-Some-clause-whole g c clean tables rests shows =
-    let own = c.args.own.now.maps in
-    let same = sym (c.in-Ok.ensures.one clean tables own rests shows c.requires.good) in
-    absurd (c.in-Some.ensures.differs.0 (subst (λ m. AgreeAt own m c.in-Some.key) same (agrees_itself own c.in-Some.key)))
+pub returns-in-Ok-read_lists-clause-fault : goal.returns-in-Ok-read_lists-clause-fault
+returns-in-Ok-read_lists-clause-fault g c clean =
+    on_each_err _ _ c.compare_lists.result (λ fault says tables rests. subst (λ t. SaysInCheck c.args.own.now.maps t fault) (c.in-Ok-read_lists.ensures.listed clean tables rests) says) c.compare_lists.ensures.fault
 
-pub returns-clause-stays : goal.returns-clause-stays
-returns-clause-stays g c clean memory = rests_without_memory g.S.Store c.args.conn.now c.read_rows.new.conn c.in-Err.fault c.in-Err.ensures.quiet memory clean
-
-pub returns-clause-fault : goal.returns-clause-fault
-returns-clause-fault g c clean tables rests = says_in_check c.args.own.now.maps tables c.in-Err.fault (c.in-Err.ensures.fault clean tables rests)
+pub returns-in-Ok-read_lists-clause-whole : goal.returns-in-Ok-read_lists-clause-whole
+returns-in-Ok-read_lists-clause-whole g c clean =
+    whole_here (tables_of c.in-Ok-read_lists.lists) (Rests (state g.S.Store c.args.conn.now)) c.args.own.now.maps c.compare_lists.result c.compare_lists.ensures.whole (c.in-Ok-read_lists.ensures.listed clean)
