@@ -6,6 +6,7 @@ pub mod Good
 pub mod Clean
 pub mod Locally
 pub mod Nearby
+pub mod OwnClear
 pub mod HeldLocal
 pub mod InTurn
 pub mod Least

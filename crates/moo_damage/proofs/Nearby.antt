@@ -26,7 +26,7 @@ not_false true e = refl
 not_false false e = absurd (false≢true (sym e))
 
 -- where none passes, no row does
-none_held : {K X : Type 0} (cmp : K → K → Ordering) (total : IsTotalOrder cmp) (exact : CmpEqualImpliesEq cmp) (rows : FinMap cmp X) (test : K × X → Bool) (k : K) (v : X) → get rows k ≡ Some v → list_any test (entries rows) ≡ false → test (k, v) ≡ false
+pub none_held : {K X : Type 0} (cmp : K → K → Ordering) (total : IsTotalOrder cmp) (exact : CmpEqualImpliesEq cmp) (rows : FinMap cmp X) (test : K × X → Bool) (k : K) (v : X) → get rows k ≡ Some v → list_any test (entries rows) ≡ false → test (k, v) ≡ false
 none_held cmp total exact rows test k v e h = by (test (k, v)) refl
   where
     by : (b : Bool) → test (k, v) ≡ b → b ≡ false

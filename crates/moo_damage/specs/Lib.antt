@@ -9,3 +9,4 @@ pub mod Local
 pub mod Missing
 pub mod Noted
 pub mod Words
+pub mod OwnClear

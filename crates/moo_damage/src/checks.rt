@@ -1,12 +1,14 @@
 //! Tests of each row of a map: the first one that fails.
 
 ghost use Rattle.std.specs.Prelude.{◌≡◌, true, false, not, IfSome, IfNone};
+ghost use Rattle.std.specs.List.{list_any};
 ghost use Rattle.std.specs.FinMap.{entries, get};
 ghost use Rattle.moo_world.specs.Rows.{world_of};
 ghost use Rattle.moo_world.specs.World.{IsTree};
 ghost use Rattle.moo_props.specs.Names.{defines};
 ghost use Rattle.moo_damage.specs.First.{IsFirst};
 ghost use Rattle.moo_damage.specs.Damage.{is_object_past, is_prop_past, is_verb_past, is_lost, lacks_definer, share_name, is_double, is_owed, is_strange, is_missing, is_clear, is_clear_definer, is_strange_verb};
+ghost use Rattle.moo_damage.specs.OwnClear.{has_clear};
 ghost use Rattle.moo_damage.specs.Missing.{IsFirstMissing};
 
 use crate::trees::Link;
@@ -231,8 +233,30 @@ pub(crate) fn first_strange<R: Rows>(rows: &R) -> Option<(ObjNo, PropId)>
     None
 }
 
-/// The least slot on its definer that is clear, or none.
-pub(crate) fn first_clear<R: Rows>(rows: &R) -> Option<(ObjNo, PropId)>
+/// Whether an object has a clear slot of a property.
+fn has_clear<R: Rows>(rows: &R, key: (ObjNo, PropId)) -> bool
+    ensures { result ≡ has_clear (R.held rows.now).maps key.0 key.1 }
+{
+    match rows.slot(key) {
+        None => false,
+        Some(row) => is_clear(&row.state),
+    }
+}
+
+/// Whether a property has a clear slot on its definer.
+fn any_clear_own<R: Rows>(rows: &R) -> bool
+    ensures { result ≡ list_any (λ e. has_clear (R.held rows.now).maps e.1.definer e.0) (entries (R.held rows.now).maps.props) }
+{
+    for (id, row) in each_prop(rows) {
+        if has_clear(rows, (row.definer, id)) {
+            return true;
+        }
+    }
+    false
+}
+
+/// The least slot on its definer that is clear, or none, by a look at each slot.
+fn search_clear<R: Rows>(rows: &R) -> Option<(ObjNo, PropId)>
     ensures { IsFirst (R.held rows.now).maps.slots (λ k r. is_clear_definer (R.held rows.now).maps k r ≡ false) (λ k r. is_clear_definer (R.held rows.now).maps k r ≡ true) result }
 {
     for (key, row) in each_slot(rows) {
@@ -241,6 +265,16 @@ pub(crate) fn first_clear<R: Rows>(rows: &R) -> Option<(ObjNo, PropId)>
         }
     }
     None
+}
+
+/// The least slot on its definer that is clear, or none: slots are looked at only where a property has such a one.
+pub(crate) fn first_clear<R: Rows>(rows: &R) -> Option<(ObjNo, PropId)>
+    ensures { IsFirst (R.held rows.now).maps.slots (λ k r. is_clear_definer (R.held rows.now).maps k r ≡ false) (λ k r. is_clear_definer (R.held rows.now).maps k r ≡ true) result }
+{
+    if !any_clear_own(rows) {
+        return None;
+    }
+    search_clear(rows)
 }
 
 /// The least verb of what is no object, or none.

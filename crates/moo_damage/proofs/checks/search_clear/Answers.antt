@@ -8,7 +8,7 @@ use Rattle.moo_rows.specs.Walk.{slots_left}
 use Rattle.moo_rows.proofs.Orders.{slot_total}
 use Rattle.moo_damage.specs.Damage.{is_clear_definer}
 use Rattle.moo_damage.proofs.Firsts.{FirstIn, ended, stopped}
-use Rattle.moo_damage.proofs.checks.first_clear.Goals as goal
+use Rattle.moo_damage.proofs.checks.search_clear.Goals as goal
 
 pub loop-key-init : goal.loop-key-init
 loop-key-init g c o f =

@@ -3,7 +3,7 @@ use Rattle.std.specs.FinMap.{entries}
 use Rattle.moo_rows.specs.Walk.{slots_left}
 use Rattle.moo_damage.specs.Damage.{is_clear_definer}
 use Rattle.moo_damage.proofs.Firsts.{FirstLeft}
-use Rattle.moo_damage.proofs.checks.first_clear.Given as goal
+use Rattle.moo_damage.proofs.checks.search_clear.Given as goal
 
 -- the first of those that are left is the first of all
 abbrev pub invariant-loop-key : goal.invariant-loop-key

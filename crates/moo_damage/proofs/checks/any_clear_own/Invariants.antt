@@ -1,0 +1,12 @@
+use Rattle.std.proofs.Common.{◌≡◌}
+use Rattle.std.specs.List.{list_any}
+use Rattle.std.specs.FinMap.{entries}
+use Rattle.moo_rows.specs.Walk.{props_left}
+use Rattle.moo_damage.specs.OwnClear.{has_clear}
+use Rattle.moo_damage.proofs.checks.any_clear_own.Given as goal
+
+-- one of those that are left has one just where one of all does
+abbrev pub invariant-loop-id : goal.invariant-loop-id
+invariant-loop-id g l =
+    let m = (g.R.Rows.held l.rows).maps in
+    list_any (λ e. has_clear m e.1.definer e.0) (props_left l.id-iterator.last (g.R.Rows.held l.id-iterator.rows.now).maps) ≡ list_any (λ e. has_clear m e.1.definer e.0) (entries m.props)

@@ -1,0 +1,12 @@
+-- Clear slots of properties.
+use Rattle.std.specs.Prelude.{Bool, false, unwrap_or}
+use Rattle.std.specs.Option.{option_map}
+use Rattle.std.specs.FinMap.{get}
+use Rattle.moo_value.specs.declared.value.ObjNo.{ObjNo}
+use Rattle.moo_rows.specs.declared.row.PropId.{PropId}
+use Rattle.moo_rows.specs.Maps.{Maps}
+use Rattle.moo_damage.specs.Damage.{is_clear}
+
+-- the object has a clear slot of the property
+abbrev pub has_clear : Maps → ObjNo → PropId → Bool
+has_clear m x id = unwrap_or (option_map (λ s. is_clear s.state) (get m.slots (x, id))) false
