@@ -42,25 +42,35 @@ pub enum Answer {
     Closed,
 }
 
-fn put_line(alloc: Global, word: &[u8], number: u64, out: &mut Vec<u8>) -> Result<(), AllocError>
-    ensures ok { OnOk result (out.new.items ≡ out.old.items ++ (word.now ++ (decimal number ++ 10 ∷ []))) }
+fn put_number(
+    alloc: Global,
+    word: &[u8],
+    number: u64,
+    end: u8,
+    out: &mut Vec<u8>,
+) -> Result<(), AllocError>
+    ensures ok { OnOk result (out.new.items ≡ out.old.items ++ (word.now ++ (decimal number ++ end ∷ []))) }
     ensures kept { StartsWith out.new.items out.old.items }
 {
     let digits = number.to_string(alloc)?;
     out.extend_from_slice(word)?;
     out.extend_from_slice(digits.as_bytes())?;
-    out.push(b'\n')?;
+    out.push(end)?;
     Ok(())
+}
+
+fn put_line(alloc: Global, word: &[u8], number: u64, out: &mut Vec<u8>) -> Result<(), AllocError>
+    ensures ok { OnOk result (out.new.items ≡ out.old.items ++ (word.now ++ (decimal number ++ 10 ∷ []))) }
+    ensures kept { StartsWith out.new.items out.old.items }
+{
+    put_number(alloc, word, number, b'\n', out)
 }
 
 fn put_refused(alloc: Global, call: u32, code: Code, out: &mut Vec<u8>) -> Result<(), AllocError>
     ensures ok { OnOk result (out.new.items ≡ out.old.items ++ refused_text call code) }
     ensures kept { StartsWith out.new.items out.old.items }
 {
-    let digits = call.to_string(alloc)?;
-    out.extend_from_slice(b"refused ")?;
-    out.extend_from_slice(digits.as_bytes())?;
-    out.push(b' ')?;
+    put_number(alloc, b"refused ", u64::from(call), b' ', out)?;
     out.extend_from_slice(code.name().as_bytes())?;
     out.push(b'\n')?;
     Ok(())
