@@ -1,15 +1,17 @@
 //! Adding verbs.
 
-ghost use Rattle.std.specs.Prelude.{◌≡◌, true, Some, OnOk, IfOk, IfErr};
+ghost use Rattle.std.specs.Prelude.{◌≡◌, true, nat_lt, Some, Err, OnOk, IfOk, IfErr};
 ghost use Rattle.moo_rows.specs.Bits.{verb_bits_of};
 ghost use Rattle.moo_rows.specs.declared.row.VerbBits.{VerbBits};
 ghost use Rattle.moo_world.specs.Rows.{IsGood};
 ghost use Rattle.moo_world.specs.World.{is_object, has_word};
-ghost use Rattle.moo_world.specs.Outcomes.{Outcome, Failed};
+ghost use Rattle.moo_world.specs.Answers.{zero};
+ghost use Rattle.moo_world.specs.Directories.{verb_added};
+ghost use Rattle.moo_world.specs.Outcomes.{Outcome, Done, Failed};
 ghost use Rattle.moo_world.specs.VerbReading.{args_of};
 ghost use Rattle.moo_world.specs.VerbCalls.{add_verb};
 ghost use Rattle.moo_world.specs.Keeps.{Keeps};
-ghost use Rattle.moo_rights.specs.Outcomes.{world_in, ComesTo};
+ghost use Rattle.moo_rights.specs.Outcomes.{world_in, ComesTo, Answers};
 ghost use Rattle.moo_verb_calls.specs.Checks.{taking_info};
 
 use moo_rights::answers::ZERO;
@@ -60,6 +62,40 @@ pub(crate) fn args_of(args: ArgTexts<'_>) -> Option<ArgSpec>
     read_args(args.dobj, args.prep, args.iobj).ok()
 }
 
+/// The rights and the arguments of the verb that the programmer may add to x, or the first error of `add_verb`.
+fn verb_taken<R: Rows>(
+    rows: &R,
+    programmer: ObjNo,
+    x: ObjNo,
+    verb: VerbInfo<'_>,
+    args: ArgTexts<'_>,
+) -> Result<(VerbBits, ArgSpec), Fault>
+    ensures ok { IfOk result (λ taken. add_verb (world_in (R.held rows.now)) programmer x (verb.entry.info.owner, verb.entry.info.perms.now) verb.entry.names.now (args.entry.dobj.now, args.entry.prep.now, args.entry.iobj.now)
+        ≡ Done zero (verb_added (world_in (R.held rows.now)) x (record { names = verb.entry.names.now; owner = verb.entry.info.owner; bits = taken.0; args = taken.1 }))) }
+    ensures err { IfErr result (λ fault. Answers (add_verb (world_in (R.held rows.now)) programmer x (verb.entry.info.owner, verb.entry.info.perms.now) verb.entry.names.now (args.entry.dobj.now, args.entry.prep.now, args.entry.iobj.now)) (R.held rows.now) (Err fault)) }
+    ensures there { OnOk result (is_object (world_in (R.held rows.now)) x ≡ true) }
+    ensures names { OnOk result (has_word verb.entry.names.now ≡ true) }
+    ensures left { OnOk result (nat_lt (world_in (R.held rows.now)).next_verb 4294967295 ≡ true) }
+{
+    if !valid(rows, x) {
+        return Err(Fault::Moo(Code::InvalidArgument));
+    }
+    let bits = bits_taken(rows, verb)?;
+    let Some(args) = args_of(args) else {
+        return Err(Fault::Moo(Code::InvalidArgument));
+    };
+    if !rights::may_write_object(rows, programmer, x) {
+        return Err(Fault::Moo(Code::Permission));
+    }
+    if !rights::may_own(rows, programmer, verb.info.owner) {
+        return Err(Fault::Moo(Code::Permission));
+    }
+    if rows.head().next_verb == u32::MAX {
+        return Err(Fault::Full);
+    }
+    Ok((bits, args))
+}
+
 /// `add_verb(x, {owner, perms, names}, {dobj, prep, iobj})`: puts a verb last in the directory of an object and answers 0.
 /// E_INVARG where x or the owner is no object, where the rights have another letter than `r`, `w`, `x` and `d`, where the
 /// names are empty or all spaces, and where the arguments are none that a verb may have; then E_PERM where the programmer may
@@ -79,22 +115,7 @@ pub fn add_verb<R: Rows>(
         (R.held rows.old) (R.held rows.new) result }
     ensures kept { OnOk result (Keeps (R.held rows.old) (R.held rows.new)) }
 {
-    if !valid(rows, x) {
-        return Err(Fault::Moo(Code::InvalidArgument));
-    }
-    let bits = bits_taken(rows, verb)?;
-    let Some(args) = args_of(args) else {
-        return Err(Fault::Moo(Code::InvalidArgument));
-    };
-    if !rights::may_write_object(rows, programmer, x) {
-        return Err(Fault::Moo(Code::Permission));
-    }
-    if !rights::may_own(rows, programmer, verb.info.owner) {
-        return Err(Fault::Moo(Code::Permission));
-    }
-    if rows.head().next_verb == u32::MAX {
-        return Err(Fault::Full);
-    }
+    let (bits, args) = verb_taken(rows, programmer, x, verb, args)?;
     let row = VerbRow {
         names: verb.names.copy(alloc)?,
         owner: verb.info.owner,

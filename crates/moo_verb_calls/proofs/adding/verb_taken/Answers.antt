@@ -4,10 +4,10 @@ use Rattle.moo_world.specs.World.{is_object}
 use Rattle.moo_world.specs.VerbCalls.{add_verb}
 use Rattle.moo_rights.specs.Outcomes.{world_in}
 use Rattle.moo_rights.proofs.Passed.{check_passed}
-use Rattle.moo_verb_calls.proofs.adding.add_verb.Goals as goal
+use Rattle.moo_verb_calls.proofs.adding.verb_taken.Goals as goal
 
-pub returns-in_err-bits-clause-comes : goal.returns-in_err-bits-clause-comes
-returns-in_err-bits-clause-comes g c =
+pub returns-in_err-bits-clause-err : goal.returns-in_err-bits-clause-err
+returns-in_err-bits-clause-err g c =
     let w = world_in (g.R.Rows.held c.args.rows.now) in
     let a = c.args.args in
     let verb = c.args.verb in
