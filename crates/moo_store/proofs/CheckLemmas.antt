@@ -1,5 +1,5 @@
 -- From what a check read to the World that it leaves.
-use Rattle.std.proofs.Common.{◌≡◌, ◌⊎◌, inl, inr, ◌≤◌, ◌≤ℤ◌, ℕ, ℤ, pos, negsuc, suc, zero, [], ◌∷◌, length, map, Bool, true, false, Result, Ok, Err, refl, sym, ap, subst, ◌∙◌, arith, length-append, IsTrue}
+use Rattle.std.proofs.Common.{◌≡◌, ◌⊎◌, inl, inr, ◌≤◌, ◌≤ℤ◌, ℕ, ℤ, pos, negsuc, suc, zero, [], ◌∷◌, length, map, Bool, true, false, Result, Ok, Err, refl, sym, ap, subst, ◌∙◌, arith, length-append}
 use Rattle.std.proofs.lemmas.List.{length-map}
 use Rattle.std.proofs.lemmas.List.Sums.{count_by-le-length, length-filter}
 use Rattle.std.proofs.lemmas.Int.{ints}

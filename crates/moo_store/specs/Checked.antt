@@ -2,7 +2,6 @@
 use Rattle.std.specs.Prelude.{◌≡◌, ◌⊎◌, Bool, true, false, ⊤, ℕ, Result, Ok, Err}
 use Rattle.moo_rows.specs.Maps.{Maps}
 use Rattle.moo_damage.specs.declared.kind.Kind.TheVariants.{Mismatch}
-use Rattle.moo_damage.specs.declared.kind.Key.{Key}
 use Rattle.moo_tables.specs.Tables.{Tables}
 use Rattle.moo_cells.specs.Compared.{IsMismatch}
 use Rattle.moo_cells.specs.Damage.{Damage, IsNewer}
