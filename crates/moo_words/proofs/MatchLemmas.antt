@@ -1,6 +1,6 @@
 -- What the getters of the matches read.
-use Rattle.std.proofs.Common.{◌≡◌, ℕ, List, Option, Some, None, IfSome, Bor, option_map, refl, sym, ◌∙◌}
-use Rattle.clap.specs.Matches.{first_value}
+use Rattle.std.proofs.Common.{◌≡◌, ℕ, List, Option, Some, None, Result, Ok, IfSome, Bor, option_map, refl, sym, ◌∙◌}
+use Rattle.clap.specs.Matches.{ReadsOne, first_value, one_text}
 use Rattle.clap.specs.Walk.{Row, Text, rows_of}
 use Rattle.clap.specs.declared.parser.matches.Found.{Found}
 use Rattle.std.specs.Box.{box_value}
@@ -8,13 +8,25 @@ use Rattle.clap.specs.Matches.{subcommand_name_of}
 use Rattle.clap.specs.Simple.{subcommand_rows, subcommand_rows_of}
 use Rattle.clap.specs.declared.parser.matches.ArgMatches.{ArgMatches}
 use Rattle.clap.specs.declared.parser.matches.ArgMatches.TheViews.{out-ArgMatches, out-SubCommand}
-use Rattle.clap.proofs.WalkLemmas.{first_value-rows}
-use Rattle.moo_words.specs.Tasks.{HasText}
+use Rattle.clap.proofs.WalkLemmas.{first_value-rows, one_text-rows}
+use Rattle.std.specs.Str.Parse.{digits_value, without_leading_plus}
+use Rattle.moo_words.specs.Tasks.{HasNumber, HasText}
 
 pub text_given : (found : Found) (id : Text) (r : Option (Bor (List ℕ))) → option_map (λ s. s.now) r ≡ first_value found id
     → IfSome r (λ text. HasText (rows_of found) id text.now)
 text_given found id None e = tt
 text_given found id (Some text) e = sym (first_value-rows found id) ∙ sym e
+
+module _ {E : Type 0} (gives : List ℕ → Result ℕ E → Type 0)
+    (reads : (text : Text) (n : ℕ) → gives text (Ok n) → digits_value 10 (without_leading_plus text) ≡ n) where
+  pub number_given : (found : Found) (id : Text) (r : Option ℕ) → (one_text found id ≡ None → r ≡ None)
+      → ((text : List ℕ) → one_text found id ≡ Some text → ReadsOne gives text r) → IfSome r (HasNumber (rows_of found) id)
+  number_given found id None none value = tt
+  number_given found id (Some n) none value = go (one_text found id) refl
+    where
+      go : (o : Option Text) → one_text found id ≡ o → HasNumber (rows_of found) id n
+      go None e = let bad : Some n ≡ None = none e in cc
+      go (Some text) e = (text, sym (one_text-rows found id) ∙ e, reads text n (value text e))
 
 -- a pair by its parts
 pub pair_given : (o : Option (Text × List Row)) (name : Text) (rows : List Row) → Some name ≡ option_map (λ p. p.0) o → Some rows ≡ option_map (λ p. p.1) o

@@ -1,18 +1,24 @@
 -- The task that words name, by the matches of the program's command.
-use Rattle.std.specs.Prelude.{◌≡◌, ◌<◌, ◌≤◌, ◌⊎◌, List, [], Some, codes, length}
-use Rattle.clap.specs.Walk.{Row, Text, first_of}
+use Rattle.std.specs.Prelude.{◌≡◌, ◌<◌, ◌≤◌, ◌⊎◌, ℕ, List, [], Some, codes, length}
+use Rattle.std.specs.Str.Parse.{digits_value, without_leading_plus}
+use Rattle.clap.specs.Walk.{Row, Text, first_of, one_of}
 use Rattle.clap.specs.Simple.{subcommand_of}
 use Rattle.clap.specs.Kinds.{Kinds, HasKind}
 use Rattle.clap.specs.Faults.{fault_of}
 use Rattle.moo_words.specs.Commands.{moo_app}
 use Rattle.moo_words.specs.declared.task.Task.{Task}
-use Rattle.moo_words.specs.declared.task.Task.TheVariants.{Init, Apply, Ask, Dump, Check}
+use Rattle.moo_words.specs.declared.task.Task.TheVariants.{Init, Apply, Ask, Dump, Check, Serve}
 use Rattle.moo_words.specs.declared.task.Usage.{Usage}
 use Rattle.moo_words.specs.declared.task.Usage.TheVariants.{Refused, Absent}
 
 -- the argument of that name is this text
 abbrev pub HasText : List Row → Text → Text → Type 0
 HasText rows id text = first_of id rows ≡ Some text
+
+-- the argument of that name is read as digits with this value
+abbrev pub HasNumber : List Row → Text → ℕ → Type 0
+HasNumber rows id n =
+    (text : Text) × (one_of id rows ≡ Some text) × (digits_value 10 (without_leading_plus text) ≡ n)
 
 -- the task is that of a command's name and matches
 abbrev pub IsTask : Text × List Row → Task → Type 0
@@ -23,6 +29,10 @@ IsTask (name, rows) (Ask file batches) =
     (name ≡ codes "ask") × HasText rows (codes "FILE") file.now × HasText rows (codes "BATCHES") batches.now
 IsTask (name, rows) (Dump file) = (name ≡ codes "dump") × HasText rows (codes "FILE") file.now
 IsTask (name, rows) (Check file) = (name ≡ codes "check") × HasText rows (codes "FILE") file.now
+IsTask (name, rows) (Serve file port count) =
+    (name ≡ codes "serve") × HasText rows (codes "FILE") file.now
+    × HasNumber rows (codes "PORT") port × (1 ≤ port)
+    × HasNumber rows (codes "COUNT") count × (count ≤ 1000000)
 
 -- the batches of standard input on a new world
 abbrev pub IsDefault : Task → Type 0
@@ -31,6 +41,7 @@ IsDefault (Apply file batches) = (file.now ≡ codes ":memory:") × (batches.now
 IsDefault (Ask file batches) = ⊥
 IsDefault (Dump file) = ⊥
 IsDefault (Check file) = ⊥
+IsDefault (Serve file port count) = ⊥
 
 -- what is wrong with the words, by clap's rules for the program: the kinds of error that they give, help and the version among these;
 -- none where they are those of a command

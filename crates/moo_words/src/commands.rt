@@ -3,10 +3,10 @@ ghost use Rattle.std.specs.Prelude.{◌≡◌, false, codes, IfOk};
 ghost use Rattle.clap.specs.Walk.{rule_of};
 ghost use Rattle.clap.specs.Simple.{app_of, new_app, with_subcommand};
 ghost use Rattle.clap.specs.declared.builder.command.Command.TheViews.{out-Command as fields_of};
-ghost use Rattle.moo_words.specs.Commands.{text_rule, file_app, batches_app, program_app, moo_app};
+ghost use Rattle.moo_words.specs.Commands.{text_rule, port_rule, count_rule, file_app, batches_app, serve_app, program_app, moo_app};
 
 use crate::help;
-use clap::{Arg, Command};
+use clap::{Arg, Command, value_parser};
 use std::alloc::{AllocError, Global};
 
 fn text_arg<'a>(alloc: Global, id: &'a str, about: &'a str) -> Arg<'a>
@@ -14,6 +14,26 @@ fn text_arg<'a>(alloc: Global, id: &'a str, about: &'a str) -> Arg<'a>
     ensures local { result.global ≡ false }
 {
     Arg::new(alloc, id).required(true).help(about)
+}
+
+fn port_arg<'a>(alloc: Global) -> Arg<'a>
+    ensures rule { rule_of result ≡ port_rule }
+    ensures local { result.global ≡ false }
+{
+    Arg::new(alloc, "PORT")
+        .required(true)
+        .value_parser(value_parser!(u16).range(1..=65535))
+        .help(help::PORT)
+}
+
+fn count_arg<'a>(alloc: Global) -> Arg<'a>
+    ensures rule { rule_of result ≡ count_rule }
+    ensures local { result.global ≡ false }
+{
+    Arg::new(alloc, "COUNT")
+        .required(true)
+        .value_parser(value_parser!(u32).range(0..=1_000_000))
+        .help(help::COUNT)
 }
 
 /// A command with what help says of it and no arguments yet.
@@ -46,6 +66,15 @@ fn batches_command<'a>(
     ensures local { IfOk result (λ command. (fields_of command).has_globals ≡ false) }
 {
     file_command(alloc, name, about, more)?.arg(text_arg(alloc, "BATCHES", help::BATCHES))
+}
+
+fn serve_command<'a>(alloc: Global) -> Result<Command<'a>, AllocError>
+    ensures shape { IfOk result (λ command. app_of command ≡ serve_app) }
+    ensures local { IfOk result (λ command. (fields_of command).has_globals ≡ false) }
+{
+    file_command(alloc, "serve", help::SERVE, help::SERVE_MORE)?
+        .arg(port_arg(alloc))?
+        .arg(count_arg(alloc))
 }
 
 fn with_command<'a>(program: Command<'a>, command: Command<'a>) -> Result<Command<'a>, AllocError>
@@ -83,8 +112,9 @@ pub(crate) fn moo_command<'a>(alloc: Global) -> Result<Command<'a>, AllocError>
         program,
         file_command(alloc, "dump", help::DUMP, help::DUMP_MORE)?,
     )?;
-    with_command(
+    let program = with_command(
         program,
         file_command(alloc, "check", help::CHECK, help::CHECK_MORE)?,
-    )
+    )?;
+    with_command(program, serve_command(alloc)?)
 }

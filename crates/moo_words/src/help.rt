@@ -7,6 +7,10 @@ pub(crate) const FILE: &str =
 
 pub(crate) const BATCHES: &str = "A file of batches, or - for standard input";
 
+pub(crate) const PORT: &str = "The port on 127.0.0.1 to listen on, 1 to 65535";
+
+pub(crate) const COUNT: &str = "How many connections to take before it ends, 0 to 1000000";
+
 pub(crate) const MOO: &str =
     "Keeps the objects of a text world in a database, and runs batches of calls on them";
 
@@ -22,7 +26,7 @@ A batch: a line `batch as #3` (the programmer; #3 is the wizard of a new world),
 
 `moo COMMAND --help` says what each command writes, and how it ends.
 
-Exit status: 0 done; 1 the store or a stream failed, or an answer was `fault` or `closed`;
+Exit status: 0 done; 1 the store, a stream or the port failed, or an answer was `fault` or `closed`;
 2 the words are wrong; 3 the file is damaged, or of a newer version; 4 memory ran out.";
 
 pub(crate) const INIT: &str = "Make a new world in FILE, which must hold no tables yet";
@@ -84,3 +88,19 @@ Exit status: 0 whole; 1 `moo: store fault`; 3 `moo: damaged KIND KEY` or `moo: n
 
 Example:
   moo check world.db";
+
+pub(crate) const SERVE: &str = "Answer HTTP requests on 127.0.0.1:PORT, one a connection";
+
+pub(crate) const SERVE_MORE: &str =
+    "Standard output: `listening 127.0.0.1:PORT` once FILE is open and the port is bound; at the end, after COUNT
+connections, `served A failed F`.
+
+POST /batch runs a batch, POST /ask asks one; GET /seq and GET /object/N look at the world. Every answer
+is JSON. Nobody is asked who they are: let no one else on this machine reach the port.
+
+Exit status: 0 COUNT connections were taken; 1 `moo: cannot listen`, `moo: store fault`, or standard
+output failed; 3 `moo: damaged KIND KEY` or `moo: newer version`; 4 `moo: no memory`.
+
+Example:
+  moo serve world.db 8080 1000
+  curl -d '{\"as\":\"#3\",\"calls\":[\"create(#1)\"]}' http://127.0.0.1:8080/batch";

@@ -2,7 +2,7 @@
 ghost use Rattle.std.specs.Prelude.{◌≡◌, ◌<◌, Some, map, IfOk, IfErr, IsErr, IfSome, codes, length};
 ghost use Rattle.clap.specs.Walk.{rows_of};
 ghost use Rattle.clap.specs.Matches.{found_of};
-ghost use Rattle.moo_words.specs.Tasks.{HasText, IsRefusal, IsTask, NamesTask};
+ghost use Rattle.moo_words.specs.Tasks.{HasNumber, HasText, IsRefusal, IsTask, NamesTask};
 
 use crate::commands::moo_command;
 use clap::{ArgMatches, Error};
@@ -14,15 +14,33 @@ use std::alloc::{AllocError, Global};
 #[derive(Clone, Copy, Debug, PartialEq, Eq, Drop)]
 pub enum Task<'a> {
     /// Make a new world.
-    Init { file: &'a str },
+    Init {
+        file: &'a str,
+    },
     /// Run the batches of a text.
-    Apply { file: &'a str, batches: &'a str },
+    Apply {
+        file: &'a str,
+        batches: &'a str,
+    },
     /// Say what the batches of a text would come to.
-    Ask { file: &'a str, batches: &'a str },
+    Ask {
+        file: &'a str,
+        batches: &'a str,
+    },
     /// Print the whole world.
-    Dump { file: &'a str },
+    Dump {
+        file: &'a str,
+    },
     /// Test that the file holds a whole world.
-    Check { file: &'a str },
+    Check {
+        file: &'a str,
+    },
+    /// Answer requests on a port of 127.0.0.1, 1 to 65535, and end after so many connections, 0 to 1,000,000.
+    Serve {
+        file: &'a str,
+        port: u16,
+        count: u32,
+    },
 }
 
 /// Why the words name no task.
@@ -40,6 +58,29 @@ fn text_of<'a>(matches: &ArgMatches<'a>, id: &str) -> Option<&'a str>
     ensures { IfSome result (λ text. HasText (rows_of (found_of matches.now)) id.now text.now) }
 {
     matches.get_str(id)
+}
+
+// The number of an argument.
+fn number_of(matches: &ArgMatches<'_>, id: &str) -> Option<u32>
+    ensures { IfSome result (HasNumber (rows_of (found_of matches.now)) id.now) }
+{
+    matches.get_one::<u32>(id)
+}
+
+fn serve_task<'a>(matches: &ArgMatches<'a>) -> Option<Task<'a>>
+    ensures { IfSome result (IsTask (codes "serve", rows_of (found_of matches.now))) }
+{
+    let file = text_of(matches, "FILE")?;
+    let port = number_of(matches, "PORT")?;
+    let count = number_of(matches, "COUNT")?;
+    if port == 0 || port > 65535 || count > 1_000_000 {
+        return None;
+    }
+    Some(Task::Serve {
+        file,
+        port: port as u16,
+        count,
+    })
 }
 
 // The task of a command's name and matches.
@@ -63,6 +104,8 @@ fn task_in<'a>(name: &str, matches: &ArgMatches<'a>) -> Option<Task<'a>>
     } else if name == "check" {
         let file = text_of(matches, "FILE")?;
         Some(Task::Check { file })
+    } else if name == "serve" {
+        serve_task(matches)
     } else {
         None
     }

@@ -39,6 +39,22 @@ fn words_name_a_task(rt: HostRuntime) -> Result<(), Fail> {
             Task::Check { file },
         ),
         (
+            ["moo", "serve", "world.db", "8080", "0"].as_slice(),
+            Task::Serve {
+                file,
+                port: 8080,
+                count: 0,
+            },
+        ),
+        (
+            ["moo", "serve", "world.db", "65535", "1000000"].as_slice(),
+            Task::Serve {
+                file,
+                port: 65535,
+                count: 1_000_000,
+            },
+        ),
+        (
             ["moo"].as_slice(),
             Task::Apply {
                 file: ":memory:",
@@ -57,6 +73,10 @@ fn other_words_are_refused(rt: HostRuntime) -> Result<(), Fail> {
         (["moo", "apply", "world.db"].as_slice(), 2),
         (["moo", "check"].as_slice(), 2),
         (["moo", "check", "world.db", "more"].as_slice(), 2),
+        (["moo", "serve", "world.db", "0", "1"].as_slice(), 2),
+        (["moo", "serve", "world.db", "65536", "1"].as_slice(), 2),
+        (["moo", "serve", "world.db", "80", "1000001"].as_slice(), 2),
+        (["moo", "serve", "world.db", "80"].as_slice(), 2),
         (["moo", "sing"].as_slice(), 2),
         (["moo", "--help"].as_slice(), 0),
         (["moo", "help"].as_slice(), 0),

@@ -12,4 +12,5 @@ returns c =
     let two = c.in_ok-program-2.ensures ∙ ap₂ with_command one c.in_ok-batches_command.ensures.shape in
     let three = c.in_ok-program-3.ensures ∙ ap₂ with_command two c.in_ok-batches_command-2.ensures.shape in
     let four = c.in_ok-program-4.ensures ∙ ap₂ with_command three c.in_ok-file_command-2.ensures.shape in
-    IfOk-weaker c.with_command-5.result _ _ (λ r h. h ∙ ap₂ with_command four c.in_ok-file_command-3.ensures.shape) c.with_command-5.ensures
+    let five = c.in_ok-program-5.ensures ∙ ap₂ with_command four c.in_ok-file_command-3.ensures.shape in
+    IfOk-weaker c.with_command-6.result _ _ (λ r h. h ∙ ap₂ with_command five c.in_ok-serve_command.ensures.shape) c.with_command-6.ensures

@@ -1,0 +1,10 @@
+use Rattle.std.proofs.Common.{sym}
+use Rattle.std.specs.Str.Parse.{ParsesUnsigned, ExplainsUnsignedError, HasUnsignedDigitsIfOk}
+use Rattle.moo_words.proofs.MatchLemmas.{number_given}
+use Rattle.clap.specs.Matches.{found_of}
+use Rattle.moo_words.proofs.task.number_of.Goals as goal
+
+pub returns : goal.returns
+returns c =
+    number_given (λ bs r. ParsesUnsigned 32 10 bs r × ExplainsUnsignedError 10 bs r × HasUnsignedDigitsIfOk bs r)
+    (λ text n h. sym h.0.1) (found_of c.args.matches.now) c.args.id.now c.get_one.result c.get_one.ensures.none c.get_one.ensures.value
