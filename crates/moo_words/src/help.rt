@@ -3,7 +3,7 @@
 pub(crate) const VERSION: &str = "0.9.0";
 
 pub(crate) const FILE: &str =
-    "The database: a file (FILE-wal beside it is a part of it), or :memory: for a new world that is gone at the end";
+    "A database file (FILE-wal beside it is a part of it), or :memory: for a new world, gone at the end";
 
 pub(crate) const BATCHES: &str = "A file of batches, or - for standard input";
 
@@ -17,21 +17,27 @@ pub(crate) const MOO: &str =
 pub(crate) const MOO_MORE: &str = "With no words at all it runs `moo apply :memory: -`.
 
 From nothing:
-  moo init world.db                                                       make a new world
-  printf 'batch as #3\\ncreate(#1)\\nend\\n' | moo apply world.db -       change it
-  moo dump world.db                                                       see all of it
+  moo init world.db                                                   make a new world
+  printf 'batch as #3\\ncreate(#1)\\nend\\n' | moo apply world.db -      change it
+  moo dump world.db                                                   see all of it
 
 A batch: a line `batch as #3` (the programmer; #3 is the wizard of a new world), one call a line as
 `create(#1)`, and a line `end`. It acts whole or not at all.
 
-`moo COMMAND --help` says what each command writes, and how it ends.
+`moo apply --help` lists the calls, the values and the replies. `moo COMMAND --help` says of each command
+what it writes, and how it ends.
 
-Exit status: 0 done; 1 the store, a stream or the port failed, or an answer was `fault` or `closed`;
-2 the words are wrong; 3 the file is damaged, or of a newer version; 4 memory ran out.";
+Exit status: 0 done, and a batch that is answered `refused`, `stale` or `malformed` is too; 1 the store, a
+stream or the port failed, or a batch is answered `fault` or `closed`; 2 the words are wrong; 3 the file is
+damaged, or of a newer version; 4 memory ran out.";
 
 pub(crate) const INIT: &str = "Make a new world in FILE, which must hold no tables yet";
 
-pub(crate) const INIT_MORE: &str = "Standard output: `created`.
+pub(crate) const INIT_MORE: &str =
+    "The new world has number 0 and four objects, which #3 owns: #0 \"System Object\", #1 \"Root Class\" (all may
+make objects under it), #2 \"The First Room\", and in it #3 \"Wizard\", a wizard, who has every right.
+
+Standard output: `created`.
 
 Exit status: 0 created; 1 `moo: store fault`: FILE has tables already, which stay as they are, or it
 can't be written; 4 `moo: no memory`.
@@ -43,24 +49,84 @@ pub(crate) const APPLY: &str =
     "Run the batches of a text, and print a reply for each when it is committed";
 
 pub(crate) const APPLY_MORE: &str =
-    "Standard output, for each batch: `accepted S`, its answers one a line, and `end`; or why it changed
-nothing: `refused K E_NAME` (call K failed), `full K`, `stale S`, `malformed L` (line L of it),
-`truncated`, `nomemory`; `fault` where the store failed in it, and `closed` behind that.
+    "A batch: a line `batch as #N`, N being the programmer, or `batch as #N at M`, which acts only on a world with
+number M; one call a line; a line `end`. It acts whole or not at all. Blank lines are skipped.
 
-Exit status: 0 each batch has its reply; 1 one of them is `fault` or `closed`, or a last line says
-`moo: store fault`, `moo: read fault` or `moo: input too long`; 3 `moo: damaged KIND KEY` or
+Standard output, for each batch:
+  accepted S     it is committed, as number S; the answers of its calls follow, one a line, and `end`
+  refused K E_NAME   its call K, from 1 on, failed, for one of the reasons below
+  full K         its call K found no number left for what it makes
+  stale S        it names another number than S, which the world has
+  malformed L    its line L can't be read. The header is line 1, and blank lines count. It is another header
+                 than those above; or no call below, or a sign too many or too few in it; or a value is none,
+                 is over 32 bits, over 65,535 bytes or over 32 lists deep, is a text without its end or with
+                 other bytes than tabs, spaces and printing ASCII; or the line is over 262,144 bytes, or the
+                 1,001st call. What follows is read on behind the next `end`.
+  truncated      the text ended inside it
+  nomemory       memory ran out in it
+  fault          the store failed in it; `closed` is the answer to each behind that
+Without `accepted` it changed nothing; only that of a `fault` may stand: `moo check FILE` says S.
+
+Values: 12 and -5; objects #4, and #-1 for none; texts \"a \\\"b\\\" c\"; errors E_PERM; lists {1, {#2, \"a\"}}.
+True are numbers but 0, and texts and lists that aren't empty.
+
+Calls, in any case of letters. A call answers 0 where nothing else is said.
+  create(PARENT), create(PARENT, OWNER)   a new object, which it answers; it owns itself if OWNER is #-1
+  recycle(O)                      O goes: its children get its parent, what it holds gets no place
+  valid(O), max_object()          1 where O is an object, or 0; the greatest number that one ever had
+  chparent(O, PARENT)             O inherits from PARENT, or for #-1 from nothing
+  parent(O), children(O)          its parent; those whose parent it is
+  move(O, PLACE)                  O goes into PLACE, or for #-1 nowhere
+  set_accept(O, {A, B ..})        O accepts A, B .. and what is under one of them; without a list, as after
+                                  set_accept(O, 0), it accepts what its parent does, or nothing
+  accept_list(O)                  that list, or 0 where O has none of its own
+  set_player_flag(O, V)           O is a player if V is true, else none
+  is_player(O), players()         1 or 0; all players
+  get(O, NAME), set(O, NAME, V)   a property, or one that is built in: \"name\", \"owner\", \"programmer\",
+                                  \"wizard\", \"r\", \"w\", \"f\", and \"location\" and \"contents\", which move sets
+  properties(O)                   the names that O defines
+  add_property(O, NAME, V, {OWNER, PERMS})       O and all under it get it
+  delete_property(O, NAME)                       they lose it; O defines it
+  property_info(O, NAME)                         {OWNER, PERMS}
+  set_property_info(O, NAME, {OWNER, PERMS})     or {OWNER, PERMS, NEWNAME}
+  clear_property(O, NAME), is_clear_property(O, NAME)   it reads as its parent's again; whether it does
+  verbs(O)                                                the names of each verb
+  add_verb(O, {OWNER, PERMS, NAMES}, {DOBJ, PREP, IOBJ})  a verb behind the others
+  delete_verb(O, VERB)
+  verb_info(O, VERB), verb_args(O, VERB)                  {OWNER, PERMS, NAMES}; {DOBJ, PREP, IOBJ}
+  set_verb_info(O, VERB, {OWNER, PERMS, NAMES})
+  set_verb_args(O, VERB, {DOBJ, PREP, IOBJ})
+PERMS of a property: \"r\" all read it, \"w\" all write it, \"c\" on an heir it is the heir's owner's. PERMS of a
+verb: \"rwxd\". NAMES: \"get take\" or \"foo*bar\", which is foo, foob, fooba and foobar. VERB: its place among the
+verbs, from 1 on, or a word such as \"get\". DOBJ and IOBJ: \"this\", \"any\" or \"none\". PREP: \"any\", \"none\" or a
+phrase such as \"in front of\".
+
+Why a call is refused, E_NAME:
+  E_PERM     the programmer may not: it has no right there, which a wizard has, or is no object
+  E_INVARG   an object, an owner, a name or letters that can't stand there, or #-1 where an object must be
+  E_INVIND   get or set of what is no object
+  E_PROPNF   O has no such property
+  E_VERBNF   O has no such verb
+  E_ARGS     too many values, or too few
+  E_TYPE     a value of another kind than the call takes
+  E_QUOTA    the property `ownership_quota` of the new object's owner is used up
+  E_RECMOVE  O would be in itself, or under itself
+  E_NACC     PLACE doesn't accept O, and the programmer is no wizard
+
+Exit status: 0 each batch has its reply, `refused` and the like too; 1 one is `fault` or `closed`, or a last
+line says `moo: store fault`, `moo: read fault` or `moo: input too long`; 3 `moo: damaged KIND KEY` or
 `moo: newer version`; 4 `moo: no memory`.
 
 Example:
-  printf 'batch as #3\\ncreate(#1)\\nend\\n' | moo apply world.db -";
+  printf 'batch as #3\\ncreate(#1)\\nset(#4, \"name\", \"Lantern\")\\nend\\n' | moo apply world.db -";
 
 pub(crate) const ASK: &str = "Print what the batches of a text would come to, and change nothing";
 
 pub(crate) const ASK_MORE: &str =
-    "Standard output: the replies of `moo apply`, each batch judged on the world as it is, with its present
-number.
+    "Standard output: the replies of `moo apply`, each batch judged on the world as it is. `accepted S` then has
+the world's present number. `moo apply --help` lists replies, values and calls.
 
-Exit status: as `moo apply`.
+Exit status: as `moo apply`; so 0 for `refused` and the like too.
 
 Example:
   printf 'batch as #3\\nget(#2, \"name\")\\nend\\n' | moo ask world.db -";
@@ -68,9 +134,18 @@ Example:
 pub(crate) const DUMP: &str =
     "Print the world: its number, and each object, property, slot and verb on a line";
 
-pub(crate) const DUMP_MORE: &str =
-    "Standard output: `seq S`, `top #N`, then of each object, ascending, a line `object {..}` and its lines
-`property {..}`, `slot {..}` and `verb {..}`, and last `end`.
+pub(crate) const DUMP_MORE: &str = "Standard output:
+  seq S                  so many batches were accepted
+  top #N                 the greatest number that an object was given
+  then of each object, ascending:
+  object {number, name, owner, parent, location, player, programmer, wizard, r, w, f, accept list or 0}
+  property {object, name}                                 each that it defines
+  slot {object, definer, name, owner, perms, 0}           each that it has: clear, it reads as the parent's
+  slot {object, definer, name, owner, perms, 1, value}    or set
+  verb {object, names, owner, perms, dobj, prep, iobj}    each, in order
+  and last:
+  end
+Marks are 1 or 0, values as in a batch. Slots stand by their definers, from the object up.
 
 Exit status: 0 written whole; 1 `moo: store fault`, or standard output failed; 3 `moo: damaged KIND KEY`
 or `moo: newer version`; 4 `moo: no memory`.
