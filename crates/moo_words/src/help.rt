@@ -3,7 +3,7 @@
 pub(crate) const VERSION: &str = "0.9.0";
 
 pub(crate) const FILE: &str =
-    "A database file (FILE-wal beside it is a part of it), or :memory: for a new world, gone at the end";
+    "A database file (FILE-wal is a part of it), or :memory: for a new world, gone at the end";
 
 pub(crate) const BATCHES: &str = "A file of batches, or - for standard input";
 
@@ -57,11 +57,11 @@ Standard output, for each batch:
   refused K E_NAME   its call K, from 1 on, failed, for one of the reasons below
   full K         its call K found no number left for what it makes
   stale S        it names another number than S, which the world has
-  malformed L    its line L can't be read. The header is line 1, and blank lines count. It is another header
-                 than those above; or no call below, or a sign too many or too few in it; or a value is none,
-                 is over 32 bits, over 65,535 bytes or over 32 lists deep, is a text without its end or with
-                 other bytes than tabs, spaces and printing ASCII; or the line is over 262,144 bytes, or the
-                 1,001st call. What follows is read on behind the next `end`.
+  malformed L    its line L can't be read (the header is line 1, and blank lines count). It is no header as
+                 above, or no call as below; or a value in it is none: a number over 32 bits, a text of over
+                 65,535 bytes, without its end, or with other bytes than tabs, spaces and printing ASCII, a
+                 list over 32 deep; or it is over 262,144 bytes, or the 1,001st call. Reading goes on behind
+                 the next `end`.
   truncated      the text ended inside it
   nomemory       memory ran out in it
   fault          the store failed in it; `closed` is the answer to each behind that
@@ -70,7 +70,8 @@ Without `accepted` it changed nothing; only that of a `fault` may stand: `moo ch
 Values: 12 and -5; objects #4, and #-1 for none; texts \"a \\\"b\\\" c\"; errors E_PERM; lists {1, {#2, \"a\"}}.
 True are numbers but 0, and texts and lists that aren't empty.
 
-Calls, in any case of letters. A call answers 0 where nothing else is said.
+Calls, in any case of letters. O, A, B, PARENT, OWNER and PLACE are objects, V is any value, and the rest are
+texts; VERB may be a number. A call answers 0 where nothing else is said.
   create(PARENT), create(PARENT, OWNER)   a new object, which it answers; it owns itself if OWNER is #-1
   recycle(O)                      O goes: its children get its parent, what it holds gets no place
   valid(O), max_object()          1 where O is an object, or 0; the greatest number that one ever had
@@ -85,8 +86,8 @@ Calls, in any case of letters. A call answers 0 where nothing else is said.
   get(O, NAME), set(O, NAME, V)   a property, or one that is built in: \"name\", \"owner\", \"programmer\",
                                   \"wizard\", \"r\", \"w\", \"f\", and \"location\" and \"contents\", which move sets
   properties(O)                   the names that O defines
-  add_property(O, NAME, V, {OWNER, PERMS})       O and all under it get it
-  delete_property(O, NAME)                       they lose it; O defines it
+  add_property(O, NAME, V, {OWNER, PERMS})       a new property of O and of all under it
+  delete_property(O, NAME)                       it goes, if O defines it
   property_info(O, NAME)                         {OWNER, PERMS}
   set_property_info(O, NAME, {OWNER, PERMS})     or {OWNER, PERMS, NEWNAME}
   clear_property(O, NAME), is_clear_property(O, NAME)   it reads as its parent's again; whether it does
@@ -96,14 +97,14 @@ Calls, in any case of letters. A call answers 0 where nothing else is said.
   verb_info(O, VERB), verb_args(O, VERB)                  {OWNER, PERMS, NAMES}; {DOBJ, PREP, IOBJ}
   set_verb_info(O, VERB, {OWNER, PERMS, NAMES})
   set_verb_args(O, VERB, {DOBJ, PREP, IOBJ})
-PERMS of a property: \"r\" all read it, \"w\" all write it, \"c\" on an heir it is the heir's owner's. PERMS of a
-verb: \"rwxd\". NAMES: \"get take\" or \"foo*bar\", which is foo, foob, fooba and foobar. VERB: its place among the
-verbs, from 1 on, or a word such as \"get\". DOBJ and IOBJ: \"this\", \"any\" or \"none\". PREP: \"any\", \"none\" or a
-phrase such as \"in front of\".
+PERMS of a property: letters of \"rwc\": r all may read it, w all may write it, c the owner of what is under O
+owns it there. PERMS of a verb: letters of \"rwxd\". NAMES: \"get take\", or \"foo*bar\" for foo, foob, fooba and
+foobar. VERB: its place among the verbs, from 1 on, or a word such as \"take\". DOBJ and IOBJ: \"this\", \"any\" or
+\"none\". PREP: \"any\", \"none\" or a phrase such as \"in front of\".
 
 Why a call is refused, E_NAME:
   E_PERM     the programmer may not: it has no right there, which a wizard has, or is no object
-  E_INVARG   an object, an owner, a name or letters that can't stand there, or #-1 where an object must be
+  E_INVARG   what must be an object is none, or an owner, a name or letters can't stand there
   E_INVIND   get or set of what is no object
   E_PROPNF   O has no such property
   E_VERBNF   O has no such verb
