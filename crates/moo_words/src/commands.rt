@@ -84,6 +84,32 @@ fn with_command<'a>(program: Command<'a>, command: Command<'a>) -> Result<Comman
     program.subcommand(command)
 }
 
+fn with_file_command<'a>(
+    alloc: Global,
+    program: Command<'a>,
+    name: &'a str,
+    about: &'a str,
+    more: &'a str,
+) -> Result<Command<'a>, AllocError>
+    ensures { IfOk result (λ new. app_of new ≡ with_subcommand (app_of program.entry) (file_app name.entry.now).top) }
+{
+    let command = file_command(alloc, name, about, more)?;
+    with_command(program, command)
+}
+
+fn with_batches_command<'a>(
+    alloc: Global,
+    program: Command<'a>,
+    name: &'a str,
+    about: &'a str,
+    more: &'a str,
+) -> Result<Command<'a>, AllocError>
+    ensures { IfOk result (λ new. app_of new ≡ with_subcommand (app_of program.entry) (batches_app name.entry.now).top) }
+{
+    let command = batches_command(alloc, name, about, more)?;
+    with_command(program, command)
+}
+
 /// The program without its commands.
 fn program<'a>(alloc: Global) -> Command<'a>
     ensures { app_of result ≡ program_app }
@@ -96,25 +122,11 @@ fn program<'a>(alloc: Global) -> Command<'a>
 pub(crate) fn moo_command<'a>(alloc: Global) -> Result<Command<'a>, AllocError>
     ensures { IfOk result (λ command. app_of command ≡ moo_app) }
 {
-    let program = with_command(
-        program(alloc),
-        file_command(alloc, "init", help::INIT, help::INIT_MORE)?,
-    )?;
-    let program = with_command(
-        program,
-        batches_command(alloc, "apply", help::APPLY, help::APPLY_MORE)?,
-    )?;
-    let program = with_command(
-        program,
-        batches_command(alloc, "ask", help::ASK, help::ASK_MORE)?,
-    )?;
-    let program = with_command(
-        program,
-        file_command(alloc, "dump", help::DUMP, help::DUMP_MORE)?,
-    )?;
-    let program = with_command(
-        program,
-        file_command(alloc, "check", help::CHECK, help::CHECK_MORE)?,
-    )?;
-    with_command(program, serve_command(alloc)?)
+    let program = with_file_command(alloc, program(alloc), "init", help::INIT, help::INIT_MORE)?;
+    let program = with_batches_command(alloc, program, "apply", help::APPLY, help::APPLY_MORE)?;
+    let program = with_batches_command(alloc, program, "ask", help::ASK, help::ASK_MORE)?;
+    let program = with_file_command(alloc, program, "dump", help::DUMP, help::DUMP_MORE)?;
+    let program = with_file_command(alloc, program, "check", help::CHECK, help::CHECK_MORE)?;
+    let command = serve_command(alloc)?;
+    with_command(program, command)
 }

@@ -1,16 +1,18 @@
-use Rattle.std.proofs.Common.{ap₂, ◌∙◌}
+use Rattle.std.proofs.Common.{ap, ap₂, ◌∙◌}
+use Rattle.std.specs.Prelude.{codes}
 use Rattle.std.proofs.lemmas.Result.{IfOk-weaker}
 use Rattle.clap.specs.Simple.{App, with_subcommand}
+use Rattle.moo_words.specs.Commands.{file_app, batches_app}
 use Rattle.moo_words.proofs.commands.moo_command.Goals as goal
 
 abbrev with_command : App → App → App
-with_command program command = with_subcommand program command.top
+with_command command program = with_subcommand program command.top
 
 pub returns : goal.returns
 returns c =
-    let one = c.in_ok-program.ensures ∙ ap₂ with_command c.program.ensures c.in_ok-file_command.ensures.shape in
-    let two = c.in_ok-program-2.ensures ∙ ap₂ with_command one c.in_ok-batches_command.ensures.shape in
-    let three = c.in_ok-program-3.ensures ∙ ap₂ with_command two c.in_ok-batches_command-2.ensures.shape in
-    let four = c.in_ok-program-4.ensures ∙ ap₂ with_command three c.in_ok-file_command-2.ensures.shape in
-    let five = c.in_ok-program-5.ensures ∙ ap₂ with_command four c.in_ok-file_command-3.ensures.shape in
-    IfOk-weaker c.with_command-6.result _ _ (λ r h. h ∙ ap₂ with_command five c.in_ok-serve_command.ensures.shape) c.with_command-6.ensures
+    let one = c.in_ok-program.ensures ∙ ap (with_command (file_app (codes "init"))) c.program.ensures in
+    let two = c.in_ok-program-2.ensures ∙ ap (with_command (batches_app (codes "apply"))) one in
+    let three = c.in_ok-program-3.ensures ∙ ap (with_command (batches_app (codes "ask"))) two in
+    let four = c.in_ok-program-4.ensures ∙ ap (with_command (file_app (codes "dump"))) three in
+    let five = c.in_ok-program-5.ensures ∙ ap (with_command (file_app (codes "check"))) four in
+    IfOk-weaker c.with_command.result _ _ (λ r h. h ∙ ap₂ with_command c.in_ok-command.ensures.shape five) c.with_command.ensures
