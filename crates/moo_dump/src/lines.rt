@@ -3,11 +3,12 @@
 ghost use Rattle.std.specs.Prelude.{◌≡◌, ◌++◌, OnOk, IfOk};
 ghost use Rattle.moo_value.specs.Text.{IsText};
 ghost use Rattle.moo_dump.specs.Dump.{line, object_line, property_line, slot_line, verb_line};
+ghost use Rattle.moo_world.specs.Prepositions.{place_text, prep_text};
 ghost use Rattle.moo_world.specs.Rows.{slot_seen};
 
 use moo_rights::accept_lists::accept_value;
 use moo_rights::answers::{flag, list_of};
-use moo_rows::row::{ObjRow, PropRow, SlotRow, SlotState, VerbRow};
+use moo_rows::row::{ArgSpec, ObjRow, PropRow, SlotRow, SlotState, VerbRow};
 use moo_value::text::MooStr;
 use moo_value::value::{ObjNo, Value};
 use moo_value::writing::print_literal;
@@ -113,6 +114,18 @@ pub(crate) fn put_slot_line(
     put_line(alloc, b"slot", values, out)
 }
 
+/// The arguments that a verb takes, as texts.
+fn arg_strings(alloc: Global, args: ArgSpec) -> Result<(Value, Value, Value), AllocError>
+    ensures dobj { IfOk result (λ texts. texts.0 ≡ Value.Str (place_text args.dobj)) }
+    ensures prep { IfOk result (λ texts. texts.1 ≡ Value.Str (prep_text args.prep)) }
+    ensures iobj { IfOk result (λ texts. texts.2 ≡ Value.Str (place_text args.iobj)) }
+{
+    let dobj = string(alloc, print_place(args.dobj))?;
+    let prep = string(alloc, print_prep(args.prep))?;
+    let iobj = string(alloc, print_place(args.iobj))?;
+    Ok((dobj, prep, iobj))
+}
+
 /// Appends the line of a verb of x.
 pub(crate) fn put_verb_line(
     alloc: Global,
@@ -124,9 +137,7 @@ pub(crate) fn put_verb_line(
 {
     let names = verb.names.copy(alloc)?;
     let letters = string(alloc, bits_letters(verb.bits))?;
-    let dobj = string(alloc, print_place(verb.args.dobj))?;
-    let prep = string(alloc, print_prep(verb.args.prep))?;
-    let iobj = string(alloc, print_place(verb.args.iobj))?;
+    let (dobj, prep, iobj) = arg_strings(alloc, verb.args)?;
     let values = vec![in alloc;
         Value::Obj(x),
         Value::Str(names),
