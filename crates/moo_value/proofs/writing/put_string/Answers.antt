@@ -1,0 +1,23 @@
+use Rattle.std.proofs.Common.{◌≡◌, ◌++◌, ◌∷◌, [], ◌∙◌, rules}
+use Rattle.moo_value.proofs.Printed.{starts, starts_alike, starts_behind}
+use Rattle.moo_value.proofs.writing.put_string.Goals.{then-byte-eq34+in_ok-push-2, else-byte-eq34+else-byte-eq92}
+use Rattle.moo_value.proofs.writing.put_string.Goals as goal
+
+pub returns-in_err-push-clause-kept : goal.returns-in_err-push-clause-kept
+returns-in_err-push-clause-kept c = starts_alike _ _ c.in_err-push.ensures.items
+
+pub returns-in_err-push-2-clause-kept : goal.returns-in_err-push-2-clause-kept
+returns-in_err-push-2-clause-kept c = starts _ _ _ (c.in_err-push-2.ensures.items ∙ c.loop-byte.invariant)
+
+pub returns-in_err-push-3-clause-kept : goal.returns-in_err-push-3-clause-kept
+returns-in_err-push-3-clause-kept c =
+    elim c.if-byte-eq34.branch [
+      | then-byte-eq34+in_ok-push-2 w ↦ (let more : c.if-byte-eq34.out.items ≡ c.loop-byte.out.items ++ 92 ∷ [] = search rules in starts_behind _ _ _ _ _ (c.in_err-push-3.ensures.items ∙ more) c.loop-byte.invariant)
+      | else-byte-eq34+else-byte-eq92 w ↦ (let same : c.if-byte-eq34.out.items ≡ c.loop-byte.out.items = search rules in starts _ _ _ (c.in_err-push-3.ensures.items ∙ same ∙ c.loop-byte.invariant))
+    ]
+
+pub returns-in_err-push-4-clause-kept : goal.returns-in_err-push-4-clause-kept
+returns-in_err-push-4-clause-kept c = starts _ _ _ (c.in_err-push-4.ensures.items ∙ c.loop-byte.invariant)
+
+pub returns-clause-kept : goal.returns-clause-kept
+returns-clause-kept c = starts_behind _ _ _ _ _ c.in_ok-push-4.ensures.items c.loop-byte.invariant
