@@ -1,0 +1,85 @@
+"""The service as a process, and clients of it. For the scripts of tests/ and bench/."""
+import os
+import select
+import socket
+import struct
+import subprocess
+
+PATIENCE = 60
+
+
+def free_port():
+    """A port that nobody listens on now."""
+    with socket.socket() as probe:
+        probe.bind(("127.0.0.1", 0))
+        return probe.getsockname()[1]
+
+
+class Service:
+    """`PROGRAM serve FILE PORT COUNT`, from its first line on."""
+
+    def __init__(self, program, file, count, port=None, folder=None):
+        self.port = port or free_port()
+        words = [program, "serve", file, str(self.port), str(count)]
+        self.process = subprocess.Popen(words, cwd=folder, stdout=subprocess.PIPE, stderr=subprocess.PIPE)
+        self.first = self.line()
+
+    def line(self):
+        """What comes of one line of standard output while the program runs; less, where it ends or says nothing."""
+        said = b""
+        output = self.process.stdout.fileno()
+        while not said.endswith(b"\n") and select.select([output], [], [], PATIENCE)[0]:
+            byte = os.read(output, 1)
+            if not byte:
+                break
+            said += byte
+        return said.decode()
+
+    def is_listening(self):
+        return self.first == f"listening 127.0.0.1:{self.port}\n"
+
+    def end(self):
+        """Its status, and what it wrote behind its first line."""
+        output, _ = self.process.communicate(timeout=PATIENCE)
+        return self.process.returncode, output.decode()
+
+    def kill(self):
+        self.process.kill()
+        self.process.communicate()
+
+    def peer(self):
+        return socket.create_connection(("127.0.0.1", self.port), PATIENCE)
+
+    def ask(self, request):
+        """The bytes that answer those of a request."""
+        with self.peer() as peer:
+            peer.sendall(request)
+            return heard(peer)
+
+
+def heard(peer):
+    """All bytes that come of a peer until it closes."""
+    parts = []
+    while part := peer.recv(65536):
+        parts.append(part)
+    return b"".join(parts)
+
+
+def get(path):
+    return f"GET {path} HTTP/1.1\r\nhost: localhost\r\n\r\n".encode()
+
+
+def post(path, body):
+    return f"POST {path} HTTP/1.1\r\nhost: localhost\r\ncontent-length: {len(body)}\r\n\r\n{body}".encode()
+
+
+def answer(status, body, allow="", is_head=False):
+    """The bytes of an answer with this status line and body."""
+    head = f"HTTP/1.1 {status}\r\ncontent-type: application/json\r\ncontent-length: {len(body)}\r\nconnection: close\r\n{allow}\r\n"
+    return (head + ("" if is_head else body)).encode()
+
+
+def reset(peer):
+    """Breaks a connection off, so that the other side sees an error and no end."""
+    peer.setsockopt(socket.SOL_SOCKET, socket.SO_LINGER, struct.pack("ii", 1, 0))
+    peer.close()
