@@ -169,7 +169,7 @@ class Soak:
     def apply(self):
         """The same of a text."""
         process = subprocess.Popen([self.program, "apply", self.world, "-"], stdin=subprocess.PIPE, stdout=subprocess.PIPE, stderr=subprocess.DEVNULL)
-        sent = [random_calls(self.chance) for _ in range(4000)]
+        sent = [random_calls(self.chance) for _ in range(1000)]
 
         def feed():
             try:
@@ -180,7 +180,7 @@ class Soak:
 
         feeder = threading.Thread(target=feed, daemon=True)
         feeder.start()
-        killer = threading.Timer(self.chance.uniform(0, 1.5), process.send_signal, [signal.SIGKILL])
+        killer = threading.Timer(self.chance.uniform(0, 0.4), process.send_signal, [signal.SIGKILL])
         killer.start()
         printed = process.stdout.read().decode()
         process.wait()

@@ -74,7 +74,7 @@ class Trial:
                 called = re.match(r"(\w+)\((.*)", line)
                 if called:
                     counts[called[1]] += 1
-                    if re.search(r'world\.db(-\w+)?[">]', called[2]):
+                    if called[1] != "execve" and re.search(r'world\.db(-\w+)?[">]', called[2]):
                         found.append((called[1], counts[called[1]]))
         return found
 
