@@ -9,15 +9,16 @@ and the greatest, in requests a second.
 """
 import concurrent.futures
 import os
+import socket
 import statistics
 import subprocess
 import sys
 import tempfile
 import time
 
+sys.dont_write_bytecode = True
 sys.path.insert(0, os.path.join(os.path.dirname(os.path.abspath(__file__)), "..", "tests", "support"))
 from service import Service, get, heard, post  # noqa: E402
-import socket  # noqa: E402
 
 FIRST = "batch as #3\ncreate(#1)\nend\n"
 MAKE = post("/batch", '{"as":"#3","calls":["create(#1)"]}')
