@@ -27,6 +27,11 @@ def run(*words, text=b"", output=subprocess.PIPE):
     return ran.returncode, (ran.stdout or b"").decode()
 
 
+def complaint(*words):
+    """What the program says on standard error."""
+    return subprocess.run([MOO, *words], stdout=subprocess.DEVNULL, stderr=subprocess.PIPE, timeout=PATIENCE).stderr.decode()
+
+
 def error(word):
     return f'{{"error":"{word}"}}'
 
@@ -105,6 +110,7 @@ def port_and_file():
         other.listen()
         taken = str(other.getsockname()[1])
         case("a port that is taken", run("serve", "world.db", taken, "1"), (1, "moo: cannot listen\n"))
+        case("the cause is said", "is the port in use" in complaint("serve", ":memory:", taken, "1"), True)
         case("FILE is opened before the port", run("serve", "nothing.db", taken, "1"), (1, "moo: store fault\n"))
         run("init", "damaged.db")
         connection = sqlite3.connect("damaged.db")
