@@ -19,14 +19,46 @@ says() {
 }
 
 says "help names the commands" 0 'Usage: moo' --help
-for word in init apply ask dump check; do
+for word in init apply ask dump check serve; do
     says "help of $word has an example" 0 'Example:' $word --help
     says "help of $word has its statuses" 0 'Exit status:' $word --help
     says "$word wants its file" 2 'FILE' $word
 done
 says "the version" 0 'moo 0.9.0' --version
 says "apply wants its batches" 2 'BATCHES' apply world.db
+says "serve wants its port" 2 'PORT' serve world.db
+says "serve wants its count" 2 'COUNT' serve world.db 8080
+for port in 0 65536 x; do
+    says "$port is no port" 2 "'$port' for '<PORT>'" serve world.db "$port" 1
+done
+for count in 1000001 x; do
+    says "$count is no count" 2 "'$count' for '<COUNT>'" serve world.db 8080 "$count"
+done
 says "a word that isn't UTF-8" 2 'moo: usage' check "$(printf '\377')"
 says "a word that is none" 2 'sing' sing
 says "a word too many" 2 'more' check world.db more
 [ -e world.db ] && failed "no mistake makes a file" "there is one" || passed "no mistake makes a file"
+
+# lists NAME PATTERN WORD..: in the help of apply each WORD stands, in PATTERN for its letters %
+lists() {
+    name=$1 pattern=$2 lacking=
+    shift 2
+    for word in "$@"; do
+        grep -qE -- "$(echo "$pattern" | sed "s/%/$word/")" help || lacking="$lacking $word"
+    done
+    [ -z "$lacking" ] && passed "$name" || failed "$name" "it lacks$lacking"
+}
+"$MOO" apply --help >help
+lists "help has every call" '(^|[ ,])%\(' valid parent children is_player players max_object get properties property_info \
+    is_clear_property verbs verb_info verb_args accept_list create chparent recycle move set_player_flag set add_property \
+    delete_property set_property_info clear_property add_verb delete_verb set_verb_info set_verb_args set_accept
+lists "help has every reply" '[ `]%[ `]' accepted refused full stale malformed truncated nomemory fault closed
+lists "help has every reason" '^  %  ' E_PERM E_INVARG E_INVIND E_PROPNF E_VERBNF E_ARGS E_TYPE E_QUOTA E_RECMOVE E_NACC
+says "help has the fields of an object" 0 'object {number, name, owner, parent, location, player, programmer, wizard, r, w, f, accept list or 0}' dump --help
+says "and those of a slot" 0 'slot {object, definer, name, owner, perms, 1, value}' dump --help
+for word in '' init apply ask dump check serve; do
+    # shellcheck disable=SC2086
+    "$MOO" $word --help
+done >help
+awk 'length > 109' help >long
+[ -s help ] && [ ! -s long ] && passed "no line of help is long" || failed "no line of help is long" "$(head -n 1 long)"

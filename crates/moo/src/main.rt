@@ -1,20 +1,7 @@
 //! The program `moo`: an object database server with the behaviour of LambdaMOO 1.8.
 #![tactic(auto)]
 
-mod commands;
-mod failure;
-mod files;
-mod output;
-mod over;
-mod run;
-#[cfg(test)]
-mod tests;
-#[cfg(test)]
-mod worked_tests;
-
-use failure::Failure;
-use output::report;
-use run::run_words;
+use moo_commands::{Failure, report, run_words};
 use std::process::ExitCode;
 use std::{env, io};
 

@@ -1,3 +1,0 @@
-mod Connections
-mod Reporting
-mod Tasks

@@ -1,0 +1,126 @@
+-- A task over a connection.
+use Rattle.std.proofs.Common.{◌≡◌, ◌⊎◌, inl, inr, ℕ, zero, suc, false, List, Option, Result, Ok, Err, IfOk, IfErr, refl, sym, subst, subst₂, ap, ◌∙◌, arith, Bool, true, IsTrue}
+use Rattle.std.specs.Prelude.{MatchResult}
+use Rattle.sqlite_trees.specs.View.{doubt}
+use Rattle.sqlite.specs.State.{State as Database, HasCleanDisk, Survives}
+use Rattle.sqlite.specs.Store.{Ghosts}
+use Rattle.sqlite.specs.Held.{Held, state}
+use Rattle.moo_words.specs.declared.task.Task.{Task}
+use Rattle.moo_words.specs.declared.task.Task.TheVariants.{Init, Apply, Ask, Dump, Check, Serve}
+use Rattle.moo_store.specs.Stand.{Stand}
+use Rattle.moo_commands.specs.declared.failure.Failure.{Failure}
+use Rattle.moo_commands.specs.declared.failure.Failure.TheVariants.{Usage, NoFile, Store, Damaged, NewerVersion, NoBatches, Read, Write, TooLong, Port, NoMemory}
+use Rattle.sqlite.specs.declared.error.Error.{Error}
+use Rattle.moo_commands.specs.Lines.{Reports, store_failure}
+use Rattle.moo_commands.specs.Run.{Done, Stops, Ends, Runs, RunsUnseen, IsOpening, IsRefusal, FailsAtOnce, LeavesAsBefore}
+use Rattle.moo_world.specs.Judge.{State, state_of}
+use Rattle.moo_store.specs.Kept.{World}
+use Rattle.moo_store.specs.World.{store_of, CrashLeaves, StandsFor}
+use Rattle.moo_store.specs.declared.fault.StoreFault.{StoreFault}
+use Rattle.moo_store.specs.declared.fault.StoreFault.TheVariants as store_fault
+use Rattle.moo_store.specs.Opening.{IsOfStore}
+
+-- what a new world can't be made for, and what the opening of one that stands fails for
+pub of_making : {A : Type 0} (fault : StoreFault) (failure : Failure) → failure ≡ store_failure fault → ((fault ≡ store_fault.OutOfMemory) × A) ⊎ ((error : Error) × (fault ≡ store_fault.Store error)) → IsOpening failure
+of_making fault failure of (inl (is, _)) = subst IsOpening (sym (of ∙ ap store_failure is)) tt
+of_making fault failure of (inr (error, is)) = subst IsOpening (sym (of ∙ ap store_failure is)) tt
+
+of_store : (fault : StoreFault) → IsOfStore fault → IsOpening (store_failure fault)
+of_store (store_fault.Store error) it = tt
+of_store (store_fault.Damaged kind key) it = absurd it
+of_store store_fault.NewerVersion it = absurd it
+of_store store_fault.OutOfMemory it = tt
+of_store store_fault.Closed it = absurd it
+
+pub of_opening : (fault : StoreFault) (failure : Failure) → failure ≡ store_failure fault → IsOfStore fault → IsOpening failure
+of_opening fault failure of it = subst IsOpening (sym of) (of_store fault it)
+
+module _ {S : Type 0} (g : Ghosts S) (known : Bool) (was world : World S) (conn : Held S) (is : conn ≡ world.connection) (task : Task) (s : State) (input old : Option (List ℕ)) where
+  abbrev pub RunsTo : Option (List ℕ) → ℕ → Type 0
+  RunsTo new status = Runs task s input old new status (IsTrue known × HasCleanDisk (state g conn)) (CrashLeaves (state g conn))
+
+  pub runs_done : (new : Option (List ℕ)) (status : ℕ) → Ends g known was world (λ end. Done task s end input old new status) → RunsTo new status
+  runs_done new status it = record {
+    end = it.end;
+    crash = λ both. subst (λ h. HasCleanDisk (state g h) → CrashLeaves (state g h) it.end) (sym is) (it.crash both.0) both.1;
+    writes = inl it.ends;
+  }
+
+  pub runs_stops : (between new : Option (List ℕ)) (failure : Failure) (status : ℕ) → Ends g known was world (λ end. Stops task s end failure (IsTrue known × HasCleanDisk (store_of g world)) input old between) → Reports failure between new status
+      → RunsTo new status
+  runs_stops between new failure status it reports = record {
+    end = it.end;
+    crash = λ both. subst (λ h. HasCleanDisk (state g h) → CrashLeaves (state g h) it.end) (sym is) (it.crash both.0) both.1;
+    writes = inr (failure, between, subst (λ h. Stops task s it.end failure (IsTrue known × HasCleanDisk (state g h)) input old between) (sym is) it.ends, reports);
+  }
+
+  pub late_clean : (End : Stand → Type 0) → Ends g known was world End → HasCleanDisk (state g conn) → HasCleanDisk (store_of g was)
+  late_clean End it clean = it.clean (subst (λ h. HasCleanDisk (state g h)) is clean)
+
+  pub runs_to : (r : Result ℕ Failure) (mid new : Option (List ℕ)) (status : ℕ) → IfOk r (λ value. Ends g known was world (λ end. Done task s end input old mid value))
+      → IfErr r (λ failure. Ends g known was world (λ end. Stops task s end failure (IsTrue known × HasCleanDisk (store_of g world)) input old mid))
+      → MatchResult r (λ value. (status ≡ value) × (new ≡ mid)) (λ failure. Reports failure mid new status) → RunsTo new status
+  runs_to (Ok value) mid new status done stops (same, unwritten) = subst₂ RunsTo (sym unwritten) (sym same) (runs_done mid value done)
+  runs_to (Err failure) mid new status done stops reports = runs_stops mid new failure status stops reports
+
+  pub late_clean_of : (r : Result ℕ Failure) (mid : Option (List ℕ)) → IfOk r (λ value. Ends g known was world (λ end. Done task s end input old mid value))
+      → IfErr r (λ failure. Ends g known was world (λ end. Stops task s end failure (IsTrue known × HasCleanDisk (store_of g world)) input old mid)) → HasCleanDisk (state g conn) → HasCleanDisk (store_of g was)
+  late_clean_of (Ok value) mid done stops = late_clean (λ end. Done task s end input old mid value) done
+  late_clean_of (Err failure) mid done stops = late_clean (λ end. Stops task s end failure (IsTrue known × HasCleanDisk (store_of g world)) input old mid) stops
+
+-- what is known where more is known of the disk
+stops_when : (task : Task) (s : State) (end : Stand) (failure : Failure) (Clean More : Type 0) → (More → Clean) → (input old new : Option (List ℕ)) → Stops task s end failure Clean input old new → Stops task s end failure More input old new
+stops_when (Init file) s end failure Clean More on input old new it = it
+stops_when (Apply file batches) s end failure Clean More on input old new it = it
+stops_when (Ask file batches) s end failure Clean More on input old new it = it
+stops_when (Dump file) s end failure Clean More on input old new it = it
+stops_when (Check file) s end failure Clean More on input old new (e, inl (fault, is, of_store, same)) = (e, inl (fault, is, (λ more. of_store (on more)), same))
+stops_when (Check file) s end failure Clean More on input old new (e, inr front) = (e, inr front)
+stops_when (Serve file port count) s end failure Clean More on input old new it = it
+
+pub unseen : (task : Task) (s : State) (input old new : Option (List ℕ)) (status : ℕ) (Clean : Type 0) (Crash : Stand → Type 0) → Runs task s input old new status Clean Crash → RunsUnseen task s input old new status
+unseen task s input old new status Clean Crash it = record {
+  end = it.end;
+  crash = λ none. absurd none;
+  writes = elim it.writes [ inl done ↦ inl done | inr stops ↦ inr (stops.0, stops.1, stops_when task s it.end stops.0 Clean ⊥ (λ none. absurd none) input old stops.1 stops.2, stops.3) ];
+}
+
+pub either_unseen : (task : Task) (s : State) (input old new : Option (List ℕ)) (status : ℕ) (Clean : Type 0) (Crash : Stand → Type 0) → FailsAtOnce old new status ⊎ Runs task s input old new status Clean Crash
+    → FailsAtOnce old new status ⊎ RunsUnseen task s input old new status
+either_unseen task s input old new status Clean Crash (inl fails) = inl fails
+either_unseen task s input old new status Clean Crash (inr it) = inr (unseen task s input old new status Clean Crash it)
+
+pub as_before : (old new : Database) → Survives old new (λ _. ⊥) → HasCleanDisk new → LeavesAsBefore old new
+as_before old new it clean trees may = elim (it.crash clean trees may) [ inl before ↦ before | inr none ↦ absurd none ]
+
+-- any fault of opening is a refusal
+each_refusal : (fault : StoreFault) → IsRefusal (store_failure fault)
+each_refusal (store_fault.Store error) = tt
+each_refusal (store_fault.Damaged kind key) = tt
+each_refusal store_fault.NewerVersion = tt
+each_refusal store_fault.OutOfMemory = tt
+each_refusal store_fault.Closed = tt
+
+pub of_refusal : (fault : StoreFault) (failure : Failure) → failure ≡ store_failure fault → IsRefusal failure
+of_refusal fault failure of = subst IsRefusal (sym of) (each_refusal fault)
+
+pub opening_refuses : (failure : Failure) → IsOpening failure → IsRefusal failure
+opening_refuses (Store error) it = tt
+opening_refuses NoMemory it = tt
+opening_refuses Usage it = absurd it
+opening_refuses NoFile it = tt
+opening_refuses (Damaged kind key) it = tt
+opening_refuses NewerVersion it = tt
+opening_refuses NoBatches it = absurd it
+opening_refuses Read it = absurd it
+opening_refuses Write it = absurd it
+opening_refuses TooLong it = absurd it
+opening_refuses Port it = absurd it
+
+-- what is known of one whose tables are known
+pub surely : (task : Task) (s : State) (input old new : Option (List ℕ)) (status : ℕ) (Clean : Type 0) (Crash : Stand → Type 0) → Runs task s input old new status (IsTrue true × Clean) Crash → Runs task s input old new status Clean Crash
+surely task s input old new status Clean Crash it = record {
+  end = it.end;
+  crash = λ clean. it.crash (refl, clean);
+  writes = elim it.writes [ inl done ↦ inl done | inr stops ↦ inr (stops.0, stops.1, stops_when task s it.end stops.0 (IsTrue true × Clean) Clean (λ clean. (refl, clean)) input old stops.1 stops.2, stops.3) ];
+}

@@ -1,0 +1,4 @@
+mod Connections
+mod Reporting
+mod Service
+mod Tasks

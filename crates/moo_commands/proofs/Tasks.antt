@@ -1,0 +1,63 @@
+-- From what was done to a World to how a task ends.
+use Rattle.std.proofs.Common.{◌≡◌, ◌⊎◌, inl, inr, ℕ, ◌≤◌, Bool, true, false, List, Option, None, Result, Ok, Err, IfOk, IfErr, refl, ap, arith, IsTrue}
+use Rattle.std.specs.Prelude.{if◌then◌else◌, codes}
+use Rattle.std.specs.Str.{bytes_eq}
+use Rattle.sqlite.specs.State.{State as Database, HasCleanDisk, Survives}
+use Rattle.sqlite.specs.Store.{Ghosts}
+use Rattle.moo_world.specs.Judge.{State}
+use Rattle.moo_text.specs.declared.fault.TextFault.{TextFault}
+use Rattle.moo_store.specs.Kept.{World}
+use Rattle.moo_store.specs.Stand.{Stand, Works, RunsBatch}
+use Rattle.moo_store.specs.Turns.{Halts}
+use Rattle.moo_store.specs.Text.{Applies, Stops}
+use Rattle.moo_store.specs.World.{store_of, CrashLeaves}
+use Rattle.moo_commands.specs.Lines.{text_failure}
+use Rattle.moo_commands.specs.Run.{given, lost_status, RunsText, Ends}
+use Rattle.moo_commands.specs.declared.failure.Failure.{Failure}
+
+pub given_input : (batches : List ℕ) (input : Option (List ℕ)) → bytes_eq batches (codes "-") ≡ true → given batches input ≡ input
+given_input batches input e = ap (λ (b : Bool). if b then input else None) e
+
+pub given_none : (batches : List ℕ) (input : Option (List ℕ)) → bytes_eq batches (codes "-") ≡ false → given batches input ≡ None
+given_none batches input e = ap (λ (b : Bool). if b then input else None) e
+
+none_below : (n m : ℕ) → n ≤ m → m ≡ 0 → n ≡ 0
+none_below n m le e = omega (arith, le, e)
+
+pub was_clean : (old new : Database) (Commits : _) → Survives old new Commits → HasCleanDisk new → HasCleanDisk old
+was_clean old new Commits it clean = none_below _ _ it.clean clean
+
+module _ {S : Type 0} (g : Ghosts S) (known : Bool) (was world : World S) where
+  pub done_text : (s : State) (text old new : Option (List ℕ)) (batches lost status : ℕ) → status ≡ lost_status lost → Applies g known (Works s) text old new was world batches lost
+      → Ends g known was world (λ end. RunsText RunsBatch s end text old new status)
+  done_text s text old new batches lost status is it = record { end = it.new; clean = it.clean; crash = it.crash; ends = (batches, lost, it.completes, is) }
+
+  pub stops_text : (s : State) (text old new : Option (List ℕ)) (fault : TextFault) (failure : Failure) → failure ≡ text_failure fault → Stops g known (Works s) text old new was world fault
+      → Ends g known was world (λ end. (f : TextFault) × (failure ≡ text_failure f) × Halts RunsBatch (Works s) end text old new f)
+  stops_text s text old new fault failure is it = record { end = it.new; clean = it.clean; crash = it.crash; ends = (fault, is, it.halts) }
+
+  pub ends_map : (P Q : Stand → Type 0) → ((end : Stand) → P end → Q end) → Ends g known was world P → Ends g known was world Q
+  ends_map P Q f it = record { end = it.end; clean = it.clean; crash = it.crash; ends = f it.end it.ends }
+
+  -- a call that commits nothing leaves what a crash could leave before
+  pub stays_at : (s : State) (P : Stand → Type 0) → Survives (store_of g was) (store_of g world) (λ _. ⊥) → (IsTrue known → HasCleanDisk (store_of g was) → CrashLeaves (store_of g was) (Works s)) → P (Works s) → Ends g known was world P
+  stays_at s P it leaves p =
+      let clean = was_clean (store_of g was) (store_of g world) (λ _. ⊥) it in
+      record {
+        end = Works s;
+        clean = clean;
+        crash = λ sure now trees may. elim (it.crash now trees may) [ inl before ↦ leaves sure (clean now) trees before | inr none ↦ absurd none ];
+        ends = p;
+      }
+
+-- a World that is as it was
+pub unchanged : {S : Type 0} (g : Ghosts S) (known : Bool) (world : World S) (s : State) (P : Stand → Type 0) → (IsTrue known → HasCleanDisk (store_of g world) → CrashLeaves (store_of g world) (Works s)) → P (Works s) → Ends g known world world P
+unchanged g known world s P leaves p = record { end = Works s; clean = λ clean. clean; crash = leaves; ends = p }
+
+pub on_ok : {A E : Type 0} (P Q : A → Type 0) (r : Result A E) → ((a : A) → P a → Q a) → IfOk r P → IfOk r Q
+on_ok P Q (Ok a) f p = f a p
+on_ok P Q (Err e) f p = tt
+
+pub on_err : {A E : Type 0} (P Q : E → Type 0) (r : Result A E) → ((e : E) → P e → Q e) → IfErr r P → IfErr r Q
+on_err P Q (Ok a) f p = tt
+on_err P Q (Err e) f p = f e p

@@ -1,0 +1,24 @@
+use Rattle.std.proofs.Common.{inl, inr, true, false}
+use Rattle.sqlite.specs.State.{HasCleanDisk}
+use Rattle.sqlite.specs.Held.{state}
+use Rattle.moo_world.specs.Judge.{state_of}
+use Rattle.moo_commands.proofs.Connections.{of_opening, of_refusal, as_before, surely, unseen}
+use Rattle.moo_commands.proofs.over.run_opened.Goals as goal
+
+pub returns-in-Ok : goal.returns-in-Ok
+returns-in-Ok g c =
+    let found = c.in-Ok.ensures.rows in
+    let here = state_of c.in-Ok.world.rows.maps in
+    record {
+      kept = λ s keeps clean.
+          let first = c.run_in.ensures.clean false here found.1 clean in
+          inr (surely _ _ _ _ _ _ _ _ (c.run_in.ensures.runs true s (c.in-Ok.ensures.stands s keeps first)));
+      opened = inr (c.in-Ok.world.rows.maps, found.0, unseen _ _ _ _ _ _ _ _ (c.run_in.ensures.runs false here found.1));
+    }
+
+pub returns-in-Err : goal.returns-in-Err
+returns-in-Err g c = record {
+  kept = λ s keeps clean.
+      inl ((c.from.result, of_opening c.in-Err.fault c.from.result c.from.ensures (c.in-Err.ensures.whole s keeps clean), c.report.ensures), as_before (state g.S.Store c.args.conn) (state g.S.Store c.in-Err.conn) c.in-Err.ensures.crash_refused clean);
+  opened = inl (c.from.result, of_refusal c.in-Err.fault c.from.result c.from.ensures, c.report.ensures);
+}

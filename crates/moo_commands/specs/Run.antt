@@ -1,0 +1,188 @@
+-- What a run of the program writes, the status that it ends with, and what a crash then leaves.
+use Rattle.std.specs.Prelude.{◌≡◌, ◌<◌, ◌⊎◌, ◌==◌, ℕ, Bool, true, List, [], take, length, Option, None, codes, if◌then◌else◌, ⊤, IsTrue, false}
+use Rattle.std.specs.Str.{bytes_eq}
+use Rattle.std.specs.Io.KnownBytes.{Appends}
+use Rattle.clap.specs.Kinds.{Kinds, IsAmong}
+use Rattle.clap.specs.declared.error.kind.ErrorKind.{ErrorKind}
+use Rattle.clap.specs.declared.error.kind.ErrorKind.TheVariants.{DisplayHelp, DisplayVersion}
+use Rattle.sqlite.specs.State.{State as Database, HasCleanDisk}
+use Rattle.sqlite.specs.Tree.{Trees}
+use Rattle.sqlite.specs.Store.{Ghosts}
+use Rattle.moo_world.specs.declared.call.Batch.{Batch}
+use Rattle.moo_rows.specs.Maps.{Maps}
+use Rattle.moo_rows.specs.Opening.{opening_maps}
+use Rattle.moo_world.specs.Rows.{IsGood}
+use Rattle.moo_world.specs.Judge.{State, state_of}
+use Rattle.moo_world.specs.ObjectLists.{objects_of}
+use Rattle.moo_text.specs.declared.fault.TextFault.{TextFault}
+use Rattle.moo_text.specs.declared.reply.Answer.{Answer}
+use Rattle.moo_dump.specs.Dump.{dump}
+use Rattle.moo_store.specs.declared.fault.StoreFault.{StoreFault}
+use Rattle.moo_store.specs.Stand.{Stand, Works, RunsBatch, AsksBatch}
+use Rattle.moo_store.specs.Turns.{Completes, Halts}
+use Rattle.moo_store.specs.Opening.{IsOfStore}
+use Rattle.moo_store.specs.Kept.{World}
+use Rattle.moo_store.specs.World.{store_of, CrashLeaves}
+use Rattle.moo_words.specs.declared.task.Task.{Task}
+use Rattle.moo_http.specs.Lines.{listening_line}
+use Rattle.moo_http.specs.Connections.{ServesAll}
+use Rattle.moo_words.specs.declared.task.Task.TheVariants.{Init, Apply, Ask, Dump, Check, Serve}
+use Rattle.moo_words.specs.Tasks.{NamesTask, mistakes}
+use Rattle.moo_commands.specs.Lines.{Reports, WritesLine, text_failure, store_failure, created_line, checked_line}
+use Rattle.moo_commands.specs.declared.failure.Failure.{Failure}
+use Rattle.moo_commands.specs.declared.failure.Failure.TheVariants.{Usage, NoFile, Store, Damaged, NewerVersion, NoBatches, Write, Port, NoMemory}
+
+-- ---- tasks
+
+-- the file of a task
+abbrev pub file_of : Task → List ℕ
+file_of (Init file) = file.now
+file_of (Apply file batches) = file.now
+file_of (Ask file batches) = file.now
+file_of (Dump file) = file.now
+file_of (Check file) = file.now
+file_of (Serve file port count) = file.now
+
+-- the task begins with a new world: `init`, and each task on `:memory:`
+abbrev pub begins_anew : Task → Bool
+begins_anew (Init file) = true
+begins_anew (Apply file batches) = bytes_eq file.now (codes ":memory:")
+begins_anew (Ask file batches) = bytes_eq file.now (codes ":memory:")
+begins_anew (Dump file) = bytes_eq file.now (codes ":memory:")
+begins_anew (Check file) = bytes_eq file.now (codes ":memory:")
+begins_anew (Serve file port count) = bytes_eq file.now (codes ":memory:")
+
+-- what is known of the text that is given as the batches: that of the input for `-`, and nothing of a file's
+abbrev pub given : List ℕ → Option (List ℕ) → Option (List ℕ)
+given batches input = if bytes_eq batches (codes "-") then input else None
+
+-- 1 where an answer is `fault` or `closed`
+abbrev pub lost_status : ℕ → ℕ
+lost_status lost = if lost == 0 then 0 else 1
+
+-- ---- a task over a world
+
+-- a text of batches is run, or asked, to its end
+abbrev pub RunsText : (Stand → Batch → Answer → Stand → Type 0) → State → Stand → Option (List ℕ) → Option (List ℕ) → Option (List ℕ) → ℕ → Type 0
+RunsText step s end text old new status =
+    (batches lost : ℕ) × Completes step (Works s) end text old new batches lost × (status ≡ lost_status lost)
+
+-- it stops; or its file can't be opened, and nothing is done
+abbrev pub StopsText : (Stand → Batch → Answer → Stand → Type 0) → State → Stand → Failure → Option (List ℕ) → Option (List ℕ) → Option (List ℕ) → Type 0
+StopsText step s end failure text old new =
+    ((fault : TextFault) × (failure ≡ text_failure fault) × Halts step (Works s) end text old new fault)
+    ⊎ ((failure ≡ NoBatches) × (end ≡ Works s) × (new ≡ old))
+
+-- so many connections are served on a port, and what is said of them is written
+abbrev pub Serving : ℕ → ℕ → State → Stand → Option (List ℕ) → Option (List ℕ) → ℕ → Type 0
+Serving port count s end old new status = (text : List ℕ) × ServesAll port count (Works s) end text × Appends old new text × (status ≡ 0)
+
+-- the task is done
+abbrev pub Done : Task → State → Stand → Option (List ℕ) → Option (List ℕ) → Option (List ℕ) → ℕ → Type 0
+Done (Init file) s end input old new status = (end ≡ Works s) × Appends old new created_line × (status ≡ 0)
+Done (Apply file batches) s end input old new status = RunsText RunsBatch s end (given batches.now input) old new status
+Done (Ask file batches) s end input old new status = (end ≡ Works s) × RunsText AsksBatch s (Works s) (given batches.now input) old new status
+Done (Dump file) s end input old new status = (end ≡ Works s) × Appends old new (dump s) × (status ≡ 0)
+Done (Check file) s end input old new status =
+    (end ≡ Works s) × Appends old new (checked_line s.seq (length (objects_of s.world))) × (status ≡ 0)
+Done (Serve file port count) s end input old new status = Serving port count s end old new status
+
+-- a front of a text is written, since the writer failed or memory ran out
+abbrev pub StopsIn : List ℕ → Failure → Option (List ℕ) → Option (List ℕ) → Type 0
+StopsIn text failure old new = ((failure ≡ Write) ⊎ (failure ≡ NoMemory)) × (count : ℕ) × Appends old new (take count text)
+
+-- The port can't be listened on, and nothing is done. Or what is said of the service stops in its first line, before any connection;
+-- or behind the last one.
+abbrev pub StopsServing : ℕ → ℕ → State → Stand → Failure → Option (List ℕ) → Option (List ℕ) → Type 0
+StopsServing port count s end failure old new =
+    ((failure ≡ Port) × (end ≡ Works s) × (new ≡ old))
+    ⊎ ((end ≡ Works s) × StopsIn (listening_line port) failure old new)
+    ⊎ ((text : List ℕ) × ServesAll port count (Works s) end text × StopsIn text failure old new)
+
+-- It stops with this failure, and so much is written. On a clean disk no check of a world that stands finds a damage.
+abbrev pub Stops : Task → State → Stand → Failure → Type 0 → Option (List ℕ) → Option (List ℕ) → Option (List ℕ) → Type 0
+Stops (Init file) s end failure Clean input old new = (end ≡ Works s) × StopsIn created_line failure old new
+Stops (Apply file batches) s end failure Clean input old new = StopsText RunsBatch s end failure (given batches.now input) old new
+Stops (Ask file batches) s end failure Clean input old new = (end ≡ Works s) × StopsText AsksBatch s (Works s) failure (given batches.now input) old new
+Stops (Dump file) s end failure Clean input old new = (end ≡ Works s) × StopsIn (dump s) failure old new
+Stops (Check file) s end failure Clean input old new =
+    (end ≡ Works s)
+    × (((fault : StoreFault) × (failure ≡ store_failure fault) × (Clean → IsOfStore fault) × (new ≡ old))
+    ⊎ StopsIn (checked_line s.seq (length (objects_of s.world))) failure old new)
+Stops (Serve file port count) s end failure Clean input old new = StopsServing port count s end failure old new
+
+-- What was done to a World leaves it so: a disk that returns what was written did so before, and what a crash leaves then is known.
+pub record Ends {S : Type 0} (g : Ghosts S) (known : Bool) (was world : World S) (End : Stand → Type 0) : Type 0 where
+  pub end : Stand
+  pub clean : HasCleanDisk (store_of g world) → HasCleanDisk (store_of g was)
+  pub crash : IsTrue known → HasCleanDisk (store_of g world) → CrashLeaves (store_of g world) end
+  pub ends : End end
+
+-- ---- a task over a connection
+
+-- A task runs from a world of this state on: it is done, or stops and the failure is reported. Where the disk is clean a crash then
+-- leaves what its end tells: the state behind the last acknowledged batch, or where the store failed in a batch that or the one behind it.
+pub record Runs (task : Task) (s : State) (input old new : Option (List ℕ)) (status : ℕ) (Clean : Type 0) (Crash : Stand → Type 0) : Type 0 where
+  pub end : Stand
+  pub crash : Clean → Crash end
+  pub writes :
+      Done task s end input old new status
+      ⊎ ((failure : Failure) × (between : Option (List ℕ)) × Stops task s end failure Clean input old between × Reports failure between new status)
+
+-- the same, where nothing is known of the disk
+abbrev pub RunsUnseen : Task → State → Option (List ℕ) → Option (List ℕ) → Option (List ℕ) → ℕ → Type 0
+RunsUnseen task s input old new status = Runs task s input old new status ⊥ (λ _. ⊥)
+
+-- a failure of the store, or want of memory
+abbrev pub IsOpening : Failure → Type 0
+IsOpening (Store error) = ⊤
+IsOpening NoMemory = ⊤
+IsOpening failure = ⊥
+
+-- why a file isn't opened, whatever it holds: there is none, it is damaged or of a later version, or one of these two
+abbrev pub IsRefusal : Failure → Type 0
+IsRefusal NoFile = ⊤
+IsRefusal (Damaged kind key) = ⊤
+IsRefusal NewerVersion = ⊤
+IsRefusal failure = IsOpening failure
+
+abbrev pub RefusesFile : Option (List ℕ) → Option (List ℕ) → ℕ → Type 0
+RefusesFile old new status = (failure : Failure) × IsRefusal failure × Reports failure old new status
+
+-- no world is opened or made, and that alone is reported
+abbrev pub FailsAtOnce : Option (List ℕ) → Option (List ℕ) → ℕ → Type 0
+FailsAtOnce old new status = (failure : Failure) × IsOpening failure × Reports failure old new status
+
+-- a crash leaves nothing that it couldn't leave before
+abbrev pub LeavesAsBefore : Database → Database → Type 0
+LeavesAsBefore old new = (trees : Trees) → new.may_leave trees → old.may_leave trees
+
+-- the status of a mistake in the words: asking for help or the version is none
+abbrev pub mistake_status : ErrorKind → ℕ
+mistake_status DisplayHelp = 0
+mistake_status DisplayVersion = 0
+mistake_status mistake = 2
+
+-- The words have one of these mistakes, and what their reader says of it is written, with its status. Or a line of our own says that
+-- memory ran out, or that they have none and yet name no task.
+abbrev pub EndsUsage : Kinds → Option (List ℕ) → Option (List ℕ) → ℕ → Type 0
+EndsUsage found old new status =
+    ((mistake : ErrorKind) × IsAmong mistake found × (text : List ℕ) × WritesLine text (mistake_status mistake) old new status)
+    ⊎ Reports NoMemory old new status
+    ⊎ ((found ≡ []) × Reports Usage old new status)
+
+-- a file is refused, or the task runs from a well formed world on
+abbrev pub RunsOpened : Task → Option (List ℕ) → Option (List ℕ) → Option (List ℕ) → ℕ → Type 0
+RunsOpened task input old new status = RefusesFile old new status ⊎ ((rows : Maps) × IsGood rows × RunsUnseen task (state_of rows) input old new status)
+
+-- What the words come to. A task that begins with a new world runs from the opening world on, or that world can't be made. Any other
+-- runs from the world on that was found in its file, or the file is refused. (No clause can say what a file holds: that it is the
+-- world which the file's tables show, is `run_over`'s to say.)
+pub record RunsTask (task : Task) (input old new : Option (List ℕ)) (status : ℕ) : Type 0 where
+  pub anew : begins_anew task ≡ true → FailsAtOnce old new status ⊎ RunsUnseen task (state_of opening_maps) input old new status
+  pub opened : begins_anew task ≡ false → RunsOpened task input old new status
+
+abbrev pub RunsWords : List (List ℕ) → Option (List ℕ) → Option (List ℕ) → Option (List ℕ) → ℕ → Type 0
+RunsWords words input old new status =
+    ((task : Task) × NamesTask words task × RunsTask task input old new status)
+    ⊎ ((1 < length words) × EndsUsage (mistakes words) old new status)

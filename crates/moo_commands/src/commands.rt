@@ -1,0 +1,196 @@
+//! What each command does over a world.
+
+ghost use Rattle.std.specs.Prelude.{◌≡◌, ◌⊎◌, length, IfOk, IfErr, Bool, IsTrue};
+ghost use Rattle.sqlite.specs.State.{HasCleanDisk, Survives};
+ghost use Rattle.std.specs.Io.KnownBytes.{Appends};
+ghost use Rattle.moo_world.specs.Judge.{State};
+ghost use Rattle.moo_world.specs.ObjectLists.{objects_of};
+ghost use Rattle.moo_text.specs.declared.fault.TextFault.{TextFault};
+ghost use Rattle.moo_dump.specs.Dump.{dump};
+ghost use Rattle.moo_store.specs.declared.fault.StoreFault.{StoreFault};
+ghost use Rattle.moo_store.specs.Opening.{IsOfStore};
+ghost use Rattle.moo_store.specs.Stand.{Works, RunsBatch, AsksBatch};
+ghost use Rattle.moo_store.specs.Turns.{Halts};
+ghost use Rattle.moo_store.specs.World.{store_of, StandsFor};
+ghost use Rattle.moo_commands.specs.Lines.{text_failure, store_failure, checked_line};
+ghost use Rattle.moo_commands.specs.Run.{given, lost_status, RunsText, StopsText, StopsIn, Serving, StopsServing, Done, Stops, Ends};
+
+use crate::failure::Failure;
+use crate::output::{checked_text, explain_lost};
+use moo_http::serve_port;
+use moo_store::output::put_all;
+use moo_store::world::World;
+use moo_store::{Tally, apply_text, ask_text};
+use moo_words::Task;
+use sqlite::Alter;
+use std::alloc::Global;
+use std::fs::File;
+use std::io::{Read, Write};
+
+/// The status of a text with this tally.
+fn status_after(tally: Tally) -> u8
+    ensures { result ≡ lost_status tally.lost }
+{
+    if tally.lost == 0 { 0 } else { 1 }
+}
+
+/// Runs the batches of a text. Where the store failed in one, standard error says what to do.
+fn run_text<R: Read + Drop, W: Write, S: Alter + Drop>(
+    rt: &HostRuntime,
+    world: &mut World<S>,
+    text: R,
+    output: &mut W,
+) -> Result<u8, Failure>
+    ensures done { (known : Bool) (s : State) → StandsFor S.Store known world.old s → IfOk result (λ status. Ends S.Store known world.old world.new (λ end. RunsText RunsBatch s end (R.remaining text) (W.contents output.old) (W.contents output.new) status)) }
+    ensures stops { (known : Bool) (s : State) → StandsFor S.Store known world.old s → IfErr result (λ failure. Ends S.Store known world.old world.new (λ end.
+        (fault : TextFault) × (failure ≡ text_failure fault) × Halts RunsBatch (Works s) end (R.remaining text) (W.contents output.old) (W.contents output.new) fault)) }
+{
+    match apply_text(rt.alloc(), text, output, world) {
+        Ok(tally) => {
+            explain_lost(rt, tally);
+            Ok(status_after(tally))
+        }
+        Err(fault) => Err(Failure::from(fault)),
+    }
+}
+
+/// Runs the batches of a file, or of the input for `-`.
+fn apply<R: Read + Drop, W: Write, S: Alter + Drop>(
+    rt: &HostRuntime,
+    world: &mut World<S>,
+    batches: &str,
+    input: R,
+    output: &mut W,
+) -> Result<u8, Failure>
+    ensures done { (known : Bool) (s : State) → StandsFor S.Store known world.old s → IfOk result (λ status. Ends S.Store known world.old world.new (λ end. RunsText RunsBatch s end (given batches.now (R.remaining input)) (W.contents output.old) (W.contents output.new) status)) }
+    ensures stops { (known : Bool) (s : State) → StandsFor S.Store known world.old s → IfErr result (λ failure. Ends S.Store known world.old world.new (λ end. StopsText RunsBatch s end failure (given batches.now (R.remaining input)) (W.contents output.old) (W.contents output.new))) }
+{
+    world.leaves();
+    if batches == "-" {
+        return run_text(rt, world, input, output);
+    }
+    match File::open(rt, batches) {
+        Ok(file) => run_text(rt, world, file, output),
+        Err(_) => Err(Failure::NoBatches),
+    }
+}
+
+/// Says what the batches of a text would come to.
+fn ask_batches<R: Read + Drop, W: Write, S: Alter + Drop>(
+    alloc: Global,
+    world: &World<S>,
+    text: R,
+    output: &mut W,
+) -> Result<u8, Failure>
+    ensures done { (known : Bool) (s : State) → StandsFor S.Store known world.now s → IfOk result (RunsText AsksBatch s (Works s) (R.remaining text) (W.contents output.old) (W.contents output.new)) }
+    ensures stops { (known : Bool) (s : State) → StandsFor S.Store known world.now s → IfErr result (λ failure.
+        (fault : TextFault) × (failure ≡ text_failure fault) × Halts AsksBatch (Works s) (Works s) (R.remaining text) (W.contents output.old) (W.contents output.new) fault) }
+{
+    match ask_text(alloc, text, output, world) {
+        Ok(tally) => Ok(status_after(tally)),
+        Err(fault) => Err(Failure::from(fault)),
+    }
+}
+
+/// Says what the batches of a file, or of the input for `-`, would come to.
+fn ask<R: Read + Drop, W: Write, S: Alter + Drop>(
+    rt: &HostRuntime,
+    world: &World<S>,
+    batches: &str,
+    input: R,
+    output: &mut W,
+) -> Result<u8, Failure>
+    ensures done { (known : Bool) (s : State) → StandsFor S.Store known world.now s → IfOk result (RunsText AsksBatch s (Works s) (given batches.now (R.remaining input)) (W.contents output.old) (W.contents output.new)) }
+    ensures stops { (known : Bool) (s : State) → StandsFor S.Store known world.now s → IfErr result (λ failure. StopsText AsksBatch s (Works s) failure (given batches.now (R.remaining input)) (W.contents output.old) (W.contents output.new)) }
+{
+    if batches == "-" {
+        return ask_batches(rt.alloc(), world, input, output);
+    }
+    match File::open(rt, batches) {
+        Ok(file) => ask_batches(rt.alloc(), world, file, output),
+        Err(_) => Err(Failure::NoBatches),
+    }
+}
+
+/// Writes what the world holds.
+fn show<W: Write, S: Alter + Drop>(world: &World<S>, output: &mut W) -> Result<u8, Failure>
+    ensures done { (known : Bool) (s : State) → StandsFor S.Store known world.now s → IfOk result (λ status. Appends (W.contents output.old) (W.contents output.new) (dump s) × (status ≡ 0)) }
+    ensures stops { (known : Bool) (s : State) → StandsFor S.Store known world.now s → IfErr result (λ failure. StopsIn (dump s) failure (W.contents output.old) (W.contents output.new)) }
+{
+    world.dump(output)?;
+    Ok(0)
+}
+
+/// Writes a line, whole.
+fn put_text<W: Write>(line: &str, output: &mut W) -> Result<u8, Failure>
+    ensures done { IfOk result (λ status. Appends (W.contents output.old) (W.contents output.new) line.now × (status ≡ 0)) }
+    ensures stops { IfErr result (λ failure. StopsIn line.now failure (W.contents output.old) (W.contents output.new)) }
+{
+    put_all(output, line.as_bytes())?;
+    Ok(0)
+}
+
+/// Tests the tables, and writes what they hold.
+fn check<W: Write, S: Alter + Drop>(
+    alloc: Global,
+    world: &mut World<S>,
+    output: &mut W,
+) -> Result<u8, Failure>
+    ensures done { (known : Bool) (s : State) → StandsFor S.Store known world.old s → IfOk result (λ status. Appends (W.contents output.old) (W.contents output.new) (checked_line s.seq (length (objects_of s.world))) × (status ≡ 0)) }
+    ensures stops { (known : Bool) (s : State) → StandsFor S.Store known world.old s → IfErr result (λ failure.
+        ((fault : StoreFault) × (failure ≡ store_failure fault) × (IsTrue known × HasCleanDisk (store_of S.Store world.new) → IsOfStore fault) × (W.contents output.new ≡ W.contents output.old))
+        ⊎ StopsIn (checked_line s.seq (length (objects_of s.world))) failure (W.contents output.old) (W.contents output.new)) }
+    ensures crash { Survives (store_of S.Store world.old) (store_of S.Store world.new) (λ _. ⊥) }
+{
+    let seq = world.seq()?;
+    let objects = world.check()?;
+    match checked_text(alloc, seq, objects) {
+        Ok(line) => put_text(line.as_str(), output),
+        Err(_) => Err(Failure::NoMemory),
+    }
+}
+
+/// Serves so many connections on a port of 127.0.0.1.
+fn serve<W: Write, S: Alter + Drop>(
+    rt: &HostRuntime,
+    world: &mut World<S>,
+    port: u16,
+    count: u32,
+    output: &mut W,
+) -> Result<u8, Failure>
+    ensures done { (known : Bool) (s : State) → StandsFor S.Store known world.old s → IfOk result (λ status. Ends S.Store known world.old world.new (λ end. Serving port count s end (W.contents output.old) (W.contents output.new) status)) }
+    ensures stops { (known : Bool) (s : State) → StandsFor S.Store known world.old s → IfErr result (λ failure. Ends S.Store known world.old world.new (λ end. StopsServing port count s end failure (W.contents output.old) (W.contents output.new))) }
+{
+    match serve_port(rt, world, port, count, output) {
+        Ok(()) => Ok(0),
+        Err(fault) => Err(Failure::from(fault)),
+    }
+}
+
+/// Does what a task says over its world.
+pub(crate) fn do_task<R: Read + Drop, W: Write, S: Alter + Drop>(
+    rt: &HostRuntime,
+    world: &mut World<S>,
+    task: Task<'_>,
+    input: R,
+    output: &mut W,
+) -> Result<u8, Failure>
+    ensures done { (known : Bool) (s : State) → StandsFor S.Store known world.old s → IfOk result (λ status. Ends S.Store known world.old world.new (λ end.
+        Done task.entry s end (R.remaining input) (W.contents output.old) (W.contents output.new) status)) }
+    ensures stops { (known : Bool) (s : State) → StandsFor S.Store known world.old s → IfErr result (λ failure. Ends S.Store known world.old world.new (λ end.
+        Stops task.entry s end failure (IsTrue known × HasCleanDisk (store_of S.Store world.new)) (R.remaining input) (W.contents output.old) (W.contents output.new))) }
+{
+    world.leaves();
+    match task {
+        Task::Init { file: _ } => put_text("created\n", output),
+        Task::Apply { file: _, batches } => apply(rt, world, batches, input, output),
+        Task::Ask { file: _, batches } => ask(rt, world, batches, input, output),
+        Task::Dump { file: _ } => show(world, output),
+        Task::Check { file: _ } => check(rt.alloc(), world, output),
+        Task::Serve {
+            file: _,
+            port,
+            count,
+        } => serve(rt, world, port, count, output),
+    }
+}

@@ -1,0 +1,142 @@
+//! A task over a connection.
+
+ghost use Rattle.std.specs.Prelude.{◌≡◌, ◌⊎◌, true, false, MatchResult, Bool, IsTrue};
+ghost use Rattle.sqlite.specs.State.{HasCleanDisk};
+ghost use Rattle.sqlite.specs.Held.{state};
+ghost use Rattle.moo_rows.specs.Opening.{opening_maps};
+ghost use Rattle.moo_world.specs.Judge.{State, state_of};
+ghost use Rattle.moo_store.specs.States.{Keeps};
+ghost use Rattle.moo_store.specs.World.{store_of, CrashLeaves, StandsFor};
+ghost use Rattle.moo_commands.specs.Lines.{Reports};
+ghost use Rattle.moo_commands.specs.Run.{begins_anew, Runs, RunsOpened, FailsAtOnce, LeavesAsBefore};
+
+use crate::commands::do_task;
+use crate::failure::Failure;
+use crate::output::report;
+use moo_store::adopt;
+use moo_store::creating::create_in;
+use moo_store::world::World;
+use moo_words::Task;
+use sqlite::{Alter, Connection};
+use std::io::{Read, Write};
+
+/// Whether a task begins with a new world: `init` does, and each task on `:memory:`.
+fn begins_anew(task: Task<'_>) -> bool
+    ensures { result ≡ begins_anew task.entry }
+{
+    match task {
+        Task::Init { file: _ } => true,
+        Task::Apply { file, batches: _ } => file == ":memory:",
+        Task::Ask { file, batches: _ } => file == ":memory:",
+        Task::Dump { file } => file == ":memory:",
+        Task::Check { file } => file == ":memory:",
+        Task::Serve {
+            file,
+            port: _,
+            count: _,
+        } => file == ":memory:",
+    }
+}
+
+/// The status of a task that is done; or the line of its failure, and the status of that.
+fn ended<W: Write>(rt: &HostRuntime, done: Result<u8, Failure>, output: &mut W) -> u8
+    ensures { MatchResult done (λ status. (result ≡ status) × (W.contents output.new ≡ W.contents output.old)) (λ failure. Reports failure (W.contents output.old) (W.contents output.new) result) }
+{
+    match done {
+        Ok(status) => status,
+        Err(failure) => report(rt, failure, output),
+    }
+}
+
+/// Does what a task says over a World, writes the line of a failure, and hands the connection back.
+fn run_in<R: Read + Drop, W: Write, S: Alter + Drop>(
+    rt: &HostRuntime,
+    mut world: World<S>,
+    task: Task<'_>,
+    input: R,
+    output: &mut W,
+    status: &mut u8,
+) -> Connection<S>
+    ensures runs { (known : Bool) (s : State) → StandsFor S.Store known world s → Runs task.entry s (R.remaining input) (W.contents output.old) (W.contents output.new) status.new (IsTrue known × HasCleanDisk (state S.Store result)) (CrashLeaves (state S.Store result)) }
+    ensures clean { (known : Bool) (s : State) → StandsFor S.Store known world s → HasCleanDisk (state S.Store result) → HasCleanDisk (store_of S.Store world) }
+{
+    let done = do_task(rt, &mut world, task, input, output);
+    *status = ended(rt, done, output);
+    world.into_connection()
+}
+
+/// Makes a new world in a connection that has no tables, and does what a task says over it.
+fn run_anew<R: Read + Drop, W: Write, S: Alter + Drop>(
+    rt: &HostRuntime,
+    conn: Connection<S>,
+    task: Task<'_>,
+    input: R,
+    output: &mut W,
+    status: &mut u8,
+) -> Connection<S>
+    requires outside { conn.in_transaction ≡ false }
+    ensures { FailsAtOnce (W.contents output.old) (W.contents output.new) status.new
+        ⊎ Runs task.entry (state_of opening_maps) (R.remaining input) (W.contents output.old) (W.contents output.new) status.new (HasCleanDisk (state S.Store result)) (CrashLeaves (state S.Store result)) }
+{
+    match create_in(rt.alloc(), conn) {
+        Ok(world) => run_in(rt, world, task, input, output, status),
+        Err((fault, conn)) => {
+            *status = report(rt, Failure::from(fault), output);
+            conn
+        }
+    }
+}
+
+/// Opens the world that the tables of a connection show, and does what a task says over it.
+fn run_opened<R: Read + Drop, W: Write, S: Alter + Drop>(
+    rt: &HostRuntime,
+    conn: Connection<S>,
+    task: Task<'_>,
+    input: R,
+    output: &mut W,
+    status: &mut u8,
+) -> Connection<S>
+    requires outside { conn.in_transaction ≡ false }
+    ensures kept { (s : State) → Keeps (state S.Store conn) s → HasCleanDisk (state S.Store result) →
+        (FailsAtOnce (W.contents output.old) (W.contents output.new) status.new × LeavesAsBefore (state S.Store conn) (state S.Store result))
+        ⊎ Runs task.entry s (R.remaining input) (W.contents output.old) (W.contents output.new) status.new (HasCleanDisk (state S.Store result)) (CrashLeaves (state S.Store result)) }
+    ensures opened { RunsOpened task.entry (R.remaining input) (W.contents output.old) (W.contents output.new) status.new }
+{
+    match adopt(rt.alloc(), conn) {
+        Ok(world) => run_in(rt, world, task, input, output, status),
+        Err((fault, conn)) => {
+            *status = report(rt, Failure::from(fault), output);
+            conn
+        }
+    }
+}
+
+/// Does what a task says over a connection, writes the line of a failure, and hands the connection back.
+///
+/// A new world is made in a connection that has no tables where the task begins with one; otherwise the one that its tables
+/// show is opened.
+pub(crate) fn run_over<R: Read + Drop, W: Write, S: Alter + Drop>(
+    rt: &HostRuntime,
+    conn: Connection<S>,
+    task: Task<'_>,
+    input: R,
+    output: &mut W,
+    status: &mut u8,
+) -> Connection<S>
+    requires outside { conn.in_transaction ≡ false }
+    // A task that begins with a new world runs from the opening world on.
+    ensures anew { begins_anew task.entry ≡ true → FailsAtOnce (W.contents output.old) (W.contents output.new) status.new
+        ⊎ Runs task.entry (state_of opening_maps) (R.remaining input) (W.contents output.old) (W.contents output.new) status.new (HasCleanDisk (state S.Store result)) (CrashLeaves (state S.Store result)) }
+    // Any other runs from the state on that the tables of the connection show, on a disk that returns what was written.
+    ensures kept { (s : State) → begins_anew task.entry ≡ false → Keeps (state S.Store conn) s → HasCleanDisk (state S.Store result) →
+        (FailsAtOnce (W.contents output.old) (W.contents output.new) status.new × LeavesAsBefore (state S.Store conn) (state S.Store result))
+        ⊎ Runs task.entry s (R.remaining input) (W.contents output.old) (W.contents output.new) status.new (HasCleanDisk (state S.Store result)) (CrashLeaves (state S.Store result)) }
+    // Whatever they show, it is refused, or the task runs from a well formed world on.
+    ensures opened { begins_anew task.entry ≡ false → RunsOpened task.entry (R.remaining input) (W.contents output.old) (W.contents output.new) status.new }
+{
+    if begins_anew(task) {
+        run_anew(rt, conn, task, input, output, status)
+    } else {
+        run_opened(rt, conn, task, input, output, status)
+    }
+}

@@ -1,0 +1,72 @@
+//! What the words of the command line do.
+
+ghost use Rattle.std.specs.Prelude.{◌≡◌, ℕ, List, map};
+ghost use Rattle.clap.specs.Kinds.{Kinds, HasKind};
+ghost use Rattle.moo_words.specs.Tasks.{IsRefusal, mistakes};
+ghost use Rattle.moo_commands.specs.Run.{mistake_status, EndsUsage, RunsWords};
+
+use crate::failure::Failure;
+use crate::files::run_task;
+use crate::output::{put_line, report};
+use clap::error::ErrorKind;
+use moo_words::{Usage, read_words};
+use std::io::{Read, Write};
+
+/// The status of what the reader of the words says: 0 for help and the version, 2 for a mistake.
+fn mistake_status(kind: ErrorKind) -> u8
+    ensures { result ≡ mistake_status kind }
+{
+    match kind {
+        ErrorKind::DisplayHelp | ErrorKind::DisplayVersion => 0,
+        _ => 2,
+    }
+}
+
+/// Writes what the reader of the words says, and answers its status.
+fn put_mistake<W: Write>(rt: &HostRuntime, error: &clap::Error, output: &mut W) -> u8
+    ensures { (found : Kinds) → HasKind found error.now → EndsUsage found (W.contents output.old) (W.contents output.new) result }
+{
+    let kind = error.kind();
+    if kind == ErrorKind::OutOfMemory {
+        return report(rt, Failure::NoMemory, output);
+    }
+    let Ok(text) = error.to_string(rt.alloc()) else {
+        return report(rt, Failure::NoMemory, output);
+    };
+    put_line(text.as_str(), mistake_status(kind), output)
+}
+
+/// Says why the words name no task.
+fn report_usage<W: Write>(rt: &HostRuntime, usage: &Usage, output: &mut W) -> u8
+    ensures { (words : List (List ℕ)) → IsRefusal words usage.now → EndsUsage (mistakes words) (W.contents output.old) (W.contents output.new) result }
+{
+    match usage {
+        Usage::Refused(error) => put_mistake(rt, error, output),
+        Usage::Absent => report(rt, Failure::Usage, output),
+    }
+}
+
+/// Does what the words say, which begin with `moo`, and answers the exit status: `init`, `apply`, `ask`, `dump`, `check` or
+/// `serve` on a file, or on a new world in memory for `:memory:`; with no other word `apply :memory: -`.
+///
+/// What the command writes goes to the output, and so does the line of a failure behind it: 1 where the store, the reader or
+/// the writer failed, the text is too long, the port can't be listened on, or an answer is `fault` or `closed`; 3 where the file
+/// is damaged or of a newer version; 4 where memory ran out. Words that name no task give the text of their reader: 2, or 0 for
+/// help and the version. The cause goes to standard error where the store, the batches or the port failed, and so does a hint
+/// where a batch met a fault of the store. A connection that fails is no failure of `serve`.
+///
+/// At the end of a run the file is closed: it then holds all that was committed, and its log FILE-wal beside it is short. Where
+/// closing fails, and after a kill, the log holds a part of what was committed; the next open reads it, and the status is the same.
+pub fn run_words<R: Read + Drop, W: Write>(
+    rt: &HostRuntime,
+    words: &[&str],
+    input: R,
+    output: &mut W,
+) -> u8
+    ensures { RunsWords (map (λ word. word.now) words.now) (R.remaining input) (W.contents output.old) (W.contents output.new) result }
+{
+    match read_words(rt.alloc(), words) {
+        Ok(task) => run_task(rt, task, input, output),
+        Err(usage) => report_usage(rt, &usage, output),
+    }
+}

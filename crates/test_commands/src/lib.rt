@@ -1,0 +1,7 @@
+//! Tests of the program by `moo_commands`, in a crate of their own, since a crate with tests is proved twice.
+#![tactic(auto)]
+
+#[cfg(test)]
+mod texts;
+#[cfg(test)]
+mod worked;
