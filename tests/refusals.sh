@@ -59,6 +59,7 @@ expect "and free when its program ends" 0 'ok seq 1 objects 5\n' '' check world.
 rows world.db >before
 for word in apply ask; do
     expect "batches that aren't there are a read fault of $word" 1 'moo: read fault\n' '' "$word" world.db nothing.txt
+    complains "the cause is said" 'moo: read fault: no such file of batches'
     expect "a folder of batches is one" 1 'moo: read fault\n' '' "$word" world.db .
 done
 unchanged "its rows are as they were" world.db
