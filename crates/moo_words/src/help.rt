@@ -27,9 +27,12 @@ A batch: a line `batch as #3` (the programmer; #3 is the wizard of a new world),
 `moo apply --help` lists the calls, the values and the replies. `moo COMMAND --help` says of each command
 what it writes, and how it ends.
 
-Exit status: 0 done, and a batch that is answered `refused`, `stale` or `malformed` is too; 1 the store, a
-stream or the port failed, or a batch is answered `fault` or `closed`; 2 the words are wrong; 3 the file is
-damaged, or of a newer version; 4 memory ran out.";
+Exit status: 0 done, whatever the batches are answered but `fault` and `closed`; 1 the store, a stream or the
+port failed, or a batch is answered so; 2 the words are wrong; 3 the world in the file is damaged, or of a
+newer version; 4 memory ran out. A file too broken to be read, or no database of moo, is a store fault, 1.
+
+A failure is a line on standard output, as `moo: store fault`, and the same line with its cause on standard
+error. Where standard output failed, batches may be committed all the same: `moo check FILE` says S.";
 
 pub(crate) const INIT: &str = "Make a new world in FILE, which must hold no tables yet";
 
@@ -49,8 +52,10 @@ pub(crate) const APPLY: &str =
     "Run the batches of a text, and print a reply for each when it is committed";
 
 pub(crate) const APPLY_MORE: &str =
-    "A batch: a line `batch as #N`, N being the programmer, or `batch as #N at M`, which acts only on a world with
-number M; one call a line; a line `end`. It acts whole or not at all. Blank lines are skipped.
+    "A batch: a line `batch as #N`, N being the programmer, any object, or `batch as #N at M`, which acts only on
+a world with number M; one call a line; a line `end`. It acts whole or not at all. Blank lines are skipped,
+and there are no comments. `batch`, `as`, `at` and `end` are in small letters. No call can use the answer of
+another: what `create` answers is max_object() and one more, and `at M` makes sure of it.
 
 Standard output, for each batch:
   accepted S     it is committed, as number S; the answers of its calls follow, one a line, and `end`
@@ -60,12 +65,14 @@ Standard output, for each batch:
   malformed L    its line L can't be read (the header is line 1, and blank lines count). It is no header as
                  above, or no call as below; or a value in it is none: a number over 32 bits, a text of over
                  65,535 bytes, without its end, or with other bytes than tabs, spaces and printing ASCII, a
-                 list over 32 deep; or it is over 262,144 bytes, or the 1,001st call. Reading goes on behind
-                 the next `end`.
+                 list over 32 deep; or it is over 262,144 bytes, or the 1,001st call. All is skipped up to
+                 the next `end`: where that is missing, the batch behind goes with it.
   truncated      the text ended inside it
   nomemory       memory ran out in it
   fault          the store failed in it; `closed` is the answer to each behind that
-Without `accepted` it changed nothing; only that of a `fault` may stand: `moo check FILE` says S.
+Without `accepted` it changed nothing; only that of a `fault` may stand: `moo check FILE` says S. The
+batches behind it are run all the same. Each that is accepted counts, also where it only reads: `moo ask`
+looks without counting.
 
 Values: 12 and -5; objects #4, and #-1 for none; texts \"a \\\"b\\\" c\"; errors E_PERM; lists {1, {#2, \"a\"}}.
 True are numbers but 0, and texts and lists that aren't empty.
@@ -75,7 +82,8 @@ texts; VERB may be a number. A call answers 0 where nothing else is said.
   create(PARENT), create(PARENT, OWNER)   a new object, which it answers; it owns itself if OWNER is #-1
   recycle(O)                      O goes: its children get its parent, what it holds gets no place
   valid(O), max_object()          1 where O is an object, or 0; the greatest number that one ever had
-  chparent(O, PARENT)             O inherits from PARENT, or for #-1 from nothing
+  chparent(O, PARENT)             O inherits from PARENT, or for #-1 from nothing; of properties that it then
+                                  lacks, what it and all under it had is gone
   parent(O), children(O)          its parent; those whose parent it is
   move(O, PLACE)                  O goes into PLACE, or for #-1 nowhere
   set_accept(O, {A, B ..})        O accepts A, B .. and what is under one of them; without a list, as after
@@ -91,19 +99,23 @@ texts; VERB may be a number. A call answers 0 where nothing else is said.
   property_info(O, NAME)                         {OWNER, PERMS}
   set_property_info(O, NAME, {OWNER, PERMS})     or {OWNER, PERMS, NEWNAME}
   clear_property(O, NAME), is_clear_property(O, NAME)   it reads as its parent's again; whether it does
-  verbs(O)                                                the names of each verb
+  verbs(O)                                                the names of each verb of O itself; none is run
   add_verb(O, {OWNER, PERMS, NAMES}, {DOBJ, PREP, IOBJ})  a verb behind the others
   delete_verb(O, VERB)
   verb_info(O, VERB), verb_args(O, VERB)                  {OWNER, PERMS, NAMES}; {DOBJ, PREP, IOBJ}
   set_verb_info(O, VERB, {OWNER, PERMS, NAMES})
   set_verb_args(O, VERB, {DOBJ, PREP, IOBJ})
 PERMS of a property: letters of \"rwc\": r all may read it, w all may write it, c the owner of what is under O
-owns it there. PERMS of a verb: letters of \"rwxd\". NAMES: \"get take\", or \"foo*bar\" for foo, foob, fooba and
+owns it there. PERMS of a verb: letters of \"rwxd\": r all may read it, w all may change it, x and d are kept.
+Marks of an object: \"r\" all may list its properties and verbs, \"w\" all may add and delete them, \"f\" all may
+make objects under it; \"wizard\" has every right; \"programmer\" is kept, and not looked at.
+ NAMES: \"get take\", or \"foo*bar\" for foo, foob, fooba and
 foobar. VERB: its place among the verbs, from 1 on, or a word such as \"take\". DOBJ and IOBJ: \"this\", \"any\" or
 \"none\". PREP: \"any\", \"none\" or a phrase such as \"in front of\".
 
 Why a call is refused, E_NAME:
-  E_PERM     the programmer may not: it has no right there, which a wizard has, or is no object
+  E_PERM     the programmer may not: it has no right there, which a wizard has, or is no object; or nobody
+             may: \"location\" and \"contents\" can't be set
   E_INVARG   what must be an object is none, or an owner, a name or letters can't stand there
   E_INVIND   get or set of what is no object
   E_PROPNF   O has no such property
@@ -114,9 +126,9 @@ Why a call is refused, E_NAME:
   E_RECMOVE  O would be in itself, or under itself
   E_NACC     PLACE doesn't accept O, and the programmer is no wizard
 
-Exit status: 0 each batch has its reply, `refused` and the like too; 1 one is `fault` or `closed`, or a last
-line says `moo: store fault`, `moo: read fault` or `moo: input too long`; 3 `moo: damaged KIND KEY` or
-`moo: newer version`; 4 `moo: no memory`.
+Exit status: 0 each batch has its reply, `refused` and the like too; 1 one is `fault` or `closed`, or the
+output failed, or a last line says `moo: store fault`, `moo: read fault` or `moo: input too long`;
+3 `moo: damaged KIND KEY` or `moo: newer version`; 4 `moo: no memory`.
 
 Example:
   printf 'batch as #3\\ncreate(#1)\\nset(#4, \"name\", \"Lantern\")\\nend\\n' | moo apply world.db -";
@@ -124,8 +136,9 @@ Example:
 pub(crate) const ASK: &str = "Print what the batches of a text would come to, and change nothing";
 
 pub(crate) const ASK_MORE: &str =
-    "Standard output: the replies of `moo apply`, each batch judged on the world as it is. `accepted S` then has
-the world's present number. `moo apply --help` lists replies, values and calls.
+    "Standard output: the replies of `moo apply`, each batch judged on the world as it is: none sees what one
+before it would do. `accepted S` then has the world's present number. `moo apply --help` lists replies,
+values and calls.
 
 Exit status: as `moo apply`; so 0 for `refused` and the like too.
 
@@ -159,8 +172,8 @@ pub(crate) const CHECK: &str = "Test that FILE holds a whole world; nothing is m
 pub(crate) const CHECK_MORE: &str =
     "Standard output: `ok seq S objects N`, or the first damage, as `moo: damaged missing-slot #6 p1`.
 
-Exit status: 0 whole; 1 `moo: store fault`; 3 `moo: damaged KIND KEY` or `moo: newer version`;
-4 `moo: no memory`.
+Exit status: 0 whole; 1 `moo: store fault`, also where the file can't be read as a database at all;
+3 `moo: damaged KIND KEY` or `moo: newer version`; 4 `moo: no memory`.
 
 Example:
   moo check world.db";
@@ -171,8 +184,18 @@ pub(crate) const SERVE_MORE: &str =
     "Standard output: `listening 127.0.0.1:PORT` once FILE is open and the port is bound; at the end, after COUNT
 connections, `served A failed F`.
 
-POST /batch runs a batch, POST /ask asks one; GET /seq and GET /object/N look at the world. Every answer
-is JSON. Nobody is asked who they are: let no one else on this machine reach the port.
+POST /batch runs a batch, POST /ask says what it would come to; its body is JSON, and its calls as in a text:
+  {\"as\":\"#3\",\"calls\":[\"create(#1)\"]}, and \"at\":17, a bare number, to act only on a world with number 17
+Other keys are ignored: a mistyped \"at\" guards nothing. GET /seq is the number, and GET /object/5 what is
+built in of #5, its children and its contents. Answers are JSON:
+  200 {\"answers\":[\"#4\",\"{1, 2}\"],\"seq\":18}   each answer a string, as it stands in a text; or what GET asks
+  409 {\"call\":K,\"error\":\"E_PERM\"} or {\"error\":\"stale\",\"seq\":S}     it is refused, and changed nothing
+  400 {\"error\":\"bad request\"} or {\"call\":K,\"error\":\"malformed\"}; 413 its body is over 1,048,576 bytes
+  404 no such path, or no such object; 405 the path has another method; 503 nomemory, fault or closed
+All of these count in A; in F a connection that breaks off, or is silent for 10 seconds.
+
+While it runs no other command opens FILE. A signal ends it early, and what it answered is kept. Nobody is
+asked who they are: let no one else on this machine reach the port.
 
 Exit status: 0 COUNT connections were taken; 1 `moo: cannot listen`, `moo: store fault`, or standard
 output failed; 3 `moo: damaged KIND KEY` or `moo: newer version`; 4 `moo: no memory`.
