@@ -1,5 +1,5 @@
-//! The calls on verbs, by what they are given. What a call is given is held where it may end early, so that each has a
-//! function of its own.
+//! The calls on verbs, by what they are given: a function each, since a proof grows with what a function holds where it may
+//! end early.
 
 ghost use Rattle.std.specs.Prelude.{OnOk};
 ghost use Rattle.moo_rights.specs.Outcomes.{world_in, ComesTo, Answers};

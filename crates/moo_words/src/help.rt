@@ -31,7 +31,7 @@ Exit status: 0 done, whatever the batches are answered but `fault` and `closed`;
 port failed, or a batch is answered so; 2 the words are wrong; 3 the world in the file is damaged, or of a
 newer version; 4 memory ran out. A file too broken to be read, or no database of moo, is a store fault, 1.
 
-A failure is a line on standard output, as `moo: store fault`, and the same line with its cause on standard
+A failure is a line on standard output; why the store, the batches or the port failed is said on standard
 error. Where standard output failed, batches may be committed all the same: `moo check FILE` says S.";
 
 pub(crate) const INIT: &str = "Make a new world in FILE, which must hold no tables yet";
