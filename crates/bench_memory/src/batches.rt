@@ -4,13 +4,11 @@ ghost use Rattle.std.specs.Prelude.{OnOk};
 ghost use Rattle.moo_world.specs.Rows.{IsGood};
 
 use anyhow::{Result, bail};
-use moo_batch::changes::{Changes, apply_changes};
-use moo_batch::judge::{Verdict, judge};
-use moo_rows::flat::Flat;
-use moo_text::call_text::read_call;
-use moo_value::value::{ObjNo, Value};
-use moo_world::answers::Answers;
-use moo_world::call::{Batch, Calls};
+use moo_batch::{Changes, Verdict, apply_changes, judge};
+use moo_rows::Flat;
+use moo_text::read_call;
+use moo_value::{ObjNo, Value};
+use moo_world::{Answers, Batch, Calls};
 use std::alloc::Global;
 
 const WIZARD: ObjNo = ObjNo(3);

@@ -5,11 +5,9 @@ ghost use Rattle.moo_world.specs.Rows.{IsGood};
 
 use crate::batches::{batch, create_each, run_each};
 use anyhow::{Result, bail};
-use moo_rows::flat::Flat;
-use moo_rows::rows::Rows;
-use moo_value::value::ObjNo;
-use moo_world::call::Batch;
-use moo_world::opening::good_opening;
+use moo_rows::{Flat, Rows};
+use moo_value::ObjNo;
+use moo_world::{Batch, good_opening};
 use std::alloc::Global;
 use std::time::Instant;
 

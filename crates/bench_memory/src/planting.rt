@@ -6,11 +6,9 @@ ghost use Rattle.moo_world.specs.Rows.{world_of};
 ghost use Rattle.moo_world.specs.World.{IsTree, is_object};
 
 use anyhow::{Result, bail};
-use moo_rows::flat::Flat;
-use moo_rows::row::ObjRow;
-use moo_rows::rows::Rows;
+use moo_rows::{Flat, ObjRow, Rows};
 use moo_tree::{is_nothing, nothing, valid};
-use moo_value::value::ObjNo;
+use moo_value::ObjNo;
 use std::alloc::Global;
 
 /// How the objects `#1`, `#2` and so on stand: each under `#1`, each under the one before, or each under the one after.

@@ -10,10 +10,10 @@ use Rattle.moo_world.specs.World.{World}
 use Rattle.moo_world.specs.Rows.{IsGood}
 use Rattle.moo_world.specs.Judge as model
 use Rattle.moo_world.specs.Judge.{state_of}
-use Rattle.moo_batch.specs.declared.judge.Stop.{Stop}
-use Rattle.moo_batch.specs.declared.judge.Stop.TheVariants.{Refused as refused_at, Full as full_at, OutOfMemory as no_memory}
-use Rattle.moo_batch.specs.declared.judge.Verdict.{Verdict}
-use Rattle.moo_batch.specs.declared.judge.Verdict.TheVariants.{Accepted, Refused, Full, Stale, OutOfMemory}
+use Rattle.moo_batch.specs.declared.judging.Stop.{Stop}
+use Rattle.moo_batch.specs.declared.judging.Stop.TheVariants.{Refused as refused_at, Full as full_at, OutOfMemory as no_memory}
+use Rattle.moo_batch.specs.declared.judging.Verdict.{Verdict}
+use Rattle.moo_batch.specs.declared.judging.Verdict.TheVariants.{Accepted, Refused, Full, Stale, OutOfMemory}
 use Rattle.moo_batch.specs.Changes.{AreChanges}
 
 -- what is answered where calls come to this: their answers, with the world that they leave, or the first call that isn't done

@@ -8,11 +8,8 @@ ghost use Rattle.moo_batch.specs.Overlay.{row_over};
 ghost use Rattle.moo_batch.specs.Changes.{IsChanges, AreChanges, changed_each};
 
 use crate::overlay::Base;
-use moo_rows::flat::Flat;
-use moo_rows::ordered::{Key, Row};
-use moo_rows::row::{Head, ObjRow, PropId, PropRow, SlotRow, VerbId, VerbRow};
-use moo_rows::rows::Rows;
-use moo_value::value::ObjNo;
+use moo_rows::{Flat, Head, Key, ObjRow, PropId, PropRow, Row, Rows, SlotRow, VerbId, VerbRow};
+use moo_value::ObjNo;
 use std::alloc::{AllocError, Global};
 use std::collections::BTreeMap;
 use std::marker::Model;

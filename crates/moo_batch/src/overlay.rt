@@ -5,8 +5,7 @@ ghost use Rattle.std.specs.FinMap as map;
 ghost use Rattle.moo_rows.specs.Ordered.{contents, IsNextAt};
 ghost use Rattle.moo_batch.specs.Overlay.{row_over, IsNextOfEither, lesser};
 
-use moo_rows::ordered;
-use moo_rows::ordered::Key;
+use moo_rows::{Key, ordered};
 use std::cmp::Ordering;
 use std::collections::BTreeMap;
 

@@ -6,18 +6,13 @@ ghost use Rattle.moo_world.specs.Arguments.{is_number};
 ghost use Rattle.moo_world.specs.Calls.{set_accept, set_player_flag};
 ghost use Rattle.moo_world.specs.Keeps.{Keeps};
 ghost use Rattle.moo_world.specs.Rows.{IsGood};
-ghost use Rattle.moo_rights.specs.Outcomes.{world_in, ComesTo};
+ghost use Rattle.moo_call_parts.specs.Outcomes.{world_in, ComesTo};
 
-use moo_rights::answers::ZERO;
-use moo_rights::changing::change_row;
-use moo_rights::fault::Fault;
-use moo_rights::rights;
-use moo_rows::row::ObjList;
-use moo_rows::rows::Rows;
+use moo_call_parts::{Fault, ZERO, change_row, rights};
+use moo_rows::{ObjList, Rows};
 use moo_tree::valid;
-use moo_value::code::Code;
-use moo_value::value::{ObjNo, Value};
-use moo_world::change::Change;
+use moo_value::{Code, ObjNo, Value};
+use moo_world::Change;
 use std::alloc::Global;
 
 /// `set_player_flag(object, value)`: makes a player of an object, or no player, by the truth of the value, and answers 0.

@@ -5,18 +5,15 @@ ghost use Rattle.moo_world.specs.Rows.{IsGood};
 ghost use Rattle.moo_world.specs.Creation.{next_object, owner_or_self};
 ghost use Rattle.moo_world.specs.Quota.{may_afford, charged};
 ghost use Rattle.moo_world.specs.Calls.{create};
-ghost use Rattle.moo_rights.specs.Outcomes.{world_in, ComesTo};
+ghost use Rattle.moo_call_parts.specs.Outcomes.{world_in, ComesTo};
 ghost use Rattle.moo_world.specs.Keeps.{Keeps};
 ghost use Rattle.moo_world.specs.Numbers.{IsSameButSlots};
 
-use moo_props::birth::make;
-use moo_props::quota::{quota_of, take_quota};
-use moo_rights::fault::Fault;
-use moo_rights::rights;
-use moo_rows::rows::Rows;
+use moo_call_parts::{Fault, rights};
+use moo_props::{make, quota_of, take_quota};
+use moo_rows::Rows;
 use moo_tree::is_nothing;
-use moo_value::code::Code;
-use moo_value::value::{ObjNo, Value};
+use moo_value::{Code, ObjNo, Value};
 use std::alloc::{AllocError, Global};
 
 /// The number of the next object, where one is left.

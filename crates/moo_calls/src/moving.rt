@@ -4,18 +4,13 @@ ghost use Rattle.std.specs.Prelude.{◌≡◌, OnOk};
 ghost use Rattle.moo_world.specs.Calls.{move};
 ghost use Rattle.moo_world.specs.Keeps.{Keeps};
 ghost use Rattle.moo_world.specs.Rows.{IsGood};
-ghost use Rattle.moo_rights.specs.Outcomes.{world_in, ComesTo};
+ghost use Rattle.moo_call_parts.specs.Outcomes.{world_in, ComesTo};
 
-use moo_rights::accepting::accepts;
-use moo_rights::answers::ZERO;
-use moo_rights::changing::change_row;
-use moo_rights::fault::Fault;
-use moo_rights::rights;
-use moo_rows::rows::Rows;
+use moo_call_parts::{Fault, ZERO, accepts, change_row, rights};
+use moo_rows::Rows;
 use moo_tree::{inside, valid};
-use moo_value::code::Code;
-use moo_value::value::{ObjNo, Value};
-use moo_world::change::Change;
+use moo_value::{Code, ObjNo, Value};
+use moo_world::Change;
 use std::alloc::Global;
 
 /// `move(object, destination)`: puts an object into another one, or nowhere where the destination is `#-1`, and answers 0.

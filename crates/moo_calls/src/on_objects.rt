@@ -3,7 +3,7 @@
 
 ghost use Rattle.std.specs.Prelude.{◌≡◌, true, OnOk};
 ghost use Rattle.std.specs.List.{list_all};
-ghost use Rattle.moo_rights.specs.Outcomes.{world_in, ComesTo, Answers};
+ghost use Rattle.moo_call_parts.specs.Outcomes.{world_in, ComesTo, Answers};
 ghost use Rattle.moo_world.specs.Arguments.{fits, no_values, one_object};
 ghost use Rattle.moo_world.specs.Calls.{valid, parent, children, is_player, players, max_object, accept_list};
 ghost use Rattle.moo_world.specs.Keeps.{Keeps};
@@ -13,11 +13,12 @@ ghost use Rattle.moo_world.specs.Step.{named_call};
 ghost use Rattle.moo_world.specs.declared.name.CallName.TheVariants.{Create, Chparent, Recycle, Move, SetPlayerFlag, SetAccept};
 
 use crate::{changing, creating, moving, parents, reading, recycling};
-use moo_rights::accept_lists::object_and_accept;
-use moo_rights::args::{no_values, object_and_value, one_object, parent_and_owner, two_objects};
-use moo_rights::fault::Fault;
-use moo_rows::rows::Rows;
-use moo_value::value::{ObjNo, Value};
+use moo_call_parts::{
+    Fault, no_values, object_and_accept, object_and_value, one_object, parent_and_owner,
+    two_objects,
+};
+use moo_rows::Rows;
+use moo_value::{ObjNo, Value};
 use std::alloc::Global;
 
 /// `valid`, by what it is given.

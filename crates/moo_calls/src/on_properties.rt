@@ -3,7 +3,7 @@
 
 ghost use Rattle.std.specs.Prelude.{◌≡◌, true, OnOk};
 ghost use Rattle.std.specs.List.{list_all};
-ghost use Rattle.moo_rights.specs.Outcomes.{world_in, ComesTo, Answers};
+ghost use Rattle.moo_call_parts.specs.Outcomes.{world_in, ComesTo, Answers};
 ghost use Rattle.moo_world.specs.Arguments.{fits};
 ghost use Rattle.moo_world.specs.Keeps.{Keeps};
 ghost use Rattle.moo_world.specs.Rows.{IsGood};
@@ -11,12 +11,11 @@ ghost use Rattle.moo_world.specs.Step.{named_call};
 ghost use Rattle.moo_world.specs.declared.name.CallName.TheVariants.{Get, Properties, PropertyInfo, IsClearProperty, Set, AddProperty, DeleteProperty, SetPropertyInfo, ClearProperty};
 
 use crate::values;
-use moo_property_calls::{clearing, definitions, deleting, info, reading};
-use moo_rights::args::{object_and_text, object_text_and_value, one_object};
-use moo_rights::fault::Fault;
-use moo_rights::infos::{new_property, new_property_info};
-use moo_rows::rows::Rows;
-use moo_value::value::{ObjNo, Value};
+use moo_call_parts::{
+    Fault, new_property, new_property_info, object_and_text, object_text_and_value, one_object,
+};
+use moo_rows::Rows;
+use moo_value::{ObjNo, Value};
 use std::alloc::Global;
 
 /// `get`, by what it is given.
@@ -43,7 +42,7 @@ pub(crate) fn properties<R: Rows>(
     requires { IsGood (R.held rows.now).maps }
     ensures { Answers (named_call (world_in (R.held rows.now)) programmer Properties args.now) (R.held rows.now) result }
 {
-    reading::properties(rows, alloc, programmer, one_object(args)?)
+    moo_property_calls::properties(rows, alloc, programmer, one_object(args)?)
 }
 
 /// `property_info`, by what it is given.
@@ -57,7 +56,7 @@ pub(crate) fn property_info<R: Rows>(
     ensures { Answers (named_call (world_in (R.held rows.now)) programmer PropertyInfo args.now) (R.held rows.now) result }
 {
     let (x, property) = object_and_text(args)?;
-    reading::property_info(rows, alloc, programmer, x, property)
+    moo_property_calls::property_info(rows, alloc, programmer, x, property)
 }
 
 /// `is_clear_property`, by what it is given.
@@ -70,7 +69,7 @@ pub(crate) fn is_clear_property<R: Rows>(
     ensures { Answers (named_call (world_in (R.held rows.now)) programmer IsClearProperty args.now) (R.held rows.now) result }
 {
     let (x, property) = object_and_text(args)?;
-    clearing::is_clear_property(rows, programmer, x, property)
+    moo_property_calls::is_clear_property(rows, programmer, x, property)
 }
 
 /// `set`, by what it is given.
@@ -102,7 +101,7 @@ pub(crate) fn add_property<R: Rows>(
     ensures kept { OnOk result (Keeps (R.held rows.old) (R.held rows.new)) }
 {
     let new = new_property(args)?;
-    definitions::add_property(
+    moo_property_calls::add_property(
         rows, alloc, programmer, new.object, new.name, new.value, new.info,
     )
 }
@@ -119,7 +118,7 @@ pub(crate) fn delete_property<R: Rows>(
     ensures kept { OnOk result (Keeps (R.held rows.old) (R.held rows.new)) }
 {
     let (x, property) = object_and_text(args)?;
-    deleting::delete_property(rows, alloc, programmer, x, property)
+    moo_property_calls::delete_property(rows, alloc, programmer, x, property)
 }
 
 /// `set_property_info`, by what it is given.
@@ -134,7 +133,7 @@ pub(crate) fn set_property_info<R: Rows>(
     ensures kept { OnOk result (Keeps (R.held rows.old) (R.held rows.new)) }
 {
     let new = new_property_info(args)?;
-    info::set_property_info(
+    moo_property_calls::set_property_info(
         rows,
         alloc,
         programmer,
@@ -156,5 +155,5 @@ pub(crate) fn clear_property<R: Rows>(
     ensures kept { OnOk result (Keeps (R.held rows.old) (R.held rows.new)) }
 {
     let (x, property) = object_and_text(args)?;
-    clearing::clear_property(rows, programmer, x, property)
+    moo_property_calls::clear_property(rows, programmer, x, property)
 }

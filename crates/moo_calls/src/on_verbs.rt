@@ -2,18 +2,15 @@
 //! end early.
 
 ghost use Rattle.std.specs.Prelude.{OnOk};
-ghost use Rattle.moo_rights.specs.Outcomes.{world_in, ComesTo, Answers};
+ghost use Rattle.moo_call_parts.specs.Outcomes.{world_in, ComesTo, Answers};
 ghost use Rattle.moo_world.specs.Keeps.{Keeps};
 ghost use Rattle.moo_world.specs.Rows.{IsGood};
 ghost use Rattle.moo_world.specs.Step.{named_call};
 ghost use Rattle.moo_world.specs.declared.name.CallName.TheVariants.{Verbs, VerbInfo, VerbArgs, AddVerb, DeleteVerb, SetVerbInfo, SetVerbArgs};
 
-use moo_rights::args::one_object;
-use moo_rights::fault::Fault;
-use moo_rights::verb_args::{new_verb, new_verb_args, new_verb_info, object_and_desc};
-use moo_rows::rows::Rows;
-use moo_value::value::{ObjNo, Value};
-use moo_verb_calls::{adding, changing, reading};
+use moo_call_parts::{Fault, new_verb, new_verb_args, new_verb_info, object_and_desc, one_object};
+use moo_rows::Rows;
+use moo_value::{ObjNo, Value};
 use std::alloc::Global;
 
 /// `verbs`, by what it is given.
@@ -26,7 +23,7 @@ pub(crate) fn verbs<R: Rows>(
     requires { IsGood (R.held rows.now).maps }
     ensures { Answers (named_call (world_in (R.held rows.now)) programmer Verbs args.now) (R.held rows.now) result }
 {
-    reading::verbs(rows, alloc, programmer, one_object(args)?)
+    moo_verb_calls::verbs(rows, alloc, programmer, one_object(args)?)
 }
 
 /// `verb_info`, by what it is given.
@@ -40,7 +37,7 @@ pub(crate) fn verb_info<R: Rows>(
     ensures { Answers (named_call (world_in (R.held rows.now)) programmer VerbInfo args.now) (R.held rows.now) result }
 {
     let (x, desc) = object_and_desc(alloc, args)?;
-    reading::verb_info(rows, alloc, programmer, x, &desc)
+    moo_verb_calls::verb_info(rows, alloc, programmer, x, &desc)
 }
 
 /// `verb_args`, by what it is given.
@@ -54,7 +51,7 @@ pub(crate) fn verb_args<R: Rows>(
     ensures { Answers (named_call (world_in (R.held rows.now)) programmer VerbArgs args.now) (R.held rows.now) result }
 {
     let (x, desc) = object_and_desc(alloc, args)?;
-    reading::verb_args(rows, alloc, programmer, x, &desc)
+    moo_verb_calls::verb_args(rows, alloc, programmer, x, &desc)
 }
 
 /// `add_verb`, by what it is given.
@@ -69,7 +66,7 @@ pub(crate) fn add_verb<R: Rows>(
     ensures kept { OnOk result (Keeps (R.held rows.old) (R.held rows.new)) }
 {
     let new = new_verb(args)?;
-    adding::add_verb(rows, alloc, programmer, new.object, new.verb, new.args)
+    moo_verb_calls::add_verb(rows, alloc, programmer, new.object, new.verb, new.args)
 }
 
 /// `delete_verb`, by what it is given.
@@ -84,7 +81,7 @@ pub(crate) fn delete_verb<R: Rows>(
     ensures kept { OnOk result (Keeps (R.held rows.old) (R.held rows.new)) }
 {
     let (x, desc) = object_and_desc(alloc, args)?;
-    changing::delete_verb(rows, programmer, x, &desc)
+    moo_verb_calls::delete_verb(rows, programmer, x, &desc)
 }
 
 /// `set_verb_info`, by what it is given.
@@ -99,7 +96,7 @@ pub(crate) fn set_verb_info<R: Rows>(
     ensures kept { OnOk result (Keeps (R.held rows.old) (R.held rows.new)) }
 {
     let new = new_verb_info(alloc, args)?;
-    changing::set_verb_info(rows, alloc, programmer, new.object, &new.desc, new.verb)
+    moo_verb_calls::set_verb_info(rows, alloc, programmer, new.object, &new.desc, new.verb)
 }
 
 /// `set_verb_args`, by what it is given.
@@ -114,5 +111,5 @@ pub(crate) fn set_verb_args<R: Rows>(
     ensures kept { OnOk result (Keeps (R.held rows.old) (R.held rows.new)) }
 {
     let new = new_verb_args(alloc, args)?;
-    changing::set_verb_args(rows, alloc, programmer, new.object, &new.desc, new.args)
+    moo_verb_calls::set_verb_args(rows, alloc, programmer, new.object, &new.desc, new.args)
 }

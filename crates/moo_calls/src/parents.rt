@@ -4,17 +4,13 @@ ghost use Rattle.std.specs.Prelude.{OnOk};
 ghost use Rattle.moo_world.specs.Calls.{chparent};
 ghost use Rattle.moo_world.specs.Keeps.{Keeps};
 ghost use Rattle.moo_world.specs.Rows.{IsGood};
-ghost use Rattle.moo_rights.specs.Outcomes.{world_in, ComesTo};
+ghost use Rattle.moo_call_parts.specs.Outcomes.{world_in, ComesTo};
 
-use moo_props::clashing::meets;
-use moo_props::reparent::reparent;
-use moo_rights::answers::ZERO;
-use moo_rights::fault::Fault;
-use moo_rights::rights;
-use moo_rows::rows::Rows;
+use moo_call_parts::{Fault, ZERO, rights};
+use moo_props::{meets, reparent};
+use moo_rows::Rows;
 use moo_tree::{is_under, valid};
-use moo_value::code::Code;
-use moo_value::value::{ObjNo, Value};
+use moo_value::{Code, ObjNo, Value};
 use std::alloc::Global;
 
 /// `chparent(object, new-parent)`: puts an object under another parent, `#-1` for none, and answers 0. The object and its

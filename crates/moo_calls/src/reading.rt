@@ -3,19 +3,15 @@
 
 ghost use Rattle.std.specs.Prelude.{◌≡◌, false, Some, IfOk, IfErr};
 ghost use Rattle.moo_value.specs.declared.code.Code.TheVariants.{InvalidArgument};
-ghost use Rattle.moo_rights.specs.declared.fault.Fault.TheVariants.{Moo};
+ghost use Rattle.moo_call_parts.specs.declared.fault.Fault.TheVariants.{Moo};
 ghost use Rattle.moo_world.specs.Calls.{valid, parent, children, is_player, players, max_object, accept_list};
 ghost use Rattle.moo_world.specs.Rows.{IsGood};
 ghost use Rattle.moo_world.specs.World.{is_object, row_of};
-ghost use Rattle.moo_rights.specs.Outcomes.{world_in, Answers};
+ghost use Rattle.moo_call_parts.specs.Outcomes.{world_in, Answers};
 
-use moo_rights::accept_lists::accept_value;
-use moo_rights::answers::{flag, object_list};
-use moo_rights::fault::Fault;
-use moo_rows::row::ObjRow;
-use moo_rows::rows::Rows;
-use moo_value::code::Code;
-use moo_value::value::{ObjNo, Value};
+use moo_call_parts::{Fault, accept_value, flag, object_list};
+use moo_rows::{ObjRow, Rows};
+use moo_value::{Code, ObjNo, Value};
 use std::alloc::Global;
 
 /// The row of an object, or E_INVARG.

@@ -4,16 +4,12 @@ ghost use Rattle.std.specs.Prelude.{OnOk};
 ghost use Rattle.moo_world.specs.Calls.{recycle};
 ghost use Rattle.moo_world.specs.Keeps.{Keeps};
 ghost use Rattle.moo_world.specs.Rows.{IsGood};
-ghost use Rattle.moo_rights.specs.Outcomes.{world_in, ComesTo};
+ghost use Rattle.moo_call_parts.specs.Outcomes.{world_in, ComesTo};
 
-use moo_props::dropping::drop_object;
-use moo_props::quota::return_quota;
-use moo_rights::answers::ZERO;
-use moo_rights::fault::Fault;
-use moo_rights::rights;
-use moo_rows::rows::Rows;
-use moo_value::code::Code;
-use moo_value::value::{ObjNo, Value};
+use moo_call_parts::{Fault, ZERO, rights};
+use moo_props::{drop_object, return_quota};
+use moo_rows::Rows;
+use moo_value::{Code, ObjNo, Value};
 use std::alloc::Global;
 
 /// `recycle(object)`: removes an object with its properties and verbs, gives one back to the quota of its former owner, and

@@ -6,18 +6,13 @@ ghost use Rattle.moo_world.specs.Keeps.{Keeps};
 ghost use Rattle.moo_world.specs.PropertyCalls.{change_of, may_set, names_object, set_built_in};
 ghost use Rattle.moo_world.specs.Rows.{IsGood};
 ghost use Rattle.moo_world.specs.World.{is_object};
-ghost use Rattle.moo_rights.specs.Outcomes.{world_in, ComesTo, GivenOrNot};
+ghost use Rattle.moo_call_parts.specs.Outcomes.{world_in, ComesTo, GivenOrNot};
 
-use moo_rights::answers::ZERO;
-use moo_rights::changing::change_row;
-use moo_rights::fault::Fault;
-use moo_rights::rights;
-use moo_rows::rows::Rows;
+use moo_call_parts::{Fault, ZERO, change_row, rights};
+use moo_rows::Rows;
 use moo_tree::valid;
-use moo_value::code::Code;
-use moo_value::value::{ObjNo, Value};
-use moo_world::built_in::BuiltIn;
-use moo_world::change::Change;
+use moo_value::{Code, ObjNo, Value};
+use moo_world::{BuiltIn, Change};
 use std::alloc::Global;
 
 /// The change that a value is for a built-in property. E_PERM for `location` and `contents`, which `set` doesn't write;

@@ -1,7 +1,7 @@
 //! Reading and setting properties, built-in ones and others.
 
 ghost use Rattle.std.specs.Prelude.{◌≡◌, true, OnOk};
-ghost use Rattle.moo_rights.specs.Outcomes.{world_in, Answers, ComesTo};
+ghost use Rattle.moo_call_parts.specs.Outcomes.{world_in, Answers, ComesTo};
 ghost use Rattle.moo_world.specs.Arguments.{fits};
 ghost use Rattle.moo_world.specs.Keeps.{Keeps};
 ghost use Rattle.moo_world.specs.PropertyCalls.{get, set};
@@ -9,15 +9,12 @@ ghost use Rattle.moo_world.specs.Rows.{IsGood};
 
 use crate::fields::field_of;
 use crate::setting::set_built_in;
-use moo_property_calls::reading::get_property;
-use moo_property_calls::setting::set_property;
-use moo_rights::fault::Fault;
-use moo_rows::rows::Rows;
+use moo_call_parts::Fault;
+use moo_property_calls::{get_property, set_property};
+use moo_rows::Rows;
 use moo_tree::valid;
-use moo_value::code::Code;
-use moo_value::text::MooStr;
-use moo_value::value::{ObjNo, Value};
-use moo_world::built_in::BuiltIn;
+use moo_value::{Code, MooStr, ObjNo, Value};
+use moo_world::BuiltIn;
 use std::alloc::Global;
 
 /// `get(object, name)`: the value of a property, a built-in one or another. E_INVIND where the object is none; E_PROPNF where

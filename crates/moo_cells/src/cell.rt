@@ -18,10 +18,9 @@ ghost use Rattle.moo_cells.specs.Reading.{IsId};
 ghost use Rattle.moo_cells.specs.declared.fault.RowFault.TheVariants.{Unreadable};
 
 use crate::fault::RowFault;
-use moo_rows::row::{Bits, Place, Preposition, VerbBits};
-use moo_value::text::MooStr;
-use moo_value::value::ObjNo;
-use moo_verbs::cells::{read_place_cell, read_prep_cell};
+use moo_rows::{Bits, Place, Preposition, VerbBits};
+use moo_value::{MooStr, ObjNo};
+use moo_verbs::{read_place_cell, read_prep_cell};
 use sqlite::Row;
 use sqlite::types::ValueRef;
 use std::alloc::Global;

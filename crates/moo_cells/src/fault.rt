@@ -6,7 +6,7 @@ ghost use Rattle.moo_cells.specs.declared.fault.RowFault.TheVariants.{Unreadable
 ghost use Rattle.moo_cells.specs.declared.fault.CellFault.TheVariants.{OutOfMemory as none_left};
 
 use moo_damage::{Key, Kind};
-use moo_value::fault::LiteralFault;
+use moo_value::LiteralFault;
 use std::alloc::AllocError;
 use thiserror::Error;
 

@@ -12,7 +12,7 @@ ghost use Rattle.moo_cells.specs.declared.head.HeadCells.{HeadCells};
 use crate::cell::int_at;
 use crate::fault::{CellFault, RowFault};
 use moo_damage::{Key, Kind};
-use moo_rows::row::Head;
+use moo_rows::Head;
 use sqlite::Row;
 
 /// How many columns the table of the head has.

@@ -13,9 +13,8 @@ ghost use Rattle.moo_cells.specs.declared.fault.RowFault.TheVariants.{Unreadable
 
 use crate::cell::text_at;
 use crate::fault::RowFault;
-use moo_rows::row::{ObjList, SlotState};
-use moo_value::value::{ObjNo, Value};
-use moo_value::whole::read_whole_literal;
+use moo_rows::{ObjList, SlotState};
+use moo_value::{ObjNo, Value, read_whole_literal};
 use sqlite::Row;
 use std::alloc::Global;
 

@@ -9,8 +9,8 @@ ghost use Rattle.moo_cells.specs.declared.object.Flags.{Flags};
 use crate::cell::{flag_at, object_at, string_at};
 use crate::fault::RowFault;
 use crate::literal::accept_at;
-use moo_rows::row::ObjRow;
-use moo_value::value::ObjNo;
+use moo_rows::ObjRow;
+use moo_value::ObjNo;
 use sqlite::Row;
 use std::alloc::Global;
 

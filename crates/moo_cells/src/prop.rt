@@ -7,9 +7,9 @@ ghost use Rattle.moo_cells.specs.declared.fault.RowFault.TheVariants.{Unreadable
 
 use crate::cell::{id_at, object_at, string_at};
 use crate::fault::RowFault;
-use moo_rows::row::{PropId, PropRow};
-use moo_value::text::MooStr;
-use moo_world::built_in::BuiltIn;
+use moo_rows::{PropId, PropRow};
+use moo_value::MooStr;
+use moo_world::BuiltIn;
 use sqlite::Row;
 use std::alloc::Global;
 

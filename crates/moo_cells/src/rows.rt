@@ -11,9 +11,7 @@ ghost use Rattle.moo_cells.specs.Damage.{IsMet, IsNewer, SaysOfCells};
 use crate::fault::CellFault;
 use crate::head::read_head;
 use crate::tables::{read_objects, read_props, read_slots, read_verbs};
-use moo_rows::flat::Flat;
-use moo_rows::row::Head;
-use moo_rows::rows::Rows;
+use moo_rows::{Flat, Head, Rows};
 use moo_tables::CellLists as Cells;
 use std::alloc::Global;
 

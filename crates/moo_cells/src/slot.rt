@@ -7,8 +7,8 @@ ghost use Rattle.moo_cells.specs.declared.fault.RowFault.TheVariants.{Unreadable
 use crate::cell::{bits_at, id_at, object_at};
 use crate::fault::RowFault;
 use crate::literal::state_at;
-use moo_rows::row::{PropId, SlotRow};
-use moo_value::value::ObjNo;
+use moo_rows::{PropId, SlotRow};
+use moo_value::ObjNo;
 use sqlite::Row;
 use std::alloc::Global;
 

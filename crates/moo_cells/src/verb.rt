@@ -9,9 +9,9 @@ ghost use Rattle.moo_rows.specs.declared.row.ArgSpec.{ArgSpec};
 
 use crate::cell::{id_at, object_at, place_at, prep_at, string_at, verb_bits_at};
 use crate::fault::RowFault;
-use moo_rows::row::{ArgSpec, VerbId, VerbRow};
-use moo_value::value::ObjNo;
-use moo_verbs::reading::check_names;
+use moo_rows::{ArgSpec, VerbId, VerbRow};
+use moo_value::ObjNo;
+use moo_verbs::check_names;
 use sqlite::Row;
 use std::alloc::Global;
 

@@ -18,9 +18,7 @@ ghost use Rattle.moo_commands.specs.Run.{given, lost_status, RunsText, StopsText
 use crate::failure::Failure;
 use crate::output::{checked_text, explain_lost};
 use moo_http::serve_port;
-use moo_store::output::put_all;
-use moo_store::world::World;
-use moo_store::{Tally, apply_text, ask_text};
+use moo_store::{Tally, World, apply_text, ask_text, put_all};
 use moo_words::Task;
 use sqlite::Alter;
 use std::alloc::Global;

@@ -5,9 +5,8 @@ ghost use Rattle.moo_commands.specs.Lines.{word_of, status_of, text_failure, sto
 
 use moo_damage::{Key, Kind};
 use moo_http::ServiceFault;
-use moo_store::DumpFault;
-use moo_store::fault::StoreFault;
-use moo_text::fault::TextFault;
+use moo_store::{DumpFault, StoreFault};
+use moo_text::TextFault;
 use sqlite::{Error, ErrorCode};
 
 /// How a run of the program fails.

@@ -5,8 +5,7 @@ ghost use Rattle.moo_commands.specs.Lines.{WritesLine, Reports, checked_line, da
 
 use crate::failure::Failure;
 use moo_damage::{Key, Kind};
-use moo_store::Tally;
-use moo_store::output::put_all;
+use moo_store::{Tally, put_all};
 use sqlite::{Error, ErrorCode};
 use std::alloc::{AllocError, Global};
 use std::io::Write;

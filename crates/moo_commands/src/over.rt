@@ -13,9 +13,7 @@ ghost use Rattle.moo_commands.specs.Run.{begins_anew, Runs, RunsOpened, FailsAtO
 use crate::commands::do_task;
 use crate::failure::Failure;
 use crate::output::report;
-use moo_store::adopt;
-use moo_store::creating::create_in;
-use moo_store::world::World;
+use moo_store::{World, adopt, create_in};
 use moo_words::Task;
 use sqlite::{Alter, Connection};
 use std::io::{Read, Write};

@@ -12,12 +12,12 @@ ghost use Rattle.moo_damage.specs.OwnClear.{has_clear};
 ghost use Rattle.moo_damage.specs.Missing.{IsFirstMissing};
 
 use crate::trees::Link;
-use moo_rows::row::{Head, ObjRow, PropId, PropRow, SlotRow, SlotState, VerbId};
-use moo_rows::rows::Rows;
-use moo_rows::walk::{each_object, each_prop, each_slot, each_verb};
+use moo_rows::{
+    Head, ObjRow, PropId, PropRow, Rows, SlotRow, SlotState, VerbId, each_object, each_prop,
+    each_slot, each_verb,
+};
 use moo_tree::{is_nothing, is_under, valid};
-use moo_value::text::same_name;
-use moo_value::value::ObjNo;
+use moo_value::{ObjNo, same_name};
 
 fn is_object_past(head: Head, x: ObjNo) -> bool
     ensures { result ≡ is_object_past head x }

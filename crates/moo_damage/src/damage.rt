@@ -16,7 +16,7 @@ use crate::checks::{
 use crate::kind::{Key, Kind, object_key, prop_key, slot_key, verb_key};
 use crate::local::{double_name, missing_slot, slots_hold, strange_slot};
 use crate::trees::{Link, first_loop};
-use moo_rows::rows::Rows;
+use moo_rows::Rows;
 use std::alloc::{AllocError, Global};
 
 /// Numbers past those of the head.

@@ -6,13 +6,10 @@ ghost use Rattle.moo_damage.specs.Differences.{IsFirstDifference, IsFirstUnlike,
 ghost use Rattle.moo_damage.specs.First.{IsFirst};
 
 use crate::kind::{Key, object_key, prop_key, slot_key, verb_key};
-use moo_rows::flat::Flat;
-use moo_rows::ordered;
-use moo_rows::ordered::Row;
-use moo_rows::row::{PropId, VerbId};
-use moo_rows::rows::Rows;
-use moo_rows::walk::{each_object, each_prop, each_slot, each_verb};
-use moo_value::value::ObjNo;
+use moo_rows::{
+    Flat, PropId, Row, Rows, VerbId, each_object, each_prop, each_slot, each_verb, ordered,
+};
+use moo_value::ObjNo;
 use std::cmp::Ordering;
 
 /// The lesser of two keys.

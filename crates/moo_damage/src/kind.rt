@@ -4,8 +4,8 @@ ghost use Rattle.std.specs.Prelude.{◌≡◌, pos, Some};
 ghost use Rattle.moo_damage.specs.declared.kind.Key.TheVariants as keys;
 ghost use Rattle.moo_damage.specs.Words.{kind_text, key_text};
 
-use moo_rows::row::{PropId, VerbId};
-use moo_value::value::ObjNo;
+use moo_rows::{PropId, VerbId};
+use moo_value::ObjNo;
 use std::fmt;
 
 /// A kind of damage. The kinds are looked for in this order, so that only the first that is met is told.

@@ -13,10 +13,8 @@ ghost use Rattle.moo_damage.specs.Local.{SlotsHold, has_slot, comes_down, lacks_
 
 use crate::checks::{defines, first_double, first_missing, first_strange};
 use crate::names::names_apart;
-use moo_rows::row::PropId;
-use moo_rows::rows::Rows;
-use moo_rows::walk::{each_object, each_prop, each_slot, each_slot_of};
-use moo_value::value::ObjNo;
+use moo_rows::{PropId, Rows, each_object, each_prop, each_slot, each_slot_of};
+use moo_value::ObjNo;
 use std::alloc::{AllocError, Global};
 
 fn has_slot<R: Rows>(rows: &R, x: ObjNo, id: PropId) -> bool

@@ -12,11 +12,8 @@ ghost use Rattle.moo_damage.specs.Noted.{AreEnding};
 ghost use Rattle.moo_damage.specs.declared.trees.Link.{Link};
 
 use crate::kind::Kind;
-use moo_rows::ordered;
-use moo_rows::row::ObjRow;
-use moo_rows::rows::Rows;
-use moo_rows::walk::each_object;
-use moo_value::value::ObjNo;
+use moo_rows::{ObjRow, Rows, each_object, ordered};
+use moo_value::ObjNo;
 use std::alloc::{AllocError, Global};
 use std::collections::BTreeMap;
 

@@ -5,10 +5,8 @@ ghost use Rattle.moo_dump.specs.Lines.{ListsDefinitions, ids_listed};
 ghost use Rattle.moo_world.specs.Objects.{same_object};
 ghost use Rattle.moo_value.specs.declared.value.ObjNo.{ObjNo as Object};
 
-use moo_rows::row::PropId;
-use moo_rows::rows::Rows;
-use moo_rows::walk::each_prop;
-use moo_value::value::ObjNo;
+use moo_rows::{PropId, Rows, each_prop};
+use moo_value::ObjNo;
 use std::alloc::{AllocError, Global};
 use std::collections::BTreeMap;
 

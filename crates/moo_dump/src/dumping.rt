@@ -12,10 +12,8 @@ use crate::definitions::{Definitions, all_definitions};
 use crate::fault::DumpFault;
 use crate::objects::object_text;
 use crate::output::put_all;
-use moo_rows::rows::Rows;
-use moo_rows::walk::each_object;
-use moo_value::value::{ObjNo, Value};
-use moo_value::writing::print_literal;
+use moo_rows::{Rows, each_object};
+use moo_value::{ObjNo, Value, print_literal};
 use std::alloc::{AllocError, Global};
 use std::io::Write;
 

@@ -6,14 +6,10 @@ ghost use Rattle.moo_dump.specs.Dump.{line, object_line, property_line, slot_lin
 ghost use Rattle.moo_world.specs.Prepositions.{place_text, prep_text};
 ghost use Rattle.moo_world.specs.Rows.{slot_seen};
 
-use moo_rights::accept_lists::accept_value;
-use moo_rights::answers::{flag, list_of};
-use moo_rows::row::{ArgSpec, ObjRow, PropRow, SlotRow, SlotState, VerbRow};
-use moo_value::text::MooStr;
-use moo_value::value::{ObjNo, Value};
-use moo_value::writing::print_literal;
-use moo_verbs::prep::{print_place, print_prep};
-use moo_verbs::reading::bits_letters;
+use moo_call_parts::{accept_value, flag, list_of};
+use moo_rows::{ArgSpec, ObjRow, PropRow, SlotRow, SlotState, VerbRow};
+use moo_value::{MooStr, ObjNo, Value, print_literal};
+use moo_verbs::{bits_letters, print_place, print_prep};
 use std::alloc::{AllocError, Global};
 
 /// Appends a word and a literal list of these values, as a line.

@@ -6,10 +6,9 @@ ghost use Rattle.moo_world.specs.Rows.{world_of};
 ghost use Rattle.moo_world.specs.World.{IsTree};
 
 use crate::seen::Look;
-use moo_rows::row::ObjList;
-use moo_rows::rows::Rows;
+use moo_rows::{ObjList, Rows};
 use moo_tree::{children, contents};
-use moo_value::value::ObjNo;
+use moo_value::ObjNo;
 use std::alloc::{AllocError, Global};
 
 /// What an object looks like; none where the number is that of no object. The only error is want of memory.

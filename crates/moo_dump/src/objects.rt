@@ -9,11 +9,9 @@ ghost use Rattle.moo_world.specs.World.{IsTree, chain, verbs_of};
 
 use crate::definitions::{Definitions, defined_by};
 use crate::lines::{put_object_line, put_property_line, put_slot_line, put_verb_line};
-use moo_rows::row::{PropId, VerbId};
-use moo_rows::rows::Rows;
-use moo_rows::walk::each_verb_of;
+use moo_rows::{PropId, Rows, VerbId, each_verb_of};
 use moo_tree::chain;
-use moo_value::value::ObjNo;
+use moo_value::ObjNo;
 use std::alloc::{AllocError, Global};
 
 /// Appends the lines of the properties that x defines.

@@ -1,8 +1,7 @@
 //! An object with what a look at it shows.
 
-use moo_rows::row::ObjList;
-use moo_value::text::MooStr;
-use moo_value::value::ObjNo;
+use moo_rows::ObjList;
+use moo_value::{MooStr, ObjNo};
 
 /// An object, with its children and with what lies in it.
 #[derive(Drop)]

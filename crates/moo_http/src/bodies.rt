@@ -7,8 +7,7 @@ ghost use Rattle.moo_value.specs.Literal.{print};
 ghost use Rattle.moo_http.specs.Bodies.{strings, error_body, call_body, stale_body, seq_body, accepted_body};
 
 use crate::limits::read_limits;
-use moo_value::value::Value as Literal;
-use moo_value::writing::print_literal;
+use moo_value::{Value as Literal, print_literal};
 use serde_json::{Value, json};
 use std::alloc::{AllocError, Global};
 

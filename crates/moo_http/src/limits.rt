@@ -3,7 +3,7 @@
 ghost use Rattle.moo_value.specs.Text.{IsText};
 ghost use Rattle.moo_value.specs.Literal.{HoldIn, HoldInside, InRange};
 
-use moo_value::value::{ObjNo, Value, ValueList};
+use moo_value::{ObjNo, Value, ValueList};
 
 /// Reads the numbers and strings of a value, since the limits that their types keep are known only of what was read. The call does
 /// nothing else; its contract is what it is for.

@@ -8,7 +8,7 @@ ghost use Rattle.moo_http.specs.Connections.{Moves, AfterConnections, Reaches};
 
 use crate::serve::serve_one;
 use moo_request::Routes;
-use moo_store::world::World;
+use moo_store::World;
 use sqlite::Alter;
 use std::alloc::Global;
 use std::net::{TcpListener, TcpStream};

@@ -9,8 +9,7 @@ ghost use Rattle.moo_http.specs.Fields.{with_links, with_flags};
 
 use crate::bodies::{literal_text, printed};
 use moo_dump::Look;
-use moo_value::text::MooStr;
-use moo_value::value::{ObjNo, Value as Literal};
+use moo_value::{MooStr, ObjNo, Value as Literal};
 use serde_json::{Map, Value, put};
 use std::alloc::{AllocError, Global};
 

@@ -2,7 +2,7 @@
 
 use moo_dump::Look;
 use moo_request::Refusal;
-use moo_text::reply::Reply;
+use moo_text::Reply;
 
 /// What came of a request; what refuses it stands first, in the order of the answers' table.
 #[derive(Drop)]

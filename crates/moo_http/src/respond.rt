@@ -12,8 +12,8 @@ use crate::response::Response;
 use http::StatusCode;
 use moo_dump::Look;
 use moo_request::{Method, Refusal};
-use moo_text::reply::Reply;
-use moo_world::answers::Answers;
+use moo_text::Reply;
+use moo_world::Answers;
 use std::alloc::{AllocError, Global};
 
 fn name_of(method: Method) -> &'static str

@@ -16,7 +16,7 @@ use crate::respond::respond;
 use crate::response::print_response;
 use crate::write::write_out;
 use moo_request::{Asked, Received, Routes, read_request};
-use moo_store::world::World;
+use moo_store::World;
 use sqlite::Alter;
 use std::alloc::{AllocError, Global};
 use std::io::{Read, Write};

@@ -11,8 +11,7 @@ ghost use Rattle.moo_http.specs.Connections.{Reaches, ServesPort, WritesFront};
 
 use crate::listen::{Served, serve_on};
 use moo_request::Routes;
-use moo_store::output::put_all;
-use moo_store::world::World;
+use moo_store::{World, put_all};
 use sqlite::Alter;
 use std::alloc::{AllocError, Global};
 use std::io::Write;

@@ -4,18 +4,14 @@ ghost use Rattle.std.specs.Prelude.{◌≡◌, OnOk};
 ghost use Rattle.moo_world.specs.Keeps.{Keeps};
 ghost use Rattle.moo_world.specs.PropertyCalls.{clear_property, is_clear, is_clear_property};
 ghost use Rattle.moo_world.specs.Rows.{IsGood};
-ghost use Rattle.moo_rights.specs.Outcomes.{world_in, Answers, ComesTo};
+ghost use Rattle.moo_call_parts.specs.Outcomes.{world_in, Answers, ComesTo};
 
 use crate::slots::{readable_slot, writable_slot};
-use moo_props::state::clear;
-use moo_rights::answers::{ZERO, flag};
-use moo_rights::fault::Fault;
-use moo_rows::row::SlotState;
-use moo_rows::rows::Rows;
+use moo_call_parts::{Fault, ZERO, flag};
+use moo_props::clear;
+use moo_rows::{Rows, SlotState};
 use moo_tree::valid;
-use moo_value::code::Code;
-use moo_value::text::MooStr;
-use moo_value::value::{ObjNo, Value};
+use moo_value::{Code, MooStr, ObjNo, Value};
 
 /// Whether a slot has no value of its own.
 fn is_clear(state: &SlotState) -> bool

@@ -15,23 +15,15 @@ ghost use Rattle.moo_world.specs.Changes.{defined};
 ghost use Rattle.moo_world.specs.Outcomes.{Outcome, Done, Failed};
 ghost use Rattle.moo_world.specs.World.{is_object, is_property_name};
 ghost use Rattle.moo_props.specs.Names.{defines as defines_property, name_of};
-ghost use Rattle.moo_rights.specs.Outcomes.{world_in, ComesTo, Answers};
+ghost use Rattle.moo_call_parts.specs.Outcomes.{world_in, ComesTo, Answers};
 ghost use Rattle.moo_property_calls.specs.Checks.{taking_info};
 
-use moo_props::clashing::clashes;
-use moo_props::defining::define;
-use moo_props::finding::slot_of;
-use moo_rights::answers::ZERO;
-use moo_rights::fault::Fault;
-use moo_rights::infos::Info;
-use moo_rights::rights;
-use moo_rows::row::{Bits, PropId};
-use moo_rows::rows::Rows;
+use moo_call_parts::{Fault, Info, ZERO, rights};
+use moo_props::{clashes, define, slot_of};
+use moo_rows::{Bits, PropId, Rows};
 use moo_tree::valid;
-use moo_value::code::Code;
-use moo_value::text::MooStr;
-use moo_value::value::{ObjNo, Value};
-use moo_world::built_in::BuiltIn;
+use moo_value::{Code, MooStr, ObjNo, Value};
+use moo_world::BuiltIn;
 use std::alloc::Global;
 
 /// The most bytes in the name of a property.

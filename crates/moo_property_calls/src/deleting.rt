@@ -4,18 +4,14 @@ ghost use Rattle.std.specs.Prelude.{◌≡◌, OnOk};
 ghost use Rattle.moo_world.specs.Keeps.{Keeps};
 ghost use Rattle.moo_world.specs.PropertyCalls.{delete_property};
 ghost use Rattle.moo_world.specs.Rows.{IsGood};
-ghost use Rattle.moo_rights.specs.Outcomes.{world_in, ComesTo};
+ghost use Rattle.moo_call_parts.specs.Outcomes.{world_in, ComesTo};
 
 use crate::definitions::own_property;
-use moo_props::undefining::undefine;
-use moo_rights::answers::ZERO;
-use moo_rights::fault::Fault;
-use moo_rights::rights;
-use moo_rows::rows::Rows;
+use moo_call_parts::{Fault, ZERO, rights};
+use moo_props::undefine;
+use moo_rows::Rows;
 use moo_tree::valid;
-use moo_value::code::Code;
-use moo_value::text::MooStr;
-use moo_value::value::{ObjNo, Value};
+use moo_value::{Code, MooStr, ObjNo, Value};
 use std::alloc::Global;
 
 /// `delete_property(object, name)`: takes a property that the object itself defines from it and from all its descendants.

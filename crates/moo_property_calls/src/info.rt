@@ -11,23 +11,15 @@ ghost use Rattle.moo_world.specs.PropertyCalls.{may_rename, renamed_to, set_prop
 ghost use Rattle.moo_world.specs.Rights.{is_wizard};
 ghost use Rattle.moo_world.specs.Rows.{world_of, IsGood};
 ghost use Rattle.moo_props.specs.Names.{name_of, spelling_of};
-ghost use Rattle.moo_rights.specs.Outcomes.{world_in, ComesTo, Answers};
+ghost use Rattle.moo_call_parts.specs.Outcomes.{world_in, ComesTo, Answers};
 
 use crate::definitions::{bits_taken, defines, may_define};
 use crate::slots::may_write;
-use moo_props::finding::slot_of;
-use moo_props::renaming::rename;
-use moo_props::state::set_info;
-use moo_rights::answers::ZERO;
-use moo_rights::fault::Fault;
-use moo_rights::infos::Info;
-use moo_rights::rights;
-use moo_rows::row::{Bits, PropId};
-use moo_rows::rows::Rows;
+use moo_call_parts::{Fault, Info, ZERO, rights};
+use moo_props::{rename, set_info, slot_of};
+use moo_rows::{Bits, PropId, Rows};
 use moo_tree::valid;
-use moo_value::code::Code;
-use moo_value::text::MooStr;
-use moo_value::value::{ObjNo, Value};
+use moo_value::{Code, MooStr, ObjNo, Value};
 use std::alloc::{AllocError, Global};
 
 /// Whether the owner is the one that there is, or the programmer may give another one.

@@ -7,21 +7,14 @@ ghost use Rattle.moo_world.specs.Answers.{list_of};
 ghost use Rattle.moo_world.specs.PropertyCalls.{get_property, properties, property_info};
 ghost use Rattle.moo_world.specs.Rows.{IsGood};
 ghost use Rattle.moo_world.specs.World.{names_of};
-ghost use Rattle.moo_rights.specs.Outcomes.{world_in, Answers};
+ghost use Rattle.moo_call_parts.specs.Outcomes.{world_in, Answers};
 
 use crate::slots::readable_slot;
-use moo_props::value::value_of;
-use moo_rights::answers::{list_of, text_list};
-use moo_rights::fault::Fault;
-use moo_rights::rights;
-use moo_rows::row::{Bits, SlotRow};
-use moo_rows::rows::Rows;
-use moo_rows::walk::each_prop;
+use moo_call_parts::{Fault, list_of, rights, text_list};
+use moo_props::value_of;
+use moo_rows::{Bits, Rows, SlotRow, each_prop};
 use moo_tree::valid;
-use moo_value::code::Code;
-use moo_value::fault::LiteralFault;
-use moo_value::text::MooStr;
-use moo_value::value::{ObjNo, Value};
+use moo_value::{Code, LiteralFault, MooStr, ObjNo, Value};
 use std::alloc::{AllocError, Global};
 
 /// `get(object, name)` of a name that isn't built in: the value that the object reads for its property. E_PROPNF where it

@@ -5,15 +5,13 @@ ghost use Rattle.moo_world.specs.Arguments.{fits};
 ghost use Rattle.moo_world.specs.Keeps.{Keeps};
 ghost use Rattle.moo_world.specs.PropertyCalls.{set_property};
 ghost use Rattle.moo_world.specs.Rows.{IsGood};
-ghost use Rattle.moo_rights.specs.Outcomes.{world_in, ComesTo};
+ghost use Rattle.moo_call_parts.specs.Outcomes.{world_in, ComesTo};
 
 use crate::slots::writable_slot;
-use moo_props::state::set_value;
-use moo_rights::answers::ZERO;
-use moo_rights::fault::Fault;
-use moo_rows::rows::Rows;
-use moo_value::text::MooStr;
-use moo_value::value::{ObjNo, Value};
+use moo_call_parts::{Fault, ZERO};
+use moo_props::set_value;
+use moo_rows::Rows;
+use moo_value::{MooStr, ObjNo, Value};
 use std::alloc::Global;
 
 /// `set(object, name, value)` of a name that isn't built in: the object's own slot of the property has the value from now

@@ -8,15 +8,13 @@ ghost use Rattle.moo_world.specs.Rights.{may_read_slot, may_write_slot};
 ghost use Rattle.moo_world.specs.Rows.{slot_seen, IsGood};
 ghost use Rattle.moo_world.specs.World.{Slot, slot_of};
 ghost use Rattle.moo_props.specs.Names.{name_of};
-ghost use Rattle.moo_rights.specs.Outcomes.{world_in};
+ghost use Rattle.moo_call_parts.specs.Outcomes.{world_in};
 ghost use Rattle.moo_property_calls.specs.Checks.{reading_slot, writing_slot};
 
-use moo_props::finding::{Found, slot_of};
-use moo_rights::rights;
-use moo_rows::rows::Rows;
-use moo_value::code::Code;
-use moo_value::text::MooStr;
-use moo_value::value::ObjNo;
+use moo_call_parts::rights;
+use moo_props::{Found, slot_of};
+use moo_rows::Rows;
+use moo_value::{Code, MooStr, ObjNo};
 
 /// Whether the programmer may read the property by this slot of it.
 fn may_read<R: Rows>(rows: &R, programmer: ObjNo, found: Found<'_>) -> bool

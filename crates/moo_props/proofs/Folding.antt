@@ -16,7 +16,7 @@ use Rattle.moo_rows.specs.Exact.{prop_exact, slot_exact}
 use Rattle.moo_rows.proofs.Orders.{prop_total, slot_total}
 use Rattle.moo_world.specs.Objects.{same_object, same_object-Decides}
 use Rattle.moo_world.proofs.MapLaws.{key-Decides, decided_alike}
-use Rattle.moo_props.specs.declared.reparent.Origin.{Origin}
+use Rattle.moo_props.specs.declared.reparenting.Origin.{Origin}
 use Rattle.moo_props.specs.Reparent.{origin_of, origins, fresh_row, slot_removed, slot_put, without_on, with_fresh, slots_moved}
 use Rattle.moo_props.specs.Touched.{fresh_from}
 

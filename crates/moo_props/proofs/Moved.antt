@@ -21,7 +21,7 @@ use Rattle.moo_world.specs.Laws.{MayReparent}
 use Rattle.moo_world.specs.Manual.{ancestors, lost, gained}
 use Rattle.moo_world.proofs.Seen.{chain_of_row, chain_of_no_row, object_seen}
 use Rattle.moo_world.proofs.MapLaws.{object_key}
-use Rattle.moo_props.specs.declared.reparent.Origin.{Origin}
+use Rattle.moo_props.specs.declared.reparenting.Origin.{Origin}
 use Rattle.moo_props.specs.Reparent.{owners_under, props_only_of, id_of, origin_of, origins, fresh_row, slot_removed, slot_put, without_on, with_fresh, slots_moved, keys_on, keys_over, relinked, relinked_list}
 use Rattle.moo_props.specs.Touched.{props_of, is_defined_among, fresh_from, slot_after, row_after, IsSameButSlotsAndObjects}
 use Rattle.moo_world.proofs.Listed.{listed, own_entries, all_made}

@@ -14,7 +14,7 @@ use Rattle.moo_world.specs.Objects.{Name, same_object, is_among, same_object-Dec
 use Rattle.moo_world.specs.World.{IsTree, is_object, chain, owner_of}
 use Rattle.moo_world.specs.Rows.{LookUps, look_ups, world_of, prop_id}
 use Rattle.moo_world.proofs.Seen.{is_object_seen, chain_of_row}
-use Rattle.moo_props.specs.declared.reparent.Origin.{Origin}
+use Rattle.moo_props.specs.declared.reparenting.Origin.{Origin}
 use Rattle.moo_props.specs.Defining.{fresh_over, with_definition}
 use Rattle.moo_props.specs.Reparent.{owners_under, fresh_row, slot_put}
 use Rattle.moo_props.proofs.Folding.{is_id, key_parts}

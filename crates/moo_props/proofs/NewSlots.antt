@@ -15,7 +15,7 @@ use Rattle.moo_rows.proofs.Orders.{object_total}
 use Rattle.moo_world.specs.Objects.{same_object, same_object-Decides}
 use Rattle.moo_world.specs.Rows.{LookUps, IsSound, look_ups, prop_id}
 use Rattle.moo_world.proofs.MapLaws.{object_key}
-use Rattle.moo_props.specs.declared.reparent.Origin.{Origin}
+use Rattle.moo_props.specs.declared.reparenting.Origin.{Origin}
 use Rattle.moo_props.specs.Birth.{new_row, objects_with, origins_among}
 use Rattle.moo_props.specs.Reparent.{origin_of, origins, fresh_row, slot_put, with_fresh}
 use Rattle.moo_props.specs.Touched.{fresh_from}

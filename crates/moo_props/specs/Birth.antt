@@ -7,7 +7,7 @@ use Rattle.moo_rows.specs.declared.row.PropId.{PropId}
 use Rattle.moo_rows.specs.declared.row.SlotRow.{SlotRow}
 use Rattle.moo_rows.specs.Maps.{Held, wrote}
 use Rattle.moo_rows.specs.PlainRow.{plain_row}
-use Rattle.moo_props.specs.declared.reparent.Origin.{Origin}
+use Rattle.moo_props.specs.declared.reparenting.Origin.{Origin}
 use Rattle.moo_props.specs.Reparent.{origin_of}
 
 -- what these slots are the origins of

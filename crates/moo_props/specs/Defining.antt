@@ -5,7 +5,7 @@ use Rattle.moo_value.specs.declared.value.ObjNo.{ObjNo}
 use Rattle.moo_rows.specs.Maps.{Held, wrote}
 use Rattle.moo_world.specs.Objects.{Name}
 use Rattle.moo_world.specs.Rows.{prop_id}
-use Rattle.moo_props.specs.declared.reparent.Origin.{Origin}
+use Rattle.moo_props.specs.declared.reparenting.Origin.{Origin}
 use Rattle.moo_props.specs.Reparent.{fresh_row, slot_put}
 
 -- what is held once each of these objects, with its owner, has a fresh slot

@@ -13,7 +13,7 @@ use Rattle.moo_rows.specs.Maps.{Maps, Held, wrote, slot_cmp}
 use Rattle.moo_world.specs.Objects.{same_object, is_among}
 use Rattle.moo_world.specs.World.{World, chain}
 use Rattle.moo_world.specs.Rows.{world_of}
-use Rattle.moo_props.specs.declared.reparent.Origin.{Origin}
+use Rattle.moo_props.specs.declared.reparenting.Origin.{Origin}
 
 -- ---- who is concerned
 

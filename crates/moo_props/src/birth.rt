@@ -11,11 +11,9 @@ ghost use Rattle.moo_props.specs.Birth.{objects_with, origins_among};
 ghost use Rattle.moo_world.specs.Keeps.{Keeps};
 ghost use Rattle.moo_props.specs.Reparent.{with_fresh};
 
-use crate::reparent::Origin;
-use moo_rows::row::{ObjRow, PropId};
-use moo_rows::rows::Rows;
-use moo_rows::walk::each_slot_of;
-use moo_value::value::ObjNo;
+use crate::reparenting::Origin;
+use moo_rows::{ObjRow, PropId, Rows, each_slot_of};
+use moo_value::ObjNo;
 use std::alloc::{AllocError, Global};
 
 /// The properties that q has, with the owners and the bits of its slots.

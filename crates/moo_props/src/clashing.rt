@@ -8,12 +8,9 @@ ghost use Rattle.moo_world.specs.World.{is_object};
 ghost use Rattle.moo_props.specs.Clashes.{clashes_with, meets_with};
 
 use crate::finding::{find, is_named};
-use moo_rows::row::PropRow;
-use moo_rows::rows::Rows;
-use moo_rows::walk::each_prop;
+use moo_rows::{PropRow, Rows, each_prop};
 use moo_tree::is_under;
-use moo_value::text::MooStr;
-use moo_value::value::ObjNo;
+use moo_value::{MooStr, ObjNo};
 
 /// Whether a property has the name, and is defined by x, an ancestor or a descendant of x.
 fn clashes_with<R: Rows>(rows: &R, x: ObjNo, name: &MooStr, row: &PropRow) -> bool

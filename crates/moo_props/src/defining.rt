@@ -9,11 +9,9 @@ ghost use Rattle.moo_world.specs.World.{is_object, is_property_name};
 ghost use Rattle.moo_props.specs.Defining.{fresh_over, with_definition};
 ghost use Rattle.moo_world.specs.Keeps.{Keeps};
 
-use crate::reparent::{Origin, owners_under};
-use moo_rows::row::{Bits, PropId, PropRow, SlotRow, SlotState};
-use moo_rows::rows::Rows;
-use moo_value::text::MooStr;
-use moo_value::value::{ObjNo, Value};
+use crate::reparenting::{Origin, owners_under};
+use moo_rows::{Bits, PropId, PropRow, Rows, SlotRow, SlotState};
+use moo_value::{MooStr, ObjNo, Value};
 use std::alloc::{AllocError, Global};
 
 /// Puts a fresh slot of a property on each of these objects.

@@ -15,12 +15,9 @@ ghost use Rattle.moo_world.specs.Keeps.{Keeps};
 ghost use Rattle.moo_props.specs.Present.{ArePresent, AreAbsent, AreAscending};
 ghost use Rattle.moo_props.specs.Touched.{props_of};
 
-use crate::reparent::{SlotKeys, owners_under, props_only_of, remove_on};
-use moo_rows::ordered::Row;
-use moo_rows::row::{ObjList, ObjRow, PropId, VerbId};
-use moo_rows::rows::Rows;
-use moo_rows::walk::{each_object, each_slot_of, each_verb};
-use moo_value::value::ObjNo;
+use crate::reparenting::{SlotKeys, owners_under, props_only_of, remove_on};
+use moo_rows::{ObjList, ObjRow, PropId, Row, Rows, VerbId, each_object, each_slot_of, each_verb};
+use moo_value::ObjNo;
 use std::alloc::{AllocError, Global};
 use std::marker::Model;
 

@@ -7,11 +7,8 @@ ghost use Rattle.moo_world.specs.World.{slot_of};
 ghost use Rattle.moo_world.specs.Rows.{world_of, slot_seen, IsSound};
 ghost use Rattle.moo_props.specs.Names.{name_of, is_called};
 
-use moo_rows::row::{PropId, PropRow, SlotRow};
-use moo_rows::rows::Rows;
-use moo_rows::walk::each_slot_of;
-use moo_value::text::MooStr;
-use moo_value::value::ObjNo;
+use moo_rows::{PropId, PropRow, Rows, SlotRow, each_slot_of};
+use moo_value::{MooStr, ObjNo};
 
 /// A slot on an object, with its property's number and definer.
 #[derive(Clone, Copy)]

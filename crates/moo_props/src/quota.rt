@@ -13,9 +13,8 @@ ghost use Rattle.moo_props.specs.Quotas.{HasRoom};
 use crate::finding::find_named;
 use crate::state::put_state;
 use crate::value::value_of;
-use moo_rows::row::{PropId, SlotState};
-use moo_rows::rows::Rows;
-use moo_value::value::{ObjNo, Value};
+use moo_rows::{PropId, Rows, SlotState};
+use moo_value::{ObjNo, Value};
 use std::alloc::AllocError;
 
 /// The integer that o reads as its quota, with its property.

@@ -8,10 +8,8 @@ ghost use Rattle.moo_world.specs.Keeps.{Keeps};
 ghost use Rattle.moo_props.specs.Names.{defines, spelling_of};
 ghost use Rattle.moo_props.specs.Renaming.{with_name};
 
-use moo_rows::row::{PropId, PropRow};
-use moo_rows::rows::Rows;
-use moo_value::text::MooStr;
-use moo_value::value::ObjNo;
+use moo_rows::{PropId, PropRow, Rows};
+use moo_value::{MooStr, ObjNo};
 use std::alloc::AllocError;
 
 /// Gives a property that x defines another name, which no property that x, an ancestor or a descendant defines may have

@@ -10,10 +10,8 @@ ghost use Rattle.moo_world.specs.Keeps.{Keeps};
 ghost use Rattle.moo_world.specs.Numbers.{IsSameButSlots};
 ghost use Rattle.moo_props.specs.Names.{defines, spelling_of};
 
-use moo_rows::ordered::Row;
-use moo_rows::row::{Bits, PropId, SlotRow, SlotState};
-use moo_rows::rows::Rows;
-use moo_value::value::{ObjNo, Value};
+use moo_rows::{Bits, PropId, Row, Rows, SlotRow, SlotState};
+use moo_value::{ObjNo, Value};
 use std::alloc::{AllocError, Global};
 
 /// Puts another state on x's slot of a property.

@@ -8,10 +8,9 @@ ghost use Rattle.moo_world.specs.Keeps.{Keeps};
 ghost use Rattle.moo_props.specs.Names.{defines, spelling_of};
 ghost use Rattle.moo_props.specs.Undefining.{less_over};
 
-use crate::reparent::owners_under;
-use moo_rows::row::PropId;
-use moo_rows::rows::Rows;
-use moo_value::value::ObjNo;
+use crate::reparenting::owners_under;
+use moo_rows::{PropId, Rows};
+use moo_value::ObjNo;
 use std::alloc::{AllocError, Global};
 
 /// Removes the slots of a property on these objects.

@@ -6,9 +6,8 @@ ghost use Rattle.moo_world.specs.World.{read_of};
 ghost use Rattle.moo_world.specs.Rows.{world_of, IsGood};
 ghost use Rattle.moo_props.specs.Names.{name_of};
 
-use moo_rows::row::{PropId, SlotState};
-use moo_rows::rows::Rows;
-use moo_value::value::{ObjNo, Value};
+use moo_rows::{PropId, Rows, SlotState};
+use moo_value::{ObjNo, Value};
 
 /// The value that x reads for a property that it has: its own, or where that is clear its parent's.
 pub fn value_of<R: Rows>(rows: &R, x: ObjNo, id: PropId) -> &Value

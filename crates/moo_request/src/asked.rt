@@ -1,7 +1,7 @@
 //! What a request asks.
 
-use moo_value::value::ObjNo;
-use moo_world::call::Batch;
+use moo_value::ObjNo;
+use moo_world::Batch;
 
 /// The method that a route has.
 #[derive(Clone, Copy, Debug, PartialEq, Eq, Drop)]

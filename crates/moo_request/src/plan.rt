@@ -11,7 +11,7 @@ use crate::lines::stated_length;
 use crate::numbers::{bounded, number_in};
 use crate::routes::{Endpoint, Routes};
 use httparse::spans::HeaderSpan;
-use moo_value::value::ObjNo;
+use moo_value::ObjNo;
 use std::str;
 
 const MAX_BODY: u64 = 1_048_576;

@@ -8,8 +8,8 @@ ghost use Rattle.serde_json.specs.View.{view, items_view};
 ghost use Rattle.moo_request.specs.Shape.{texts_of, at_of, are_within, shape_of};
 ghost use Rattle.moo_request.specs.Shown.{shape_shown};
 
-use moo_text::header::object_of;
-use moo_value::value::ObjNo;
+use moo_text::object_of;
+use moo_value::ObjNo;
 use serde_json::Value;
 use std::alloc::{AllocError, Global};
 

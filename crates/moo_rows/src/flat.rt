@@ -10,7 +10,7 @@ use crate::ordered::{self, Key, Row};
 use crate::row::{Head, ObjRow, PropId, PropRow, SlotRow, VerbId, VerbRow};
 use crate::rows::Rows;
 use crate::writes::Writes;
-use moo_value::value::ObjNo;
+use moo_value::ObjNo;
 use std::alloc::{AllocError, Global};
 use std::collections::BTreeMap;
 use std::marker::Model;

@@ -5,8 +5,7 @@ ghost use Rattle.moo_value.specs.Text.{IsText};
 ghost use Rattle.moo_rows.specs.Equal.{list_eq, list_laws};
 ghost use Rattle.moo_rows.specs.PlainRow.{plain_row};
 
-use moo_value::text::MooStr;
-use moo_value::value::{ObjNo, Value};
+use moo_value::{MooStr, ObjNo, Value};
 use std::alloc::{AllocError, Global};
 use std::marker::Model;
 

@@ -6,7 +6,7 @@ ghost use Rattle.moo_rows.specs.Ordered.{IsNext};
 ghost use Rattle.moo_rows.specs.Maps.{Held, with_object, without_object, with_prop, without_prop, with_slot, without_slot, with_verb, without_verb};
 
 use crate::row::{Head, ObjRow, PropId, PropRow, SlotRow, VerbId, VerbRow};
-use moo_value::value::ObjNo;
+use moo_value::ObjNo;
 use std::alloc::AllocError;
 
 /// A head and four maps of rows: objects, properties, slots and verbs.

@@ -7,7 +7,7 @@ ghost use Rattle.moo_rows.specs.Walk.{objects_left, props_left, slots_left, verb
 
 use crate::row::{ObjList, ObjRow, PropId, PropRow, SlotRow, VerbId, VerbRow};
 use crate::rows::Rows;
-use moo_value::value::ObjNo;
+use moo_value::ObjNo;
 use std::alloc::{AllocError, Global};
 
 /// The rows of one map with their keys, in the order of the keys.

@@ -9,11 +9,8 @@ ghost use Rattle.moo_store.specs.Turns.{Turn, Completes, Halts};
 use crate::fault::StoreFault;
 use crate::output::put_answer;
 use crate::tally::Tally;
-use moo_text::fault::TextFault;
-use moo_text::feed::Feed;
-use moo_text::next::Next;
-use moo_text::reply::{Answer, Reply};
-use moo_world::call::Batch;
+use moo_text::{Answer, Feed, Next, Reply, TextFault};
+use moo_world::Batch;
 use std::alloc::Global;
 use std::io::{Read, Write};
 

@@ -18,11 +18,10 @@ ghost use Rattle.moo_store.specs.World.{store_of, StandsFor};
 use crate::fault::StoreFault;
 use crate::printing::print_changes;
 use crate::world::World;
-use moo_batch::draft::Draft;
-use moo_rows::flat::Flat;
-use moo_rows::opening::put_opening;
+use moo_batch::Draft;
+use moo_rows::{Flat, put_opening};
 use moo_tables::{CellChanges, create_in as create_tables};
-use moo_world::opening::good_opening;
+use moo_world::good_opening;
 use sqlite::{Alter, Connection, Error, ErrorCode};
 use std::alloc::{AllocError, Global};
 

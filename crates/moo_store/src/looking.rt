@@ -7,7 +7,7 @@ ghost use Rattle.moo_store.specs.World.{StandsFor};
 use crate::fault::StoreFault;
 use crate::world::World;
 use moo_dump::{Look, look};
-use moo_value::value::ObjNo;
+use moo_value::ObjNo;
 use sqlite::Alter;
 
 impl<S: Alter + Drop> World<S> {

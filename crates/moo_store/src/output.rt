@@ -4,8 +4,7 @@ ghost use Rattle.std.specs.Prelude.{◌≡◌, ◌≢◌, ◌⊎◌, ℕ, take, 
 ghost use Rattle.std.specs.Io.KnownBytes.{Appends};
 ghost use Rattle.moo_text.specs.Replies.{answer_text};
 
-use moo_text::fault::TextFault;
-use moo_text::reply::{Answer, print_answer};
+use moo_text::{Answer, TextFault, print_answer};
 use std::alloc::Global;
 use std::io::Write;
 

@@ -5,13 +5,11 @@ ghost use Rattle.moo_value.specs.Literal.{Spells};
 ghost use Rattle.moo_cells.specs.Shows.{object_list, ShowsAccept, ShowsState, ShowsOrNone};
 ghost use Rattle.moo_store.specs.Printed.{PrintEach, Prints};
 
-use moo_batch::changes::{ChangeList, Changes};
-use moo_rows::row::{ObjList, ObjRow, PropId, PropRow, SlotRow, SlotState, VerbId, VerbRow};
+use moo_batch::{ChangeList, Changes};
+use moo_rows::{ObjList, ObjRow, PropId, PropRow, SlotRow, SlotState, VerbId, VerbRow};
 use moo_tables::{CellChanges, ObjectCells, PropCells, SlotCells, VerbCells};
-use moo_value::text::MooStr;
-use moo_value::value::{ObjNo, Value, ValueList};
-use moo_value::writing::print_literal;
-use moo_verbs::prep::{print_place, print_prep};
+use moo_value::{MooStr, ObjNo, Value, ValueList, print_literal};
+use moo_verbs::{print_place, print_prep};
 use std::alloc::{AllocError, Global};
 
 /// A row that is printed as cells.

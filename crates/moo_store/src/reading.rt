@@ -13,7 +13,7 @@ ghost use Rattle.moo_store.specs.Opening.{Says, IsOfStore};
 
 use crate::fault::StoreFault;
 use moo_cells::{CellFault, read_cells};
-use moo_rows::flat::Flat;
+use moo_rows::Flat;
 use moo_tables::{CellLists, are_listed, is_ours, read_tables};
 use sqlite::{Alter, Connection, Error, ErrorCode};
 use std::alloc::Global;

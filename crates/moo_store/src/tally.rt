@@ -3,7 +3,7 @@
 ghost use Rattle.std.specs.Prelude.{◌≡◌, ◌<◌, ◌+◌, ◌^◌, cond};
 ghost use Rattle.moo_store.specs.Turns.{is_batch, is_lost};
 
-use moo_text::reply::Answer;
+use moo_text::Answer;
 
 /// How many batches of a text were read whole, and how many of these were answered `fault` or `closed`.
 #[derive(Clone, Copy, Debug)]

@@ -3,14 +3,11 @@
 use crate::committing::commit_cells;
 use crate::fault::StoreFault;
 use crate::printing::print_changes;
-use moo_batch::changes::{Changes, apply_changes};
-use moo_batch::judge::{Verdict, judge};
-use moo_rows::flat::Flat;
-use moo_rows::rows::Rows;
+use moo_batch::{Changes, Verdict, apply_changes, judge};
+use moo_rows::{Flat, Rows};
 use moo_tables::CellChanges;
-use moo_text::reply::Reply;
-use moo_world::answers::Answers;
-use moo_world::call::Batch;
+use moo_text::Reply;
+use moo_world::{Answers, Batch};
 use sqlite::{Alter, Connection};
 use std::alloc::Global;
 use std::marker::Model;

@@ -10,8 +10,7 @@ ghost use Rattle.moo_text.specs.declared.fault.CallFault.TheVariants.{Malformed}
 use crate::fault::CallFault;
 use crate::line::{is_all_blank, is_short, skip_blanks, split_word};
 use crate::literal::read_front;
-use moo_world::call::{Args, Call};
-use moo_world::name::CallName;
+use moo_world::{Args, Call, CallName};
 use std::alloc::{AllocError, Global};
 
 /// What follows the mark, where the bytes begin with it behind blanks.

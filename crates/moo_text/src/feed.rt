@@ -12,7 +12,7 @@ use crate::line::{is_blank_line, is_end_line};
 pub use crate::lines::LONGEST_TEXT;
 use crate::lines::LineReader;
 use crate::next::Next;
-use moo_world::call::{Batch, Calls, MOST_CALLS};
+use moo_world::{Batch, Calls, MOST_CALLS};
 use std::alloc::Global;
 use std::io::Read;
 

@@ -8,7 +8,7 @@ ghost use Rattle.moo_text.specs.LineReading.{behind_word, begins_with as front_i
 
 use crate::line::{is_short, next_word};
 use crate::literal::read_front;
-use moo_value::value::{ObjNo, Value};
+use moo_value::{ObjNo, Value};
 use std::alloc::{AllocError, Global};
 
 /// Who runs a batch, and after how many accepted batches, where it says so.

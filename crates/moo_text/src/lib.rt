@@ -2,17 +2,24 @@
 #![tactic(auto)]
 
 mod ahead;
-pub mod call_text;
-pub mod fault;
-pub mod feed;
+mod call_text;
+mod fault;
+mod feed;
 #[cfg(test)]
 mod feed_tests;
-pub mod header;
+mod header;
 mod line;
 mod lines;
 mod literal;
-pub mod next;
-pub mod reply;
+mod next;
+mod reply;
 pub mod text_laws;
 #[cfg(test)]
 mod text_tests;
+
+pub use call_text::{call_in, read_call};
+pub use fault::{CallFault, TextFault};
+pub use feed::Feed;
+pub use header::{Header, object_of, read_header};
+pub use next::Next;
+pub use reply::{Answer, Reply, print_answer, print_reply};

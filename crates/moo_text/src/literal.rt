@@ -5,9 +5,7 @@ ghost use Rattle.std.specs.Option.{option_map};
 ghost use Rattle.moo_world.specs.Arguments.{fits};
 ghost use Rattle.moo_text.specs.LineReading.{front_of};
 
-use moo_value::fault::LiteralFault;
-use moo_value::reading::read_literal;
-use moo_value::value::Value;
+use moo_value::{LiteralFault, Value, read_literal};
 use std::alloc::{AllocError, Global};
 
 /// The value whose literal stands in front, and what follows; none where no literal stands there.

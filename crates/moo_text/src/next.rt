@@ -1,6 +1,6 @@
 //! What a text of batches consists of.
 
-use moo_world::call::Batch;
+use moo_world::Batch;
 
 /// What comes next in a text of batches.
 #[derive(Drop)]

@@ -6,10 +6,8 @@ ghost use Rattle.std.specs.List.{flat_map};
 ghost use Rattle.std.specs.Io.{StartsWith};
 ghost use Rattle.moo_text.specs.Replies.{answer_line, accepted_text, refused_text, reply_text, answer_text};
 
-use moo_value::code::Code;
-use moo_value::value::Value;
-use moo_value::writing::print_literal;
-use moo_world::answers::Answers;
+use moo_value::{Code, Value, print_literal};
+use moo_world::Answers;
 use std::alloc::{AllocError, Global};
 
 /// What a batch is answered.

@@ -4,10 +4,8 @@ use crate::feed::Feed;
 use crate::header::object_of;
 use crate::next::Next;
 use crate::reply::{Answer, Reply, print_answer, print_reply};
-use moo_value::code::Code;
-use moo_value::reading::read_literal;
-use moo_value::value::ObjNo;
-use moo_world::answers::Answers;
+use moo_value::{Code, ObjNo, read_literal};
+use moo_world::Answers;
 use std::io::Read;
 use std::test::*;
 

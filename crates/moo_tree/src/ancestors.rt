@@ -7,8 +7,8 @@ ghost use Rattle.moo_world.specs.Rows.{world_of};
 ghost use Rattle.moo_world.specs.World.{IsTree, chain};
 
 use crate::numbers::nothing;
-use moo_rows::rows::Rows;
-use moo_value::value::ObjNo;
+use moo_rows::Rows;
+use moo_value::ObjNo;
 use std::alloc::{AllocError, Global};
 
 /// The object and its ancestors, the root last; nothing where it is no object. An `Err` is want of memory.

@@ -5,9 +5,8 @@ ghost use Rattle.moo_world.specs.Objects.{is_among};
 ghost use Rattle.moo_world.specs.Rows.{world_of};
 ghost use Rattle.moo_world.specs.World.{IsTree, chain};
 
-use moo_rows::ordered;
-use moo_rows::rows::Rows;
-use moo_value::value::ObjNo;
+use moo_rows::{Rows, ordered};
+use moo_value::ObjNo;
 use std::alloc::{AllocError, Global};
 use std::collections::BTreeMap;
 use std::marker::Model;

@@ -6,9 +6,8 @@ ghost use Rattle.moo_world.specs.Rows.{world_of};
 ghost use Rattle.moo_world.specs.World.{IsTree};
 
 use crate::known::Known;
-use moo_rows::rows::Rows;
-use moo_rows::walk::each_object;
-use moo_value::value::ObjNo;
+use moo_rows::{Rows, each_object};
+use moo_value::ObjNo;
 use std::alloc::{AllocError, Global};
 
 /// x and its descendants, ascending; nothing where x is no object. An `Err` is want of memory.

@@ -5,8 +5,8 @@ ghost use Rattle.moo_world.specs.Objects.{nothing, same_object};
 ghost use Rattle.moo_world.specs.Rows.{world_of};
 ghost use Rattle.moo_world.specs.World.{is_object};
 
-use moo_rows::rows::Rows;
-use moo_value::value::ObjNo;
+use moo_rows::Rows;
+use moo_value::ObjNo;
 
 /// The number that stands for no object.
 pub fn nothing() -> ObjNo

@@ -5,8 +5,8 @@ ghost use Rattle.moo_world.specs.Rights.{is_within};
 ghost use Rattle.moo_world.specs.Rows.{world_of};
 ghost use Rattle.moo_world.specs.World.{IsTree};
 
-use moo_rows::rows::Rows;
-use moo_value::value::ObjNo;
+use moo_rows::Rows;
+use moo_value::ObjNo;
 
 /// Whether x is an object that is y or lies in y, at any depth. LambdaMOO Programmer's Manual, 'Object Movement': `move`.
 pub fn inside<R: Rows>(rows: &R, x: ObjNo, y: ObjNo) -> bool

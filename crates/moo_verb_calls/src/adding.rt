@@ -11,21 +11,14 @@ ghost use Rattle.moo_world.specs.Outcomes.{Outcome, Done, Failed};
 ghost use Rattle.moo_world.specs.VerbReading.{args_of};
 ghost use Rattle.moo_world.specs.VerbCalls.{add_verb};
 ghost use Rattle.moo_world.specs.Keeps.{Keeps};
-ghost use Rattle.moo_rights.specs.Outcomes.{world_in, ComesTo, Answers};
+ghost use Rattle.moo_call_parts.specs.Outcomes.{world_in, ComesTo, Answers};
 ghost use Rattle.moo_verb_calls.specs.Checks.{taking_info};
 
-use moo_rights::answers::ZERO;
-use moo_rights::fault::Fault;
-use moo_rights::rights;
-use moo_rights::verb_args::{ArgTexts, VerbInfo};
-use moo_rows::row::{ArgSpec, VerbBits, VerbRow};
-use moo_rows::rows::Rows;
+use moo_call_parts::{ArgTexts, Fault, VerbInfo, ZERO, rights};
+use moo_rows::{ArgSpec, Rows, VerbBits, VerbRow};
 use moo_tree::valid;
-use moo_value::code::Code;
-use moo_value::text::MooStr;
-use moo_value::value::{ObjNo, Value};
-use moo_verbs::directory;
-use moo_verbs::reading::{check_names, read_args};
+use moo_value::{Code, MooStr, ObjNo, Value};
+use moo_verbs::{check_names, read_args};
 use std::alloc::Global;
 
 /// Whether the names have a word.
@@ -122,6 +115,6 @@ pub fn add_verb<R: Rows>(
         bits,
         args,
     };
-    directory::add(rows, x, row)?;
+    moo_verbs::add(rows, x, row)?;
     Ok(ZERO)
 }

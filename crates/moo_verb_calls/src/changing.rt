@@ -7,21 +7,16 @@ ghost use Rattle.moo_world.specs.Descriptors.{found_verb};
 ghost use Rattle.moo_world.specs.Rows.{IsGood};
 ghost use Rattle.moo_world.specs.VerbCalls.{delete_verb, set_verb_info, set_verb_args};
 ghost use Rattle.moo_world.specs.Keeps.{Keeps};
-ghost use Rattle.moo_rights.specs.Outcomes.{world_in, ComesTo};
+ghost use Rattle.moo_call_parts.specs.Outcomes.{world_in, ComesTo};
 ghost use Rattle.moo_verbs.specs.Places.{verb_place};
 
 use crate::adding::{args_of, bits_taken};
-use moo_rights::answers::ZERO;
-use moo_rights::fault::Fault;
-use moo_rights::rights;
-use moo_rights::verb_args::{ArgTexts, VerbInfo};
-use moo_rows::rows::Rows;
+use moo_call_parts::{ArgTexts, Fault, VerbInfo, ZERO, rights};
+use moo_rows::Rows;
 use moo_tree::valid;
-use moo_value::code::Code;
-use moo_value::value::{ObjNo, Value};
-use moo_verbs::directory;
-use moo_verbs::find::found_verb;
-use moo_world::descriptor::Desc;
+use moo_value::{Code, ObjNo, Value};
+use moo_verbs::found_verb;
+use moo_world::Desc;
 use std::alloc::Global;
 
 /// `delete_verb(x, desc)`: takes a verb out of the directory of an object and answers 0. The others keep their numbers, also where
@@ -51,7 +46,7 @@ pub fn delete_verb<R: Rows>(
         return Err(Fault::Moo(Code::VerbNotFound));
     };
     let id = verb.id;
-    directory::delete(rows, x, id)?;
+    moo_verbs::delete(rows, x, id)?;
     Ok(ZERO)
 }
 
@@ -89,7 +84,7 @@ pub fn set_verb_info<R: Rows>(
     }
     let names = verb.names.copy(alloc)?;
     let id = found.id;
-    directory::set_info(rows, x, id, verb.info.owner, bits, names)?;
+    moo_verbs::set_info(rows, x, id, verb.info.owner, bits, names)?;
     Ok(ZERO)
 }
 
@@ -124,6 +119,6 @@ pub fn set_verb_args<R: Rows>(
         return Err(Fault::Moo(Code::Permission));
     }
     let id = verb.id;
-    directory::set_args(alloc, rows, x, id, args)?;
+    moo_verbs::set_args(alloc, rows, x, id, args)?;
     Ok(ZERO)
 }

@@ -10,24 +10,15 @@ ghost use Rattle.moo_world.specs.Answers.{list_of};
 ghost use Rattle.moo_world.specs.Outcomes.{Outcome, Failed};
 ghost use Rattle.moo_world.specs.Prepositions.{prep_text, place_text};
 ghost use Rattle.moo_world.specs.VerbCalls.{verbs, verb_info, verb_args};
-ghost use Rattle.moo_rights.specs.Outcomes.{world_in, Answers};
+ghost use Rattle.moo_call_parts.specs.Outcomes.{world_in, Answers};
 ghost use Rattle.moo_verb_calls.specs.Checks.{reading_verb};
 
-use moo_rights::answers::{list_of, text_list};
-use moo_rights::fault::Fault;
-use moo_rights::rights;
-use moo_rows::row::{ArgSpec, VerbRow};
-use moo_rows::rows::Rows;
+use moo_call_parts::{Fault, list_of, rights, text_list};
+use moo_rows::{ArgSpec, Rows, VerbRow};
 use moo_tree::valid;
-use moo_value::code::Code;
-use moo_value::fault::LiteralFault;
-use moo_value::text::MooStr;
-use moo_value::value::{ObjNo, Value};
-use moo_verbs::directory;
-use moo_verbs::find::found_verb;
-use moo_verbs::prep::{print_place, print_prep};
-use moo_verbs::reading::bits_letters;
-use moo_world::descriptor::Desc;
+use moo_value::{Code, LiteralFault, MooStr, ObjNo, Value};
+use moo_verbs::{bits_letters, found_verb, print_place, print_prep};
+use moo_world::Desc;
 use std::alloc::{AllocError, Global};
 
 /// `verbs(x)`: answers the names of the verbs of an object, each string whole as given, in the order of the directory.
@@ -43,7 +34,7 @@ pub fn verbs<R: Rows>(rows: &R, alloc: Global, programmer: ObjNo, x: ObjNo) -> R
     if !rights::may_read_object(rows, programmer, x) {
         return Err(Fault::Moo(Code::Permission));
     }
-    let names = directory::list(alloc, rows, x)?;
+    let names = moo_verbs::list(alloc, rows, x)?;
     let answer = text_list(alloc, names)?;
     Ok(answer)
 }

@@ -9,7 +9,7 @@ ghost use Rattle.moo_world.specs.Prepositions.{set_text, prep_text, place_text};
 
 use crate::prep::{print_place, set_text};
 use crate::reading::ALL_SETS;
-use moo_rows::row::{Place, Preposition, PrepositionSet};
+use moo_rows::{Place, Preposition, PrepositionSet};
 
 /// The place that the bytes spell in lower case: `this`, `any` or `none`; none for anything else. Takes no memory.
 pub fn read_place_cell(bytes: &[u8]) -> Option<Place>

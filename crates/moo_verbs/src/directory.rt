@@ -8,12 +8,8 @@ ghost use Rattle.moo_world.specs.Directories.{verb_added, verb_removed, verb_inf
 ghost use Rattle.moo_verbs.specs.Places.{has_verb, verb_place};
 ghost use Rattle.moo_world.specs.Keeps.{Keeps};
 
-use moo_rows::ordered::Row;
-use moo_rows::row::{ArgSpec, VerbBits, VerbId, VerbRow};
-use moo_rows::rows::Rows;
-use moo_rows::walk::each_verb_of;
-use moo_value::text::MooStr;
-use moo_value::value::ObjNo;
+use moo_rows::{ArgSpec, Row, Rows, VerbBits, VerbId, VerbRow, each_verb_of};
+use moo_value::{MooStr, ObjNo};
 use std::alloc::{AllocError, Global};
 
 /// The names strings of the verbs of x, whole as given, in the order of the directory. The only error is want of memory.

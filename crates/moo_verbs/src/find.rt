@@ -10,12 +10,9 @@ ghost use Rattle.moo_world.specs.Directories.{verb_at};
 ghost use Rattle.moo_verbs.specs.Places.{has_verb, verb_place};
 
 use crate::matching::one_matches;
-use moo_rows::row::{VerbId, VerbRow};
-use moo_rows::rows::Rows;
-use moo_rows::walk::each_verb_of;
-use moo_value::text::MooStr;
-use moo_value::value::ObjNo;
-use moo_world::descriptor::Desc;
+use moo_rows::{Rows, VerbId, VerbRow, each_verb_of};
+use moo_value::{MooStr, ObjNo};
+use moo_world::Desc;
 
 /// The place of a number from 1 on.
 fn place_numbered(number: &i32) -> Option<usize>

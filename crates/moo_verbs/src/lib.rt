@@ -1,11 +1,19 @@
 //! Verb directories: names, arguments and rights of verbs, and the verbs of an object.
 #![tactic(auto)]
 
-pub mod cells;
-pub mod directory;
-pub mod fault;
-pub mod find;
+mod cells;
+mod directory;
+mod fault;
+mod find;
 pub mod laws;
-pub mod matching;
-pub mod prep;
-pub mod reading;
+mod matching;
+mod prep;
+mod reading;
+
+pub use cells::{read_place_cell, read_prep_cell};
+pub use directory::{add, delete, list, set_args, set_info};
+pub use fault::VerbFault;
+pub use find::{find_verb, found_verb, verb};
+pub use matching::{matches, one_matches};
+pub use prep::{print_place, print_prep};
+pub use reading::{bits_letters, check_names, read_args, read_bits, read_prep};

@@ -5,7 +5,7 @@ ghost use Rattle.moo_value.specs.Text.{IsText};
 ghost use Rattle.moo_world.specs.Prepositions.{set_text, prep_text, place_text};
 ghost use Rattle.moo_world.specs.VerbReading.{prep_of, place_of};
 
-use moo_rows::row::{Place, Preposition, PrepositionSet};
+use moo_rows::{Place, Preposition, PrepositionSet};
 
 /// The phrases of a set, with slashes between them.
 pub(crate) fn set_text(set: PrepositionSet) -> &'static str

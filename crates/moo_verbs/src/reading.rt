@@ -10,8 +10,8 @@ ghost use Rattle.moo_world.specs.VerbReading.{is_slash, has_phrase, first_with, 
 use crate::fault::VerbFault;
 use crate::matching::{first, same_name};
 use crate::prep::{print_place, set_text};
-use moo_rows::row::{ArgSpec, Place, Preposition, PrepositionSet, VerbBits};
-use moo_value::text::MooStr;
+use moo_rows::{ArgSpec, Place, Preposition, PrepositionSet, VerbBits};
+use moo_value::MooStr;
 
 /// Whether some byte of the names is no space.
 fn has_word(names: &[u8]) -> bool

@@ -2,7 +2,7 @@
 
 ghost use Rattle.std.specs.Prelude.{◌≡◌};
 
-use moo_value::value::Value;
+use moo_value::Value;
 use std::marker::Model;
 
 /// What the calls of an accepted batch answered, in order.

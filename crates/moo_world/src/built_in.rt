@@ -5,7 +5,7 @@ ghost use Rattle.std.specs.List.{find};
 ghost use Rattle.moo_world.specs.Objects.{same_text, folded};
 ghost use Rattle.moo_world.specs.BuiltIns.{field_name, all_fields, built_in};
 
-use moo_value::text::MooStr;
+use moo_value::MooStr;
 
 /// The built-in properties.
 #[derive(Clone, Copy, Debug, PartialEq, Eq)]

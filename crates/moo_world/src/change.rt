@@ -3,9 +3,8 @@
 ghost use Rattle.std.specs.Prelude.{◌≡◌};
 ghost use Rattle.moo_world.specs.Fields.{changed};
 
-use moo_rows::row::{ObjList, ObjRow};
-use moo_value::text::MooStr;
-use moo_value::value::ObjNo;
+use moo_rows::{ObjList, ObjRow};
+use moo_value::{MooStr, ObjNo};
 
 /// A field's new value.
 #[derive(Drop)]

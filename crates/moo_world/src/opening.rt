@@ -4,8 +4,7 @@ ghost use Rattle.std.specs.Prelude.{◌≡◌, IfOk};
 ghost use Rattle.moo_rows.specs.Opening.{opening_maps};
 ghost use Rattle.moo_world.specs.Rows.{IsGood};
 
-use moo_rows::flat::Flat;
-use moo_rows::opening::opening_world;
+use moo_rows::{Flat, opening_world};
 use std::alloc::{AllocError, Global};
 
 /// The opening rows, which are sound rows of a well formed world. The only error is want of memory.

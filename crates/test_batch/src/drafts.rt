@@ -1,11 +1,8 @@
-use moo_batch::changes::apply_changes;
-use moo_batch::draft::Draft;
-use moo_rows::flat::Flat;
-use moo_rows::opening::opening_world;
-use moo_rows::row::{Bits, PropId, SlotRow, SlotState};
-use moo_rows::rows::Rows;
-use moo_rows::walk::{children, each_slot, each_slot_of};
-use moo_value::value::{ObjNo, Value};
+use moo_batch::{Draft, apply_changes};
+use moo_rows::{
+    Bits, Flat, PropId, Rows, SlotRow, SlotState, children, each_slot, each_slot_of, opening_world,
+};
+use moo_value::{ObjNo, Value};
 use std::alloc::{AllocError, Global};
 use std::test::Fail;
 

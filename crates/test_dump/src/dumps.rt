@@ -4,12 +4,12 @@
 ghost use Rattle.std.specs.Prelude.{OnOk, IfOk};
 ghost use Rattle.moo_world.specs.Rows.{IsGood};
 
-use moo_calls::step::step;
+use moo_calls::step;
 use moo_dump::{DumpFault, dump, look};
-use moo_rows::flat::Flat;
-use moo_text::call_text::read_call;
-use moo_value::value::ObjNo;
-use moo_world::opening::good_opening;
+use moo_rows::Flat;
+use moo_text::read_call;
+use moo_value::ObjNo;
+use moo_world::good_opening;
 use std::alloc::Global;
 use std::io::{self, ErrorKind, Write};
 use std::process::Abort;

@@ -3,8 +3,7 @@
 use crate::pieces::{End, Sink, Source};
 use moo_http::{ServeFault, Served, serve_on, serve_one};
 use moo_request::Routes;
-use moo_store::creating::create_in;
-use moo_store::world::World;
+use moo_store::{World, create_in};
 use sqlite::{Alter, Connection, MemStore};
 use std::alloc::Global;
 use std::net::TcpListener;

@@ -3,14 +3,12 @@ ghost use Rattle.moo_world.specs.Objects.{nothing, same_object};
 ghost use Rattle.moo_world.specs.Rows.{world_of};
 ghost use Rattle.moo_world.specs.World.{IsTree, is_object};
 
-use moo_rows::flat::Flat;
-use moo_rows::row::ObjRow;
-use moo_rows::rows::Rows;
+use moo_rows::{Flat, ObjRow, Rows};
 use moo_tree::{
     Known, chain, children, common, contents, inside, is_nothing, is_under, players, subtree, valid,
 };
-use moo_value::value::ObjNo;
-use moo_world::opening::good_opening;
+use moo_value::ObjNo;
+use moo_world::good_opening;
 use std::test::*;
 
 const NOTHING: ObjNo = ObjNo(-1);

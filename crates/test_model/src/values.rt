@@ -1,11 +1,10 @@
 //! What no clause says: that the definitions mean what the manual and the format of literals mean, and that each call
 //! succeeds where memory is left.
-use moo_value::code::Code;
-use moo_value::fault::LiteralFault::{self, BadByte, NotALiteral, OutOfRange, TooDeep, TooLong};
-use moo_value::reading::read_literal;
-use moo_value::text::{MooStr, fold_name, same_name};
-use moo_value::value::{ObjNo, Value, ValueList, fits};
-use moo_value::writing::print_literal;
+use moo_value::LiteralFault::self;
+use moo_value::LiteralFault::{BadByte, NotALiteral, OutOfRange, TooDeep, TooLong};
+use moo_value::{
+    Code, MooStr, ObjNo, Value, ValueList, fits, fold_name, print_literal, read_literal, same_name,
+};
 use std::alloc::Global;
 use std::test::*;
 use std::time::{Duration, Instant};

@@ -2,20 +2,14 @@ ghost use Rattle.std.specs.Prelude.{◌≡◌, true, pos, IfOk, IfSome, OnOk};
 ghost use Rattle.moo_world.specs.Rows.{IsGood, IsSound};
 ghost use Rattle.moo_verbs.specs.Places.{has_verb};
 
-use moo_rows::flat::Flat;
-use moo_rows::row::{Preposition, PrepositionSet, VerbBits, VerbId, VerbRow};
-use moo_rows::rows::Rows;
+use moo_rows::{Flat, Preposition, PrepositionSet, Rows, VerbBits, VerbId, VerbRow};
 use moo_tree::valid;
-use moo_value::text::MooStr;
-use moo_value::value::ObjNo;
-use moo_verbs::directory::{add, delete, list, set_args, set_info};
-use moo_verbs::fault::VerbFault;
-use moo_verbs::find::{find_verb, verb};
-use moo_verbs::matching::{matches, one_matches};
-use moo_verbs::prep::{print_place, print_prep};
-use moo_verbs::reading::{bits_letters, check_names, read_args, read_bits, read_prep};
-use moo_world::descriptor::Desc;
-use moo_world::opening::good_opening;
+use moo_value::{MooStr, ObjNo};
+use moo_verbs::{
+    VerbFault, add, bits_letters, check_names, delete, find_verb, list, matches, one_matches,
+    print_place, print_prep, read_args, read_bits, read_prep, set_args, set_info, verb,
+};
+use moo_world::{Desc, good_opening};
 use std::test::*;
 
 fn text(rt: &HostRuntime, bytes: &[u8]) -> Result<MooStr, Fail> {

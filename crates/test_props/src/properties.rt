@@ -1,13 +1,10 @@
 //! Worked examples.
 
-use moo_props::clashing::clashes;
-use moo_props::dropping::drop_object;
-use moo_props::quota::{quota_of, return_quota};
-use moo_rows::rows::Rows;
+use moo_props::{clashes, drop_object, quota_of, return_quota};
+use moo_rows::Rows;
 use moo_tree::valid;
-use moo_value::text::MooStr;
-use moo_value::value::ObjNo;
-use moo_world::opening::good_opening;
+use moo_value::{MooStr, ObjNo};
+use moo_world::good_opening;
 use std::test::*;
 use steps::{READ, added, integer, set};
 

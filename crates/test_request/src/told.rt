@@ -1,7 +1,7 @@
 //! What is received, told in a line.
 
 use moo_request::{Asked, Method, Mode, Received, Refusal, Routes, read_request};
-use moo_world::call::Batch;
+use moo_world::Batch;
 use std::alloc::{AllocError, Global};
 use std::io;
 use std::io::Read;

@@ -1,14 +1,8 @@
 //! What no clause says: that the definitions mean what the manual means, and that each call succeeds where memory is left.
 ghost use Rattle.std.specs.Iterator.{IsFinite};
 
-use moo_rows::flat::Flat;
-use moo_rows::opening::opening_world;
-use moo_rows::ordered::Row;
-use moo_rows::row::*;
-use moo_rows::rows::Rows;
-use moo_rows::walk::*;
-use moo_value::text::MooStr;
-use moo_value::value::{ObjNo, Value};
+use moo_rows::{Flat, Row, Rows, opening_world, *, *};
+use moo_value::{MooStr, ObjNo, Value};
 use std::test::*;
 
 const LEAST: ObjNo = ObjNo(-2147483648);

@@ -1,11 +1,10 @@
 //! What a World answers to the calls of a run and to questions.
 
 use crate::behind::new_world;
-use moo_store::world::World;
-use moo_text::call_text::read_call;
-use moo_text::reply::{Reply, print_reply};
-use moo_value::value::ObjNo;
-use moo_world::call::{Batch, Calls};
+use moo_store::World;
+use moo_text::{Reply, print_reply, read_call};
+use moo_value::ObjNo;
+use moo_world::{Batch, Calls};
 use sqlite::Alter;
 use std::alloc::Global;
 use std::test::Fail;

@@ -1,8 +1,6 @@
 //! What is behind texts that a new world runs and is asked.
 
-use moo_store::creating::create_in;
-use moo_store::world::World;
-use moo_store::{apply_text, ask_text};
+use moo_store::{World, apply_text, ask_text, create_in};
 use moo_tables::{CellLists, read_tables};
 use sqlite::{Alter, Connection, MemStore};
 use std::alloc::Global;

@@ -3,8 +3,7 @@
 use crate::behind::{new_world, run};
 use crate::cells::have_same_cells;
 use crate::runs::TREE;
-use moo_store::adopt;
-use moo_store::world::World;
+use moo_store::{World, adopt};
 use moo_tables::read_tables;
 use sqlite::{Alter, Connection, MemStore};
 use std::alloc::Global;

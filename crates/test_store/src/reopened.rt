@@ -4,7 +4,7 @@ use crate::behind::{ask, run};
 use crate::cells::is_object;
 use crate::opened::{reopened, said_of_edit};
 use crate::runs::TREE;
-use moo_store::world::World;
+use moo_store::World;
 use moo_tables::{CellLists, read_tables};
 use sqlite::Alter;
 use std::alloc::Global;

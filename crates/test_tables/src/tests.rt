@@ -2,10 +2,9 @@
 
 ghost use Rattle.std.specs.Prelude.{◌≡◌, ◌<◌, ◌^◌, IfOk, false};
 
-use moo_rows::row::{Head, PropId, VerbId};
-use moo_tables::cells::*;
-use moo_tables::{CellLists, commit_changes, create_in, read_tables};
-use moo_value::value::ObjNo;
+use moo_rows::{Head, PropId, VerbId};
+use moo_tables::{CellLists, commit_changes, create_in, read_tables, *};
+use moo_value::ObjNo;
 use sqlite::{Alter, Connection, Error, MemStore, Row};
 use sqlite_value::value::ValueRef;
 use std::alloc::{AllocError, Global};

@@ -13,12 +13,8 @@ use crate::cell::int_in;
 use crate::fault::{CellFault, RowFault};
 use crate::object::read_object;
 use moo_damage::{Key, Kind};
-use moo_rows::flat::Flat;
-use moo_rows::ordered::Row as _;
-use moo_rows::row::ObjRow;
-use moo_rows::rows::Rows;
-use moo_rows::walk::each_object;
-use moo_value::value::ObjNo;
+use moo_rows::{Flat, ObjRow, Row as _, Rows, each_object};
+use moo_value::ObjNo;
 use sqlite::Row;
 use std::alloc::{AllocError, Global};
 

@@ -13,11 +13,7 @@ use crate::cell::int_in;
 use crate::fault::{CellFault, RowFault};
 use crate::prop::read_prop;
 use moo_damage::{Key, Kind};
-use moo_rows::flat::Flat;
-use moo_rows::ordered::Row as _;
-use moo_rows::row::{PropId, PropRow};
-use moo_rows::rows::Rows;
-use moo_rows::walk::each_prop;
+use moo_rows::{Flat, PropId, PropRow, Row as _, Rows, each_prop};
 use sqlite::Row;
 use std::alloc::{AllocError, Global};
 

@@ -12,12 +12,8 @@ use crate::cell::int_in;
 use crate::fault::{CellFault, RowFault};
 use crate::verb::read_verb;
 use moo_damage::{Key, Kind};
-use moo_rows::flat::Flat;
-use moo_rows::ordered::Row as _;
-use moo_rows::row::{VerbId, VerbRow};
-use moo_rows::rows::Rows;
-use moo_rows::walk::each_verb;
-use moo_value::value::ObjNo;
+use moo_rows::{Flat, Row as _, Rows, VerbId, VerbRow, each_verb};
+use moo_value::ObjNo;
 use sqlite::Row;
 use std::alloc::{AllocError, Global};
 

@@ -1,12 +1,11 @@
 //! Tests of the calls that change one field of an object, and of built-in properties.
 
 use super::run_all;
-use moo_calls::changing::set_accept;
-use moo_rights::fault::Fault;
-use moo_rows::row::ObjList;
-use moo_value::code::Code;
-use moo_value::value::{ObjNo, Value};
-use moo_world::opening::good_opening;
+use moo_call_parts::Fault;
+use moo_calls::set_accept;
+use moo_rows::ObjList;
+use moo_value::{Code, ObjNo, Value};
+use moo_world::good_opening;
 use std::alloc::{AllocError, Global};
 use std::test::Fail;
 

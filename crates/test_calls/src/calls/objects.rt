@@ -3,10 +3,8 @@
 ghost use Rattle.moo_world.specs.Rows.{IsGood};
 
 use super::{run_all, run_on};
-use moo_rows::flat::Flat;
-use moo_rows::row::Head;
-use moo_rows::rows::Rows;
-use moo_world::opening::good_opening;
+use moo_rows::{Flat, Head, Rows};
+use moo_world::good_opening;
 use std::test::Fail;
 
 #[test]

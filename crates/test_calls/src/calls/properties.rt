@@ -1,7 +1,7 @@
 //! Calls on the values of properties.
 
 use super::{Line, run_on};
-use moo_world::opening::good_opening;
+use moo_world::good_opening;
 use std::alloc::Global;
 use std::process::Abort;
 use std::test::Fail;

@@ -4,15 +4,11 @@ ghost use Rattle.moo_world.specs.Rows.{IsGood};
 
 use super::properties::{TREE, run_on_tree};
 use super::run_on;
-use moo_property_calls::definitions::add_property;
-use moo_rights::fault::Fault;
-use moo_rights::infos::Info;
-use moo_rows::flat::Flat;
-use moo_rows::rows::Rows;
-use moo_value::code::Code;
-use moo_value::text::MooStr;
-use moo_value::value::{ObjNo, Value};
-use moo_world::opening::good_opening;
+use moo_call_parts::{Fault, Info};
+use moo_property_calls::add_property;
+use moo_rows::{Flat, Rows};
+use moo_value::{Code, MooStr, ObjNo, Value};
+use moo_world::good_opening;
 use std::test::Fail;
 
 // ---- adding and deleting

@@ -4,13 +4,11 @@ ghost use Rattle.std.specs.Prelude.{◌≡◌, OnOk};
 ghost use Rattle.moo_world.specs.Rows.{IsGood};
 
 use super::{call, printed};
-use moo_calls::step::step;
-use moo_rights::fault::Fault;
-use moo_rows::flat::Flat;
-use moo_value::reading::read_literal;
-use moo_value::value::{ObjNo, Value};
-use moo_world::call::Call;
-use moo_world::opening::good_opening;
+use moo_call_parts::Fault;
+use moo_calls::step;
+use moo_rows::Flat;
+use moo_value::{ObjNo, Value, read_literal};
+use moo_world::{Call, good_opening};
 use std::alloc::Global;
 use std::process::Abort;
 use std::test::Fail;

@@ -3,10 +3,8 @@
 ghost use Rattle.std.specs.Prelude.{◌≡◌, OnErr, OnOk};
 ghost use Rattle.moo_rows.specs.Maps.{wrote};
 
-use moo_rows::flat::Flat;
-use moo_rows::row::{Head, ObjRow, PropId, PropRow, SlotRow, VerbId, VerbRow};
-use moo_rows::rows::Rows;
-use moo_value::value::ObjNo;
+use moo_rows::{Flat, Head, ObjRow, PropId, PropRow, Rows, SlotRow, VerbId, VerbRow};
+use moo_value::ObjNo;
 use std::alloc::AllocError;
 
 /// How many rows were put and removed, of objects, properties, slots and verbs.

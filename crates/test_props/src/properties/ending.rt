@@ -2,10 +2,9 @@
 
 use super::steps::{dropped, found, integer};
 use super::tree::planted;
-use moo_rows::row::PropId;
-use moo_rows::rows::Rows;
+use moo_rows::{PropId, Rows};
 use moo_tree::valid;
-use moo_value::value::ObjNo;
+use moo_value::ObjNo;
 use std::test::*;
 
 #[test]

@@ -3,8 +3,8 @@
 use super::counting::NONE;
 use super::steps::{READ, WIZARD, added, found, given, integer, made, moved, set, slot};
 use super::tree::planted;
-use moo_rows::row::{Bits, PropId};
-use moo_value::value::ObjNo;
+use moo_rows::{Bits, PropId};
+use moo_value::ObjNo;
 use std::test::*;
 
 #[test]

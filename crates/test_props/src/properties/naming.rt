@@ -2,7 +2,7 @@
 
 use super::steps::{found, integer, renamed};
 use super::tree::planted;
-use moo_rows::row::PropId;
+use moo_rows::PropId;
 use std::test::*;
 
 #[test]

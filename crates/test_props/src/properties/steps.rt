@@ -6,20 +6,13 @@ ghost use Rattle.moo_world.specs.Rows.{world_of, IsGood};
 ghost use Rattle.moo_world.specs.World.{is_property_name};
 ghost use Rattle.moo_props.specs.Names.{defines};
 
-use moo_props::birth::make;
-use moo_props::clashing::{clashes, meets};
-use moo_props::defining::define;
-use moo_props::dropping::{Dropped, drop_object};
-use moo_props::finding::{find, slot_of};
-use moo_props::renaming::rename;
-use moo_props::reparent::{Touched, reparent};
-use moo_props::state::{set_info, set_value};
-use moo_props::value::value_of;
-use moo_rows::row::{Bits, PropId, SlotState};
-use moo_rows::rows::Rows;
+use moo_props::{
+    Dropped, Touched, clashes, define, drop_object, find, make, meets, rename, reparent, set_info,
+    set_value, slot_of, value_of,
+};
+use moo_rows::{Bits, PropId, Rows, SlotState};
 use moo_tree::{is_under, valid};
-use moo_value::text::MooStr;
-use moo_value::value::{ObjNo, Value};
+use moo_value::{MooStr, ObjNo, Value};
 use std::alloc::Global;
 use std::process::Abort;
 use std::test::*;

@@ -6,9 +6,9 @@ ghost use Rattle.moo_world.specs.Rows.{IsGood};
 
 use super::counting::{Counting, NONE};
 use super::steps::{READ, added, made, set};
-use moo_rows::row::PropId;
-use moo_value::value::ObjNo;
-use moo_world::opening::good_opening;
+use moo_rows::PropId;
+use moo_value::ObjNo;
+use moo_world::good_opening;
 use std::alloc::Global;
 use std::process::Abort;
 use std::test::*;

@@ -1,6 +1,6 @@
 use Rattle.std.proofs.Common.{sym, ◌∙◌}
 use Rattle.moo_world.proofs.NumbersKept.{then_slots}
-use Rattle.moo_rights.specs.Outcomes.{world_in}
+use Rattle.moo_call_parts.specs.Outcomes.{world_in}
 use Rattle.moo_calls.proofs.Created.{afford_still}
 use Rattle.moo_calls.proofs.creating.create.Goals as goal
 

@@ -1,4 +1,4 @@
-use Rattle.moo_rights.specs.Outcomes.{world_in}
+use Rattle.moo_call_parts.specs.Outcomes.{world_in}
 use Rattle.moo_world.proofs.FormArguments.{change_allowed}
 use Rattle.moo_calls.proofs.setting.set_built_in.Goals as goal
 

@@ -6,8 +6,8 @@ use Rattle.moo_world.specs.Rows.{slot_seen, world_shown}
 use Rattle.moo_world.specs.Outcomes.{Failed}
 use Rattle.moo_world.specs.PropertyCalls.{clear_property}
 use Rattle.moo_world.specs.World.{is_object}
-use Rattle.moo_rights.specs.Outcomes.{world_in}
-use Rattle.moo_rights.proofs.Passed.{check_passed}
+use Rattle.moo_call_parts.specs.Outcomes.{world_in}
+use Rattle.moo_call_parts.proofs.Passed.{check_passed}
 use Rattle.moo_props.specs.Names.{spelling_of}
 use Rattle.moo_props.proofs.Found.{definer_found}
 use Rattle.moo_props.proofs.Quotas.{folded_spelling}

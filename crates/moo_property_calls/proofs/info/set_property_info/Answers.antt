@@ -4,7 +4,7 @@ use Rattle.moo_world.specs.Changes.{info_set}
 use Rattle.moo_world.specs.Objects.{same_object}
 use Rattle.moo_world.specs.PropertyCalls.{may_rename, renamed_to}
 use Rattle.moo_world.specs.Rows.{world_shown}
-use Rattle.moo_rights.specs.Outcomes.{world_in}
+use Rattle.moo_call_parts.specs.Outcomes.{world_in}
 use Rattle.moo_props.specs.Names.{spelling_of}
 use Rattle.moo_props.proofs.Quotas.{folded_spelling}
 use Rattle.moo_property_calls.proofs.PropertyNames.{may_rename_named, info_named}

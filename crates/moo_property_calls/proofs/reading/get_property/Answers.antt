@@ -5,7 +5,7 @@ use Rattle.moo_world.specs.Objects.{folded}
 use Rattle.moo_world.specs.Outcomes.{Done, Failed}
 use Rattle.moo_world.specs.PropertyCalls.{get_property}
 use Rattle.moo_world.specs.World.{read_of}
-use Rattle.moo_rights.specs.Outcomes.{world_in}
+use Rattle.moo_call_parts.specs.Outcomes.{world_in}
 use Rattle.moo_property_calls.proofs.reading.get_property.Goals as goal
 
 pub returns-in_err-found : goal.returns-in_err-found

@@ -3,7 +3,7 @@ use Rattle.moo_rows.specs.declared.row.SlotState.TheVariants.{Set}
 use Rattle.moo_world.specs.Changes.{value_set}
 use Rattle.moo_world.specs.Outcomes.{Failed}
 use Rattle.moo_world.specs.PropertyCalls.{set_property}
-use Rattle.moo_rights.specs.Outcomes.{world_in}
+use Rattle.moo_call_parts.specs.Outcomes.{world_in}
 use Rattle.moo_props.specs.Names.{spelling_of}
 use Rattle.moo_props.proofs.Quotas.{folded_spelling}
 use Rattle.moo_property_calls.proofs.PropertyNames.{slot_named}

@@ -6,8 +6,8 @@ use Rattle.moo_world.specs.Rights.{may_write_verb}
 use Rattle.moo_world.specs.VerbReading.{args_of}
 use Rattle.moo_world.specs.Descriptors.{found_verb}
 use Rattle.moo_verbs.specs.Places.{verb_place}
-use Rattle.moo_rights.specs.Outcomes.{world_in}
-use Rattle.moo_rights.proofs.Passed.{check_passed, found_passed}
+use Rattle.moo_call_parts.specs.Outcomes.{world_in}
+use Rattle.moo_call_parts.proofs.Passed.{check_passed, found_passed}
 use Rattle.moo_verb_calls.proofs.changing.set_verb_args.Goals as goal
 
 pub returns-clause-comes : goal.returns-clause-comes

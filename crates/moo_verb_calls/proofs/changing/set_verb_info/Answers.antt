@@ -8,8 +8,8 @@ use Rattle.moo_world.specs.Directories.{verb_info_set}
 use Rattle.moo_world.specs.VerbCalls.{set_verb_info}
 use Rattle.moo_world.specs.Rights.{may_write_verb, may_own}
 use Rattle.moo_verbs.specs.Places.{verb_place}
-use Rattle.moo_rights.specs.Outcomes.{world_in}
-use Rattle.moo_rights.proofs.Passed.{check_passed, found_passed}
+use Rattle.moo_call_parts.specs.Outcomes.{world_in}
+use Rattle.moo_call_parts.proofs.Passed.{check_passed, found_passed}
 use Rattle.moo_verb_calls.proofs.changing.set_verb_info.Goals as goal
 
 pub returns-in_err-bits-clause-comes : goal.returns-in_err-bits-clause-comes

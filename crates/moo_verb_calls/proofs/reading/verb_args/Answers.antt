@@ -4,7 +4,7 @@ use Rattle.moo_world.specs.Answers.{list_of}
 use Rattle.moo_world.specs.Outcomes.{Done, Failed}
 use Rattle.moo_world.specs.Prepositions.{prep_text, place_text}
 use Rattle.moo_world.specs.VerbCalls.{verb_args}
-use Rattle.moo_rights.specs.Outcomes.{world_in}
+use Rattle.moo_call_parts.specs.Outcomes.{world_in}
 use Rattle.moo_verb_calls.proofs.reading.verb_args.Goals as goal
 
 pub returns-in_err-verb : goal.returns-in_err-verb

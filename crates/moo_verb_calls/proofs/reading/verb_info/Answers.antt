@@ -4,7 +4,7 @@ use Rattle.moo_rows.specs.Bits.{verb_letters_of}
 use Rattle.moo_world.specs.Answers.{list_of}
 use Rattle.moo_world.specs.Outcomes.{Done, Failed}
 use Rattle.moo_world.specs.VerbCalls.{verb_info}
-use Rattle.moo_rights.specs.Outcomes.{world_in}
+use Rattle.moo_call_parts.specs.Outcomes.{world_in}
 use Rattle.moo_verb_calls.proofs.reading.verb_info.Goals as goal
 
 pub returns-in_err-verb : goal.returns-in_err-verb

@@ -1,0 +1,62 @@
+use Rattle.std.proofs.Common.{◌≡◌, ◌+◌, ◌<◌, true, false, refl, sym, ap, ◌∙◌, subst, rules}
+use Rattle.moo_rows.specs.Maps.{Held}
+use Rattle.moo_rows.specs.declared.row.Head.{Head}
+use Rattle.moo_world.specs.Between.{CallsLead}
+use Rattle.moo_world.specs.Rows.{world_of}
+use Rattle.moo_world.specs.Judge.{is_due, last_seq, verdict_of, run_calls, Accepted}
+use Rattle.moo_batch.specs.Changes.{AreChanges}
+use Rattle.moo_world.specs.Judge.{state_of}
+use Rattle.moo_batch.proofs.Verdicts.{judge-stale, judge-full, judge-run, with_seq, good-with_seq, world_of-with_seq}
+use Rattle.moo_batch.proofs.judging.judge.Goals as goal
+
+pub returns-then-not-is_due : goal.returns-then-not-is_due
+returns-then-not-is_due g c =
+    let t = (g.R.Rows.held c.args.rows.now).maps in
+    let late : is_due c.args.batch.now.at t.head.seq ≡ false = ap (λ (h : Head). is_due c.args.batch.now.at h.seq) (sym c.head-head.ensures) ∙ sym c.is_due.ensures ∙ search rules in
+    rw c.head-head.ensures (judge-stale (state_of t) c.args.batch.now late)
+
+pub returns-then-head-ge-LAST_SEQ : goal.returns-then-head-ge-LAST_SEQ
+returns-then-head-ge-LAST_SEQ g c =
+    let t = (g.R.Rows.held c.args.rows.now).maps in
+    let due : is_due c.args.batch.now.at t.head.seq ≡ true = ap (λ (h : Head). is_due c.args.batch.now.at h.seq) (sym c.head-head.ensures) ∙ sym c.is_due.ensures ∙ search rules in
+    judge-full (state_of t) c.args.batch.now due (rw c.head-head.ensures at c.if-head-ge-LAST_SEQ.true)
+
+pub returns-in-Err-Refused : goal.returns-in-Err-Refused
+returns-in-Err-Refused g c =
+    let t = (g.R.Rows.held c.args.rows.now).maps in
+    let batch = c.args.batch.now in
+    let due : is_due c.args.batch.now.at t.head.seq ≡ true = ap (λ (h : Head). is_due c.args.batch.now.at h.seq) (sym c.head-head.ensures) ∙ sym c.is_due.ensures ∙ search rules in
+    let room : t.head.seq < last_seq = rw c.head-head.ensures at c.if-head-ge-LAST_SEQ.false in
+    let same : run_calls (world_of t) batch.programmer batch.calls ≡ run_calls (world_of c.new-draft.result.maps) batch.programmer c.items.result.now =
+    λ i. run_calls (world_of (sym c.new-draft.ensures.maps i)) batch.programmer (sym c.items.ensures.value i) in
+    let run = rw c.in-Err-Refused.field-0-is at c.in-Err-Refused.ensures.comes in
+    rw c.in-Err-Refused.field-0-is (judge-run (state_of t) batch due room ∙ ap (verdict_of t.head.seq) (same ∙ run))
+
+pub returns-in-Err-Full : goal.returns-in-Err-Full
+returns-in-Err-Full g c =
+    let t = (g.R.Rows.held c.args.rows.now).maps in
+    let batch = c.args.batch.now in
+    let due : is_due c.args.batch.now.at t.head.seq ≡ true = ap (λ (h : Head). is_due c.args.batch.now.at h.seq) (sym c.head-head.ensures) ∙ sym c.is_due.ensures ∙ search rules in
+    let room : t.head.seq < last_seq = rw c.head-head.ensures at c.if-head-ge-LAST_SEQ.false in
+    let same : run_calls (world_of t) batch.programmer batch.calls ≡ run_calls (world_of c.new-draft.result.maps) batch.programmer c.items.result.now =
+    λ i. run_calls (world_of (sym c.new-draft.ensures.maps i)) batch.programmer (sym c.items.ensures.value i) in
+    let run = rw c.in-Err-Full.field-0-is at c.in-Err-Full.ensures.comes in
+    rw c.in-Err-Full.field-0-is (judge-run (state_of t) batch due room ∙ ap (verdict_of t.head.seq) (same ∙ run))
+
+pub returns-in-Ok-into_changes : goal.returns-in-Ok-into_changes
+returns-in-Ok-into_changes g c =
+    let t = (g.R.Rows.held c.args.rows.now).maps in
+    let batch = c.args.batch.now in
+    let due : is_due c.args.batch.now.at t.head.seq ≡ true = ap (λ (h : Head). is_due c.args.batch.now.at h.seq) (sym c.head-head.ensures) ∙ sym c.is_due.ensures ∙ search rules in
+    let room : t.head.seq < last_seq = rw c.head-head.ensures at c.if-head-ge-LAST_SEQ.false in
+    let same : run_calls (world_of t) batch.programmer batch.calls ≡ run_calls (world_of c.new-draft.result.maps) batch.programmer c.items.result.now =
+    λ i. run_calls (world_of (sym c.new-draft.ensures.maps i)) batch.programmer (sym c.items.ensures.value i) in
+    let after = c.run_calls.new.rows.maps in
+    let next = with_seq (t.head.seq + 1) after in
+    let base : c.set_head.new.self.base ≡ t = ap (λ (h : Held). h.base) c.set_head.ensures ∙ c.in-Ok.ensures.kept.base ∙ c.new-draft.ensures.base in
+    let maps : c.set_head.new.self.maps ≡ next = ap (λ (h : Held). h.maps) c.set_head.ensures ∙ (λ i. record after { head = record (c.head-next.ensures i) { seq = (c.head-head.ensures i).seq + 1 } }) in
+    let judged = judge-run (state_of t) batch due room ∙ ap (verdict_of t.head.seq) (same ∙ c.in-Ok.ensures.comes)
+    ∙ ap (λ w. Accepted c.in-Ok.answers (record { world = w; seq = t.head.seq + 1 })) (sym (world_of-with_seq (t.head.seq + 1) after)) in
+    let lead : CallsLead batch.programmer batch.calls t after =
+    subst (λ m. CallsLead batch.programmer batch.calls m after) c.new-draft.ensures.maps (subst (λ calls. CallsLead batch.programmer calls c.new-draft.result.maps after) c.items.ensures.value c.in-Ok.ensures.kept.numbers) in
+    (next, subst (λ b. AreChanges b next c.in-Ok-into_changes.changes) base (subst (λ n. AreChanges c.set_head.new.self.base n c.in-Ok-into_changes.changes) maps c.in-Ok-into_changes.ensures), good-with_seq (t.head.seq + 1) after c.in-Ok.ensures.kept.good, judged, (after, lead, refl))

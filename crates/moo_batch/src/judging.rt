@@ -1,0 +1,112 @@
+//! What a batch comes to.
+
+ghost use Rattle.std.specs.Prelude.{◌≡◌, ◌≤◌, length, OnOk};
+ghost use Rattle.moo_world.specs.Rows.{IsGood};
+ghost use Rattle.moo_world.specs.Judge.{is_due, run_calls};
+ghost use Rattle.moo_call_parts.specs.Outcomes.{world_in};
+ghost use Rattle.moo_batch.specs.Judge.{ComeTo, HaveKept, IsVerdict};
+
+use crate::changes::Changes;
+use crate::draft::Draft;
+use moo_call_parts::Fault;
+use moo_calls::step;
+use moo_rows::Rows;
+use moo_value::{Code, ObjNo, Value};
+use moo_world::{Answers, Batch, Call};
+use std::alloc::Global;
+
+/// The most batches that are ever accepted.
+pub const LAST_SEQ: u64 = 9223372036854775807;
+
+/// Where and why the calls of a batch stopped; they are numbered from 1.
+#[derive(Clone, Copy)]
+enum Stop {
+    Refused { call: u32, code: Code },
+    Full { call: u32 },
+    OutOfMemory,
+}
+
+/// What a batch comes to. Only an accepted one changes anything.
+#[derive(Drop)]
+pub enum Verdict {
+    /// Every call was done: their answers in order, and the changes that make the rows into the next ones.
+    Accepted { answers: Answers, changes: Changes },
+    /// The first call that failed, numbered from 1, and its error.
+    Refused { call: u32, code: Code },
+    /// No number is left for what this call makes; call 0 is the batch itself, after [`LAST_SEQ`] accepted ones.
+    Full { call: u32 },
+    /// The batch names another number of accepted batches than the present one, which is `seq`.
+    Stale { seq: u64 },
+    /// Memory ran out while calls were run; nothing changed.
+    OutOfMemory,
+}
+
+/// Does calls, one after another, up to the first that isn't done. The rows are then half changed, and the caller drops them.
+fn run_calls<R: Rows>(
+    rows: &mut R,
+    alloc: Global,
+    programmer: ObjNo,
+    calls: &[Call],
+) -> Result<Answers, Stop>
+    requires good { IsGood (R.held rows.old).maps }
+    requires few { length calls.now ≤ 1000 }
+    ensures comes { ComeTo (run_calls (world_in (R.held rows.old)) programmer calls.now) (world_in (R.held rows.new)) result }
+    ensures kept { OnOk result (HaveKept programmer calls.now (R.held rows.old) (R.held rows.new)) }
+{
+    let mut answers = Vec::new(alloc);
+    for call in calls {
+        let number = answers.len() as u32 + 1;
+        match step(rows, alloc, programmer, call) {
+            Ok(answer) => {
+                if answers.push(answer).is_err() {
+                    return Err(Stop::OutOfMemory);
+                }
+            }
+            Err(Fault::Moo(code)) => return Err(Stop::Refused { call: number, code }),
+            Err(Fault::Full) => return Err(Stop::Full { call: number }),
+            Err(Fault::OutOfMemory) => return Err(Stop::OutOfMemory),
+        }
+    }
+    Ok(Answers::from_vec(answers))
+}
+
+/// Whether the number that a batch names, if it names one, is the present one.
+fn is_due(at: Option<u64>, seq: u64) -> bool
+    ensures { result ≡ is_due at seq }
+{
+    match at {
+        None => true,
+        Some(at) => at == seq,
+    }
+}
+
+/// What a batch comes to on these rows, which stay as they are: stale where it names another number than the present
+/// one, else full where [`LAST_SEQ`] batches were accepted, else refused or full at the first call that isn't done, else
+/// accepted. Want of memory comes only where calls are run. Where it is accepted, what stays keeps its number, and what is new
+/// has one that was never given.
+pub fn judge<R: Rows>(alloc: Global, rows: &R, batch: &Batch) -> Verdict
+    requires good { IsGood (R.held rows.now).maps }
+    ensures { IsVerdict (R.held rows.now).maps batch.now result }
+{
+    let head = rows.head();
+    if !is_due(batch.at, head.seq) {
+        return Verdict::Stale { seq: head.seq };
+    }
+    if head.seq >= LAST_SEQ {
+        return Verdict::Full { call: 0 };
+    }
+    let mut draft = Draft::new(alloc, rows);
+    let answers = match run_calls(&mut draft, alloc, batch.programmer, batch.calls.items()) {
+        Ok(answers) => answers,
+        Err(Stop::Refused { call, code }) => return Verdict::Refused { call, code },
+        Err(Stop::Full { call }) => return Verdict::Full { call },
+        Err(Stop::OutOfMemory) => return Verdict::OutOfMemory,
+    };
+    let mut next = draft.head();
+    next.seq = head.seq + 1;
+    draft.set_head(next);
+    match draft.into_changes() {
+        Ok(changes) => Verdict::Accepted { answers, changes },
+        Err(_) => Verdict::OutOfMemory,
+    }
+}

@@ -1,0 +1,59 @@
+//! Accept lists, as calls are given them and as calls answer them.
+
+ghost use Rattle.std.specs.Prelude.{◌≡◌, IfOk};
+ghost use Rattle.moo_world.specs.Arguments.{objects_among, object_and_accept};
+ghost use Rattle.moo_world.specs.Calls.{accept_value};
+ghost use Rattle.moo_call_parts.specs.Outcomes.{GivenOrNot};
+
+use crate::answers::{ZERO, object_list};
+use crate::fault::Fault;
+use moo_rows::ObjList;
+use moo_value::{Code, ObjNo, Value};
+use std::alloc::{AllocError, Global};
+
+/// The objects of a list that has only objects. The only error is want of memory.
+fn objects_among(alloc: Global, values: &[Value]) -> Result<Option<ObjList>, AllocError>
+    ensures { IfOk result (λ found. found ≡ objects_among values.now) }
+{
+    let mut found = Vec::new(alloc);
+    for value in values {
+        match value {
+            Value::Obj(x) => found.push(*x)?,
+            _ => return Ok(None),
+        }
+    }
+    Ok(Some(ObjList::from_vec(found)))
+}
+
+/// What `set_accept` takes: an object, and a list of objects, or 0 for no list. E_ARGS for another number of arguments, and
+/// then E_TYPE for anything else. OutOfMemory is want of memory alone.
+pub fn object_and_accept(alloc: Global, args: &[Value]) -> Result<(ObjNo, Option<ObjList>), Fault>
+    ensures { GivenOrNot (object_and_accept args.now) result }
+{
+    match args {
+        [Value::Obj(x), Value::List(list)] => match objects_among(alloc, list.items())? {
+            Some(objects) => Ok((*x, Some(objects))),
+            None => Err(Fault::Moo(Code::Type)),
+        },
+        [Value::Obj(x), Value::Int(n)] => {
+            if *n == 0 {
+                Ok((*x, None))
+            } else {
+                Err(Fault::Moo(Code::Type))
+            }
+        }
+        [_, _] => Err(Fault::Moo(Code::Type)),
+        _ => Err(Fault::Moo(Code::Arguments)),
+    }
+}
+
+/// An accept list, as `accept_list` answers it: the list of its objects, or 0 where there is none. The only error is want of
+/// memory.
+pub fn accept_value(alloc: Global, list: &Option<ObjList>) -> Result<Value, AllocError>
+    ensures { IfOk result (λ v. v ≡ accept_value list.now) }
+{
+    match list {
+        Some(list) => object_list(alloc, list.items()),
+        None => Ok(ZERO),
+    }
+}

@@ -1,0 +1,53 @@
+//! What an object takes in.
+
+ghost use Rattle.std.specs.Prelude.{◌≡◌, option_map};
+ghost use Rattle.std.specs.List.{list_any};
+ghost use Rattle.moo_world.specs.Objects.{is_among};
+ghost use Rattle.moo_world.specs.World.{IsTree, chain};
+ghost use Rattle.moo_world.specs.Rights.{accept_along, accepts};
+ghost use Rattle.moo_call_parts.specs.Outcomes.{world_in};
+
+use moo_rows::{ObjList, Rows};
+use moo_tree::{is_nothing, is_under};
+use moo_value::ObjNo;
+
+/// Whether the list has the thing or an ancestor of it.
+fn takes<R: Rows>(rows: &R, list: &[ObjNo], thing: ObjNo) -> bool
+    requires { IsTree (world_in (R.held rows.now)) }
+    ensures { result ≡ list_any (λ a. is_among a (chain (world_in (R.held rows.now)) thing)) list.now }
+{
+    list.iter().any(|a| is_under(rows, thing, *a))
+}
+
+/// The accept list that counts for the destination: that of the nearest object that holds one, from the destination up its
+/// ancestors. An empty one counts too. None where none of them holds one.
+fn list_that_counts<R: Rows>(rows: &R, to: ObjNo) -> Option<&ObjList>
+    requires { IsTree (world_in (R.held rows.now)) }
+    ensures { let w = world_in (R.held rows.now) in option_map (λ list. list.now) result ≡ accept_along w (chain w to) }
+{
+    let mut at = to;
+    while let Some(row) = rows.object(at) {
+        if let Some(list) = &row.accept {
+            return Some(list);
+        }
+        at = row.parent;
+    }
+    None
+}
+
+/// Whether the destination takes the thing in: `#-1` takes everything, and an object what the accept list that counts for it
+/// has, or has an ancestor of. Without a list it takes nothing.
+///
+/// A stored list in place of the verb `accept` of the LambdaMOO Programmer's Manual, 'Object Movement'.
+pub fn accepts<R: Rows>(rows: &R, to: ObjNo, thing: ObjNo) -> bool
+    requires { IsTree (world_in (R.held rows.now)) }
+    ensures { result ≡ accepts (world_in (R.held rows.now)) to thing }
+{
+    if is_nothing(to) {
+        return true;
+    }
+    match list_that_counts(rows, to) {
+        Some(list) => takes(rows, list.items(), thing),
+        None => false,
+    }
+}

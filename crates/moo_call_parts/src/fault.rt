@@ -1,0 +1,37 @@
+//! Why a call comes to nothing.
+
+use moo_value::Code;
+use std::alloc::AllocError;
+
+/// Why a call comes to nothing.
+#[derive(Clone, Copy, Debug, PartialEq, Eq)]
+pub enum Fault {
+    /// The call's error; the rows are as they were.
+    Moo(Code),
+    /// No number is left for what the call makes; the rows are as they were.
+    Full,
+    /// Want of memory; the rows may be half changed.
+    OutOfMemory,
+}
+
+impl From<Code> for Fault {
+    ghost use Rattle.std.specs.Prelude.{◌≡◌};
+    ghost use Rattle.moo_call_parts.specs.declared.fault.Fault.TheVariants.{Moo};
+
+    ghost from_gives = { λ code fault. fault ≡ Moo code };
+
+    fn from(code: Code) -> Fault {
+        Fault::Moo(code)
+    }
+}
+
+impl From<AllocError> for Fault {
+    ghost use Rattle.std.specs.Prelude.{◌≡◌};
+    ghost use Rattle.moo_call_parts.specs.declared.fault.Fault.TheVariants.{OutOfMemory};
+
+    ghost from_gives = { λ _ fault. fault ≡ OutOfMemory };
+
+    fn from(_e: AllocError) -> Fault {
+        Fault::OutOfMemory
+    }
+}

@@ -1,0 +1,85 @@
+//! One call.
+
+ghost use Rattle.std.specs.Prelude.{◌≡◌, true, OnOk};
+ghost use Rattle.std.specs.List.{list_all};
+ghost use Rattle.moo_call_parts.specs.Outcomes.{world_in, ComesTo};
+ghost use Rattle.moo_world.specs.Arguments.{fits};
+ghost use Rattle.moo_world.specs.Keeps.{Keeps};
+ghost use Rattle.moo_world.specs.Rows.{IsGood};
+ghost use Rattle.moo_world.specs.Step.{step, named_call};
+
+use crate::{on_objects, on_properties, on_verbs};
+use moo_call_parts::Fault;
+use moo_rows::Rows;
+use moo_tree::valid;
+use moo_value::{Code, ObjNo, Value};
+use moo_world::{Call, CallName};
+use std::alloc::Global;
+
+/// A call by its name, by a programmer who is an object.
+fn named_call<R: Rows>(
+    rows: &mut R,
+    alloc: Global,
+    programmer: ObjNo,
+    name: CallName,
+    args: &[Value],
+) -> Result<Value, Fault>
+    requires good { IsGood (R.held rows.old).maps }
+    requires fit { list_all fits args.now ≡ true }
+    ensures comes { ComesTo (named_call (world_in (R.held rows.old)) programmer name args.now) (R.held rows.old) (R.held rows.new) result }
+    ensures kept { OnOk result (Keeps (R.held rows.old) (R.held rows.new)) }
+{
+    match name {
+        CallName::Valid => on_objects::valid(rows, args),
+        CallName::Parent => on_objects::parent(rows, args),
+        CallName::Children => on_objects::children(rows, alloc, args),
+        CallName::IsPlayer => on_objects::is_player(rows, args),
+        CallName::Players => on_objects::players(rows, alloc, args),
+        CallName::MaxObject => on_objects::max_object(rows, args),
+        CallName::Get => on_properties::get(rows, alloc, programmer, args),
+        CallName::Properties => on_properties::properties(rows, alloc, programmer, args),
+        CallName::PropertyInfo => on_properties::property_info(rows, alloc, programmer, args),
+        CallName::IsClearProperty => on_properties::is_clear_property(rows, programmer, args),
+        CallName::Verbs => on_verbs::verbs(rows, alloc, programmer, args),
+        CallName::VerbInfo => on_verbs::verb_info(rows, alloc, programmer, args),
+        CallName::VerbArgs => on_verbs::verb_args(rows, alloc, programmer, args),
+        CallName::AcceptList => on_objects::accept_list(rows, alloc, args),
+        CallName::Create => on_objects::create(rows, alloc, programmer, args),
+        CallName::Chparent => on_objects::chparent(rows, alloc, programmer, args),
+        CallName::Recycle => on_objects::recycle(rows, alloc, programmer, args),
+        CallName::Move => on_objects::move_into(rows, alloc, programmer, args),
+        CallName::SetPlayerFlag => on_objects::set_player_flag(rows, alloc, programmer, args),
+        CallName::Set => on_properties::set(rows, alloc, programmer, args),
+        CallName::AddProperty => on_properties::add_property(rows, alloc, programmer, args),
+        CallName::DeleteProperty => on_properties::delete_property(rows, alloc, programmer, args),
+        CallName::SetPropertyInfo => {
+            on_properties::set_property_info(rows, alloc, programmer, args)
+        }
+        CallName::ClearProperty => on_properties::clear_property(rows, programmer, args),
+        CallName::AddVerb => on_verbs::add_verb(rows, alloc, programmer, args),
+        CallName::DeleteVerb => on_verbs::delete_verb(rows, alloc, programmer, args),
+        CallName::SetVerbInfo => on_verbs::set_verb_info(rows, alloc, programmer, args),
+        CallName::SetVerbArgs => on_verbs::set_verb_args(rows, alloc, programmer, args),
+        CallName::SetAccept => on_objects::set_accept(rows, alloc, programmer, args),
+    }
+}
+
+/// One call of the programmer's. E_PERM where the programmer is no object; then E_ARGS and E_TYPE; then the errors of the
+/// call. At an error, and where a number is wanted and none is left (Full), the rows are as they were. After want of memory they may be
+/// half changed, and the caller drops them.
+#[tactic(auto, unfolding(moo_world::specs::Step::step))]
+pub fn step<R: Rows>(
+    rows: &mut R,
+    alloc: Global,
+    programmer: ObjNo,
+    call: &Call,
+) -> Result<Value, Fault>
+    requires good { IsGood (R.held rows.old).maps }
+    ensures comes { ComesTo (step (world_in (R.held rows.old)) programmer call.now) (R.held rows.old) (R.held rows.new) result }
+    ensures kept { OnOk result (Keeps (R.held rows.old) (R.held rows.new)) }
+{
+    if !valid(rows, programmer) {
+        return Err(Fault::Moo(Code::Permission));
+    }
+    named_call(rows, alloc, programmer, call.name, call.args.items())
+}

@@ -1,0 +1,7 @@
+use Rattle.std.proofs.Common.{ap, ◌∙◌}
+use Rattle.std.specs.List.{list_any}
+use Rattle.moo_world.specs.Objects.{same_object-eq}
+use Rattle.moo_props.proofs.reparenting.is_among.Goals as goal
+
+pub returns : goal.returns
+returns c = c.contains.ensures.value ∙ ap (λ test. list_any test c.args.list.now) (λ i y. same_object-eq c.args.x y i)

@@ -1,0 +1,11 @@
+use Rattle.std.proofs.Common.{◌≡◌, ◌++◌, drop}
+use Rattle.moo_props.specs.Reparent.{without_on, keys_on}
+use Rattle.moo_props.proofs.reparenting.remove_on.Given as goal
+
+-- without the properties that are left, it is as without all
+abbrev pub invariant-loop-id : goal.invariant-loop-id
+invariant-loop-id g l =
+    record {
+      rows : without_on l.y (drop l.id-index l.ids) (g.R.Rows.held l.rows) ≡ without_on l.y l.ids (g.R.Rows.held l.fn.rows);
+      list : l.removed.items ++ keys_on l.y (drop l.id-index l.ids) ≡ l.fn.removed.items ++ keys_on l.y l.ids;
+    }

@@ -1,0 +1,283 @@
+//! A change of parent.
+
+ghost use Rattle.std.specs.Prelude.{◌≡◌, ◌++◌, ◌+◌, ◌≤◌, map, length, IfOk, OnOk};
+ghost use Rattle.std.specs.FinMap.{get, entries};
+ghost use Rattle.moo_rows.specs.Maps.{slot_cmp};
+ghost use Rattle.moo_world.specs.Objects.{is_among};
+ghost use Rattle.moo_world.specs.World.{IsTree, reparented};
+ghost use Rattle.moo_world.specs.Rows.{world_of, IsGood};
+ghost use Rattle.moo_world.specs.Laws.{MayReparent};
+ghost use Rattle.moo_world.specs.Keeps.{Keeps};
+ghost use Rattle.moo_props.specs.Reparent.{owners_under, props_only_of, origins, id_of, keys_on, keys_over, without_on, fresh_row, with_fresh, slots_moved, relinked, relinked_list};
+ghost use Rattle.moo_props.specs.Present.{ArePresent, AreAbsent, AreAscending};
+ghost use Rattle.moo_props.specs.Touched.{removed_keys, added_keys, relinked_objects, slot_after, row_after, IsSameButSlotsAndObjects};
+
+use moo_rows::{
+    Bits, ObjList, ObjRow, PropId, Row, Rows, SlotRow, SlotState, each_object, each_prop,
+};
+use moo_tree::{Known, chain};
+use moo_value::ObjNo;
+use std::alloc::{AllocError, Global};
+use std::marker::Model;
+
+/// Keys of slots, in order.
+#[derive(Drop)]
+pub struct SlotKeys {
+    items: Vec<(ObjNo, PropId)>,
+}
+
+impl Model for SlotKeys {
+    ghost use Rattle.std.specs.Prelude.{List};
+    ghost use Rattle.moo_value.specs.declared.value.ObjNo.{ObjNo};
+    ghost use Rattle.moo_rows.specs.declared.row.PropId.{PropId};
+
+    ghost Value = { List (ObjNo × PropId) };
+
+    ghost view = { λ a. a.items.items };
+}
+
+impl SlotKeys {
+    /// The keys of a list.
+    pub(crate) fn from_vec(items: Vec<(ObjNo, PropId)>) -> SlotKeys
+        ensures { result ≡ items.items }
+    {
+        SlotKeys { items }
+    }
+
+    /// The keys, in order.
+    pub fn items(&self) -> &[(ObjNo, PropId)]
+        ensures { result.now ≡ self.now }
+    {
+        self.items.as_slice()
+    }
+}
+
+/// What a change of parent touched: the slots that went, those that came, and the objects with another parent.
+#[derive(Drop)]
+pub struct Touched {
+    pub removed: SlotKeys,
+    pub added: SlotKeys,
+    pub relinked: ObjList,
+}
+
+/// A property with the owner and the bits of the slot that fresh ones are made from.
+#[derive(Clone, Copy)]
+pub struct Origin {
+    pub id: PropId,
+    pub owner: ObjNo,
+    pub bits: Bits,
+}
+
+impl Origin {
+    /// The slot that is made from it on an object of this owner.
+    pub(crate) fn fresh(&self, owner: ObjNo) -> SlotRow
+        ensures { result ≡ fresh_row owner self.now }
+    {
+        SlotRow {
+            owner: if self.bits.c { owner } else { self.owner },
+            bits: self.bits,
+            state: SlotState::Clear,
+        }
+    }
+}
+
+/// Whether an object stands in a list.
+fn is_among(list: &[ObjNo], x: ObjNo) -> bool
+    ensures { result ≡ is_among x list.now }
+{
+    list.contains(&x)
+}
+
+/// The objects under x with their owners, ascending. Each object is climbed over once.
+pub(crate) fn owners_under<R: Rows>(
+    alloc: Global,
+    rows: &R,
+    x: ObjNo,
+) -> Result<Vec<(ObjNo, ObjNo)>, AllocError>
+    requires { IsTree (world_of (R.held rows.now).maps) }
+    ensures { IfOk result (λ v. v.items ≡ owners_under (R.held rows.now).maps x) }
+{
+    let mut known = Known::new(alloc, rows, x);
+    let mut found = Vec::new(alloc);
+    for (y, row) in each_object(rows) {
+        if known.is_under(y)? {
+            found.push((y, row.owner))?;
+        }
+    }
+    Ok(found)
+}
+
+/// The properties that objects of one list define and not those of another, ascending.
+pub(crate) fn props_only_of<R: Rows>(
+    alloc: Global,
+    rows: &R,
+    these: &[ObjNo],
+    others: &[ObjNo],
+) -> Result<Vec<PropId>, AllocError>
+    ensures { IfOk result (λ v. v.items ≡ props_only_of these.now others.now (entries (R.held rows.now).maps.props)) }
+{
+    let mut found = Vec::new(alloc);
+    for (id, row) in each_prop(rows) {
+        if is_among(these, row.definer) && !is_among(others, row.definer) {
+            found.push(id)?;
+        }
+    }
+    Ok(found)
+}
+
+/// The properties, each with the slot of it on q.
+fn origins<R: Rows>(
+    alloc: Global,
+    rows: &R,
+    q: ObjNo,
+    ids: &[PropId],
+) -> Result<Vec<Origin>, AllocError>
+    ensures { IfOk result (λ v. v.items ≡ origins (R.held rows.now).maps.slots q ids.now) }
+{
+    let mut found = Vec::new(alloc);
+    for id in ids {
+        if let Some(slot) = rows.slot((q, *id)) {
+            found.push(Origin {
+                id: *id,
+                owner: slot.owner,
+                bits: slot.bits,
+            })?;
+        }
+    }
+    Ok(found)
+}
+
+/// Removes the slots of these properties on y and lists them.
+pub(crate) fn remove_on<R: Rows>(
+    rows: &mut R,
+    y: ObjNo,
+    ids: &[PropId],
+    removed: &mut Vec<(ObjNo, PropId)>,
+) -> Result<(), AllocError>
+    ensures rows { OnOk result (R.held rows.new ≡ without_on y ids.now (R.held rows.old)) }
+    ensures list { OnOk result (removed.new.items ≡ removed.old.items ++ keys_on y ids.now) }
+{
+    for id in ids {
+        rows.remove_slot((y, *id))?;
+        removed.push((y, *id))?;
+    }
+    Ok(())
+}
+
+/// Puts fresh slots on y, and lists them.
+fn add_on<R: Rows>(
+    rows: &mut R,
+    y: ObjNo,
+    owner: ObjNo,
+    origins: &[Origin],
+    added: &mut Vec<(ObjNo, PropId)>,
+) -> Result<(), AllocError>
+    ensures rows { OnOk result (R.held rows.new ≡ with_fresh y owner origins.now (R.held rows.old)) }
+    ensures list { OnOk result (added.new.items ≡ added.old.items ++ keys_on y (map id_of origins.now)) }
+{
+    for origin in origins {
+        rows.put_slot((y, origin.id), origin.fresh(owner))?;
+        added.push((y, origin.id))?;
+    }
+    Ok(())
+}
+
+/// On each of these objects, removes slots and puts fresh ones, and lists both.
+fn move_slots<R: Rows>(
+    rows: &mut R,
+    under: &[(ObjNo, ObjNo)],
+    lost: &[PropId],
+    gained: &[Origin],
+    removed: &mut Vec<(ObjNo, PropId)>,
+    added: &mut Vec<(ObjNo, PropId)>,
+) -> Result<(), AllocError>
+    ensures rows { OnOk result (R.held rows.new ≡ slots_moved lost.now gained.now under.now (R.held rows.old)) }
+    ensures removed { OnOk result (removed.new.items ≡ removed.old.items ++ keys_over lost.now under.now) }
+    ensures added { OnOk result (added.new.items ≡ added.old.items ++ keys_over (map id_of gained.now) under.now) }
+{
+    for (y, owner) in under {
+        remove_on(rows, *y, lost, removed)?;
+        add_on(rows, *y, *owner, gained, added)?;
+    }
+    Ok(())
+}
+
+/// Puts x under another parent where that is not its parent yet, and lists it then.
+#[tactic(auto, unfolding(moo_world::specs::Objects::same_object))]
+fn relink<R: Rows>(
+    alloc: Global,
+    rows: &mut R,
+    x: ObjNo,
+    mut row: ObjRow,
+    new: ObjNo,
+) -> Result<ObjList, AllocError>
+    ensures rows { OnOk result (R.held rows.new ≡ relinked x row new (R.held rows.old)) }
+    ensures list { IfOk result (λ list. list ≡ relinked_list x row new) }
+{
+    let mut list = Vec::new(alloc);
+    if row.parent == new {
+        return Ok(ObjList::from_vec(list));
+    }
+    row.parent = new;
+    rows.put_object(x, row)?;
+    list.push(x)?;
+    Ok(ObjList::from_vec(list))
+}
+
+/// Puts x under another parent: x and all under it lose the slots of definers that they are under no more, and get
+/// fresh ones of those that they are under now. What is listed is ascending. Under the present parent nothing is written.
+///
+/// The only error is want of memory, after which the rows may be half changed.
+///
+/// LambdaMOO Programmer's Manual, 'Fundamental Operations on Objects': `chparent`.
+pub fn reparent<R: Rows>(
+    alloc: Global,
+    rows: &mut R,
+    x: ObjNo,
+    new: ObjNo,
+) -> Result<Touched, AllocError>
+    requires good { IsGood (R.held rows.old).maps }
+    requires may { MayReparent (world_of (R.held rows.old).maps) x new }
+    ensures removed { IfOk result (λ touched. touched.removed ≡ removed_keys (R.held rows.old).maps x new) }
+    ensures added { IfOk result (λ touched. touched.added ≡ added_keys (R.held rows.old).maps x new) }
+    ensures relinked { IfOk result (λ touched. touched.relinked ≡ relinked_objects (R.held rows.old).maps x new) }
+    ensures removed_order { IfOk result (λ touched. AreAscending slot_cmp touched.removed) }
+    ensures added_order { IfOk result (λ touched. AreAscending slot_cmp touched.added) }
+    ensures had { OnOk result (ArePresent (R.held rows.old).maps.slots (removed_keys (R.held rows.old).maps x new)) }
+    ensures gone { OnOk result (AreAbsent (R.held rows.new).maps.slots (removed_keys (R.held rows.old).maps x new)) }
+    ensures lacked { OnOk result (AreAbsent (R.held rows.old).maps.slots (added_keys (R.held rows.old).maps x new)) }
+    ensures came { OnOk result (ArePresent (R.held rows.new).maps.slots (added_keys (R.held rows.old).maps x new)) }
+    ensures slots { OnOk result ((key : ObjNo × PropId) → get (R.held rows.new).maps.slots key ≡ slot_after (R.held rows.old).maps x new key) }
+    ensures objects { OnOk result ((y : ObjNo) → get (R.held rows.new).maps.objects y ≡ row_after (R.held rows.old).maps x new y) }
+    ensures rest { OnOk result (IsSameButSlotsAndObjects (R.held rows.old).maps (R.held rows.new).maps) }
+    ensures world { OnOk result (world_of (R.held rows.new).maps ≡ reparented (world_of (R.held rows.old).maps) x new) }
+    ensures kept { OnOk result (Keeps (R.held rows.old) (R.held rows.new)) }
+    ensures writes { IfOk result (λ touched. (R.held rows.new).writes ≤ (R.held rows.old).writes + (length touched.removed + length touched.added + length touched.relinked)) }
+{
+    let row = match rows.object(x) {
+        None => unreachable!(),
+        Some(row) => row.copy(alloc)?,
+    };
+    let above = chain(alloc, rows, row.parent)?;
+    let ahead = chain(alloc, rows, new)?;
+    let lost = props_only_of(alloc, rows, above.as_slice(), ahead.as_slice())?;
+    let coming = props_only_of(alloc, rows, ahead.as_slice(), above.as_slice())?;
+    let gained = origins(alloc, rows, new, coming.as_slice())?;
+    let under = owners_under(alloc, rows, x)?;
+    let mut removed = Vec::new(alloc);
+    let mut added = Vec::new(alloc);
+    move_slots(
+        rows,
+        under.as_slice(),
+        lost.as_slice(),
+        gained.as_slice(),
+        &mut removed,
+        &mut added,
+    )?;
+    let relinked = relink(alloc, rows, x, row, new)?;
+    Ok(Touched {
+        removed: SlotKeys { items: removed },
+        added: SlotKeys { items: added },
+        relinked,
+    })
+}
