@@ -9,7 +9,7 @@ use Rattle.moo_world.specs.World.{is_object}
 use Rattle.moo_call_parts.specs.Outcomes.{world_in}
 use Rattle.moo_call_parts.proofs.Passed.{check_passed}
 use Rattle.moo_props.specs.Names.{spelling_of}
-use Rattle.moo_props.proofs.Found.{definer_found}
+use Rattle.moo_props.proofs.FoundSlots.{definer_found}
 use Rattle.moo_props.proofs.Quotas.{folded_spelling}
 use Rattle.moo_property_calls.proofs.PropertyNames.{slot_named}
 use Rattle.moo_property_calls.proofs.clearing.clear_property.Goals as goal
