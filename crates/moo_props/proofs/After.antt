@@ -23,7 +23,8 @@ use Rattle.moo_world.proofs.RowLaws.{slot_shown}
 use Rattle.moo_world.proofs.Seen.{is_object_seen}
 use Rattle.moo_world.proofs.Subtrees.{owed_listed}
 use Rattle.moo_world.proofs.Trees.{Chain-chain, chain_of_none}
-use Rattle.moo_props.specs.Touched.{is_defined_among, fresh_from, slot_after, row_after}
+use Rattle.moo_props.specs.Touched.{is_defined_among, slot_after, row_after}
+use Rattle.moo_props.specs.Slots.{fresh_row}
 use Rattle.moo_props.proofs.Definers.{new_is, no_clash, leaving, arriving, staying}
 use Rattle.moo_world.proofs.PairLists.{some_of}
 use Rattle.moo_props.proofs.Gains.{object_row, defines_pair, new_object, slot_of_owed}
@@ -126,10 +127,10 @@ module _ (t : Maps) (sound : IsSound t) (x q : ObjNo) (may : MayReparent (world_
     abbrev settle : Bool → Bool → Bool → Option SlotRow → Option SlotRow → Option SlotRow
     settle u g l f o = if u then (if g then f else (if l then None else o)) else o
 
-    settled : (y : ObjNo) (id : ℕ) (p : PropRow) (u g l : Bool) → m.prop id ≡ Some p → is_among x (chain w y) ≡ u → is_among p.definer coming ≡ g → is_among p.definer going ≡ l → m2.slot y id ≡ settle u g l (option_map (fresh_from (owner_of w y)) (m.slot q id)) (m.slot y id)
+    settled : (y : ObjNo) (id : ℕ) (p : PropRow) (u g l : Bool) → m.prop id ≡ Some p → is_among x (chain w y) ≡ u → is_among p.definer coming ≡ g → is_among p.definer going ≡ l → m2.slot y id ≡ settle u g l (option_map (fresh_row (owner_of w y)) (m.slot q id)) (m.slot y id)
     settled y id p u g l e hu hg hl =
         slots (y, prop_id id)
-        ∙ (λ i. settle (hu i) ((tests coming id p e ∙ hg) i) ((tests going id p e ∙ hl) i) (option_map (fresh_from (owner_of w y)) (m.slot q id)) (m.slot y id))
+        ∙ (λ i. settle (hu i) ((tests coming id p e ∙ hg) i) ((tests going id p e ∙ hl) i) (option_map (fresh_row (owner_of w y)) (m.slot q id)) (m.slot y id))
 
     module _ (y : ObjNo) (n : Name) (row : ObjRow) (here : m.object y ≡ Some row) where
       yo : is_object w y ≡ true
@@ -155,12 +156,12 @@ module _ (t : Maps) (sound : IsSound t) (x q : ObjNo) (may : MayReparent (world_
           kept None g k = absurd (none-some h.row k)
           kept (Some r) g k = seen r g (sym (same_Some r h.row k))
 
-          came : (v : Option SlotRow) → m.slot q id ≡ v → is_among h.prop.definer coming ≡ true → option_map (fresh_from (owner_of w y)) v ≡ Some h.row → Some s ≡ option_map (fresh (owner_of w y)) (slot_of w q n)
+          came : (v : Option SlotRow) → m.slot q id ≡ v → is_among h.prop.definer coming ≡ true → option_map (fresh_row (owner_of w y)) v ≡ Some h.row → Some s ≡ option_map (fresh (owner_of w y)) (slot_of w q n)
           came None g c k = absurd (none-some h.row k)
           came (Some r) g c k =
               let qo = object_row t sound q (new_object t sound x q may h.prop.definer c) in
               let at_q : slot_of w q n ≡ Some (slot_seen h.prop.definer r) = slot_is q n qo.0 qo.1 id (record { prop = h.prop; row = r; there = h.there; held = g; name = h.name }) in
-              ap Some e ∙ ap (λ z. Some (slot_seen h.prop.definer z)) (sym (same_Some (fresh_from (owner_of w y) r) h.row k)) ∙ sym (ap (option_map (fresh (owner_of w y))) at_q)
+              ap Some e ∙ ap (λ z. Some (slot_seen h.prop.definer z)) (sym (same_Some (fresh_row (owner_of w y) r) h.row k)) ∙ sym (ap (option_map (fresh (owner_of w y))) at_q)
 
           definer : slot_of w y n ≡ Some s → option_map (λ z. z.definer) (slot_of w y n) ≡ Some h.prop.definer
           definer k = ap (option_map (λ (z : Slot). z.definer)) k ∙ ap (λ (z : Slot). Some z.definer) e
@@ -203,7 +204,7 @@ module _ (t : Maps) (sound : IsSound t) (x q : ObjNo) (may : MayReparent (world_
           by true hu None ho (Some s) e = stays hu ho s e
           by true hu (Some p) ho v e =
               let k = named_gained n p ho in
-              absurd (not_here k.0 k.1.prop (fresh_from (owner_of w y) k.1.row) k.1.there (settled y k.0 k.1.prop true true _ k.1.there hu k.2 refl ∙ ap (option_map (fresh_from (owner_of w y))) k.1.held) k.1.name)
+              absurd (not_here k.0 k.1.prop (fresh_row (owner_of w y) k.1.row) k.1.there (settled y k.0 k.1.prop true true _ k.1.there hu k.2 refl ∙ ap (option_map (fresh_row (owner_of w y))) k.1.held) k.1.name)
 
       slot_here : slot_of (world_of t2) y n ≡ manual_slot w x q y n
       slot_here = by (slot_of (world_of t2) y n) refl
@@ -262,9 +263,9 @@ module _ (t : Maps) (sound : IsSound t) (x q : ObjNo) (may : MayReparent (world_
         some_map f None e = e
         some_map f (Some r) e = refl
 
-        by : (u : Bool) → is_among x (chain w y) ≡ u → (g : Bool) → is_defined_among coming t (prop_id id) ≡ g → (l : Bool) → is_defined_among going t (prop_id id) ≡ l → is_some (settle u g l (option_map (fresh_from (owner_of w y)) (m.slot q id)) (m.slot y id)) ≡ true → Origin y id
+        by : (u : Bool) → is_among x (chain w y) ≡ u → (g : Bool) → is_defined_among coming t (prop_id id) ≡ g → (l : Bool) → is_defined_among going t (prop_id id) ≡ l → is_some (settle u g l (option_map (fresh_row (owner_of w y)) (m.slot q id)) (m.slot y id)) ≡ true → Origin y id
         by false hu g hg l hl k = beside hu k
-        by true hu true hg l hl k = new hu hg (some_map (fresh_from (owner_of w y)) (m.slot q id) k)
+        by true hu true hg l hl k = new hu hg (some_map (fresh_row (owner_of w y)) (m.slot q id) k)
         by true hu false hg true hl k = absurd (false≢true k)
         by true hu false hg false hl k = old hu hl k
 

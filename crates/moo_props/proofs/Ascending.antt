@@ -16,8 +16,9 @@ use Rattle.moo_world.specs.Rows.{world_of}
 use Rattle.moo_world.specs.Manual.{lost, gained}
 use Rattle.moo_props.specs.Dropping.{is_linked, linked_among, verbs_among}
 use Rattle.moo_props.specs.Present.{AreAscending}
-use Rattle.moo_props.specs.Reparent.{owners_under, keys_on, keys_over}
+use Rattle.moo_props.specs.Reparent.{owners_under}
 use Rattle.moo_props.specs.Touched.{props_of, removed_keys, added_keys}
+use Rattle.moo_props.specs.Slots.{keys_on, keys_over}
 
 -- each is below all after it, by a key
 abbrev pub Rises : {K A : Type 0} → (K → K → Ordering) → (A → K) → List A → Type 0

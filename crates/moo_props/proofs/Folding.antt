@@ -16,9 +16,9 @@ use Rattle.moo_rows.specs.Exact.{prop_exact, slot_exact}
 use Rattle.moo_rows.proofs.Orders.{prop_total, slot_total}
 use Rattle.moo_world.specs.Objects.{same_object, same_object-Decides}
 use Rattle.moo_world.proofs.MapLaws.{key-Decides, decided_alike}
-use Rattle.moo_props.specs.declared.reparenting.Origin.{Origin}
-use Rattle.moo_props.specs.Reparent.{origin_of, origins, fresh_row, slot_removed, slot_put, without_on, with_fresh, slots_moved}
-use Rattle.moo_props.specs.Touched.{fresh_from}
+use Rattle.moo_props.specs.declared.slots.Origin.{Origin}
+use Rattle.moo_props.specs.Reparent.{slots_moved}
+use Rattle.moo_props.specs.Slots.{origin_of, origins, fresh_of, slot_removed, slot_put, without_on, with_fresh, fresh_row}
 
 abbrev pub is_id : PropId → PropId → Bool
 is_id j id = eq_by_cmp prop_cmp j id
@@ -60,7 +60,7 @@ slot_at-without y z j (id ∷ ids) held =
 -- the slot that is left of g after the fresh ones are put
 abbrev pub fresh_in : ObjNo → List Origin → PropId → Option SlotRow → Option SlotRow
 fresh_in owner [] j g = g
-fresh_in owner (o ∷ os) j g = fresh_in owner os j (cond (is_id j o.id) (Some (fresh_row owner o)) g)
+fresh_in owner (o ∷ os) j g = fresh_in owner os j (cond (is_id j o.id) (Some (fresh_of owner o)) g)
 
 pub slot_at-fresh : (y z owner : ObjNo) (j : PropId) (os : List Origin) (held : Held) → slot_at (with_fresh y owner os held) z j ≡ cond (same_object y z) (fresh_in owner os j (slot_at held z j)) (slot_at held z j)
 slot_at-fresh y z owner j [] held = by (same_object y z)
@@ -69,16 +69,16 @@ slot_at-fresh y z owner j [] held = by (same_object y z)
     by true = refl
     by false = refl
 slot_at-fresh y z owner j (o ∷ os) held =
-    slot_at-fresh y z owner j os (slot_put y o.id (fresh_row owner o) held)
-    ∙ ap (λ g. cond (same_object y z) (fresh_in owner os j g) g) (get-insert slot_total held.maps.slots (y, o.id) (fresh_row owner o) (z, j) ∙ ap (λ b. cond b (Some (fresh_row owner o)) (slot_at held z j)) (key_parts y z o.id j))
+    slot_at-fresh y z owner j os (slot_put y o.id (fresh_of owner o) held)
+    ∙ ap (λ g. cond (same_object y z) (fresh_in owner os j g) g) (get-insert slot_total held.maps.slots (y, o.id) (fresh_of owner o) (z, j) ∙ ap (λ b. cond b (Some (fresh_of owner o)) (slot_at held z j)) (key_parts y z o.id j))
     ∙ by (same_object y z)
   where
-    by : (a : Bool) → cond a (fresh_in owner os j (cond (a && is_id j o.id) (Some (fresh_row owner o)) (slot_at held z j))) (cond (a && is_id j o.id) (Some (fresh_row owner o)) (slot_at held z j)) ≡ cond a (fresh_in owner os j (cond (is_id j o.id) (Some (fresh_row owner o)) (slot_at held z j))) (slot_at held z j)
+    by : (a : Bool) → cond a (fresh_in owner os j (cond (a && is_id j o.id) (Some (fresh_of owner o)) (slot_at held z j))) (cond (a && is_id j o.id) (Some (fresh_of owner o)) (slot_at held z j)) ≡ cond a (fresh_in owner os j (cond (is_id j o.id) (Some (fresh_of owner o)) (slot_at held z j))) (slot_at held z j)
     by true = refl
     by false = refl
 
 module _ (slots : FinMap slot_cmp SlotRow) (q : ObjNo) where
-  pub fresh_in-origins : (owner : ObjNo) (j : PropId) (o : Option SlotRow) → get slots (q, j) ≡ o → (ids : List PropId) (g : Option SlotRow) → fresh_in owner (origins slots q ids) j g ≡ cond (has_id j ids && is_some o) (option_map (fresh_from owner) o) g
+  pub fresh_in-origins : (owner : ObjNo) (j : PropId) (o : Option SlotRow) → get slots (q, j) ≡ o → (ids : List PropId) (g : Option SlotRow) → fresh_in owner (origins slots q ids) j g ≡ cond (has_id j ids && is_some o) (option_map (fresh_row owner) o) g
   fresh_in-origins owner j o e [] g = refl
   fresh_in-origins owner j o e (id ∷ ids) g = by (λ p h k. fresh_in-origins owner j p h ids k) (get slots (q, id)) refl (is_id j id) refl o e
     where
@@ -89,8 +89,8 @@ module _ (slots : FinMap slot_cmp SlotRow) (q : ObjNo) where
       settled true v = refl
       settled false v = refl
 
-      by : ((o : Option SlotRow) → get slots (q, j) ≡ o → (g : Option SlotRow) → fresh_in owner (origins slots q ids) j g ≡ cond (has_id j ids && is_some o) (option_map (fresh_from owner) o) g) → (p : Option SlotRow) → get slots (q, id) ≡ p → (b : Bool) → is_id j id ≡ b → (o : Option SlotRow) → get slots (q, j) ≡ o
-          → fresh_in owner (cons_option (option_map (origin_of id) p) (origins slots q ids)) j g ≡ cond ((b || has_id j ids) && is_some o) (option_map (fresh_from owner) o) g
+      by : ((o : Option SlotRow) → get slots (q, j) ≡ o → (g : Option SlotRow) → fresh_in owner (origins slots q ids) j g ≡ cond (has_id j ids && is_some o) (option_map (fresh_row owner) o) g) → (p : Option SlotRow) → get slots (q, id) ≡ p → (b : Bool) → is_id j id ≡ b → (o : Option SlotRow) → get slots (q, j) ≡ o
+          → fresh_in owner (cons_option (option_map (origin_of id) p) (origins slots q ids)) j g ≡ cond ((b || has_id j ids) && is_some o) (option_map (fresh_row owner) o) g
       by r None h true k None e = r None e g ∙ ap (λ v. cond v None g) (none (has_id j ids))
         where
           none : (b : Bool) → (b && false) ≡ false
@@ -101,23 +101,23 @@ module _ (slots : FinMap slot_cmp SlotRow) (q : ObjNo) where
       by r (Some p) h true k None e = absurd (none-some p (sym e ∙ sym (same_slot k) ∙ h))
       by r (Some p) h true k (Some s) e =
           let same : p ≡ s = same_Some p s (sym h ∙ same_slot k ∙ e) in
-          r (Some s) e (cond (is_id j id) (Some (fresh_from owner p)) g)
-          ∙ (λ i. cond (has_id j ids && true) (Some (fresh_from owner s)) (cond (k i) (Some (fresh_from owner (same i))) g))
-          ∙ settled (has_id j ids && true) (Some (fresh_from owner s))
+          r (Some s) e (cond (is_id j id) (Some (fresh_row owner p)) g)
+          ∙ (λ i. cond (has_id j ids && true) (Some (fresh_row owner s)) (cond (k i) (Some (fresh_row owner (same i))) g))
+          ∙ settled (has_id j ids && true) (Some (fresh_row owner s))
       by r (Some p) h false k o e =
-          r o e (cond (is_id j id) (Some (fresh_from owner p)) g)
-          ∙ ap (λ b. cond (has_id j ids && is_some o) (option_map (fresh_from owner) o) (cond b (Some (fresh_from owner p)) g)) k
+          r o e (cond (is_id j id) (Some (fresh_row owner p)) g)
+          ∙ ap (λ b. cond (has_id j ids && is_some o) (option_map (fresh_row owner) o) (cond b (Some (fresh_row owner p)) g)) k
 
   -- what becomes of a slot on an object of this owner
   abbrev pub moved_slot : List PropId → List PropId → ObjNo → PropId → Option SlotRow → Option SlotRow
-  moved_slot lost coming owner j g = cond (has_id j coming && is_some (get slots (q, j))) (option_map (fresh_from owner) (get slots (q, j))) (cond (has_id j lost) None g)
+  moved_slot lost coming owner j g = cond (has_id j coming && is_some (get slots (q, j))) (option_map (fresh_row owner) (get slots (q, j))) (cond (has_id j lost) None g)
 
   module _ (lost coming : List PropId) (owner : ObjNo → ObjNo) (z : ObjNo) (j : PropId) where
     abbrev step : Option SlotRow → Option SlotRow
     step g = moved_slot lost coming (owner z) j g
 
     twice : (g : Option SlotRow) → step (step g) ≡ step g
-    twice g = by (has_id j coming && is_some (get slots (q, j))) (has_id j lost) (option_map (fresh_from (owner z)) (get slots (q, j)))
+    twice g = by (has_id j coming && is_some (get slots (q, j))) (has_id j lost) (option_map (fresh_row (owner z)) (get slots (q, j)))
       where
         by : (a b : Bool) (f : Option SlotRow) → cond a f (cond b None (cond a f (cond b None g))) ≡ cond a f (cond b None g)
         by true b f = refl

@@ -21,9 +21,10 @@ use Rattle.moo_world.specs.Laws.{MayReparent}
 use Rattle.moo_world.specs.Manual.{ancestors, lost, gained}
 use Rattle.moo_world.proofs.Seen.{chain_of_row, chain_of_no_row, object_seen}
 use Rattle.moo_world.proofs.MapLaws.{object_key}
-use Rattle.moo_props.specs.declared.reparenting.Origin.{Origin}
-use Rattle.moo_props.specs.Reparent.{owners_under, props_only_of, id_of, origin_of, origins, fresh_row, slot_removed, slot_put, without_on, with_fresh, slots_moved, keys_on, keys_over, relinked, relinked_list}
-use Rattle.moo_props.specs.Touched.{props_of, is_defined_among, fresh_from, slot_after, row_after, IsSameButSlotsAndObjects}
+use Rattle.moo_props.specs.declared.slots.Origin.{Origin}
+use Rattle.moo_props.specs.Reparent.{owners_under, props_only_of, slots_moved, relinked, relinked_list}
+use Rattle.moo_props.specs.Touched.{props_of, is_defined_among, slot_after, row_after, IsSameButSlotsAndObjects}
+use Rattle.moo_props.specs.Slots.{id_of, origin_of, origins, fresh_of, slot_removed, slot_put, without_on, with_fresh, keys_on, keys_over, fresh_row}
 use Rattle.moo_world.proofs.Listed.{listed, own_entries, all_made}
 use Rattle.moo_props.proofs.Folding.{has_id, is_id, all_moved}
 use Rattle.moo_props.proofs.Definers.{only_lost, only_gained}
@@ -44,7 +45,7 @@ only-without y (id ∷ ids) held = onward held.maps (slot_removed y id held).map
 
 pub only-fresh : (y owner : ObjNo) (os : List Origin) (held : Held) → IsSlotsOnly held.maps (with_fresh y owner os held).maps
 only-fresh y owner [] held = refl
-only-fresh y owner (o ∷ os) held = onward held.maps (slot_put y o.id (fresh_row owner o) held).maps (with_fresh y owner (o ∷ os) held).maps refl (only-fresh y owner os (slot_put y o.id (fresh_row owner o) held))
+only-fresh y owner (o ∷ os) held = onward held.maps (slot_put y o.id (fresh_of owner o) held).maps (with_fresh y owner (o ∷ os) held).maps refl (only-fresh y owner os (slot_put y o.id (fresh_of owner o) held))
 
 pub only-moved : (lost : List PropId) (gained : List Origin) (es : List (ObjNo × ObjNo)) (held : Held) → IsSlotsOnly held.maps (slots_moved lost gained es held).maps
 only-moved lost gained [] held = refl
@@ -60,7 +61,7 @@ writes-without y (id ∷ ids) held = omega (arith, writes-without y ids (slot_re
 
 pub writes-fresh : (y owner : ObjNo) (os : List Origin) (held : Held) → (with_fresh y owner os held).writes ≡ held.writes + length os
 writes-fresh y owner [] held = omega arith
-writes-fresh y owner (o ∷ os) held = omega (arith, writes-fresh y owner os (slot_put y o.id (fresh_row owner o) held))
+writes-fresh y owner (o ∷ os) held = omega (arith, writes-fresh y owner os (slot_put y o.id (fresh_of owner o) held))
 
 pub base-without : (y : ObjNo) (ids : List PropId) (held : Held) → (without_on y ids held).base ≡ held.base
 base-without y [] held = refl
@@ -68,7 +69,7 @@ base-without y (id ∷ ids) held = base-without y ids (slot_removed y id held)
 
 pub base-fresh : (y owner : ObjNo) (os : List Origin) (held : Held) → (with_fresh y owner os held).base ≡ held.base
 base-fresh y owner [] held = refl
-base-fresh y owner (o ∷ os) held = base-fresh y owner os (slot_put y o.id (fresh_row owner o) held)
+base-fresh y owner (o ∷ os) held = base-fresh y owner os (slot_put y o.id (fresh_of owner o) held)
 
 base-moved : (lost : List PropId) (gained : List Origin) (es : List (ObjNo × ObjNo)) (held : Held) → (slots_moved lost gained es held).base ≡ held.base
 base-moved lost gained [] held = refl
@@ -169,15 +170,15 @@ module _ (t : Maps) (sound : IsSound t) (x q : ObjNo) (may : MayReparent (world_
         ∙ by (is_defined_among (gained w x q) t key.1) refl
       where
         settle : Bool → Bool → Bool → Option SlotRow → Option SlotRow
-        settle u g l o = cond u (cond (g && is_some (get t.slots (q, key.1))) (option_map (fresh_from (owner_of w key.0)) (get t.slots (q, key.1))) (cond l None o)) o
+        settle u g l o = cond u (cond (g && is_some (get t.slots (q, key.1))) (option_map (fresh_row (owner_of w key.0)) (get t.slots (q, key.1))) (cond l None o)) o
 
         on_new : (o : Option PropRow) → get t.props key.1 ≡ o → unwrap_or (option_map (λ (p : PropRow). is_among p.definer (gained w x q)) o) false ≡ true → is_some (get t.slots (q, key.1)) ≡ true
         on_new None e h = absurd (false≢true h)
         on_new (Some p) e h = slot_on_new t sound x q may key.1.0 p e h
 
         by : (g : Bool) → is_defined_among (gained w x q) t key.1 ≡ g → settle (is_among x (chain w key.0)) g (is_defined_among (lost w x q) t key.1) (get t.slots key)
-            ≡ (if is_among x (chain w key.0) then (if g then option_map (fresh_from (owner_of w key.0)) (get t.slots (q, key.1)) else (if is_defined_among (lost w x q) t key.1 then None else get t.slots key)) else get t.slots key)
-        by true e = ap (λ b. cond (is_among x (chain w key.0)) (cond b (option_map (fresh_from (owner_of w key.0)) (get t.slots (q, key.1))) (cond (is_defined_among (lost w x q) t key.1) None (get t.slots key))) (get t.slots key)) (on_new (get t.props key.1) refl e)
+            ≡ (if is_among x (chain w key.0) then (if g then option_map (fresh_row (owner_of w key.0)) (get t.slots (q, key.1)) else (if is_defined_among (lost w x q) t key.1 then None else get t.slots key)) else get t.slots key)
+        by true e = ap (λ b. cond (is_among x (chain w key.0)) (cond b (option_map (fresh_row (owner_of w key.0)) (get t.slots (q, key.1))) (cond (is_defined_among (lost w x q) t key.1) None (get t.slots key))) (get t.slots key)) (on_new (get t.props key.1) refl e)
         by false e = refl
 
     only1 : held1.maps ≡ record t { slots = held1.maps.slots }

@@ -21,7 +21,7 @@ use Rattle.moo_world.proofs.Rebuilding.{SameButSlots-rebuilt, slot_of-rebuilt, s
 use Rattle.moo_world.proofs.Seen.{is_object_seen}
 use Rattle.moo_world.proofs.Trees.{Chain-chain, chain_of_none, linked}
 use Rattle.moo_props.specs.Birth.{new_row}
-use Rattle.moo_props.specs.Touched.{fresh_from}
+use Rattle.moo_props.specs.Slots.{fresh_row}
 use Rattle.moo_props.proofs.NewSlots.{with_new}
 use Rattle.moo_world.proofs.Numbered.{first_from, no_first}
 use Rattle.moo_world.proofs.Shown.{here-slot_on, slots_shown}
@@ -135,15 +135,15 @@ module _ (m : LookUps) (sound : AreSound m) (wf : IsWellFormed (world_shown m)) 
 
   fresh_on : (n : Name) (id : ℕ) → slot_on m2 x n id ≡ option_map (fresh owner) (slot_on m q n id)
   fresh_on n id =
-      ap (λ b. option_and_then (λ (p : PropRow). if same_text (folded p.name) n then option_map (slot_seen p.definer) (if b then option_map (fresh_from owner) (m.slot q id) else m.slot x id) else None) (m.prop id)) is_x
+      ap (λ b. option_and_then (λ (p : PropRow). if same_text (folded p.name) n then option_map (slot_seen p.definer) (if b then option_map (fresh_row owner) (m.slot q id) else m.slot x id) else None) (m.prop id)) is_x
       ∙ by (m.prop id)
     where
-      inner : (p : PropRow) (b : Bool) (o : Option SlotRow) → (if b then option_map (slot_seen p.definer) (option_map (fresh_from owner) o) else None) ≡ option_map (fresh owner) (if b then option_map (slot_seen p.definer) o else None)
+      inner : (p : PropRow) (b : Bool) (o : Option SlotRow) → (if b then option_map (slot_seen p.definer) (option_map (fresh_row owner) o) else None) ≡ option_map (fresh owner) (if b then option_map (slot_seen p.definer) o else None)
       inner p true None = refl
       inner p true (Some r) = refl
       inner p false o = refl
 
-      by : (o : Option PropRow) → option_and_then (λ (p : PropRow). if same_text (folded p.name) n then option_map (slot_seen p.definer) (option_map (fresh_from owner) (m.slot q id)) else None) o ≡ option_map (fresh owner) (option_and_then (λ (p : PropRow). if same_text (folded p.name) n then option_map (slot_seen p.definer) (m.slot q id) else None) o)
+      by : (o : Option PropRow) → option_and_then (λ (p : PropRow). if same_text (folded p.name) n then option_map (slot_seen p.definer) (option_map (fresh_row owner) (m.slot q id)) else None) o ≡ option_map (fresh owner) (option_and_then (λ (p : PropRow). if same_text (folded p.name) n then option_map (slot_seen p.definer) (m.slot q id) else None) o)
       by None = refl
       by (Some p) = inner p (same_text (folded p.name) n) (m.slot q id)
 
@@ -158,7 +158,7 @@ module _ (m : LookUps) (sound : AreSound m) (wf : IsWellFormed (world_shown m)) 
   -- every other object has its own
   slots_of_other : (y : ObjNo) (n : Name) → same_object x y ≡ false → slot_of (world_shown m2) y n ≡ slot_of w y n
   unfolding world_shown
-  slots_of_other y n e = ap (λ b. option_and_then (λ (r : Record). r.slot n) (option_map (record_of (record m { slot = λ z j. if b then option_map (fresh_from owner) (m.slot q j) else m.slot z j }) y) (if b then Some (new_row q owner) else m.object y))) e
+  slots_of_other y n e = ap (λ b. option_and_then (λ (r : Record). r.slot n) (option_map (record_of (record m { slot = λ z j. if b then option_map (fresh_row owner) (m.slot q j) else m.slot z j }) y) (if b then Some (new_row q owner) else m.object y))) e
 
   -- ---- the slots of the rebuilt world
 
@@ -228,21 +228,21 @@ module _ (m : LookUps) (sound : AreSound m) (wf : IsWellFormed (world_shown m)) 
       by true = refl
       by false = e
 
-  from_parent : (o : Option SlotRow) → is_some (option_map (fresh_from owner) o) ≡ true → is_some o ≡ true
+  from_parent : (o : Option SlotRow) → is_some (option_map (fresh_row owner) o) ≡ true → is_some o ≡ true
   from_parent None e = e
   from_parent (Some r) e = refl
 
   rows_of : (y : ObjNo) (id : ℕ) → is_some (m2.slot y id) ≡ true → (is_some (m2.object y) ≡ true) × (is_some (m.prop id) ≡ true)
   rows_of y id = by (same_object x y) refl
     where
-      by : (b : Bool) → same_object x y ≡ b → is_some (if b then option_map (fresh_from owner) (m.slot q id) else m.slot y id) ≡ true → (is_some (m2.object y) ≡ true) × (is_some (m.prop id) ≡ true)
+      by : (b : Bool) → same_object x y ≡ b → is_some (if b then option_map (fresh_row owner) (m.slot q id) else m.slot y id) ≡ true → (is_some (m2.object y) ≡ true) × (is_some (m.prop id) ≡ true)
       by true e h = (ap (λ b. is_some (if b then Some (new_row q owner) else m.object y)) e, (sound.slots q id (from_parent (m.slot q id) h)).1)
       by false e h = let r = sound.slots y id h in (still y r.0, r.1)
 
   one_name2 : (y : ObjNo) (i j : ℕ) (p r : PropRow) → is_some (m2.slot y i) ≡ true → is_some (m2.slot y j) ≡ true → m.prop i ≡ Some p → m.prop j ≡ Some r → folded p.name ≡ folded r.name → i ≡ j
   one_name2 y i j p r = by (same_object x y)
     where
-      by : (b : Bool) → is_some (if b then option_map (fresh_from owner) (m.slot q i) else m.slot y i) ≡ true → is_some (if b then option_map (fresh_from owner) (m.slot q j) else m.slot y j) ≡ true → m.prop i ≡ Some p → m.prop j ≡ Some r → folded p.name ≡ folded r.name → i ≡ j
+      by : (b : Bool) → is_some (if b then option_map (fresh_row owner) (m.slot q i) else m.slot y i) ≡ true → is_some (if b then option_map (fresh_row owner) (m.slot q j) else m.slot y j) ≡ true → m.prop i ≡ Some p → m.prop j ≡ Some r → folded p.name ≡ folded r.name → i ≡ j
       by true h k e f n = sound.one_name q i j p r (from_parent (m.slot q i) h) (from_parent (m.slot q j) k) e f n
       by false h k e f n = sound.one_name y i j p r h k e f n
 

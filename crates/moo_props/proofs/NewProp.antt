@@ -20,7 +20,7 @@ use Rattle.moo_world.specs.Rows.{LookUps, AreSound, numbers_below, name_on, slot
 use Rattle.moo_world.proofs.RowLaws.{with_prop, names_shown, names_with_prop, other_names_with_prop, slot_shown}
 use Rattle.moo_world.proofs.Seen.{is_object_seen, object_seen}
 use Rattle.moo_world.proofs.Trees.{Chain-chain, chain_of_none}
-use Rattle.moo_props.specs.Reparent.{fresh_row}
+use Rattle.moo_props.specs.Slots.{fresh_of}
 use Rattle.moo_world.proofs.PairLists.{some_of}
 use Rattle.moo_world.proofs.Insertion.{IsWellFormed-defined, none_owed}
 use Rattle.moo_props.proofs.Owing.{has_owed}
@@ -30,7 +30,7 @@ use Rattle.moo_world.proofs.Shown.{slots_shown}
 abbrev pub with_property : LookUps → ObjNo → Name → SlotRow → LookUps
 with_property m x name row =
     record (with_prop m (record { definer = x; name = name })) {
-      slot = λ y j. if eqb j m.head.next_prop && is_among x (chain (world_shown m) y) then Some (if same_object x y then row else fresh_row (owner_of (world_shown m) y) (record { id = record { 0 = m.head.next_prop }; owner = row.owner; bits = row.bits })) else m.slot y j;
+      slot = λ y j. if eqb j m.head.next_prop && is_among x (chain (world_shown m) y) then Some (if same_object x y then row else fresh_of (owner_of (world_shown m) y) (record { id = record { 0 = m.head.next_prop }; owner = row.owner; bits = row.bits })) else m.slot y j;
     }
 
 pub same_below : {X : Type 0} (h g : ℕ → Option X) (n : ℕ) → ((j : ℕ) → j < n → h j ≡ g j) → filter_map h (numbers_below n) ≡ filter_map g (numbers_below n)
@@ -124,10 +124,10 @@ module _ (m : LookUps) (sound : AreSound m) (wf : IsWellFormed (world_shown m)) 
   old y n = slice_get (filter_map (slot_on m y n) (numbers_below next)) 0
 
   before : (y : ObjNo) (n : Name) (j : ℕ) → j < next → slot_on m2 y n j ≡ slot_on m y n j
-  before y n j l = ap (λ b. option_and_then (λ (p : PropRow). if same_text (folded p.name) n then option_map (slot_seen p.definer) (if b && under y then Some (if same_object x y then row else fresh_row (owner_of w y) (record { id = record { 0 = next }; owner = owner; bits = bits })) else m.slot y j) else None) (if b then Some prop else m.prop j)) (other j l)
+  before y n j l = ap (λ b. option_and_then (λ (p : PropRow). if same_text (folded p.name) n then option_map (slot_seen p.definer) (if b && under y then Some (if same_object x y then row else fresh_of (owner_of w y) (record { id = record { 0 = next }; owner = owner; bits = bits })) else m.slot y j) else None) (if b then Some prop else m.prop j)) (other j l)
 
   abbrev made : ObjNo → SlotRow
-  made y = if same_object x y then row else fresh_row (owner_of w y) (record { id = record { 0 = next }; owner = owner; bits = bits })
+  made y = if same_object x y then row else fresh_of (owner_of w y) (record { id = record { 0 = next }; owner = owner; bits = bits })
 
   last : (y : ObjNo) (n : Name) → slot_on m2 y n next ≡ (if same_text (folded name) n then option_map (slot_seen x) (if under y then Some (made y) else None) else None)
   last y n =
@@ -150,7 +150,7 @@ module _ (m : LookUps) (sound : AreSound m) (wf : IsWellFormed (world_shown m)) 
       none None h = refl
       none (Some k) h = absurd (false≢true (sym h))
 
-  seen : (y : ObjNo) (o : ObjNo) (b : Bool) → slot_seen x (if b then row else fresh_row o (record { id = record { 0 = next }; owner = owner; bits = bits })) ≡ (if b then s else fresh o s)
+  seen : (y : ObjNo) (o : ObjNo) (b : Bool) → slot_seen x (if b then row else fresh_of o (record { id = record { 0 = next }; owner = owner; bits = bits })) ≡ (if b then s else fresh o s)
   seen y o true = refl
   seen y o false = refl
 

@@ -14,9 +14,10 @@ use Rattle.moo_world.specs.Objects.{Name, same_object, is_among, same_object-Dec
 use Rattle.moo_world.specs.World.{IsTree, is_object, chain, owner_of}
 use Rattle.moo_world.specs.Rows.{LookUps, look_ups, world_of, prop_id}
 use Rattle.moo_world.proofs.Seen.{is_object_seen, chain_of_row}
-use Rattle.moo_props.specs.declared.reparenting.Origin.{Origin}
+use Rattle.moo_props.specs.declared.slots.Origin.{Origin}
 use Rattle.moo_props.specs.Defining.{fresh_over, with_definition}
-use Rattle.moo_props.specs.Reparent.{owners_under, fresh_row, slot_put}
+use Rattle.moo_props.specs.Reparent.{owners_under}
+use Rattle.moo_props.specs.Slots.{fresh_of, slot_put}
 use Rattle.moo_props.proofs.Folding.{is_id, key_parts}
 use Rattle.moo_world.proofs.PairLists.{some_of}
 use Rattle.moo_props.proofs.Moved.{IsSlotsOnly, onward, under_is, owners_are}
@@ -26,30 +27,30 @@ use Rattle.moo_props.proofs.NewProp.{with_property}
 
 only-over : (o : Origin) (es : List (ObjNo × ObjNo)) (held : Held) → IsSlotsOnly held.maps (fresh_over o es held).maps
 only-over o [] held = refl
-only-over o (e ∷ es) held = onward held.maps (slot_put e.0 o.id (fresh_row e.1 o) held).maps (fresh_over o (e ∷ es) held).maps refl (only-over o es (slot_put e.0 o.id (fresh_row e.1 o) held))
+only-over o (e ∷ es) held = onward held.maps (slot_put e.0 o.id (fresh_of e.1 o) held).maps (fresh_over o (e ∷ es) held).maps refl (only-over o es (slot_put e.0 o.id (fresh_of e.1 o) held))
 
 pub base-over : (o : Origin) (es : List (ObjNo × ObjNo)) (held : Held) → (fresh_over o es held).base ≡ held.base
 base-over o [] held = refl
-base-over o (e ∷ es) held = base-over o es (slot_put e.0 o.id (fresh_row e.1 o) held)
+base-over o (e ∷ es) held = base-over o es (slot_put e.0 o.id (fresh_of e.1 o) held)
 
 pub head-over : (o : Origin) (es : List (ObjNo × ObjNo)) (held : Held) → (fresh_over o es held).maps.head ≡ held.maps.head
 head-over o [] held = refl
-head-over o (e ∷ es) held = head-over o es (slot_put e.0 o.id (fresh_row e.1 o) held)
+head-over o (e ∷ es) held = head-over o es (slot_put e.0 o.id (fresh_of e.1 o) held)
 
 module _ (o : Origin) (owner : ObjNo → ObjNo) (z : ObjNo) (j : PropId) where
   abbrev at : Held → Option SlotRow
   at held = get held.maps.slots (z, j)
 
-  slots-over : (es : List (ObjNo × ObjNo)) (held : Held) → AllByRecursion (λ e. e.1 ≡ owner e.0) es → at (fresh_over o es held) ≡ cond (list_any (λ e. same_object e.0 z) es && is_id j o.id) (Some (fresh_row (owner z) o)) (at held)
+  slots-over : (es : List (ObjNo × ObjNo)) (held : Held) → AllByRecursion (λ e. e.1 ≡ owner e.0) es → at (fresh_over o es held) ≡ cond (list_any (λ e. same_object e.0 z) es && is_id j o.id) (Some (fresh_of (owner z) o)) (at held)
   slots-over [] held h = refl
   slots-over (e ∷ es) held h =
-      slots-over es (slot_put e.0 o.id (fresh_row e.1 o) held) h.1
-      ∙ ap (cond (list_any (λ e. same_object e.0 z) es && is_id j o.id) (Some (fresh_row (owner z) o))) (get-insert slot_total held.maps.slots (e.0, o.id) (fresh_row e.1 o) (z, j) ∙ ap (λ b. cond b (Some (fresh_row e.1 o)) (at held)) (key_parts e.0 z o.id j))
+      slots-over es (slot_put e.0 o.id (fresh_of e.1 o) held) h.1
+      ∙ ap (cond (list_any (λ e. same_object e.0 z) es && is_id j o.id) (Some (fresh_of (owner z) o))) (get-insert slot_total held.maps.slots (e.0, o.id) (fresh_of e.1 o) (z, j) ∙ ap (λ b. cond b (Some (fresh_of e.1 o)) (at held)) (key_parts e.0 z o.id j))
       ∙ by (same_object e.0 z) refl (list_any (λ e. same_object e.0 z) es) (is_id j o.id)
     where
-      by : (a : Bool) → same_object e.0 z ≡ a → (b c : Bool) → cond (b && c) (Some (fresh_row (owner z) o)) (cond (a && c) (Some (fresh_row e.1 o)) (at held)) ≡ cond ((a || b) && c) (Some (fresh_row (owner z) o)) (at held)
+      by : (a : Bool) → same_object e.0 z ≡ a → (b c : Bool) → cond (b && c) (Some (fresh_of (owner z) o)) (cond (a && c) (Some (fresh_of e.1 o)) (at held)) ≡ cond ((a || b) && c) (Some (fresh_of (owner z) o)) (at held)
       by true g true true = refl
-      by true g false true = ap (λ k. Some (fresh_row k o)) (h.0 ∙ ap owner ((same_object-Decides e.0 z).0 g))
+      by true g false true = ap (λ k. Some (fresh_of k o)) (h.0 ∙ ap owner ((same_object-Decides e.0 z).0 g))
       by true g true false = refl
       by true g false false = refl
       by false g b c = refl
@@ -80,9 +81,9 @@ module _ (t : Maps) (tree : IsTree (world_of t)) (x : ObjNo) (xo : is_object (wo
       ∙ by (same_object x y) refl (eqb j t.head.next_prop) (is_among x (chain (world_of t) y)) refl
     where
       settle : Bool → Bool → Option SlotRow → Option SlotRow
-      settle c u g = cond (same_object x y && c) (Some row) (cond (u && c) (Some (fresh_row (owner_of (world_of t) y) o)) g)
+      settle c u g = cond (same_object x y && c) (Some row) (cond (u && c) (Some (fresh_of (owner_of (world_of t) y) o)) g)
 
-      by : (a : Bool) → same_object x y ≡ a → (c u : Bool) → is_among x (chain (world_of t) y) ≡ u → cond (a && c) (Some row) (cond (u && c) (Some (fresh_row (owner_of (world_of t) y) o)) (get t.slots (y, prop_id j))) ≡ (if c && u then Some (if a then row else fresh_row (owner_of (world_of t) y) o) else get t.slots (y, prop_id j))
+      by : (a : Bool) → same_object x y ≡ a → (c u : Bool) → is_among x (chain (world_of t) y) ≡ u → cond (a && c) (Some row) (cond (u && c) (Some (fresh_of (owner_of (world_of t) y) o)) (get t.slots (y, prop_id j))) ≡ (if c && u then Some (if a then row else fresh_of (owner_of (world_of t) y) o) else get t.slots (y, prop_id j))
       by true e true true h = refl
       by true e true false h = absurd (false≢true (sym h ∙ ap (λ k. is_among x (chain (world_of t) k)) (sym ((same_object-Decides x y).0 e)) ∙ own_chain))
       by true e false true h = refl

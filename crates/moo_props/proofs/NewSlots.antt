@@ -15,10 +15,9 @@ use Rattle.moo_rows.proofs.Orders.{object_total}
 use Rattle.moo_world.specs.Objects.{same_object, same_object-Decides}
 use Rattle.moo_world.specs.Rows.{LookUps, IsSound, look_ups, prop_id}
 use Rattle.moo_world.proofs.MapLaws.{object_key}
-use Rattle.moo_props.specs.declared.reparenting.Origin.{Origin}
-use Rattle.moo_props.specs.Birth.{new_row, objects_with, origins_among}
-use Rattle.moo_props.specs.Reparent.{origin_of, origins, fresh_row, slot_put, with_fresh}
-use Rattle.moo_props.specs.Touched.{fresh_from}
+use Rattle.moo_props.specs.declared.slots.Origin.{Origin}
+use Rattle.moo_props.specs.Birth.{new_row, objects_with}
+use Rattle.moo_props.specs.Slots.{origins_among, origin_of, origins, fresh_of, slot_put, with_fresh, fresh_row}
 use Rattle.moo_props.proofs.Folding.{is_id, has_id, is_id-Decides, slot_at-fresh, fresh_in, fresh_in-origins}
 use Rattle.moo_world.proofs.PairLists.{any_map}
 use Rattle.moo_props.proofs.Moved.{only-fresh}
@@ -52,7 +51,7 @@ with_new m x q owner =
     record m {
       head = record (m.head) { top = x.0 };
       object = λ y. if same_object x y then Some (new_row q owner) else m.object y;
-      slot = λ y j. if same_object x y then option_map (fresh_from owner) (m.slot q j) else m.slot y j;
+      slot = λ y j. if same_object x y then option_map (fresh_row owner) (m.slot q j) else m.slot y j;
     }
 
 module _ (t : Maps) (sound : IsSound t) (x q owner : ObjNo) (free : get t.objects x ≡ None) (held : Held) (at : held.maps ≡ t) where
@@ -69,21 +68,21 @@ module _ (t : Maps) (sound : IsSound t) (x q owner : ObjNo) (free : get t.object
       by None e = refl
       by (Some s) e = absurd (false≢true (ap is_some (sym free) ∙ (sound.slots x j.0 (ap is_some e)).0))
 
-  slots2 : (z : ObjNo) (j : PropId) → get held2.maps.slots (z, j) ≡ (if same_object x z then option_map (fresh_from owner) (get t.slots (q, j)) else get t.slots (z, j))
+  slots2 : (z : ObjNo) (j : PropId) → get held2.maps.slots (z, j) ≡ (if same_object x z then option_map (fresh_row owner) (get t.slots (q, j)) else get t.slots (z, j))
   slots2 z j =
       slot_at-fresh x z owner j (origins_among (walk t q)) held1
       ∙ (λ i. cond (same_object x z) (fresh_in owner (walk_origins t q i) j (get (at i).slots (z, j))) (get (at i).slots (z, j)))
       ∙ by (same_object x z) refl
     where
-      all_here : (o : Option SlotRow) → get t.slots (q, j) ≡ o → cond (has_id j (ids_on t q) && is_some o) (option_map (fresh_from owner) o) None ≡ option_map (fresh_from owner) o
+      all_here : (o : Option SlotRow) → get t.slots (q, j) ≡ o → cond (has_id j (ids_on t q) && is_some o) (option_map (fresh_row owner) o) None ≡ option_map (fresh_row owner) o
       all_here None e = none (has_id j (ids_on t q))
         where
-          none : (b : Bool) → cond (b && false) (option_map (fresh_from owner) None) None ≡ None
+          none : (b : Bool) → cond (b && false) (option_map (fresh_row owner) None) None ≡ None
           none true = refl
           none false = refl
-      all_here (Some s) e = ap (λ b. cond (b && true) (Some (fresh_from owner s)) None) (has_all t q sound j s e)
+      all_here (Some s) e = ap (λ b. cond (b && true) (Some (fresh_row owner s)) None) (has_all t q sound j s e)
 
-      by : (b : Bool) → same_object x z ≡ b → cond b (fresh_in owner (origins t.slots q (ids_on t q)) j (get t.slots (z, j))) (get t.slots (z, j)) ≡ (if b then option_map (fresh_from owner) (get t.slots (q, j)) else get t.slots (z, j))
+      by : (b : Bool) → same_object x z ≡ b → cond b (fresh_in owner (origins t.slots q (ids_on t q)) j (get t.slots (z, j))) (get t.slots (z, j)) ≡ (if b then option_map (fresh_row owner) (get t.slots (q, j)) else get t.slots (z, j))
       by false e = refl
       by true e =
           ap (fresh_in owner (origins t.slots q (ids_on t q)) j) (ap (λ y. get t.slots (y, j)) (sym ((same_object-Decides x z).0 e)) ∙ no_slots j)
@@ -105,4 +104,4 @@ module _ (t : Maps) (sound : IsSound t) (x q owner : ObjNo) (free : get t.object
 -- what the new slots leave
 pub head-fresh : (y owner : ObjNo) (os : List Origin) (held : Held) → (with_fresh y owner os held).maps.head ≡ held.maps.head
 head-fresh y owner [] held = refl
-head-fresh y owner (o ∷ os) held = head-fresh y owner os (slot_put y o.id (fresh_row owner o) held)
+head-fresh y owner (o ∷ os) held = head-fresh y owner os (slot_put y o.id (fresh_of owner o) held)

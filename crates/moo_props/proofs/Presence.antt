@@ -20,9 +20,10 @@ use Rattle.moo_world.specs.Manual.{ancestors, lost, gained}
 use Rattle.moo_world.proofs.ManualLaw.{chain_y}
 use Rattle.moo_world.proofs.Owed.{is_among-right}
 use Rattle.moo_world.proofs.Trees.{chain_of_none}
-use Rattle.moo_props.specs.Reparent.{owners_under, keys_on, keys_over}
-use Rattle.moo_props.specs.Touched.{props_of, is_defined_among, fresh_from, slot_after, removed_keys, added_keys}
+use Rattle.moo_props.specs.Reparent.{owners_under}
+use Rattle.moo_props.specs.Touched.{props_of, is_defined_among, slot_after, removed_keys, added_keys}
 use Rattle.moo_props.specs.Present.{ArePresent, AreAbsent}
+use Rattle.moo_props.specs.Slots.{keys_on, keys_over, fresh_row}
 use Rattle.moo_world.proofs.Listed.{own_entries, all_made}
 use Rattle.moo_props.proofs.Definers.{new_is, no_clash, only_lost, only_gained}
 use Rattle.moo_props.proofs.Gains.{object_row, slot_on_heir, slot_on_new}
@@ -103,14 +104,14 @@ module _ (t : Maps) (sound : IsSound t) (x q : ObjNo) (may : MayReparent (world_
     unfolding settle
     removed_gone = over (λ key. get S key ≡ None) (lost w x q) (λ y id u p.
         slots (y, id)
-        ∙ (λ i. settle (u i) ((tests t sound x q may (gained w x q) id.0 p.0 p.1 ∙ never_both p.0.definer p.2) i) ((tests t sound x q may (lost w x q) id.0 p.0 p.1 ∙ p.2) i) (option_map (fresh_from (owner_of w y)) (get t.slots (q, id))) (get t.slots (y, id))))
+        ∙ (λ i. settle (u i) ((tests t sound x q may (gained w x q) id.0 p.0 p.1 ∙ never_both p.0.definer p.2) i) ((tests t sound x q may (lost w x q) id.0 p.0 p.1 ∙ p.2) i) (option_map (fresh_row (owner_of w y)) (get t.slots (q, id))) (get t.slots (y, id))))
 
     pub added_there : ArePresent S (added_keys t x q)
     unfolding settle
     added_there = over (λ key. is_some (get S key) ≡ true) (gained w x q) (λ y id u p.
         ap is_some (slots (y, id)
-        ∙ (λ i. settle (u i) ((tests t sound x q may (gained w x q) id.0 p.0 p.1 ∙ p.2) i) (is_defined_among (lost w x q) t id) (option_map (fresh_from (owner_of w y)) (get t.slots (q, id))) (get t.slots (y, id))))
-        ∙ some_map (fresh_from (owner_of w y)) (get t.slots (q, id)) (slot_on_new t sound x q may id.0 p.0 p.1 p.2))
+        ∙ (λ i. settle (u i) ((tests t sound x q may (gained w x q) id.0 p.0 p.1 ∙ p.2) i) (is_defined_among (lost w x q) t id) (option_map (fresh_row (owner_of w y)) (get t.slots (q, id))) (get t.slots (y, id))))
+        ∙ some_map (fresh_row (owner_of w y)) (get t.slots (q, id)) (slot_on_new t sound x q may id.0 p.0 p.1 p.2))
       where
         some_map : (f : SlotRow → SlotRow) (o : Option SlotRow) → is_some o ≡ true → is_some (option_map f o) ≡ true
         some_map f None e = e

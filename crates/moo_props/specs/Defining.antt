@@ -5,13 +5,13 @@ use Rattle.moo_value.specs.declared.value.ObjNo.{ObjNo}
 use Rattle.moo_rows.specs.Maps.{Held, wrote}
 use Rattle.moo_world.specs.Objects.{Name}
 use Rattle.moo_world.specs.Rows.{prop_id}
-use Rattle.moo_props.specs.declared.reparenting.Origin.{Origin}
-use Rattle.moo_props.specs.Reparent.{fresh_row, slot_put}
+use Rattle.moo_props.specs.declared.slots.Origin.{Origin}
+use Rattle.moo_props.specs.Slots.{with_fresh}
 
 -- what is held once each of these objects, with its owner, has a fresh slot
 abbrev pub fresh_over : Origin → List (ObjNo × ObjNo) → Held → Held
 fresh_over o [] held = held
-fresh_over o (e ∷ es) held = fresh_over o es (slot_put e.0 o.id (fresh_row e.1 o) held)
+fresh_over o (e ∷ es) held = fresh_over o es (with_fresh e.0 e.1 (o ∷ []) held)
 
 -- what is held once x defines a property of the next number
 abbrev pub with_definition : ObjNo → Name → Held → Held

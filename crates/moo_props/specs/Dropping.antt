@@ -11,7 +11,7 @@ use Rattle.moo_rows.specs.declared.row.VerbId.{VerbId}
 use Rattle.moo_rows.specs.declared.row.VerbRow.{VerbRow}
 use Rattle.moo_rows.specs.Maps.{Held, wrote}
 use Rattle.moo_world.specs.Objects.{nothing, same_object}
-use Rattle.moo_props.specs.Reparent.{keys_on, without_on}
+use Rattle.moo_props.specs.Slots.{keys_on, without_on}
 
 -- ---- who is concerned
 

@@ -8,13 +8,13 @@ use Rattle.moo_rows.specs.declared.row.ObjRow.{ObjRow}
 use Rattle.moo_rows.specs.declared.row.PropId.{PropId}
 use Rattle.moo_rows.specs.declared.row.PropRow.{PropRow}
 use Rattle.moo_rows.specs.declared.row.SlotRow.{SlotRow}
-use Rattle.moo_rows.specs.declared.row.SlotState.TheVariants.{Clear}
 use Rattle.moo_rows.specs.Maps.{Maps, prop_cmp}
 use Rattle.moo_world.specs.Objects.{same_object, is_among}
 use Rattle.moo_world.specs.World.{chain, owner_of}
 use Rattle.moo_world.specs.Rows.{world_of}
 use Rattle.moo_world.specs.Manual.{lost, gained}
-use Rattle.moo_props.specs.Reparent.{owners_under, keys_over, relinked_list}
+use Rattle.moo_props.specs.Reparent.{owners_under, relinked_list}
+use Rattle.moo_props.specs.Slots.{fresh_row, keys_over}
 
 -- the properties of these entries that objects of a list define
 abbrev pub props_among : List ObjNo → List (PropId × PropRow) → List PropId
@@ -40,17 +40,13 @@ relinked_objects t x q = unwrap_or (option_map (λ row. relinked_list x row q) (
 abbrev pub is_defined_among : List ObjNo → Maps → PropId → Bool
 is_defined_among definers t id = unwrap_or (option_map (λ p. is_among p.definer definers) (get t.props id)) false
 
--- a fresh slot on an object of this owner, from another slot of the property
-abbrev pub fresh_from : ObjNo → SlotRow → SlotRow
-fresh_from owner s = record { owner = if s.bits.c then owner else s.owner; bits = s.bits; state = Clear }
-
 -- the slot of a key after x is put under q
 abbrev pub slot_after : Maps → ObjNo → ObjNo → ObjNo × PropId → Option SlotRow
 slot_after t x q key =
     let w = world_of t in
     if is_among x (chain w key.0)
     then (if is_defined_among (gained w x q) t key.1
-    then option_map (fresh_from (owner_of w key.0)) (get t.slots (q, key.1))
+    then option_map (fresh_row (owner_of w key.0)) (get t.slots (q, key.1))
     else (if is_defined_among (lost w x q) t key.1 then None else get t.slots key))
     else get t.slots key
 

@@ -3,7 +3,7 @@ use Rattle.std.specs.Prelude.{List, [], ◌∷◌}
 use Rattle.moo_value.specs.declared.value.ObjNo.{ObjNo}
 use Rattle.moo_rows.specs.declared.row.PropId.{PropId}
 use Rattle.moo_rows.specs.Maps.{Held}
-use Rattle.moo_props.specs.Reparent.{slot_removed}
+use Rattle.moo_props.specs.Slots.{slot_removed}
 
 -- what is held once these objects have no slot of the property
 abbrev pub less_over : PropId → List (ObjNo × ObjNo) → Held → Held

@@ -1,50 +1,18 @@
 //! A new object, with the slots that it inherits.
 //! LambdaMOO Programmer's Manual, 'Fundamental Operations on Objects': `create`.
 
-ghost use Rattle.std.specs.Prelude.{◌≡◌, ◌||◌, true, false, negsuc, [], Some, None, IfOk, OnOk};
+ghost use Rattle.std.specs.Prelude.{◌≡◌, ◌||◌, true, [], Some, OnOk};
 ghost use Rattle.moo_world.specs.Creation.{created, next_object};
 ghost use Rattle.moo_world.specs.Objects.{Name, nothing, same_object};
 ghost use Rattle.moo_world.specs.Rows.{world_of, IsGood};
 ghost use Rattle.moo_world.specs.World.{is_object, read_of};
-ghost use Rattle.moo_rows.specs.Walk.{slots_of_left};
-ghost use Rattle.moo_props.specs.Birth.{objects_with, origins_among};
+ghost use Rattle.moo_props.specs.Birth.{objects_with};
 ghost use Rattle.moo_world.specs.Keeps.{Keeps};
-ghost use Rattle.moo_props.specs.Reparent.{with_fresh};
 
-use crate::reparenting::Origin;
-use moo_rows::{ObjRow, PropId, Rows, each_slot_of};
+use crate::slots::{origins_on, put_fresh};
+use moo_rows::{ObjRow, Rows};
 use moo_value::ObjNo;
 use std::alloc::{AllocError, Global};
-
-/// The properties that q has, with the owners and the bits of its slots.
-fn origins_on<R: Rows>(alloc: Global, rows: &R, q: ObjNo) -> Result<Vec<Origin>, AllocError>
-    ensures { IfOk result (λ v. v.items ≡ origins_among (slots_of_left q (record { 0 = 0 }) (R.held rows.now).maps)) }
-{
-    let mut found = Vec::new(alloc);
-    for (key, slot) in each_slot_of(rows, q, PropId(0)) {
-        found.push(Origin {
-            id: key.1,
-            owner: slot.owner,
-            bits: slot.bits,
-        })?;
-    }
-    Ok(found)
-}
-
-/// Puts fresh slots on x.
-fn put_fresh<R: Rows>(
-    rows: &mut R,
-    x: ObjNo,
-    owner: ObjNo,
-    origins: &[Origin],
-) -> Result<(), AllocError>
-    ensures { OnOk result (R.held rows.new ≡ with_fresh x owner origins.now (R.held rows.old)) }
-{
-    for origin in origins {
-        rows.put_slot((x, origin.id), origin.fresh(owner))?;
-    }
-    Ok(())
-}
 
 /// Puts the row of a new object, whose number is the greatest from now on.
 fn put_new<R: Rows>(

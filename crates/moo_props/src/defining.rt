@@ -9,7 +9,8 @@ ghost use Rattle.moo_world.specs.World.{is_object, is_property_name};
 ghost use Rattle.moo_props.specs.Defining.{fresh_over, with_definition};
 ghost use Rattle.moo_world.specs.Keeps.{Keeps};
 
-use crate::reparenting::{Origin, owners_under};
+use crate::reparenting::owners_under;
+use crate::slots::{Origin, put_fresh};
 use moo_rows::{Bits, PropId, PropRow, Rows, SlotRow, SlotState};
 use moo_value::{MooStr, ObjNo, Value};
 use std::alloc::{AllocError, Global};
@@ -23,7 +24,7 @@ fn put_on_all<R: Rows>(
     ensures { OnOk result (R.held rows.new ≡ fresh_over origin under.now (R.held rows.old)) }
 {
     for (y, owner) in under {
-        rows.put_slot((*y, origin.id), origin.fresh(*owner))?;
+        put_fresh(rows, *y, *owner, &[origin])?;
     }
     Ok(())
 }

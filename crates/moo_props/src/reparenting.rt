@@ -8,49 +8,16 @@ ghost use Rattle.moo_world.specs.World.{IsTree, reparented};
 ghost use Rattle.moo_world.specs.Rows.{world_of, IsGood};
 ghost use Rattle.moo_world.specs.Laws.{MayReparent};
 ghost use Rattle.moo_world.specs.Keeps.{Keeps};
-ghost use Rattle.moo_props.specs.Reparent.{owners_under, props_only_of, origins, id_of, keys_on, keys_over, without_on, fresh_row, with_fresh, slots_moved, relinked, relinked_list};
+ghost use Rattle.moo_props.specs.Reparent.{owners_under, props_only_of, slots_moved, relinked, relinked_list};
+ghost use Rattle.moo_props.specs.Slots.{id_of, keys_over};
 ghost use Rattle.moo_props.specs.Present.{ArePresent, AreAbsent, AreAscending};
 ghost use Rattle.moo_props.specs.Touched.{removed_keys, added_keys, relinked_objects, slot_after, row_after, IsSameButSlotsAndObjects};
 
-use moo_rows::{
-    Bits, ObjList, ObjRow, PropId, Row, Rows, SlotRow, SlotState, each_object, each_prop,
-};
+use crate::slots::{Origin, SlotKeys, list_on, origins, put_fresh, remove_on};
+use moo_rows::{ObjList, ObjRow, PropId, Row, Rows, each_object, each_prop};
 use moo_tree::{Known, chain};
 use moo_value::ObjNo;
 use std::alloc::{AllocError, Global};
-use std::marker::Model;
-
-/// Keys of slots, in order.
-#[derive(Drop)]
-pub struct SlotKeys {
-    items: Vec<(ObjNo, PropId)>,
-}
-
-impl Model for SlotKeys {
-    ghost use Rattle.std.specs.Prelude.{List};
-    ghost use Rattle.moo_value.specs.declared.value.ObjNo.{ObjNo};
-    ghost use Rattle.moo_rows.specs.declared.row.PropId.{PropId};
-
-    ghost Value = { List (ObjNo × PropId) };
-
-    ghost view = { λ a. a.items.items };
-}
-
-impl SlotKeys {
-    /// The keys of a list.
-    pub(crate) fn from_vec(items: Vec<(ObjNo, PropId)>) -> SlotKeys
-        ensures { result ≡ items.items }
-    {
-        SlotKeys { items }
-    }
-
-    /// The keys, in order.
-    pub fn items(&self) -> &[(ObjNo, PropId)]
-        ensures { result.now ≡ self.now }
-    {
-        self.items.as_slice()
-    }
-}
 
 /// What a change of parent touched: the slots that went, those that came, and the objects with another parent.
 #[derive(Drop)]
@@ -58,27 +25,6 @@ pub struct Touched {
     pub removed: SlotKeys,
     pub added: SlotKeys,
     pub relinked: ObjList,
-}
-
-/// A property with the owner and the bits of the slot that fresh ones are made from.
-#[derive(Clone, Copy)]
-pub struct Origin {
-    pub id: PropId,
-    pub owner: ObjNo,
-    pub bits: Bits,
-}
-
-impl Origin {
-    /// The slot that is made from it on an object of this owner.
-    pub(crate) fn fresh(&self, owner: ObjNo) -> SlotRow
-        ensures { result ≡ fresh_row owner self.now }
-    {
-        SlotRow {
-            owner: if self.bits.c { owner } else { self.owner },
-            bits: self.bits,
-            state: SlotState::Clear,
-        }
-    }
 }
 
 /// Whether an object stands in a list.
@@ -125,63 +71,6 @@ pub(crate) fn props_only_of<R: Rows>(
     Ok(found)
 }
 
-/// The properties, each with the slot of it on q.
-fn origins<R: Rows>(
-    alloc: Global,
-    rows: &R,
-    q: ObjNo,
-    ids: &[PropId],
-) -> Result<Vec<Origin>, AllocError>
-    ensures { IfOk result (λ v. v.items ≡ origins (R.held rows.now).maps.slots q ids.now) }
-{
-    let mut found = Vec::new(alloc);
-    for id in ids {
-        if let Some(slot) = rows.slot((q, *id)) {
-            found.push(Origin {
-                id: *id,
-                owner: slot.owner,
-                bits: slot.bits,
-            })?;
-        }
-    }
-    Ok(found)
-}
-
-/// Removes the slots of these properties on y and lists them.
-pub(crate) fn remove_on<R: Rows>(
-    rows: &mut R,
-    y: ObjNo,
-    ids: &[PropId],
-    removed: &mut Vec<(ObjNo, PropId)>,
-) -> Result<(), AllocError>
-    ensures rows { OnOk result (R.held rows.new ≡ without_on y ids.now (R.held rows.old)) }
-    ensures list { OnOk result (removed.new.items ≡ removed.old.items ++ keys_on y ids.now) }
-{
-    for id in ids {
-        rows.remove_slot((y, *id))?;
-        removed.push((y, *id))?;
-    }
-    Ok(())
-}
-
-/// Puts fresh slots on y, and lists them.
-fn add_on<R: Rows>(
-    rows: &mut R,
-    y: ObjNo,
-    owner: ObjNo,
-    origins: &[Origin],
-    added: &mut Vec<(ObjNo, PropId)>,
-) -> Result<(), AllocError>
-    ensures rows { OnOk result (R.held rows.new ≡ with_fresh y owner origins.now (R.held rows.old)) }
-    ensures list { OnOk result (added.new.items ≡ added.old.items ++ keys_on y (map id_of origins.now)) }
-{
-    for origin in origins {
-        rows.put_slot((y, origin.id), origin.fresh(owner))?;
-        added.push((y, origin.id))?;
-    }
-    Ok(())
-}
-
 /// On each of these objects, removes slots and puts fresh ones, and lists both.
 fn move_slots<R: Rows>(
     rows: &mut R,
@@ -197,7 +86,8 @@ fn move_slots<R: Rows>(
 {
     for (y, owner) in under {
         remove_on(rows, *y, lost, removed)?;
-        add_on(rows, *y, *owner, gained, added)?;
+        put_fresh(rows, *y, *owner, gained)?;
+        list_on(*y, gained, added)?;
     }
     Ok(())
 }
@@ -276,8 +166,8 @@ pub fn reparent<R: Rows>(
     )?;
     let relinked = relink(alloc, rows, x, row, new)?;
     Ok(Touched {
-        removed: SlotKeys { items: removed },
-        added: SlotKeys { items: added },
+        removed: SlotKeys::from_vec(removed),
+        added: SlotKeys::from_vec(added),
         relinked,
     })
 }

@@ -12,7 +12,7 @@ use Rattle.moo_world.specs.KeptForm.{arguments_fit, RunsKeepForm}
 use Rattle.moo_world.specs.Outcomes.{Outcome, Done, Failed, Full}
 use Rattle.moo_world.specs.Step.{step}
 use Rattle.moo_world.specs.World.{World, IsWellFormed}
-use Rattle.moo_world.proofs.FormCalls.{calls_keep_form}
+use Rattle.moo_world.proofs.CallsKeep.{calls_keep_form}
 
 -- calls that were all done leave a well formed world
 abbrev LeavesForm : Ran → Type 0

@@ -36,14 +36,13 @@ pub mod MapLaws
 pub mod NumbersKept
 pub mod Naming
 pub mod OpeningRows
-pub mod OwnershipPassing
+pub mod Passing
 pub mod OwnershipQuota
 pub mod OwnershipCreated
 pub mod OwnershipCounted
 pub mod OwnershipKept
 pub mod OwnershipRebuilt
 pub mod OwnershipChanged
-pub mod OwnershipCalls
 pub mod Shapes
 pub mod RowForm
 pub mod Redirected
@@ -52,7 +51,7 @@ pub mod DirectoryForm
 pub mod FormArguments
 pub mod Limits
 pub mod FormChanged
-pub mod FormCalls
+pub mod CallsKeep
 pub mod FormRuns
 pub mod Ranges
 pub mod FormQuota

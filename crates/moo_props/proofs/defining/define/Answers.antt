@@ -9,7 +9,7 @@ use Rattle.moo_world.specs.Rows.{AreSound, look_ups, world_of, world_shown, prop
 use Rattle.moo_world.specs.World.{IsWellFormed}
 use Rattle.moo_world.proofs.Limits.{number_within, slot_within}
 use Rattle.std.specs.FinMap.{insert}
-use Rattle.moo_props.specs.declared.reparenting.Origin.{Origin}
+use Rattle.moo_props.specs.declared.slots.Origin.{Origin}
 use Rattle.moo_props.specs.Defining.{fresh_over, with_definition}
 use Rattle.moo_props.specs.Reparent.{owners_under}
 use Rattle.moo_props.proofs.NewProp.{sound_with, world_with, formed_with, with_property}

@@ -11,11 +11,12 @@ use Rattle.moo_world.specs.World.{IsWellFormed}
 use Rattle.moo_world.specs.Rows.{look_ups, world_of, IsSound}
 use Rattle.moo_world.proofs.Reparenting.{IsWellFormed-reparented}
 use Rattle.moo_world.proofs.Seen.{is_object_seen}
-use Rattle.moo_props.specs.Reparent.{owners_under, props_only_of, id_of, origins, slots_moved, keys_over, relinked, relinked_list}
+use Rattle.moo_props.specs.Reparent.{owners_under, props_only_of, slots_moved, relinked, relinked_list}
 use Rattle.moo_props.specs.Touched.{props_of, removed_keys, added_keys, slot_after, IsSameButSlotsAndObjects}
 use Rattle.moo_props.proofs.Definers.{new_is, no_clash}
 use Rattle.moo_props.proofs.Moved.{lost_list, gained_list, all_on_new, slots2, objects2, rest2, world2, sound2, base2, writes2}
 use Rattle.moo_props.specs.Present.{AreAscending}
+use Rattle.moo_props.specs.Slots.{id_of, origins, keys_over}
 use Rattle.moo_props.proofs.Ascending.{removed_ascend, added_ascend}
 use Rattle.moo_props.proofs.Presence.{removed_had, added_had, removed_gone, added_there}
 use Rattle.moo_world.proofs.NumbersKept.{numbers_same}
@@ -51,14 +52,16 @@ ends g c =
     ∙ ap (relinked c.args.x c.in_ok-row-in-Some.row c.args.new) (c.in_ok-move_slots.ensures.rows
     ∙ (λ i. slots_moved ((c.as_slice-7.ensures.value ∙ lost_is g c) i) ((c.as_slice-8.ensures.value ∙ gained_is g c) i) ((c.as_slice-6.ensures.value ∙ c.in_ok-under.ensures) i) (before g c)))
 
-removed_is : (g : _) (c : goal.After-drop-above-2 g) → c.move_slots.new.removed.items ≡ removed_keys (before g c).maps c.args.x c.args.new
+removed_is : (g : _) (c : goal.After-drop-above-2 g) → c.from_vec.result ≡ removed_keys (before g c).maps c.args.x c.args.new
 removed_is g c =
-    c.in_ok-move_slots.ensures.removed
+    c.from_vec.ensures
+    ∙ c.in_ok-move_slots.ensures.removed
     ∙ (λ i. c.new-removed.ensures.items i ++ keys_over ((c.as_slice-7.ensures.value ∙ lost_is g c) i) ((c.as_slice-6.ensures.value ∙ c.in_ok-under.ensures) i))
 
-added_is : (g : _) (c : goal.After-drop-above-2 g) → c.move_slots.new.added.items ≡ added_keys (before g c).maps c.args.x c.args.new
+added_is : (g : _) (c : goal.After-drop-above-2 g) → c.from_vec-2.result ≡ added_keys (before g c).maps c.args.x c.args.new
 added_is g c =
-    c.in_ok-move_slots.ensures.added
+    c.from_vec-2.ensures
+    ∙ c.in_ok-move_slots.ensures.added
     ∙ (λ i. c.new-added.ensures.items i ++ keys_over ((ap (map id_of) c.as_slice-8.ensures.value ∙ ids_are g c) i) ((c.as_slice-6.ensures.value ∙ c.in_ok-under.ensures) i))
 
 pub unreachable-requires : goal.unreachable-requires

@@ -1,4 +1,4 @@
-use Rattle.moo_world.proofs.FormCalls.{calls_keep_form}
+use Rattle.moo_world.proofs.CallsKeep.{calls_keep_form}
 use Rattle.moo_world.proofs.FormRuns.{runs_keep_form}
 use Rattle.moo_world.proofs.laws.forms_hold.Goals as goal
 

@@ -1,7 +1,7 @@
 use Rattle.std.proofs.Common.{◌≡◌, ◌++◌}
 use Rattle.moo_rows.specs.Walk.{slots_of_left}
-use Rattle.moo_props.specs.Birth.{origins_among}
-use Rattle.moo_props.proofs.birth.origins_on.Given as goal
+use Rattle.moo_props.specs.Slots.{origins_among}
+use Rattle.moo_props.proofs.slots.origins_on.Given as goal
 
 -- those so far, and those of the slots that are left
 abbrev pub invariant-loop-key : goal.invariant-loop-key

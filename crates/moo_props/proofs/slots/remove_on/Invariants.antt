@@ -1,6 +1,6 @@
 use Rattle.std.proofs.Common.{◌≡◌, ◌++◌, drop}
-use Rattle.moo_props.specs.Reparent.{without_on, keys_on}
-use Rattle.moo_props.proofs.reparenting.remove_on.Given as goal
+use Rattle.moo_props.specs.Slots.{without_on, keys_on}
+use Rattle.moo_props.proofs.slots.remove_on.Given as goal
 
 -- without the properties that are left, it is as without all
 abbrev pub invariant-loop-id : goal.invariant-loop-id

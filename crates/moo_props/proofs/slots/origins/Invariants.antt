@@ -1,6 +1,6 @@
 use Rattle.std.proofs.Common.{◌≡◌, ◌++◌, drop}
-use Rattle.moo_props.specs.Reparent.{origins}
-use Rattle.moo_props.proofs.reparenting.origins.Given as goal
+use Rattle.moo_props.specs.Slots.{origins}
+use Rattle.moo_props.proofs.slots.origins.Given as goal
 
 -- those so far, and those of the properties that are left
 abbrev pub invariant-loop-id : goal.invariant-loop-id

@@ -1,7 +1,0 @@
-use Rattle.std.proofs.Common.{◌≡◌, drop}
-use Rattle.moo_props.specs.Reparent.{with_fresh}
-use Rattle.moo_props.proofs.birth.put_fresh.Given as goal
-
--- with the slots that are left, it is as with all
-abbrev pub invariant-loop-origin : goal.invariant-loop-origin
-invariant-loop-origin g l = with_fresh l.x l.owner (drop l.origin-index l.origins) (g.R.Rows.held l.rows) ≡ with_fresh l.x l.owner l.origins (g.R.Rows.held l.fn.rows)

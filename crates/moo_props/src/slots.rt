@@ -1,0 +1,150 @@
+//! Slots that go and slots that come: their keys, and what fresh ones are made from.
+
+ghost use Rattle.std.specs.Prelude.{◌≡◌, ◌++◌, map, IfOk, OnOk};
+ghost use Rattle.moo_rows.specs.Walk.{slots_of_left};
+ghost use Rattle.moo_props.specs.Slots.{fresh_of, id_of, keys_on, origins, origins_among, with_fresh, without_on};
+
+use moo_rows::{Bits, PropId, Rows, SlotRow, SlotState, each_slot_of};
+use moo_value::ObjNo;
+use std::alloc::{AllocError, Global};
+use std::marker::Model;
+
+/// Keys of slots, in order.
+#[derive(Drop)]
+pub struct SlotKeys {
+    items: Vec<(ObjNo, PropId)>,
+}
+
+impl Model for SlotKeys {
+    ghost use Rattle.std.specs.Prelude.{List};
+    ghost use Rattle.moo_value.specs.declared.value.ObjNo.{ObjNo};
+    ghost use Rattle.moo_rows.specs.declared.row.PropId.{PropId};
+
+    ghost Value = { List (ObjNo × PropId) };
+
+    ghost view = { λ a. a.items.items };
+}
+
+impl SlotKeys {
+    /// The keys of a list.
+    pub(crate) fn from_vec(items: Vec<(ObjNo, PropId)>) -> SlotKeys
+        ensures { result ≡ items.items }
+    {
+        SlotKeys { items }
+    }
+
+    /// The keys, in order.
+    pub fn items(&self) -> &[(ObjNo, PropId)]
+        ensures { result.now ≡ self.now }
+    {
+        self.items.as_slice()
+    }
+}
+
+/// A property with the owner and the bits of the slot that fresh ones are made from.
+#[derive(Clone, Copy)]
+pub struct Origin {
+    pub id: PropId,
+    pub owner: ObjNo,
+    pub bits: Bits,
+}
+
+impl Origin {
+    /// The slot that is made from it on an object of this owner.
+    pub(crate) fn fresh(&self, owner: ObjNo) -> SlotRow
+        ensures { result ≡ fresh_of owner self.now }
+    {
+        SlotRow {
+            owner: if self.bits.c { owner } else { self.owner },
+            bits: self.bits,
+            state: SlotState::Clear,
+        }
+    }
+}
+
+/// The properties that q has, with the owners and the bits of its slots.
+pub(crate) fn origins_on<R: Rows>(
+    alloc: Global,
+    rows: &R,
+    q: ObjNo,
+) -> Result<Vec<Origin>, AllocError>
+    ensures { IfOk result (λ v. v.items ≡ origins_among (slots_of_left q (record { 0 = 0 }) (R.held rows.now).maps)) }
+{
+    let mut found = Vec::new(alloc);
+    for (key, slot) in each_slot_of(rows, q, PropId(0)) {
+        found.push(Origin {
+            id: key.1,
+            owner: slot.owner,
+            bits: slot.bits,
+        })?;
+    }
+    Ok(found)
+}
+
+/// Those of these properties that q has, each with the slot of it on q.
+pub(crate) fn origins<R: Rows>(
+    alloc: Global,
+    rows: &R,
+    q: ObjNo,
+    ids: &[PropId],
+) -> Result<Vec<Origin>, AllocError>
+    ensures { IfOk result (λ v. v.items ≡ origins (R.held rows.now).maps.slots q ids.now) }
+{
+    let mut found = Vec::new(alloc);
+    for id in ids {
+        if let Some(slot) = rows.slot((q, *id)) {
+            found.push(Origin {
+                id: *id,
+                owner: slot.owner,
+                bits: slot.bits,
+            })?;
+        }
+    }
+    Ok(found)
+}
+
+/// Removes the slots of these properties on y and lists them.
+pub(crate) fn remove_on<R: Rows>(
+    rows: &mut R,
+    y: ObjNo,
+    ids: &[PropId],
+    removed: &mut Vec<(ObjNo, PropId)>,
+) -> Result<(), AllocError>
+    ensures rows { OnOk result (R.held rows.new ≡ without_on y ids.now (R.held rows.old)) }
+    ensures list { OnOk result (removed.new.items ≡ removed.old.items ++ keys_on y ids.now) }
+{
+    for id in ids {
+        rows.remove_slot((y, *id))?;
+        removed.push((y, *id))?;
+    }
+    Ok(())
+}
+
+/// Puts fresh slots on y, which has this owner.
+pub(crate) fn put_fresh<R: Rows>(
+    rows: &mut R,
+    y: ObjNo,
+    owner: ObjNo,
+    origins: &[Origin],
+) -> Result<(), AllocError>
+    ensures { OnOk result (R.held rows.new ≡ with_fresh y owner origins.now (R.held rows.old)) }
+{
+    for origin in origins {
+        rows.put_slot((y, origin.id), origin.fresh(owner))?;
+    }
+    Ok(())
+}
+
+/// Lists the keys of these properties on y.
+pub(crate) fn list_on(
+    y: ObjNo,
+    origins: &[Origin],
+    keys: &mut Vec<(ObjNo, PropId)>,
+) -> Result<(), AllocError>
+    ensures { OnOk result (keys.new.items ≡ keys.old.items ++ keys_on y (map id_of origins.now)) }
+{
+    for origin in origins {
+        keys.push((y, origin.id))?;
+    }
+    Ok(())
+}
