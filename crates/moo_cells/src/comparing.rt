@@ -13,9 +13,9 @@ ghost use Rattle.moo_cells.specs.Compared.{IsMismatch};
 use crate::cells::read_cells;
 use crate::fault::CellFault;
 use crate::head::read_head;
-use crate::tables::{show_objects, show_props, show_slots, show_verbs};
+use crate::showing::show_each;
 use moo_damage::{Key, first_difference};
-use moo_rows::{Flat, Head, Rows};
+use moo_rows::{Flat, Head, Rows, each_object, each_prop, each_slot, each_verb};
 use moo_tables::CellLists as Cells;
 use sqlite::Row;
 use std::alloc::{AllocError, Global};
@@ -39,16 +39,16 @@ fn show_rows(alloc: Global, lists: &Cells, rows: &Flat) -> Result<bool, AllocErr
     if !shows_head(&lists.head, rows.head()) {
         return Ok(false);
     }
-    if !show_objects(alloc, &lists.object, rows)? {
+    if !show_each(alloc, &lists.object, each_object(rows))? {
         return Ok(false);
     }
-    if !show_props(alloc, &lists.prop, rows)? {
+    if !show_each(alloc, &lists.prop, each_prop(rows))? {
         return Ok(false);
     }
-    if !show_slots(alloc, &lists.slot, rows)? {
+    if !show_each(alloc, &lists.slot, each_slot(rows))? {
         return Ok(false);
     }
-    show_verbs(alloc, &lists.verb, rows)
+    show_each(alloc, &lists.verb, each_verb(rows))
 }
 
 /// The first row in which the tables differ from the rows of a world, in the order of `first_difference`, or none where they show these.

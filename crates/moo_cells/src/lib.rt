@@ -14,7 +14,9 @@ mod literal;
 mod object;
 mod prop;
 mod rows;
+mod showing;
 mod slot;
+mod table_row;
 mod tables;
 mod verb;
 

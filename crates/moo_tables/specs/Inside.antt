@@ -1,5 +1,5 @@
 -- What the calls of one transaction leave of a connection, and what a whole one leaves.
-use Rattle.std.specs.Prelude.{◌≡◌, ◌⊎◌, ℕ, false, IsTrue, List, [], None}
+use Rattle.std.specs.Prelude.{◌≡◌, ◌⊎◌, ℕ, false, IsTrue, List, [], None, Result, IfOk}
 use Rattle.std.specs.List.{AllByRecursion}
 use Rattle.sqlite.specs.Schema.{Schema}
 use Rattle.sqlite.specs.Order.{Row}
@@ -7,7 +7,8 @@ use Rattle.sqlite.specs.Tree.{Trees}
 use Rattle.sqlite_trees.specs.View.{IsShaped}
 use Rattle.sqlite_trees.specs.declared.store.Shape.TheVariants.{Table}
 use Rattle.sqlite.specs.Effect.{Database, IsDatabase}
-use Rattle.sqlite.specs.State.{State, HasCleanDisk, IsUnchanged, IsRolledBack, KeepsCommit, Survives, Opens}
+use Rattle.sqlite.specs.declared.error.Error.{Error}
+use Rattle.sqlite.specs.State.{State, HasCleanDisk, Executes, IsUnchanged, IsRolledBack, KeepsCommit, Survives, Opens}
 use Rattle.moo_tables.specs.Tables.{Tables, tables_in, no_schema, moo_schema}
 
 -- the rows rise by their numbers, which are whole
@@ -46,6 +47,10 @@ pub record StaysInside (old new : State) : Type 0 where
 -- the transaction goes on, with its tables changed so
 abbrev pub Changes : (Tables → Tables) → State → State → Type 0
 Changes change old new = HasCleanDisk new → (tables : Tables) → Sees old tables → Sees new (change tables)
+
+-- a statement that succeeded ran, in the transaction
+abbrev pub Ran : List ℕ → Row → State → State → Result ℕ Error → Type 0
+Ran text params old new r = HasCleanDisk new → IfOk r (λ _. IsTrue new.in_transaction × Executes text params old new r)
 
 -- a statement means the tables of this schema
 abbrev pub HasTables : Schema → State → Type 0

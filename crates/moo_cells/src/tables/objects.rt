@@ -1,22 +1,32 @@
 //! The table of objects.
 
-ghost use Rattle.std.specs.Prelude.{◌≡◌, true, IfOk, IfErr, OnOk};
-ghost use Rattle.std.specs.FinMap.{empty, entries, insert};
+ghost use Rattle.std.specs.Prelude.{◌≡◌, IfErr, OnOk};
+ghost use Rattle.std.specs.FinMap.{empty, insert};
 ghost use Rattle.sqlite.specs.Tree.{has_rowid};
 ghost use Rattle.moo_tables.specs.Inside.{AreKeyed};
 ghost use Rattle.moo_cells.specs.Reading.{ReadsObject, IsRead};
-ghost use Rattle.moo_cells.specs.Each.{ShowEach};
 ghost use Rattle.moo_cells.specs.Holding.{object_number, object_key, IsLess, HoldsTable, SaysUnread, Takes};
 ghost use Rattle.moo_cells.specs.declared.fault.RowFault.TheVariants.{Unreadable};
 
 use crate::cell::int_in;
 use crate::fault::{CellFault, RowFault};
 use crate::object::read_object;
+use crate::table_row::TableRow;
 use moo_damage::{Key, Kind};
-use moo_rows::{Flat, ObjRow, Row as _, Rows, each_object};
+use moo_rows::{Flat, ObjRow, Rows};
 use moo_value::ObjNo;
 use sqlite::Row;
-use std::alloc::{AllocError, Global};
+use std::alloc::Global;
+
+impl TableRow for ObjRow {
+    type Key = ObjNo;
+
+    ghost reads = { ReadsObject };
+
+    fn read(alloc: Global, cells: &Row) -> Result<(ObjNo, ObjRow), RowFault> {
+        read_object(alloc, cells)
+    }
+}
 
 /// Puts the object that these cells show.
 fn take_object(alloc: Global, cells: &Row, rows: &mut Flat) -> Result<(), RowFault>
@@ -47,33 +57,4 @@ pub(crate) fn read_objects(alloc: Global, cells: &[Row], rows: &mut Flat) -> Res
         }
     }
     Ok(())
-}
-
-/// Whether these cells show this object. An `Err` is want of memory.
-fn shows_object(alloc: Global, cells: &Row, key: ObjNo, row: &ObjRow) -> Result<bool, AllocError>
-    ensures { IfOk result (λ shows. shows ≡ true → ReadsObject key cells.now row.now) }
-{
-    match read_object(alloc, cells) {
-        Ok((number, read)) => Ok(number == key && read.equals(row)),
-        Err(RowFault::Unreadable) => Ok(false),
-        Err(RowFault::OutOfMemory) => Err(AllocError),
-    }
-}
-
-/// Whether the rows of the table show the objects, one for one. An `Err` is want of memory.
-pub(crate) fn show_objects(alloc: Global, cells: &[Row], rows: &Flat) -> Result<bool, AllocError>
-    ensures { IfOk result (λ show. show ≡ true → ShowEach ReadsObject cells.now (entries rows.now.maps.objects)) }
-{
-    let mut left = each_object(rows);
-    for row in cells {
-        match left.next() {
-            None => return Ok(false),
-            Some((key, held)) => {
-                if !shows_object(alloc, row, key, held)? {
-                    return Ok(false);
-                }
-            }
-        }
-    }
-    Ok(left.next().is_none())
 }

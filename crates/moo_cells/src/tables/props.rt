@@ -1,21 +1,31 @@
 //! The table of properties.
 
-ghost use Rattle.std.specs.Prelude.{◌≡◌, true, IfOk, IfErr, OnOk};
-ghost use Rattle.std.specs.FinMap.{empty, entries, insert};
+ghost use Rattle.std.specs.Prelude.{◌≡◌, IfErr, OnOk};
+ghost use Rattle.std.specs.FinMap.{empty, insert};
 ghost use Rattle.sqlite.specs.Tree.{has_rowid};
 ghost use Rattle.moo_tables.specs.Inside.{AreKeyed};
 ghost use Rattle.moo_cells.specs.Reading.{ReadsProp, IsRead};
-ghost use Rattle.moo_cells.specs.Each.{ShowEach};
 ghost use Rattle.moo_cells.specs.Holding.{prop_number, prop_key, IsLess, HoldsTable, SaysUnread, Takes};
 ghost use Rattle.moo_cells.specs.declared.fault.RowFault.TheVariants.{Unreadable};
 
 use crate::cell::int_in;
 use crate::fault::{CellFault, RowFault};
 use crate::prop::read_prop;
+use crate::table_row::TableRow;
 use moo_damage::{Key, Kind};
-use moo_rows::{Flat, PropId, PropRow, Row as _, Rows, each_prop};
+use moo_rows::{Flat, PropId, PropRow, Rows};
 use sqlite::Row;
-use std::alloc::{AllocError, Global};
+use std::alloc::Global;
+
+impl TableRow for PropRow {
+    type Key = PropId;
+
+    ghost reads = { ReadsProp };
+
+    fn read(alloc: Global, cells: &Row) -> Result<(PropId, PropRow), RowFault> {
+        read_prop(alloc, cells)
+    }
+}
 
 /// Puts the property that these cells show.
 fn take_prop(alloc: Global, cells: &Row, rows: &mut Flat) -> Result<(), RowFault>
@@ -46,33 +56,4 @@ pub(crate) fn read_props(alloc: Global, cells: &[Row], rows: &mut Flat) -> Resul
         }
     }
     Ok(())
-}
-
-/// Whether these cells show this property. An `Err` is want of memory.
-fn shows_prop(alloc: Global, cells: &Row, key: PropId, row: &PropRow) -> Result<bool, AllocError>
-    ensures { IfOk result (λ shows. shows ≡ true → ReadsProp key cells.now row.now) }
-{
-    match read_prop(alloc, cells) {
-        Ok((number, read)) => Ok(number == key && read.equals(row)),
-        Err(RowFault::Unreadable) => Ok(false),
-        Err(RowFault::OutOfMemory) => Err(AllocError),
-    }
-}
-
-/// Whether the rows of the table show the properties, one for one. An `Err` is want of memory.
-pub(crate) fn show_props(alloc: Global, cells: &[Row], rows: &Flat) -> Result<bool, AllocError>
-    ensures { IfOk result (λ show. show ≡ true → ShowEach ReadsProp cells.now (entries rows.now.maps.props)) }
-{
-    let mut left = each_prop(rows);
-    for row in cells {
-        match left.next() {
-            None => return Ok(false),
-            Some((key, held)) => {
-                if !shows_prop(alloc, row, key, held)? {
-                    return Ok(false);
-                }
-            }
-        }
-    }
-    Ok(left.next().is_none())
 }

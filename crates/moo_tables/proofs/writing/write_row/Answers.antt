@@ -1,0 +1,12 @@
+use Rattle.std.proofs.Common.{subst, sym, OnOk}
+use Rattle.sqlite.specs.Held.{state}
+use Rattle.moo_tables.specs.Inside.{Changes}
+use Rattle.moo_tables.proofs.writing.write_row.Goals as goal
+
+pub returns-in-Some-clause-written : goal.returns-in-Some-clause-written
+returns-in-Some-clause-written g c texts =
+    subst (λ cells. OnOk c.put.result (Changes (g.R.TableRow.with_row c.args.key cells) (state g.S.Store c.args.tx.now.conn.now) (state g.S.Store c.put.new.tx.conn.now))) (sym c.in-Some.is) (c.put.ensures.put texts.0)
+
+pub returns-in-None-clause-written : goal.returns-in-None-clause-written
+returns-in-None-clause-written g c texts =
+    subst (λ cells. OnOk c.remove.result (Changes (g.R.TableRow.with_row c.args.key cells) (state g.S.Store c.args.tx.now.conn.now) (state g.S.Store c.remove.new.tx.conn.now))) (sym c.in-None.is) (c.remove.ensures.gone texts.1)
