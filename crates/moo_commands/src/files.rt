@@ -1,6 +1,6 @@
 //! The file of a task.
 
-ghost use Rattle.std.specs.Prelude.{◌≡◌, Bool, IsTrue, true, false, IfOk, IfErr, MatchResult};
+ghost use Rattle.std.specs.Prelude.{◌≡◌, Bool, IsTrue, true, false, MatchResult};
 ghost use Rattle.sqlite.specs.State.{HasCleanDisk};
 ghost use Rattle.sqlite.specs.Files.{over_files, file_state};
 ghost use Rattle.moo_rows.specs.Opening.{opening_maps};
@@ -20,6 +20,8 @@ use sqlite::{Connection, Error, ErrorCode, File, FileStore};
 use sqlite_disk::Disk;
 use std::fs;
 use std::io::{Read, Write};
+
+const CANNOT_OPEN: Failure = Failure::Store(Error::SqliteFailure(ErrorCode::CannotOpen));
 
 /// The file of a task.
 fn file_of<'a>(task: Task<'a>) -> &'a str
@@ -57,8 +59,7 @@ fn run_in_files<R: Read + Drop, W: Write, D: Disk + Drop>(
 
 /// Makes a new world in a file.
 fn make(rt: &HostRuntime, file: &str) -> Result<World<FileStore<File>>, Failure>
-    ensures stands { IfOk result (λ world. StandsFor over_files true world (state_of opening_maps)) }
-    ensures fault { IfErr result IsOpening }
+    ensures { MatchResult result (λ world. StandsFor over_files true world (state_of opening_maps)) IsOpening }
 {
     match create_at(rt, file) {
         Ok(world) => Ok(world),
@@ -66,30 +67,31 @@ fn make(rt: &HostRuntime, file: &str) -> Result<World<FileStore<File>>, Failure>
     }
 }
 
-/// Why a file isn't opened. That there is none is told apart, for what is said of it on standard error.
-fn refusal(rt: &HostRuntime, file: &str, fault: StoreFault) -> Failure
+/// Each fault of opening refuses the file.
+fn refusal(fault: StoreFault) -> Failure
     ensures { IsRefusal result }
 {
-    let failure = Failure::from(fault);
-    match failure {
-        Failure::Store(Error::SqliteFailure(ErrorCode::CannotOpen)) => {
-            if fs::metadata(rt, file).is_err() {
-                return Failure::NoFile;
-            }
-            failure
-        }
-        _ => failure,
+    Failure::from(fault)
+}
+
+/// Why a file isn't opened. That there is none is told apart, for what is said of it on standard error.
+fn refusal_of(rt: &HostRuntime, file: &str, fault: StoreFault) -> Failure
+    ensures { IsRefusal result }
+{
+    let failure = refusal(fault);
+    if failure == CANNOT_OPEN && fs::metadata(rt, file).is_err() {
+        return Failure::NoFile;
     }
+    failure
 }
 
 /// Opens the world that a file holds.
 fn open(rt: &HostRuntime, file: &str) -> Result<World<FileStore<File>>, Failure>
-    ensures rows { IfOk result (λ world. IsGood world.rows.maps × StandsFor over_files false world (state_of world.rows.maps)) }
-    ensures fault { IfErr result IsRefusal }
+    ensures { MatchResult result (λ world. IsGood world.rows.maps × StandsFor over_files false world (state_of world.rows.maps)) IsRefusal }
 {
     match open_at(rt, file) {
         Ok(world) => Ok(world),
-        Err(fault) => Err(refusal(rt, file, fault)),
+        Err(fault) => Err(refusal_of(rt, file, fault)),
     }
 }
 
