@@ -14,7 +14,7 @@ expect "a file with a world is none to make one in" 1 "$fault" '' init world.db
 complains "the cause is said" 'moo: store fault: it has tables already'
 unchanged "its rows are as they were" world.db
 
-for words in 'apply nothing.db -' 'ask nothing.db -' 'dump nothing.db' 'check nothing.db'; do
+for words in 'apply nothing.db -' 'ask nothing.db -' 'dump nothing.db' 'check nothing.db' 'serve nothing.db 8099 1'; do
     # shellcheck disable=SC2086
     expect "no file to ${words%% *}" 1 "$fault" '' $words
     complains "the cause is said" 'moo: store fault: no such file'
@@ -22,7 +22,9 @@ done
 expect "the file is opened before the batches" 1 "$fault" '' apply nothing.db nothing.txt
 [ -e nothing.db ] || [ -e nothing.db-wal ] && failed "no file was made" "there is one" || passed "no file was made"
 expect "no folder to make one in" 1 "$fault" '' init nowhere/world.db
-expect "a folder is no file" 1 "$fault" '' check .
+mkdir folder
+expect "a folder is no file" 1 "$fault" '' check folder
+[ -e folder-wal ] && failed "and gets no log" "there is one" || passed "and gets no log"
 
 printf 'this is no database, but a text that is long enough to be read as a page of one\n' >text.db
 cp text.db text

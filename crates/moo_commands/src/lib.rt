@@ -7,7 +7,10 @@ mod files;
 mod output;
 mod over;
 mod run;
+mod standard;
 
 pub use failure::Failure;
 pub use output::report;
+pub use over::run_over;
 pub use run::run_words;
+pub use standard::run_command;

@@ -19,7 +19,7 @@ use sqlite::{Alter, Connection};
 use std::io::{Read, Write};
 
 /// Whether a task begins with a new world: `init` does, and each task on `:memory:`.
-fn begins_anew(task: Task<'_>) -> bool
+pub(crate) fn begins_anew(task: Task<'_>) -> bool
     ensures { result ≡ begins_anew task.entry }
 {
     match task {
@@ -47,7 +47,7 @@ fn ended<W: Write>(rt: &HostRuntime, done: Result<u8, Failure>, output: &mut W) 
 }
 
 /// Does what a task says over a World, writes the line of a failure, and hands the connection back.
-fn run_in<R: Read + Drop, W: Write, S: Alter + Drop>(
+pub(crate) fn run_in<R: Read + Drop, W: Write, S: Alter + Drop>(
     rt: &HostRuntime,
     mut world: World<S>,
     task: Task<'_>,
@@ -109,11 +109,12 @@ fn run_opened<R: Read + Drop, W: Write, S: Alter + Drop>(
     }
 }
 
-/// Does what a task says over a connection, writes the line of a failure, and hands the connection back.
+/// Does what a task says over a connection to any store, writes the line of a failure, and hands the connection back. The status
+/// is that of `run_words`.
 ///
 /// A new world is made in a connection that has no tables where the task begins with one; otherwise the one that its tables
 /// show is opened.
-pub(crate) fn run_over<R: Read + Drop, W: Write, S: Alter + Drop>(
+pub fn run_over<R: Read + Drop, W: Write, S: Alter + Drop>(
     rt: &HostRuntime,
     conn: Connection<S>,
     task: Task<'_>,

@@ -1,0 +1,45 @@
+-- From what the files hold to what a connection to them keeps.
+use Rattle.std.proofs.Common.{◌≡◌, ◌≢◌, ◌⊎◌, inl, inr, ℕ, zero, suc, ◌≤◌, Result, Ok, Err, IfErr, ap, arith, sym, subst, ◌∙◌}
+use Rattle.std.specs.Prelude.{length}
+use Rattle.sqlite.specs.Recovery.{Image}
+use Rattle.sqlite.specs.Schema.{Schema}
+use Rattle.sqlite.specs.State.{State as Database, HasCleanDisk, Survives, Opens, IsLive}
+use Rattle.sqlite.specs.Start.{FindsIn}
+use Rattle.sqlite.specs.declared.error.Error.{Error}
+use Rattle.moo_world.specs.Judge.{State}
+use Rattle.moo_tables.specs.Tables.{moo_schema, no_schema}
+use Rattle.moo_tables.proofs.ReopenLemmas.{opened}
+use Rattle.moo_store.specs.States.{Keeps, LeavesState}
+use Rattle.moo_store.specs.Opening.{IsOfStore}
+use Rattle.moo_store.specs.declared.fault.StoreFault.{StoreFault}
+use Rattle.moo_store.specs.declared.fault.StoreFault.TheVariants.{Store, OutOfMemory}
+use Rattle.moo_files.specs.Contents.{HoldsState}
+
+none_below : (n m : ℕ) → n ≤ m → m ≡ 0 → n ≡ 0
+none_below n m le e = omega (arith, le, e)
+
+-- a disk that returns what was written did so before
+pub was_clean : (old new : Database) (Commits : _) → Survives old new Commits → HasCleanDisk new → HasCleanDisk old
+was_clean old new Commits it clean = none_below _ _ it.clean clean
+
+pub keeps_held : (image : Image) (store : Database) (s : State) → Opens store → IsLive store → FindsIn image store → HoldsState image s → Keeps store s
+keeps_held image store s opens live found it =
+    let shows : LeavesState store.now.trees s = subst (λ trees. LeavesState trees s) (sym (ap (λ db. db.trees) opens.clean ∙ found.holds it.trees it.holds)) it.shows in
+    record {
+      rows = shows.rows;
+      good = shows.good;
+      state = shows.state;
+      keeps = record { tables = shows.leaves.tables; rests = opened store shows.leaves.tables opens (live opens.is_open).0 shows.leaves.leaves; shows = shows.leaves.shows };
+    }
+
+-- what keeps a state has tables
+pub has_tables : (store : Database) (s : State) → Keeps store s → store.now.schema ≢ no_schema
+has_tables store s it none =
+    let odd : suc 4 ≡ zero = ap (λ (schema : Schema). length schema.tables) (sym it.keeps.rests.holds.schema ∙ none) in
+    absurd cc
+
+-- what a new world can't be made for says nothing of tables
+pub each_fault : {W C : Type 0} (Kept : StoreFault × C → Type 0) (r : Result W (StoreFault × C)) → IfErr r (λ e. ((e.0 ≡ OutOfMemory) × Kept e) ⊎ ((error : Error) × (e.0 ≡ Store error))) → IfErr r (λ e. IsOfStore e.0)
+each_fault Kept (Ok world) it = tt
+each_fault Kept (Err e) (inl (is, kept)) = subst IsOfStore (sym is) tt
+each_fault Kept (Err e) (inr (error, is)) = subst IsOfStore (sym is) tt

@@ -1,0 +1,12 @@
+-- What the files of a database hold.
+use Rattle.sqlite.specs.Recovery.{Image}
+use Rattle.sqlite.specs.Tree.{Trees}
+use Rattle.sqlite.specs.Files.{HoldsDatabase}
+use Rattle.moo_world.specs.Judge.{State}
+use Rattle.moo_store.specs.States.{LeavesState}
+
+-- a log and its file hold a database whose tables show good rows of this world and number
+pub record HoldsState (image : Image) (s : State) : Type 0 where
+  pub trees : Trees
+  pub holds : HoldsDatabase image trees
+  pub shows : LeavesState trees s

@@ -1,0 +1,8 @@
+//! Worlds in files: opened, and made.
+#![tactic(auto)]
+
+mod making;
+mod opening;
+
+pub use making::{create_at, create_from};
+pub use opening::{open_at, open_from};

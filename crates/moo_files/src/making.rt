@@ -1,0 +1,70 @@
+//! Making a new world in a file.
+
+ghost use Rattle.std.specs.Prelude.{◌≡◌, ◌≢◌, ◌⊎◌, IfOk, IfErr, IsErrAnd, false, true};
+ghost use Rattle.sqlite.specs.State.{HasCleanDisk, Survives};
+ghost use Rattle.sqlite.specs.Files.{over_files, file_state};
+ghost use Rattle.sqlite.specs.WalFiles.{image_at};
+ghost use Rattle.moo_rows.specs.Opening.{opening_maps};
+ghost use Rattle.moo_world.specs.Judge.{State, state_of};
+ghost use Rattle.moo_tables.specs.Tables.{no_schema};
+ghost use Rattle.moo_store.specs.States.{LeavesState};
+ghost use Rattle.moo_store.specs.Opening.{IsOfStore};
+ghost use Rattle.moo_store.specs.World.{store_of, StandsFor};
+ghost use Rattle.moo_files.specs.Contents.{HoldsState};
+
+use crate::opening::open_fault;
+use moo_store::{StoreFault, World, create_in};
+use sqlite::{Connection, File, FileFrom, FileStore, Start, Unknown};
+use sqlite_disk::Disk;
+use std::alloc::Global;
+
+/// `create_in` at the store in files, over any disk: the second call of a generic function at that store.
+pub fn create_files<D: Disk + Drop>(
+    alloc: Global,
+    conn: Connection<FileStore<D>>,
+) -> Result<World<FileStore<D>>, (StoreFault, Connection<FileStore<D>>)>
+    requires outside { conn.in_transaction ≡ false }
+    ensures stands { IfOk result (λ world. StandsFor over_files true world (state_of opening_maps)) }
+    // A database that has tables is refused.
+    ensures refused { (file_state conn).now.schema ≢ no_schema → IsErrAnd result (λ e. e.1 ≡ conn) }
+    ensures fault { IfErr result (λ e. IsOfStore e.0) }
+    ensures crash { IfOk result (λ world. Survives (file_state conn) (store_of over_files world) (λ trees. LeavesState trees (state_of opening_maps))) }
+{
+    create_in(alloc, conn)
+}
+
+/// `create_at`, where `T` stands for what the files hold: it is proved for all contents, and no code reads them.
+pub fn create_from<T: Start>(
+    rt: &HostRuntime,
+    path: &str,
+    start: T,
+) -> Result<World<FileStore<FileFrom<T>>>, StoreFault>
+    ensures stands { IfOk result (λ world. StandsFor over_files true world (state_of opening_maps)) }
+    // Files that hold a world are no place for another.
+    ensures taken { (s : State) → HoldsState (image_at T.Start) s → IfOk result (λ world. HasCleanDisk (store_of over_files world) → ⊥) }
+    ensures fault { IfErr result IsOfStore }
+{
+    let conn = match Connection::open_from(rt, path, false, start) {
+        Ok(conn) => conn,
+        Err((error, _)) => return Err(open_fault(error)),
+    };
+    match create_files(rt.alloc(), conn) {
+        Ok(world) => Ok(world),
+        Err((fault, conn)) => {
+            let _closed = conn.close();
+            Err(fault)
+        }
+    }
+}
+
+/// Makes a new world in a file that holds no table, or makes the file.
+///
+/// Store with `ErrorCode::NameTaken`: it has a table, an index or a view already, and stays as it is. Store with any other code:
+/// the file can't be made or opened, is no database, is open elsewhere, or the disk failed. OutOfMemory: memory was refused. At
+/// each refusal the file is closed.
+pub fn create_at(rt: &HostRuntime, path: &str) -> Result<World<FileStore<File>>, StoreFault>
+    ensures stands { IfOk result (λ world. StandsFor over_files true world (state_of opening_maps)) }
+    ensures fault { IfErr result IsOfStore }
+{
+    create_from(rt, path, Unknown)
+}

@@ -1,0 +1,93 @@
+//! Opening the world that a file holds.
+
+ghost use Rattle.std.specs.Prelude.{◌≡◌, ◌⊎◌, IfOk, IfErr, IsTrue, false, true};
+ghost use Rattle.sqlite.specs.State.{HasCleanDisk, Survives};
+ghost use Rattle.sqlite.specs.Files.{over_files, file_state};
+ghost use Rattle.sqlite.specs.WalFiles.{image_at};
+ghost use Rattle.moo_world.specs.Rows.{IsGood};
+ghost use Rattle.moo_world.specs.Judge.{State, state_of};
+ghost use Rattle.moo_tables.specs.Inside.{RestsAt};
+ghost use Rattle.moo_store.specs.States.{Keeps};
+ghost use Rattle.moo_store.specs.Opening.{IsOfStore, Adopts};
+ghost use Rattle.moo_store.specs.World.{store_of, StandsFor};
+ghost use Rattle.moo_files.specs.Contents.{HoldsState};
+
+use moo_store::{StoreFault, World, adopt};
+use sqlite::{Connection, Error, ErrorCode, File, FileFrom, FileStore, Start, Unknown};
+use sqlite_disk::Disk;
+use std::alloc::Global;
+use std::fs;
+
+/// Why a database can't be opened, as a fault.
+pub(crate) fn open_fault(error: Error) -> StoreFault
+    ensures { IsOfStore result }
+{
+    match error {
+        Error::SqliteFailure(ErrorCode::OutOfMemory) => StoreFault::OutOfMemory,
+        error => StoreFault::Store(error),
+    }
+}
+
+/// `adopt` at the store in files, over any disk. What is known of that store weighs on each function that calls a generic one
+/// at it, so that this call stands alone.
+pub fn adopt_files<D: Disk + Drop>(
+    alloc: Global,
+    conn: Connection<FileStore<D>>,
+) -> Result<World<FileStore<D>>, (StoreFault, Connection<FileStore<D>>)>
+    requires outside { conn.in_transaction ≡ false }
+    // Tables that show a world and a number give a World that stands for these, unless the store fails or memory is refused.
+    ensures stands { (s : State) → Keeps (file_state conn) s → IfOk result (λ world. HasCleanDisk (store_of over_files world) → StandsFor over_files true world s) }
+    ensures whole { (s : State) → Keeps (file_state conn) s → IfErr result (λ e. HasCleanDisk (file_state e.1) → IsOfStore e.0) }
+    // Whatever is opened, its rows are good, and what is said of rows alone is said of them.
+    ensures rows { IfOk result (λ world. IsGood world.rows.maps × StandsFor over_files false world (state_of world.rows.maps)) }
+    ensures works { IfOk result (λ world. world.failed ≡ false) }
+    // Nothing is committed: a crash leaves what it could leave before, and a refusal the database as it was.
+    ensures crash { IfOk result (λ world. Survives (file_state conn) (store_of over_files world) (Adopts (file_state conn))) }
+    ensures crash_refused { IfErr result (λ e. Survives (file_state conn) (file_state e.1) (Adopts (file_state conn))) }
+    ensures undone { IfErr result (λ e. (e.1 ≡ conn) ⊎ (HasCleanDisk (file_state e.1) → IsTrue (file_state e.1).is_open → RestsAt (file_state e.1) (file_state conn).now)) }
+{
+    adopt(alloc, conn)
+}
+
+/// `open_at`, where `T` stands for what the files hold: it is proved for all contents, and no code reads them.
+pub fn open_from<T: Start>(
+    rt: &HostRuntime,
+    path: &str,
+    start: T,
+) -> Result<World<FileStore<FileFrom<T>>>, StoreFault>
+    // Where they hold a state, a World that is opened stands for it, on a disk that returns what was written.
+    ensures kept { (s : State) → HoldsState (image_at T.Start) s → IfOk result (λ world. HasCleanDisk (store_of over_files world) → StandsFor over_files true world s) }
+    // Whatever they hold, its rows are good, and what is said of rows alone is said of them.
+    ensures rows { IfOk result (λ world. IsGood world.rows.maps × StandsFor over_files false world (state_of world.rows.maps)) }
+    ensures works { IfOk result (λ world. world.failed ≡ false) }
+{
+    if fs::metadata(rt, path).is_err() {
+        return Err(StoreFault::Store(Error::SqliteFailure(ErrorCode::CannotOpen)));
+    }
+    let conn = match Connection::open_from(rt, path, false, start) {
+        Ok(conn) => conn,
+        Err((error, _)) => return Err(open_fault(error)),
+    };
+    match adopt_files(rt.alloc(), conn) {
+        Ok(world) => Ok(world),
+        Err((fault, conn)) => {
+            let _closed = conn.close();
+            Err(fault)
+        }
+    }
+}
+
+/// Opens the world that a file holds. It writes nothing, and never makes the file.
+///
+/// Store with `ErrorCode::CannotOpen`: there is no file of this name, it is none, or it can't be opened. Store with
+/// `ErrorCode::DatabaseBusy`: another handle has it open. Store with `ErrorCode::NotADatabase`: it is no database, or has other
+/// tables than ours. Any other Store: the disk failed, or what it holds is no whole database. Damaged and NewerVersion: its
+/// tables show no world, and say where, or are those of a later version. OutOfMemory: memory was refused. At each refusal the
+/// file is closed; a log that an earlier run left is copied into it first.
+pub fn open_at(rt: &HostRuntime, path: &str) -> Result<World<FileStore<File>>, StoreFault>
+    // Whatever the file holds, the World works, its rows are good, and what is said of rows alone is said of them.
+    ensures rows { IfOk result (λ world. IsGood world.rows.maps × StandsFor over_files false world (state_of world.rows.maps)) }
+    ensures works { IfOk result (λ world. world.failed ≡ false) }
+{
+    open_from(rt, path, Unknown)
+}
