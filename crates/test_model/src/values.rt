@@ -1,7 +1,5 @@
 //! What no clause says: that the definitions mean what the manual and the format of literals mean, and that each call
 //! succeeds where memory is left.
-use moo_value::LiteralFault::self;
-use moo_value::LiteralFault::{
     self, BadByte, BadByte, NotALiteral, NotALiteral, OutOfRange, OutOfRange, TooDeep, TooDeep,
     TooLong, TooLong,
 };
