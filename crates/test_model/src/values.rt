@@ -1,8 +1,6 @@
 //! What no clause says: that the definitions mean what the manual and the format of literals mean, and that each call
 //! succeeds where memory is left.
-    self, BadByte, BadByte, NotALiteral, NotALiteral, OutOfRange, OutOfRange, TooDeep, TooDeep,
-    TooLong, TooLong,
-};
+use moo_value::LiteralFault::{self, BadByte, NotALiteral, OutOfRange, TooDeep, TooLong};
 use moo_value::{
     Code, MooStr, ObjNo, Value, ValueList, fits, fold_name, print_literal, read_literal, same_name,
 };
