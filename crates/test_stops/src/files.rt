@@ -1,0 +1,100 @@
+//! Two files in memory, one of which stops at some call.
+
+use crate::visits::Fused;
+use sqlite::Files;
+use sqlite_disk::{Crash, Disk, Fuse, Memory};
+use std::alloc::Global;
+use std::test::Fail;
+
+/// Which of the two files stops.
+#[derive(Clone, Copy, Debug, PartialEq, Eq, Drop)]
+pub(crate) enum Which {
+    Log,
+    Db,
+}
+
+/// What is left of a file behind a stop.
+#[derive(Clone, Copy, Debug, PartialEq, Eq, Drop)]
+pub(crate) enum Loss {
+    /// All that was not synced is lost, as where the machine stopped.
+    Unsynced,
+    /// Nothing is lost, as where the process was ended.
+    Nothing,
+}
+
+/// The bytes of two files.
+#[derive(Drop)]
+pub(crate) struct Kept {
+    pub(crate) log: Vec<u8>,
+    pub(crate) db: Vec<u8>,
+}
+
+fn copied(alloc: Global, bytes: &[u8]) -> Result<Vec<u8>, Fail> {
+    let mut copy = Vec::new(alloc);
+    copy.extend_from_slice(bytes)?;
+    Ok(copy)
+}
+
+/// The bytes of files that nothing is asked of any more.
+pub(crate) fn bytes_of(alloc: Global, files: &Files<Fused>) -> Result<Kept, Fail> {
+    let log = copied(alloc, files.log.inner().bytes())?;
+    Ok(Kept {
+        log,
+        db: copied(alloc, files.db.inner().bytes())?,
+    })
+}
+
+/// A file of these bytes, all of them synced, that stops behind so many calls.
+fn fused(alloc: Global, bytes: &[u8], calls: u64) -> Result<Fused, Fail> {
+    let mut memory = Memory::new(alloc);
+    if memory.may_be_used() {
+        memory.write_at(0, bytes)?;
+    }
+    if memory.may_be_used() {
+        memory.sync()?;
+    }
+    Ok(Fuse::new(memory, calls))
+}
+
+/// Two such files, of which neither stops.
+pub(crate) fn whole(alloc: Global, kept: &Kept) -> Result<Files<Fused>, Fail> {
+    let log = fused(alloc, &kept.log, u64::MAX)?;
+    Ok(Files {
+        log,
+        db: fused(alloc, &kept.db, u64::MAX)?,
+    })
+}
+
+/// Two such files, of which one stops behind so many calls.
+pub(crate) fn stopping(
+    alloc: Global,
+    kept: &Kept,
+    which: Which,
+    calls: u64,
+) -> Result<Files<Fused>, Fail> {
+    let (log_calls, db_calls) = match which {
+        Which::Log => (calls, u64::MAX),
+        Which::Db => (u64::MAX, calls),
+    };
+    let log = fused(alloc, &kept.log, log_calls)?;
+    Ok(Files {
+        log,
+        db: fused(alloc, &kept.db, db_calls)?,
+    })
+}
+
+/// What the next open is given.
+pub(crate) fn left(
+    alloc: Global,
+    mut files: Files<Fused>,
+    loss: Loss,
+) -> Result<Files<Fused>, Fail> {
+    match loss {
+        Loss::Unsynced => {
+            files.log.crash();
+            files.db.crash();
+            Ok(files)
+        }
+        Loss::Nothing => whole(alloc, &bytes_of(alloc, &files)?),
+    }
+}

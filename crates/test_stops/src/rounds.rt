@@ -1,0 +1,218 @@
+//! A run that stops at each call of a file in turn, and what is found behind each stop.
+
+use crate::files::{Kept, Loss, Which, bytes_of, left, stopping, whole};
+use crate::visits::{Seen, Task, visit_fused};
+use std::alloc::Global;
+use std::test::Fail;
+
+/// A run on prepared files, what is written where it is done, and the dumps of the world before it and behind it. Before `Init`
+/// there is no world, and no dump.
+#[derive(Drop)]
+pub(crate) struct Run<'a> {
+    kept: Kept,
+    task: Task<'a>,
+    reply: &'a [u8],
+    pub(crate) old: Vec<u8>,
+    pub(crate) new: Vec<u8>,
+}
+
+/// Does a task on files that don't stop, and answers what is written, and the files.
+fn done(alloc: Global, files: &Kept, task: Task<'_>) -> Result<(Vec<u8>, Kept), Fail> {
+    let mut seen = Seen::new(alloc);
+    let behind = visit_fused(alloc, whole(alloc, files)?, task, &mut seen);
+    if !seen.is_done || !seen.is_closed {
+        return Err(Fail::from("a task without a stop failed"));
+    }
+    Ok((seen.written, bytes_of(alloc, &behind)?))
+}
+
+/// The files of a new world on which a text was run.
+pub(crate) fn world_of(alloc: Global, text: &[u8]) -> Result<Kept, Fail> {
+    let none = Kept {
+        log: Vec::new(alloc),
+        db: Vec::new(alloc),
+    };
+    let (_, new) = done(alloc, &none, Task::Init)?;
+    let (_, behind) = done(alloc, &new, Task::Apply(text))?;
+    Ok(behind)
+}
+
+/// A run on the files of a world.
+pub(crate) fn run_on<'a>(
+    alloc: Global,
+    kept: Kept,
+    task: Task<'a>,
+    reply: &'a [u8],
+) -> Result<Run<'a>, Fail> {
+    let (old, _) = done(alloc, &kept, Task::Look)?;
+    let (written, behind) = done(alloc, &kept, task)?;
+    if written.as_slice() != reply {
+        return Err(Fail::from("a run without a stop is answered otherwise"));
+    }
+    let (new, _) = done(alloc, &behind, Task::Look)?;
+    Ok(Run {
+        kept,
+        task,
+        reply,
+        old,
+        new,
+    })
+}
+
+/// The making of a new world.
+pub(crate) fn making<'a>(alloc: Global) -> Result<Run<'a>, Fail> {
+    let none = Kept {
+        log: Vec::new(alloc),
+        db: Vec::new(alloc),
+    };
+    let (_, behind) = done(alloc, &none, Task::Init)?;
+    let (new, _) = done(alloc, &behind, Task::Look)?;
+    Ok(Run {
+        kept: none,
+        task: Task::Init,
+        reply: b"",
+        old: Vec::new(alloc),
+        new,
+    })
+}
+
+/// What a stop left.
+#[derive(Clone, Copy, Debug, PartialEq, Eq, Drop)]
+enum Found {
+    /// The world before the run.
+    Old,
+    /// The world behind it.
+    New,
+    /// Neither, or not that of an acknowledged run.
+    Wrong,
+}
+
+/// What one round came to.
+#[derive(Clone, Copy, Debug, PartialEq, Eq, Drop)]
+struct Round {
+    is_done: bool,
+    found: Found,
+}
+
+/// Which world is found.
+fn world_found(run: &Run<'_>, is_acknowledged: bool, look: &Seen) -> Found {
+    if look.is_done && look.written == run.new {
+        Found::New
+    } else if look.is_done == !run.old.is_empty() && look.written == run.old && !is_acknowledged {
+        Found::Old
+    } else {
+        Found::Wrong
+    }
+}
+
+/// Whether a task was acknowledged: its reply is written; of a task without one, that it was done.
+fn is_acknowledged(run: &Run<'_>, seen: &Seen) -> bool {
+    if run.reply.is_empty() {
+        seen.is_done
+    } else {
+        seen.written.as_slice() == run.reply
+    }
+}
+
+/// One round: one of the files stops behind so many calls.
+fn one_round(
+    alloc: Global,
+    run: &Run<'_>,
+    which: Which,
+    loss: Loss,
+    calls: u64,
+) -> Result<Round, Fail> {
+    let mut seen = Seen::new(alloc);
+    let files = stopping(alloc, &run.kept, which, calls)?;
+    let files = left(alloc, visit_fused(alloc, files, run.task, &mut seen), loss)?;
+    let mut look = Seen::new(alloc);
+    let files = visit_fused(alloc, files, Task::Look, &mut look);
+    let mut found = world_found(run, is_acknowledged(run, &seen), &look);
+    if !look.is_done {
+        // No world is there, which is made now.
+        let mut again = Seen::new(alloc);
+        let _files = visit_fused(alloc, files, Task::Init, &mut again);
+        if !again.is_done {
+            found = Found::Wrong;
+        }
+    }
+    Ok(Round {
+        is_done: seen.is_done && seen.is_closed,
+        found,
+    })
+}
+
+/// How many stops there are, and what they left.
+#[derive(Clone, Copy, Debug, PartialEq, Eq, Drop)]
+pub(crate) struct Counts {
+    pub(crate) old: u32,
+    pub(crate) new: u32,
+    pub(crate) wrong: u32,
+    /// How often a round without a stop came, and found the new world.
+    pub(crate) ended: u32,
+}
+
+fn count(number: &mut u32) {
+    *number = number.saturating_add(1);
+}
+
+impl Counts {
+    pub(crate) fn new() -> Counts {
+        Counts {
+            old: 0,
+            new: 0,
+            wrong: 0,
+            ended: 0,
+        }
+    }
+
+    pub(crate) fn add(&mut self, other: &Counts) {
+        self.old = self.old.saturating_add(other.old);
+        self.new = self.new.saturating_add(other.new);
+        self.wrong = self.wrong.saturating_add(other.wrong);
+        self.ended = self.ended.saturating_add(other.ended);
+    }
+
+    fn note(&mut self, round: Round) {
+        match round {
+            Round {
+                is_done: true,
+                found: Found::New,
+            } => count(&mut self.ended),
+            Round {
+                is_done: true,
+                found: _,
+            } => count(&mut self.wrong),
+            Round {
+                is_done: false,
+                found: Found::Old,
+            } => count(&mut self.old),
+            Round {
+                is_done: false,
+                found: Found::New,
+            } => count(&mut self.new),
+            Round {
+                is_done: false,
+                found: Found::Wrong,
+            } => count(&mut self.wrong),
+        }
+    }
+}
+
+/// The rounds of one file and one loss: a stop at the first call, at the second and so on, until a round is done without one.
+pub(crate) fn each_round(
+    alloc: Global,
+    run: &Run<'_>,
+    which: Which,
+    loss: Loss,
+) -> Result<Counts, Fail> {
+    let mut counts = Counts::new();
+    for calls in 0..2000 {
+        let round = one_round(alloc, run, which, loss, calls)?;
+        counts.note(round);
+        if round.is_done {
+            break;
+        }
+    }
+    Ok(counts)
+}

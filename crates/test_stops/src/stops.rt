@@ -1,0 +1,131 @@
+//! A stop at each call of one file and then of the other.
+
+use crate::files::{Loss, Which};
+use crate::rounds::{Counts, Run, each_round, making, run_on, world_of};
+use crate::visits::Task;
+use std::alloc::Global;
+use std::test::Fail;
+
+/// `#4` defines a, `#5` under it defines b, which `#6` under that one sets; `#7` defines c.
+const TREE: &str = r#"batch as #3
+create(#1)
+add_property(#4, "a", 10, {#3, "r"})
+create(#4)
+add_property(#5, "b", 20, {#3, "r"})
+create(#5)
+set(#6, "b", 21)
+create(#1)
+add_property(#7, "c", 30, {#3, "r"})
+end
+"#;
+
+/// The tree, and forty children of `#6`, the last of them `#47`.
+fn forty(alloc: Global) -> Result<Vec<u8>, Fail> {
+    let mut text = Vec::new(alloc);
+    text.extend_from_slice(TREE.as_bytes())?;
+    text.extend_from_slice(b"batch as #3\n")?;
+    for _ in 0..40u32 {
+        text.extend_from_slice(b"create(#6)\n")?;
+    }
+    text.extend_from_slice(b"end\n")?;
+    Ok(text)
+}
+
+/// How many slots of a property a dump has.
+fn slots_of(dump: &[u8], name: &str) -> Result<u32, Fail> {
+    let mut count: u32 = 0;
+    for line in str::from_utf8(dump)?.lines() {
+        if line.starts_with("slot {") && line.contains(name) {
+            count = count.saturating_add(1);
+        }
+    }
+    Ok(count)
+}
+
+/// How many slots of a, b and c a dump has.
+fn slots(dump: &[u8]) -> Result<(u32, u32, u32), Fail> {
+    Ok((
+        slots_of(dump, "\"a\"")?,
+        slots_of(dump, "\"b\"")?,
+        slots_of(dump, "\"c\"")?,
+    ))
+}
+
+/// Every stop of a run, at each file and with each loss.
+fn all_rounds(alloc: Global, run: &Run<'_>) -> Result<Counts, Fail> {
+    let mut all = Counts::new();
+    for which in [Which::Log, Which::Db] {
+        for loss in [Loss::Unsynced, Loss::Nothing] {
+            all.add(&each_round(alloc, run, which, loss)?);
+        }
+    }
+    Ok(all)
+}
+
+/// Whether every round left the world before or the world behind, both of them at some stop.
+fn are_right(counts: &Counts) -> bool {
+    counts.wrong == 0 && counts.ended == 4 && counts.old > 0 && counts.new > 0
+}
+
+/// The stops of a batch on a new world.
+#[test]
+fn a_batch_that_stops_is_there_or_not(rt: HostRuntime) -> Result<(), Fail> {
+    let alloc = rt.alloc();
+    let text = Task::Apply(b"batch as #3\ncreate(#1)\nend\n");
+    let run = run_on(alloc, world_of(alloc, b"")?, text, b"accepted 1\n#4\nend\n")?;
+    let counts = all_rounds(alloc, &run)?;
+    assert!(rt; are_right(&counts), "{counts:?}");
+    Ok(())
+}
+
+/// The stops of a batch by which 42 objects lose a slot and get another one: behind each, all of them have, or none.
+#[test]
+fn a_change_of_parent_that_stops_is_there_or_not(rt: HostRuntime) -> Result<(), Fail> {
+    let alloc = rt.alloc();
+    let text = Task::Apply(b"batch as #3\nchparent(#5, #7)\nget(#47, \"b\")\nend\n");
+    let kept = world_of(alloc, &forty(alloc)?)?;
+    let run = run_on(alloc, kept, text, b"accepted 3\n0\n21\nend\n")?;
+    assert_eq!(rt; slots(&run.old)?, (43, 42, 1));
+    assert_eq!(rt; slots(&run.new)?, (1, 42, 43));
+    let counts = all_rounds(alloc, &run)?;
+    assert!(rt; are_right(&counts), "{counts:?}");
+    Ok(())
+}
+
+/// The stops of a batch by which an object goes, and its property with the slots of 42 objects.
+#[test]
+fn a_recycling_that_stops_is_there_or_not(rt: HostRuntime) -> Result<(), Fail> {
+    let alloc = rt.alloc();
+    let text = Task::Apply(b"batch as #3\nrecycle(#5)\nend\n");
+    let kept = world_of(alloc, &forty(alloc)?)?;
+    let run = run_on(alloc, kept, text, b"accepted 3\n0\nend\n")?;
+    assert_eq!(rt; slots(&run.old)?, (43, 42, 1));
+    assert_eq!(rt; slots(&run.new)?, (42, 0, 1));
+    let counts = all_rounds(alloc, &run)?;
+    assert!(rt; are_right(&counts), "{counts:?}");
+    Ok(())
+}
+
+/// The stops of a check, which changes nothing.
+#[test]
+fn a_check_that_stops_changes_nothing(rt: HostRuntime) -> Result<(), Fail> {
+    let alloc = rt.alloc();
+    let kept = world_of(alloc, TREE.as_bytes())?;
+    let run = run_on(alloc, kept, Task::Check, b"")?;
+    assert!(rt; run.old == run.new);
+    let counts = all_rounds(alloc, &run)?;
+    assert!(rt;
+        counts.wrong == 0 && counts.ended == 4 && counts.new > 0,
+        "{counts:?}"
+    );
+    Ok(())
+}
+
+/// The stops of the making of a world: behind each the new world is there, or none and one can be made.
+#[test]
+fn a_new_world_that_stops_is_there_or_can_be_made(rt: HostRuntime) -> Result<(), Fail> {
+    let alloc = rt.alloc();
+    let counts = all_rounds(alloc, &making(alloc)?)?;
+    assert!(rt; are_right(&counts), "{counts:?}");
+    Ok(())
+}
