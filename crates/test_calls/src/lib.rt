@@ -1,5 +1,14 @@
-//! Tests of the calls, of `moo_calls`, `moo_property_calls` and `moo_verb_calls`, by the step that takes any of them.
+//! Tests of calls, of batches and of dumps, over rows in memory: by the step that takes any call, by the verdicts on batches and
+//! their changes, and by the lines of dumps.
 #![tactic(auto)]
 
 #[cfg(test)]
-mod calls;
+mod batches;
+#[cfg(test)]
+mod drafts;
+#[cfg(test)]
+mod dumps;
+#[cfg(test)]
+mod limits;
+#[cfg(test)]
+mod scenes;

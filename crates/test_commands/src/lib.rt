@@ -2,6 +2,6 @@
 #![tactic(auto)]
 
 #[cfg(test)]
-mod texts;
+mod scenes;
 #[cfg(test)]
-mod worked;
+mod texts;

@@ -1,10 +1,10 @@
 //! Two files in memory, one of which stops at some call.
 
-use crate::visits::Fused;
 use sqlite::Files;
 use sqlite_disk::{Crash, Disk, Fuse, Memory};
 use std::alloc::Global;
 use std::test::Fail;
+use test_visits::Fused;
 
 /// Which of the two files stops.
 #[derive(Clone, Copy, Debug, PartialEq, Eq, Drop)]

@@ -7,5 +7,3 @@ mod files;
 mod rounds;
 #[cfg(test)]
 mod stops;
-#[cfg(test)]
-mod visits;

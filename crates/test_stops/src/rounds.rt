@@ -1,9 +1,9 @@
 //! A run that stops at each call of a file in turn, and what is found behind each stop.
 
 use crate::files::{Kept, Loss, Which, bytes_of, left, stopping, whole};
-use crate::visits::{Seen, Task, visit_fused};
 use std::alloc::Global;
 use std::test::Fail;
+use test_visits::{Seen, Task, visit_fused};
 
 /// A run on prepared files, what is written where it is done, and the dumps of the world before it and behind it. Before `Init`
 /// there is no world, and no dump.

@@ -2,9 +2,9 @@
 
 use crate::files::{Loss, Which};
 use crate::rounds::{Counts, Run, each_round, making, run_on, world_of};
-use crate::visits::Task;
 use std::alloc::Global;
 use std::test::Fail;
+use test_visits::Task;
 
 /// `#4` defines a, `#5` under it defines b, which `#6` under that one sets; `#7` defines c.
 const TREE: &str = r#"batch as #3

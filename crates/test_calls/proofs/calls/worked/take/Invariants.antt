@@ -1,9 +1,0 @@
--- The loop of `take`: its rows are good before each call.
-use Rattle.moo_world.specs.Rows.{IsGood}
-use Rattle.test_calls.proofs.calls.worked.take.Given as goal
-
-abbrev pub invariant-loop-number : goal.invariant-loop-number
-invariant-loop-number g l =
-    (goal.iterator-loop-number g).can_next l.number-iterator ×
-    (goal.iterator-loop-number g).is_finite l.number-iterator ×
-    IsGood l.rows.maps

@@ -1,0 +1,146 @@
+//! Drafts over rows, beside rows that take the same steps.
+
+use moo_batch::{Changes, Draft, apply_changes};
+use moo_rows::{
+    Bits, Flat, PropId, Rows, SlotRow, SlotState, children, each_slot, each_slot_of, opening_world,
+};
+use moo_value::{ObjNo, Value};
+use std::alloc::{AllocError, Global};
+use std::test::Fail;
+
+fn slot(object: ObjNo, value: i32) -> SlotRow {
+    SlotRow {
+        owner: object,
+        bits: Bits {
+            r: true,
+            w: false,
+            c: false,
+        },
+        state: SlotState::Set(Value::Int(value)),
+    }
+}
+
+fn some_slots(alloc: Global) -> Result<Flat, AllocError> {
+    let mut flat = opening_world(alloc)?;
+    for i in 0..100u32 {
+        let object = ObjNo((i % 23) as i32);
+        flat.put_slot((object, PropId(i * 7 % 17 + 1)), slot(object, 0))?;
+    }
+    Ok(flat)
+}
+
+/// 1,000 fixed puts, removals and steps, and then the keys of all slots and of some.
+fn keys_met<R: Rows>(
+    alloc: Global,
+    rows: &mut R,
+) -> Result<Vec<Option<(ObjNo, PropId)>>, AllocError> {
+    let mut met = Vec::new(alloc);
+    for i in 0..1000u32 {
+        let object = ObjNo((i * 37 % 23) as i32);
+        let key = (object, PropId(i * 11 % 17 + 1));
+        match i % 4 {
+            0 => rows.put_slot(key, slot(object, i as i32))?,
+            1 => rows.put_slot((object, PropId(3)), slot(object, 0))?,
+            2 => rows.remove_slot(key)?,
+            _ => met.push(rows.next_slot(Some(key)))?,
+        }
+    }
+    for (key, _) in each_slot(rows) {
+        met.push(Some(key))?;
+    }
+    for (key, _) in each_slot_of(rows, ObjNo(5), PropId(3)) {
+        met.push(Some(key))?;
+    }
+    Ok(met)
+}
+
+/// The keys that are met on a draft over rows, and the changes of that draft.
+fn drafted(
+    alloc: Global,
+    base: &Flat,
+) -> Result<(Vec<Option<(ObjNo, PropId)>>, Changes), AllocError> {
+    let mut draft = Draft::new(alloc, base);
+    let met = keys_met(alloc, &mut draft)?;
+    Ok((met, draft.into_changes()?))
+}
+
+/// The keys that are met on a copy of rows.
+fn met_on_copy(
+    alloc: Global,
+    base: &Flat,
+    times: u32,
+) -> Result<Vec<Option<(ObjNo, PropId)>>, AllocError> {
+    let mut copy = base.copy(alloc)?;
+    for _ in 1..times {
+        keys_met(alloc, &mut copy)?;
+    }
+    keys_met(alloc, &mut copy)
+}
+
+/// The keys that are met on a copy of rows behind the changes of a draft.
+fn met_behind_draft(
+    alloc: Global,
+    base: &Flat,
+) -> Result<Vec<Option<(ObjNo, PropId)>>, AllocError> {
+    let (_, changes) = drafted(alloc, base)?;
+    let mut copy = base.copy(alloc)?;
+    apply_changes(&mut copy, changes)?;
+    keys_met(alloc, &mut copy)
+}
+
+#[test]
+fn a_draft_steps_as_rows_do(rt: HostRuntime) -> Result<(), Fail> {
+    let base = some_slots(rt.alloc())?;
+    let (met, _) = drafted(rt.alloc(), &base)?;
+    assert!(rt; met.len() > 300);
+    assert!(rt; met.as_slice() == met_on_copy(rt.alloc(), &base, 1)?.as_slice());
+    Ok(())
+}
+
+#[test]
+fn the_changes_of_a_draft_make_the_rows_that_it_showed(rt: HostRuntime) -> Result<(), Fail> {
+    let base = some_slots(rt.alloc())?;
+    let met = met_behind_draft(rt.alloc(), &base)?;
+    assert!(rt; met.len() > 300);
+    assert!(rt; met.as_slice() == met_on_copy(rt.alloc(), &base, 2)?.as_slice());
+    Ok(())
+}
+
+/// The changes of a draft that puts a row back, puts a new one, and removes some that are there and some that aren't.
+fn few_changes(alloc: Global, base: &Flat) -> Result<Changes, AllocError> {
+    let key = (ObjNo(5), PropId(2));
+    let mut draft = Draft::new(alloc, base);
+    draft.remove_slot(key)?;
+    draft.put_slot(key, slot(ObjNo(5), 0))?;
+    draft.remove_slot((ObjNo(50), PropId(1)))?;
+    draft.put_slot((ObjNo(1), PropId(20)), slot(ObjNo(1), 7))?;
+    draft.remove_object(ObjNo(2))?;
+    draft.into_changes()
+}
+
+#[test]
+fn a_row_put_back_is_no_change(rt: HostRuntime) -> Result<(), Fail> {
+    let base = some_slots(rt.alloc())?;
+    assert!(rt; base.slot((ObjNo(5), PropId(2))).is_some());
+    let changes = few_changes(rt.alloc(), &base)?;
+    assert_eq!(rt; changes.slots.items().len(), 1);
+    assert!(rt; changes.slots.items()[0].0 == (ObjNo(1), PropId(20)));
+    assert!(rt; changes.slots.items()[0].1.is_some());
+    assert_eq!(rt; changes.objects.items().len(), 1);
+    assert!(rt; changes.objects.items()[0].1.is_none());
+    assert!(rt; changes.props.items().is_empty());
+    Ok(())
+}
+
+#[test]
+fn a_removed_object_is_not_next(rt: HostRuntime) -> Result<(), Fail> {
+    let flat = opening_world(rt.alloc())?;
+    let mut draft = Draft::new(rt.alloc(), &flat);
+    draft.remove_object(ObjNo(1))?;
+    draft.remove_object(ObjNo(2))?;
+    assert!(rt; draft.next_object(Some(ObjNo(0))) == Some(ObjNo(3)));
+    assert!(rt; flat.next_object(Some(ObjNo(0))) == Some(ObjNo(1)));
+    let left = children(&draft, rt.alloc(), ObjNo(1))?;
+    assert_eq!(rt; left.items().len(), 2);
+    Ok(())
+}

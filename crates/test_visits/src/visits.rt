@@ -1,0 +1,126 @@
+//! A task on the world of two files.
+
+use moo_store::{World, adopt, apply_text, create_in};
+use sqlite::{Alter, Connection, FileStore, Files, Options};
+use sqlite_disk::{Disk, Fuse, Memory};
+use std::alloc::Global;
+
+/// A file in memory that stops at some call.
+pub type Fused = Fuse<Memory>;
+
+/// What is done.
+#[derive(Clone, Copy, Drop)]
+pub enum Task<'a> {
+    /// A new world is made.
+    Init,
+    /// A text is run.
+    Apply(&'a [u8]),
+    /// The tables are checked.
+    Check,
+    /// The world is written, and checked.
+    Look,
+}
+
+/// What came of it.
+#[derive(Drop)]
+pub struct Seen {
+    /// The world was there, and all of the task was done.
+    pub is_done: bool,
+    /// Then the files were closed without a fault too.
+    pub is_closed: bool,
+    /// What the task wrote: replies, or a dump.
+    pub written: Vec<u8>,
+}
+
+impl Seen {
+    /// Nothing was done yet.
+    pub fn new(alloc: Global) -> Seen {
+        Seen {
+            is_done: false,
+            is_closed: false,
+            written: Vec::new(alloc),
+        }
+    }
+}
+
+/// Writes the world, and checks it.
+fn look<S: Alter + Drop>(world: &mut World<S>, written: &mut Vec<u8>) -> bool {
+    let is_written = world.dump(written).is_ok();
+    world.check().is_ok() && is_written
+}
+
+/// Whether all of the task was done.
+fn do_task<S: Alter + Drop>(
+    alloc: Global,
+    world: &mut World<S>,
+    task: Task<'_>,
+    written: &mut Vec<u8>,
+) -> bool {
+    match task {
+        Task::Init => true,
+        Task::Apply(text) => {
+            apply_text(alloc, text, written, world).is_ok_and(|tally| tally.lost == 0)
+        }
+        Task::Check => world.check().is_ok(),
+        Task::Look => look(world, written),
+    }
+}
+
+/// Does the task on the world of a connection, which is made or opened, and hands the connection back.
+fn visit<S: Alter + Drop>(
+    alloc: Global,
+    conn: Connection<S>,
+    task: Task<'_>,
+    seen: &mut Seen,
+) -> Connection<S> {
+    if !conn.is_autocommit() {
+        return conn;
+    }
+    let opened = match task {
+        Task::Init => create_in(alloc, conn),
+        _ => adopt(alloc, conn),
+    };
+    match opened {
+        Ok(mut world) => {
+            seen.is_done = do_task(alloc, &mut world, task, &mut seen.written);
+            world.into_connection()
+        }
+        Err((_fault, conn)) => conn,
+    }
+}
+
+/// Opens the files, does the task and closes them, as the program does.
+fn visit_files<D: Disk + Drop>(
+    alloc: Global,
+    files: Files<D>,
+    task: Task<'_>,
+    seen: &mut Seen,
+) -> Files<D> {
+    if !files.may_be_used() {
+        return files;
+    }
+    match Connection::open_files(alloc, files, Options::new(1)) {
+        Ok(conn) => closed(visit(alloc, conn, task, seen), seen),
+        Err((_error, left)) => left.into_files(),
+    }
+}
+
+fn closed<D: Disk + Drop>(conn: Connection<FileStore<D>>, seen: &mut Seen) -> Files<D> {
+    match conn.close_files() {
+        Ok(files) => {
+            seen.is_closed = true;
+            files
+        }
+        Err((_error, store)) => store.close(),
+    }
+}
+
+/// Opens files that stop at some call, does the task and closes them, and hands them back.
+pub fn visit_fused(
+    alloc: Global,
+    files: Files<Fused>,
+    task: Task<'_>,
+    seen: &mut Seen,
+) -> Files<Fused> {
+    visit_files(alloc, files, task, seen)
+}
