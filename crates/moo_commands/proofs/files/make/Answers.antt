@@ -2,4 +2,4 @@ use Rattle.moo_commands.proofs.Connections.{of_opening}
 use Rattle.moo_commands.proofs.files.make.Goals as goal
 
 pub returns-in-Err : goal.returns-in-Err
-returns-in-Err g c = of_opening c.in-Err.fault c.from.result c.from.ensures c.in-Err.ensures.fault
+returns-in-Err c = of_opening c.in-Err.fault c.from.result c.from.ensures c.in-Err.ensures.fault
