@@ -18,10 +18,10 @@ def free_port():
 class Service:
     """`PROGRAM serve FILE PORT COUNT`, from its first line on."""
 
-    def __init__(self, program, file, count, port=None, folder=None):
+    def __init__(self, program, file, count, port=None, folder=None, env=None):
         self.port = port or free_port()
         words = [program, "serve", file, str(self.port), str(count)]
-        self.process = subprocess.Popen(words, cwd=folder, stdout=subprocess.PIPE, stderr=subprocess.PIPE)
+        self.process = subprocess.Popen(words, cwd=folder, stdout=subprocess.PIPE, stderr=subprocess.PIPE, env=env)
         self.first = self.line()
 
     def line(self):
