@@ -5,7 +5,6 @@
 #[cfg(test)]
 mod batches;
 #[cfg(test)]
-mod drafts;
 #[cfg(test)]
 mod dumps;
 #[cfg(test)]

@@ -1,5 +1,7 @@
-//! Tests of the rows. `moo_rows` stands below every crate but `moo_value` and `test_worked`, and a crate with tests is proved twice.
+//! Tests of rows, and of drafts over rows, by what they show to others.
 #![tactic(auto)]
 
+#[cfg(test)]
+mod drafts;
 #[cfg(test)]
 mod rows;
