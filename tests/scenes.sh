@@ -1,0 +1,6 @@
+#!/bin/sh
+# The scenes of scenes/: worked batches, as texts and over HTTP.
+# needs: python3
+here=$(cd "$(dirname "$0")" && pwd)
+: "${MOO:?the program to test}"
+PYTHONDONTWRITEBYTECODE=1 exec python3 "$here/support/scenes.py" "$MOO"
