@@ -1,4 +1,4 @@
-//! Tests of properties, by what `moo_props` shows to others. A crate with tests is proved twice, and that one takes long.
+//! Tests of changes of the tree, by the rows that they touch: what no text shows.
 #![tactic(auto)]
 
 #[cfg(test)]

@@ -4,10 +4,9 @@ ghost use Rattle.std.specs.Prelude.{◌≡◌, true, OnOk};
 ghost use Rattle.moo_world.specs.Creation.{next_object};
 ghost use Rattle.moo_world.specs.Rows.{world_of, IsGood};
 ghost use Rattle.moo_world.specs.World.{is_property_name};
-ghost use Rattle.moo_props.specs.Names.{defines};
 
 use moo_props::{
-    Dropped, Touched, clashes, define, drop_object, find, make, meets, rename, reparent, set_info,
+    Dropped, Touched, clashes, define, drop_object, find, make, meets, reparent, set_info,
     set_value, slot_of, value_of,
 };
 use moo_rows::{Bits, PropId, Rows, SlotState};
@@ -37,17 +36,6 @@ fn next_number<R: Rows>(rows: &R) -> Option<ObjNo>
         Some(ObjNo(top + 1))
     } else {
         None
-    }
-}
-
-/// Whether x defines a property.
-#[tactic(auto, unfolding(moo_world::specs::Objects::same_object))]
-fn is_definer<R: Rows>(rows: &R, x: ObjNo, id: PropId) -> bool
-    ensures { result ≡ defines (R.held rows.now).maps x id }
-{
-    match rows.prop(id) {
-        None => false,
-        Some(row) => row.definer == x,
     }
 }
 
@@ -89,26 +77,6 @@ pub(super) fn added<R: Rows>(
     assert!(rt; rows.head().next_prop < u32::MAX);
     let value = Value::Int(value);
     Ok(define(alloc, rows, ObjNo(x), name, value, WIZARD, bits)?)
-}
-
-/// Gives a property that x defines another name.
-pub(super) fn renamed<R: Rows>(
-    rt: &impl Abort,
-    alloc: Global,
-    rows: &mut R,
-    x: i32,
-    id: PropId,
-    name: &[u8],
-) -> Result<(), Fail>
-    requires good { IsGood (R.held rows.old).maps }
-    requires name { is_property_name name.now ≡ true }
-    ensures { OnOk result (IsGood (R.held rows.new).maps) }
-{
-    let name = MooStr::from_bytes(alloc, name)?;
-    assert!(rt; is_definer(rows, ObjNo(x), id));
-    assert!(rt; !clashes(rows, ObjNo(x), &name));
-    rename(rows, ObjNo(x), id, name)?;
-    Ok(())
 }
 
 /// The property of a name that x has.
