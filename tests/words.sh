@@ -19,6 +19,7 @@ says() {
 }
 
 says "help names the commands" 0 'Usage: moo' --help
+says "so does the word for it" 0 'Usage: moo' help
 for word in init apply ask dump check serve; do
     says "help of $word has an example" 0 'Example:' $word --help
     says "help of $word has its statuses" 0 'Exit status:' $word --help
@@ -38,6 +39,26 @@ says "a word that isn't UTF-8" 2 'moo: usage' check "$(printf '\377')"
 says "a word that is none" 2 'sing' sing
 says "a word too many" 2 'more' check world.db more
 [ -e world.db ] && failed "no mistake makes a file" "there is one" || passed "no mistake makes a file"
+
+expect "init has one word behind it" 0 'created\n' '' init world.db
+expect "apply has two" 0 'accepted 1\nend\n' 'batch as #3\nend\n' apply world.db -
+expect "so has ask" 0 'accepted 1\nend\n' 'batch as #3\nend\n' ask world.db -
+expect "check has one" 0 'ok seq 1 objects 4\n' '' check world.db
+says "so has dump" 0 'seq 1' dump world.db
+expect "no word is apply :memory: -" 0 'accepted 1\n#4\nend\n' 'batch as #3 at 0\ncreate(#1)\nend\n'
+expect "serve has three, the greatest port and the least count among them" 0 'listening 127.0.0.1:65535\nserved 0 failed 0\n' '' serve world.db 65535 0
+: >said
+"$MOO" serve :memory: 65535 1000000 >said 2>complaint &
+tries=0
+until [ -s said ] || [ "$tries" -ge 100 ]; do
+    tries=$((tries + 1))
+    sleep 0.05
+done
+kill $! && wait $! 2>ended
+grep -qx 'listening 127.0.0.1:65535' said && passed "and the greatest count" || failed "and the greatest count" "$(cat said complaint)"
+"$MOO" serve :memory: 1 0 >said 2>complaint
+# Whether the port may be bound is for the machine to say.
+[ $? -ne 2 ] && passed "port 1 is one" || failed "port 1 is one" "$(cat said complaint)"
 
 # lists NAME PATTERN WORD..: in the help of apply each WORD stands, in PATTERN for its letters %
 lists() {

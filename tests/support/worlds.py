@@ -1,0 +1,100 @@
+"""The program on texts and files, and what the tables of a file hold. For scripts of tests/; the variable MOO names the program.
+
+Each works in the folder that it runs in."""
+import os
+import shutil
+import sqlite3
+import subprocess
+from pathlib import Path
+
+MOO = os.environ["MOO"]
+PATIENCE = 60
+TREE = Path(__file__).with_name("tree.txt").read_text()
+# The numbers of verbs here are 1, 2 and 3.
+VERBS = TREE + """batch as #3
+add_verb(#4, {#3, "rd", "get take"}, {"any", "in", "this"})
+add_verb(#4, {#3, "rwx", "l*ook"}, {"this", "none", "none"})
+add_verb(#5, {#3, "", "put"}, {"any", "any", "any"})
+end
+"""
+# The columns of each table, its key first.
+TABLES = {
+    "head": "id version seq top next_prop next_verb".split(),
+    "object": "n name owner parent location player programmer wizard r w f accept".split(),
+    "prop": "id definer name".split(),
+    "slot": "object prop owner bits value".split(),
+    "verb": "object id names owner bits dobj prep iobj".split(),
+}
+
+
+def shown(value):
+    """A value as a line has room for it."""
+    text = repr(value)
+    return text if len(text) <= 400 else f"{text[:200]} .. {text[-200:]}"
+
+
+def case(name, came, wanted):
+    print(f"ok {name}" if came == wanted else f"FAILED {name}: {shown(came)} and not {shown(wanted)}", flush=True)
+
+
+def run(*words, text=""):
+    """The status of the program, and what it writes."""
+    given = text if isinstance(text, bytes) else text.encode()
+    ran = subprocess.run([MOO, *words], input=given, stdout=subprocess.PIPE, stderr=subprocess.DEVNULL, timeout=PATIENCE)
+    return ran.returncode, ran.stdout.decode()
+
+
+def remove(file):
+    for end in ("", "-wal", "-shm"):
+        Path(file + end).unlink(missing_ok=True)
+
+
+def edit(file, *statements):
+    """Changes a file by hand. A statement is a text, or a text with values for its marks."""
+    connection = sqlite3.connect(file)
+    connection.execute("pragma synchronous = off")
+    for statement in statements:
+        connection.execute(*((statement,) if isinstance(statement, str) else statement))
+    connection.commit()
+    connection.close()
+
+
+def make(file, text=""):
+    """A new world on which a text was run, in one file without a log."""
+    remove(file)
+    done = run("init", file)
+    ran = run("apply", file, "-", text=text)
+    if done != (0, "created\n") or ran[0] != 0 or ran[1].count("accepted") != text.count("batch"):
+        raise SystemExit(f"FAILED {file} is made: {done} {ran}")
+    edit(file, "pragma wal_checkpoint(truncate)")
+
+
+def copied(file, copy="copy.db"):
+    remove(copy)
+    for end in ("", "-wal"):
+        if os.path.exists(file + end):
+            shutil.copyfile(file + end, copy + end)
+    return copy
+
+
+def read(file, *queries):
+    """The rows of each query, from a copy, so that the file and its log stay as the program left them."""
+    connection = sqlite3.connect(copied(file, "read.db"))
+    connection.text_factory = lambda text: text.decode(errors="surrogateescape")
+    rows = [connection.execute(query).fetchall() for query in queries]
+    connection.close()
+    return rows
+
+
+def rows_of(file):
+    """The rows of each table, in the order of their keys."""
+    return dict(zip(TABLES, read(file, *(f"select * from {table} order by 1, 2" for table in TABLES))))
+
+
+def text_of(calls, programmer="#3"):
+    """The text of a batch, of a call a line."""
+    return f"batch as {programmer}\n" + "".join(f"{call}\n" for call in calls) + "end\n"
+
+
+def accepted(seq, *answers):
+    return f"accepted {seq}\n" + "".join(f"{answer}\n" for answer in answers) + "end\n"
