@@ -5,8 +5,6 @@ mod ahead;
 mod call_text;
 mod fault;
 mod feed;
-#[cfg(test)]
-mod feed_tests;
 mod header;
 mod line;
 mod lines;
@@ -14,8 +12,6 @@ mod literal;
 mod next;
 mod reply;
 pub mod text_laws;
-#[cfg(test)]
-mod text_tests;
 
 pub use call_text::{call_in, read_call};
 pub use fault::{CallFault, TextFault};

@@ -4,7 +4,5 @@
 mod commands;
 mod help;
 mod task;
-#[cfg(test)]
-mod tests;
 
 pub use task::{Task, Usage, read_words};
