@@ -1,5 +1,5 @@
 #!/bin/sh
-# Requests to the service and their answers: heads, bodies, batches, and what comes in pieces or is cut off.
+# Requests and answers of the service, to the byte: heads, bodies, what is answered, and requests that come in pieces or are cut off.
 # needs: python3
 here=$(cd "$(dirname "$0")" && pwd)
 : "${MOO:?the program to test}"

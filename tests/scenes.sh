@@ -1,5 +1,5 @@
 #!/bin/sh
-# The scenes of scenes/: worked batches, as texts and over HTTP.
+# Worked batches and what they come to, played as texts and over HTTP.
 # needs: python3
 here=$(cd "$(dirname "$0")" && pwd)
 : "${MOO:?the program to test}"

@@ -1,5 +1,5 @@
 #!/bin/sh
-# Texts of batches and their replies, limits, counters at their ends, and the words of verbs.
+# Texts of batches: how they are cut, in whatever pieces they come, and how long they may be.
 # needs: python3
 here=$(cd "$(dirname "$0")" && pwd)
 : "${MOO:?the program to test}"

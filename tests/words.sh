@@ -46,7 +46,8 @@ expect "so has ask" 0 'accepted 1\nend\n' 'batch as #3\nend\n' ask world.db -
 expect "check has one" 0 'ok seq 1 objects 4\n' '' check world.db
 says "so has dump" 0 'seq 1' dump world.db
 expect "no word is apply :memory: -" 0 'accepted 1\n#4\nend\n' 'batch as #3 at 0\ncreate(#1)\nend\n'
-expect "serve has three, the greatest port and the least count among them" 0 'listening 127.0.0.1:65535\nserved 0 failed 0\n' '' serve world.db 65535 0
+two_lines='listening 127.0.0.1:65535\nserved 0 failed 0\n'
+expect "serve has three, the greatest port and the least count among them" 0 "$two_lines" '' serve world.db 65535 0
 : >said
 "$MOO" serve :memory: 65535 1000000 >said 2>complaint &
 tries=0

@@ -175,8 +175,9 @@ def single_cells():
         wrong = [value for value in good if run("check", edited(put(table, column, row, value))) != WHOLE]
         case(f"{len(good)} cells that can be read as {column} of {table}", wrong, [])
         kind = "bad-head" if key == "head" else "bad-cell"
-        wrong = [value for value in bad if run("check", edited(put(table, column, row, value))) != (3, f"moo: damaged {kind} {key}\n")]
-        case(f"{len(bad)} that can't, each of which is {kind} {key}", wrong, [])
+        said = (3, f"moo: damaged {kind} {key}\n")
+        wrong = [value for value in bad if run("check", edited(put(table, column, row, value))) != said]
+        case(f"{len(bad)} that can't be {column} of {table}, each of which is {kind} {key}", wrong, [])
 
 
 def keys():

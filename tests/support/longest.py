@@ -1,9 +1,8 @@
 """The cases of longest.sh: texts of the greatest length, longer ones, and some without an end."""
 import concurrent.futures
-import resource
 import subprocess
 
-from worlds import MOO, PATIENCE, accepted, case
+from worlds import MOO, PATIENCE, accepted, case, run
 
 LONGEST = 1073741824
 
@@ -24,15 +23,6 @@ def piped(front, filling, length):
     return ran.wait(PATIENCE), output, left > 0
 
 
-def endless_file():
-    """The program on a file without an end, in 64 MB of memory: what a line has over its limit isn't kept."""
-    def bound():
-        resource.setrlimit(resource.RLIMIT_AS, (1 << 26, 1 << 26))
-
-    ran = subprocess.run([MOO, "apply", ":memory:", "/dev/zero"], stdout=subprocess.PIPE, stderr=subprocess.DEVNULL, timeout=PATIENCE, preexec_fn=bound)
-    return ran.returncode, ran.stdout.decode()
-
-
 def greatest_text():
     too_long, first = "moo: input too long\n", b"batch as #3\nend\nend\n"
     done, lines = accepted(1) + "malformed 1\n", b" " * 1023 + b"\n"
@@ -45,7 +35,8 @@ def greatest_text():
     ]
     with concurrent.futures.ThreadPoolExecutor(3) as pool:
         running = [pool.submit(piped, *given) for _, given, _ in texts]
-        case("a file without an end, in little memory", endless_file(), (1, too_long))
+        # What a line has over its limit isn't kept.
+        case("a file without an end, in 64 MB of memory", run("apply", ":memory:", "/dev/zero", memory=1 << 26), (1, too_long))
         for (name, _, wanted), ran in zip(texts, running):
             case(name, ran.result(), wanted)
 

@@ -2,6 +2,7 @@
 import json
 import os
 import pty
+import select
 import socket
 import subprocess
 
@@ -125,7 +126,8 @@ def file_at(seq):
 def texts():
     for name, seq, text, replies in TEXTS:
         given = text.encode()
-        came = [run("apply", file_at(seq), "-", text=given)] + [in_pieces(pieces_of(given, size), "apply", file_at(seq), "-") for size in (1, 3)]
+        came = [run("apply", file_at(seq), "-", text=given)]
+        came += [in_pieces(pieces_of(given, size), "apply", file_at(seq), "-") for size in (1, 3)]
         if seq == 0:
             came += [in_pieces(pieces_of(given, 1)), run("apply", ":memory:", "-", text=given)]
         case(f"{name}: whole, and in pieces of one and of three bytes", came, [(0, replies)] * len(came))
@@ -141,8 +143,15 @@ def limits():
 def ends():
     for name, pieces, replies in ENDS:
         case(f"where no bytes come, {name}", in_pieces(pieces), (0, replies))
-    ours, theirs = pty.openpty()
-    # An end of input on a terminal is ^D on a line of its own; behind other bytes it hands these over first.
+    try:
+        on_terminal(*pty.openpty())
+    except OSError:
+        # A machine may have no terminals.
+        pass
+
+
+def on_terminal(ours, theirs):
+    """An end of input on a terminal is ^D on a line of its own; behind other bytes it hands these over first."""
     os.write(ours, b"batch as #3\nmax_object()\nend\x04\x04x\nbatch as #3\nend\n")
     ran = subprocess.run([MOO], stdin=theirs, stdout=subprocess.PIPE, stderr=subprocess.DEVNULL, timeout=PATIENCE)
     os.close(theirs)
@@ -162,13 +171,24 @@ def faults():
         case(f"a reading that fails behind {len(text)} bytes", (ran.returncode, ran.stdout.decode()), (1, replies + "moo: read fault\n"))
 
 
+def heard(stream, length):
+    """So many bytes of a stream, or fewer where it ends or nothing more comes in time."""
+    came = b""
+    while len(came) < length and select.select([stream], [], [], PATIENCE / 4)[0]:
+        more = os.read(stream.fileno(), length - len(came))
+        if not more:
+            break
+        came += more
+    return came.decode()
+
+
 def line_by_line():
     """Each reply comes when its batch ends, and not only when the text does."""
     ours, ran = written([], socket.SOCK_STREAM)
     for number in range(1, 4):
         ours.sendall(b"batch as #3\ncreate(#1)\nend\n")
-        came = "".join(ran.stdout.readline().decode() for _ in range(3))
-        case(f"the reply of batch {number} comes before the next is given", came, accepted(number, f"#{number + 3}"))
+        reply = accepted(number, f"#{number + 3}")
+        case(f"the reply of batch {number} comes before the next is given", heard(ran.stdout, len(reply)), reply)
     ours.close()
     output, _ = ran.communicate(timeout=PATIENCE)
     case("and nothing behind the last", (ran.returncode, output), (0, b""))
@@ -211,40 +231,64 @@ def replies():
     value = '{#4, {1, "a"}, "\\"\\\\", E_PERM, -5, {}}'
     run("apply", file, "-", text=text_of([f'add_property(#1, "v", {value}, {{#3, "r"}})']))
     edit(file, "update head set top = 2147483647")
-    text = text_of(["max_object()", 'get(#1, "v")', 'get(#1, "name")']) + text_of(["valid(#1)", "create(#99)"]) + text_of(["valid(#1)", "valid(#1)", "create(#1)"])
-    text += text_of([]) * 2 + text_of([], "#3 at 5") + text_of(["", "", "", "x"]) + "batch as #3\n"
-    wanted = accepted(2, "#2147483647", value, '"Root Class"') + "refused 2 E_PERM\nfull 3\n" + accepted(3) + accepted(4) + "stale 4\nmalformed 5\ntruncated\n"
-    case("the lines of each reply", run("apply", file, "-", text=text), (0, wanted))
+    batches = [
+        (text_of(["max_object()", 'get(#1, "v")', 'get(#1, "name")']), accepted(2, "#2147483647", value, '"Root Class"')),
+        (text_of(["valid(#1)", "create(#99)"]), "refused 2 E_PERM\n"),
+        (text_of(["valid(#1)", "valid(#1)", "create(#1)"]), "full 3\n"),
+        (text_of([]) * 2, accepted(3) + accepted(4)),
+        (text_of([], "#3 at 5"), "stale 4\n"),
+        (text_of(["", "", "", "x"]), "malformed 5\n"),
+        ("batch as #3\n", "truncated\n"),
+    ]
+    given, wanted = ("".join(parts) for parts in zip(*batches))
+    case("the lines of each reply", run("apply", file, "-", text=given), (0, wanted))
+
+
+def want_of_memory():
+    """Answers of 60 MB in 32 MB of memory: their batch alone is lost."""
+    file, value = file_at(0), "x" * 60000
+    batches = [
+        (text_of(["create(#1)", f'add_property(#4, "v", "{value}", {{#3, "r"}})']), accepted(1, "#4", "0")),
+        (text_of(['set(#4, "name", "Lantern")', *['get(#4, "v")'] * 999]), "nomemory\n"),
+        (text_of(['get(#4, "name")'], "#3 at 1"), accepted(2, '""')),
+    ]
+    given, wanted = ("".join(parts) for parts in zip(*batches))
+    case("where memory runs out in a batch", run("apply", file, "-", text=given, memory=1 << 25), (0, wanted))
+    case("it changed nothing", (run("check", file), rows_of(file)["object"][4][1]), ((0, "ok seq 2 objects 5\n"), ""))
+    case("with more memory it is done", run("apply", file, "-", text=batches[1][0]), (0, accepted(3, "0", *[f'"{value}"'] * 999)))
+
+
+def asked(service, programmer, lines):
+    """What a question over HTTP is answered."""
+    return service.ask(post("/ask", json.dumps({"as": programmer, "calls": lines})))
 
 
 def calls():
     """A line alone, in a text and over HTTP, where blank lines aren't skipped."""
-    requests = [(json.dumps({"as": "#3", "calls": [line]}), came) for line, came in CALLS] + [(json.dumps({"as": "#3", "calls": [line]}), None) for line in NO_CALLS]
-    service = Service(MOO, ":memory:", len(requests) + len(NO_OBJECTS) + 1)
-    for (line, came), (body, _) in zip(CALLS, requests):
+    service = Service(MOO, ":memory:", len(CALLS) + len(NO_CALLS) + len(NO_OBJECTS) + 1)
+    for line, came in CALLS:
         refused = came.startswith("E_")
         case(f"the call {line!r}", run(text=text_of([line])), (0, f"refused 1 {came}\n" if refused else accepted(1, came)))
-        wanted = answer("409 Conflict", f'{{"call":1,"error":"{came}"}}') if refused else answer("200 OK", f'{{"answers":["{came}"],"seq":0}}')
-        case("the same over HTTP", service.ask(post("/ask", body)), wanted)
+        wanted = ("409 Conflict", f'{{"call":1,"error":"{came}"}}') if refused else ("200 OK", f'{{"answers":["{came}"],"seq":0}}')
+        case(f"the call {line!r} over HTTP", asked(service, "#3", [line]), answer(*wanted))
     for line in NO_CALLS:
         case(f"no call is {line!r}", run(text=text_of([line])), (0, "malformed 2\n" if line else accepted(1)))
-        came = service.ask(post("/ask", json.dumps({"as": "#3", "calls": [line]})))
-        case("nor over HTTP", came, answer("400 Bad Request", '{"call":1,"error":"malformed"}'))
+        wanted = answer("400 Bad Request", '{"call":1,"error":"malformed"}')
+        case(f"nor is {line!r} over HTTP", asked(service, "#3", [line]), wanted)
     objects(service)
     case("and that was all", service.end()[0], 0)
 
 
 def objects(service):
-    asked = service.ask(post("/ask", '{"as":"#-7","calls":["max_object()"]}'))
+    refused = answer("409 Conflict", '{"call":1,"error":"E_PERM"}')
     case("a programmer of a number below 0", run(text=text_of(["max_object()"], "#-7")), (0, "refused 1 E_PERM\n"))
-    case("the same over HTTP", asked, answer("409 Conflict", '{"call":1,"error":"E_PERM"}'))
+    case("the same over HTTP", asked(service, "#-7", ["max_object()"]), refused)
     for word in NO_OBJECTS:
-        came = service.ask(post("/ask", json.dumps({"as": word, "calls": []})))
-        case(f"no programmer is {word!r} over HTTP", came, answer("400 Bad Request", '{"error":"bad request"}'))
+        case(f"no programmer is {word!r} over HTTP", asked(service, word, []), answer("400 Bad Request", '{"error":"bad request"}'))
         # In a text blanks may stand round the word.
-        case("in a text", run(text=text_of([], word)), (0, accepted(1) if word.strip() == "#7" else "malformed 1\n"))
+        case(f"the word {word!r} as the programmer of a text", run(text=text_of([], word)), (0, accepted(1) if word.strip() == "#7" else "malformed 1\n"))
 
 
 make("new.db")
-for part in (texts, limits, ends, faults, line_by_line, cuts, cuts_of_a_file, replies, calls):
+for part in (texts, limits, ends, faults, line_by_line, cuts, cuts_of_a_file, replies, want_of_memory, calls):
     part()

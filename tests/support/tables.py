@@ -4,7 +4,7 @@ from worlds import TABLES, accepted, case, copied, edit, make, read, rows_of, ru
 
 NUMBERS, TEXTS = ("INTEGER", 1, None), ("TEXT", 1, None)
 OF_TEXT = {"name", "accept", "bits", "value", "names", "dobj", "prep", "iobj"}
-NUMBERED, PAIRED = {"slot": 2, "verb": 2}, ("slot", "verb")
+PAIRED = ("slot", "verb")
 
 
 def schema():
@@ -20,7 +20,7 @@ def schema():
     case("they were made in their order, with the indexes of two keys", trees, made)
     case("SQLite finds the file whole", is_whole, [("ok",)])
     for table, columns in TABLES.items():
-        keys = NUMBERED.get(table, 1)
+        keys = 2 if table in PAIRED else 1
         wanted = [
             (column, *(TEXTS if column in OF_TEXT else NUMBERS), at + 1 if at < keys else 0)
             for at, column in enumerate(columns)
@@ -71,7 +71,8 @@ def kept():
     for name, world, command, text, replies in KEPT:
         file = copied(f"{world}.db")
         stood = places(file)
-        case(f"{name}: its replies, and each cell as it was", (run(command, file, "-", text=text), rows_of(file), places(file)), ((0, replies), WORLDS[world][1], stood))
+        came = (run(command, file, "-", text=text), rows_of(file), places(file))
+        case(f"{name}: its replies, and each cell as it was", came, ((0, replies), WORLDS[world][1], stood))
     for command, said in [("check", "ok seq 1 objects 8\n"), ("dump", None)]:
         file = copied("tree.db")
         ran = run(command, file)
@@ -99,7 +100,8 @@ def questions():
     case("which no question raises", run("apply", file, "-", text=text_of(["max_object()"])), (0, accepted(1, "#3")))
     file, at_0 = copied("new.db"), text_of(["create(#1)"], "#3 at 0")
     three = at_0 + at_0 + text_of(["create(#9)"])
-    case("a batch that is accepted, one sent again, and one that is refused", run("apply", file, "-", text=three), (0, accepted(1, "#4") + "stale 1\nrefused 1 E_PERM\n"))
+    wanted = accepted(1, "#4") + "stale 1\nrefused 1 E_PERM\n"
+    case("a batch that is accepted, one sent again, and one that is refused", run("apply", file, "-", text=three), (0, wanted))
     case("behind them a question at the number", run("ask", file, "-", text=text_of(["create(#4)"], "#3 at 1")), (0, accepted(1, "#5")))
     case("the number is the same behind it", run("check", file), (0, "ok seq 1 objects 5\n"))
     case("and so is the greatest object", run("ask", file, "-", text=text_of(["max_object()"])), (0, accepted(1, "#4")))
@@ -133,18 +135,23 @@ SPELLINGS = [
 def spellings():
     """Another spelling of a cell is no damage. It stays until its row changes, and then the row is written as moo spells it."""
     file = copied("verbs.db")
-    dumped = run("dump", file)[1].replace("object {#7, \"\", #3, #1, #-1, 0, 0, 0, 0, 0, 0, 0}", "object {#7, \"\", #3, #1, #-1, 0, 0, 0, 0, 0, 0, {#4, #5}}")
+    seven = 'object {#7, "", #3, #1, #-1, 0, 0, 0, 0, 0, 0, '
+    dumped = run("dump", file)[1].replace(seven + "0}", seven + "{#4, #5}}")
     edit(file, *SPELLINGS)
     spelled = rows_of(file)
     case("other spellings of cells are read as what they spell", run("dump", file), (0, dumped))
     case("a batch beside them", run("apply", file, "-", text=text_of(["create(#1)"])), (0, accepted(3, "#8")))
     after = rows_of(file)
-    case("leaves them as they stand", [row for table in TABLES for row in spelled[table] if table != "head" and row not in after[table]], [])
-    calls = ['set(#2, "r", 1)', 'set(#7, "name", "x")', 'set(#5, "a", 1)', 'set_property_info(#6, "b", {#4, "r"})', 'set_verb_args(#4, 1, {"any", "any", "any"})']
+    lacking = [row for table in TABLES for row in spelled[table] if table != "head" and row not in after[table]]
+    case("leaves them as they stand", lacking, [])
+    calls = ['set(#2, "r", 1)', 'set(#7, "name", "x")', 'set(#5, "a", 1)', 'set_property_info(#6, "b", {#4, "r"})']
+    calls.append('set_verb_args(#4, 1, {"any", "any", "any"})')
     case("a batch on their rows", run("apply", file, "-", text=text_of(calls)), (0, accepted(4, *"00000")))
     cells = read(
-        file, "select accept from object where n in (2, 7) order by n",
-        "select bits, value from slot where (object, prop) in ((5, 1), (6, 2)) order by object", "select bits, prep from verb where object = 4 and id = 1",
+        file,
+        "select accept from object where n in (2, 7) order by n",
+        "select bits, value from slot where (object, prop) in ((5, 1), (6, 2)) order by object",
+        "select bits, prep from verb where object = 4 and id = 1",
     )
     case("writes them anew", cells, [[("{#1}",), ("{#4, #5}",)], [("r", "1"), ("r", "21")], [("rd", "any")]])
 

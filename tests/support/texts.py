@@ -1,225 +1,257 @@
-"""Texts of batches and what is answered, limits, counters at their ends, and the words of verbs. For texts.sh.
-
-    python3 texts.py PROGRAM
-
-A case is one line: 'ok NAME', or 'FAILED NAME: ' and what came. It works in the folder that it runs in.
-"""
+"""The cases of texts.sh. Texts are run on a new world, under the words `moo` and `moo apply :memory: -`."""
+import json
 import os
-import sqlite3
+import socket
 import subprocess
-import sys
 
-from service import PATIENCE, Service, answer, get
+from program import MOO, case, edit, run
+from service import PATIENCE, Service, answer, post
 
-MOO = sys.argv[1]
-HERE = os.path.dirname(os.path.abspath(__file__))
-APPLY = ["apply", ":memory:", "-"]
-
-
-def case(name, came, wanted):
-    print(f"ok {name}" if came == wanted else f"FAILED {name}: {came!r:.600} and not {wanted!r:.600}", flush=True)
-
-
-def run(words, text=""):
-    """What the program writes, and its status."""
-    ran = subprocess.run([MOO, *words], input=text.encode(), stdout=subprocess.PIPE, stderr=subprocess.DEVNULL, timeout=PATIENCE)
-    return ran.stdout.decode(), ran.returncode
-
-
-def batch(*calls, programmer=3, at=None):
-    head = f"batch as #{programmer}" + ("" if at is None else f" at {at}")
-    return "\n".join([head, *calls, "end", ""])
-
-
-def accepted(number, *answers):
-    return "\n".join([f"accepted {number}", *answers, "end", ""])
-
+APPLY = ("apply", ":memory:", "-")
+THIRD = b"accepted 1\n#3\nend\n"
+EMPTY = b"accepted 1\nend\n"
+LONGEST_TEXT = 1073741824
 
 TEXTS = [
-    ("the first batch makes an object", batch("create(#1)"), accepted(1, "#4")),
-    ("a batch without calls is accepted, whoever is named", batch(programmer=9), accepted(1)),
-    ("a batch with a number acts once", batch("create(#1)", at=0) * 2, accepted(1, "#4") + "stale 1\n"),
-    ("a batch for a number to come is stale", batch(at=1) + batch(at=0) + batch(at=0) + batch(at=1), "stale 0\n" + accepted(1) + "stale 1\n" + accepted(2)),
-    ("a text that ends before the batch does is truncated", "batch as #3\ncreate(#1)\n", "truncated\n"),
-    (
-        "an unknown call makes its batch malformed, and no other",
-        batch("creat(#1)") + batch("max_object()"),
-        "malformed 2\n" + accepted(1, "#3"),
-    ),
-    (
-        "a refused batch changes nothing",
-        batch("create(#1)", "create(#9)") + batch("max_object()", programmer=9) + batch("max_object()"),
-        "refused 2 E_PERM\nrefused 1 E_PERM\n" + accepted(1, "#3"),
-    ),
-    ("a name is set and read in any case", batch('set(#1, "name", "Root")', 'get(#1, "Name")'), accepted(1, "0", '"Root"')),
-    ("lines end with or without a carriage return", "\r\n \t\r\nbatch as #3\r\nmax_object()\r\nend\r\n", accepted(1, "#3")),
+    ("the first batch makes an object", b"batch as #3\ncreate(#1)\nend\n", b"accepted 1\n#4\nend\n"),
+    ("a batch without calls is accepted, whoever is named", b"batch as #9\nend\n", EMPTY),
+    ("a batch with a number acts once", b"batch as #3 at 0\ncreate(#1)\nend\n" * 2, b"accepted 1\n#4\nend\nstale 1\n"),
+    ("without one it acts twice", b"batch as #3\ncreate(#1)\nend\n" * 2, b"accepted 1\n#4\nend\naccepted 2\n#5\nend\n"),
+    ("a text that ends before the batch does is truncated", b"batch as #3\ncreate(#1)\n", b"truncated\n"),
+    ("so is one that ends before a line that is none", b"batch as #3\ncreat(#1)\n", b"truncated\n"),
+    ("so is one without a header", b"x\n\n", b"truncated\n"),
+    ("an unknown call makes its batch malformed, and no other", b"batch as #3\ncreat(#1)\nend\nbatch as #3\nmax_object()\nend\n", b"malformed 2\n" + THIRD),
+    ("a refused batch changes nothing", b"batch as #3\ncreate(#1)\ncreate(#9)\nend\nbatch as #3\nmax_object()\nend\n", b"refused 2 E_PERM\n" + THIRD),
+    ("a name is set and read in any case", b'batch as #3\nset(#1, "name", "Root")\nget(#1, "Name")\nend\n', b'accepted 1\n0\n"Root"\nend\n'),
+    ("lines end with or without a carriage return", b"\r\n \t\r\nbatch as #3\r\nmax_object()\r\nend\r\n", THIRD),
     (
         "blanks may stand round every word",
-        "\n  batch \t as  #3  at\t0  \n\n\t max_object ( ) \n   \n create( #1 , #3 ) \n end \t\n\n",
-        accepted(1, "#3", "#4"),
+        b"\n  batch \t as  #3  at\t0  \n\n\t max_object ( ) \n   \n create( #1 , #3 ) \n end \t\n\n",
+        b"accepted 1\n#3\n#4\nend\n",
     ),
-    ("a blank line in a batch is counted", "batch as #3\n\n\ncreat(#1)\nend\n", "malformed 4\n"),
-    ("a batch has at most 1,000 calls", batch(*["max_object()"] * 1001), "malformed 1002\n"),
-    ("and that many", batch(*["max_object()"] * 1000), accepted(1, *["#3"] * 1000)),
+    ("a blank line in a batch is counted", b"batch as #3\n\n\ncreat(#1)\nend\n", b"malformed 4\n"),
+    ("no text has no batch", b"", b""),
+    ("nor have blank lines", b" \t\n\n", b""),
+    ("a batch without a call", b"batch as #3\nend\n", EMPTY),
     (
-        "an accept list has at most 1,000 objects",
-        batch("set_accept(#1, {" + ", ".join(["#1"] * 1000) + "})") + batch("set_accept(#1, {" + ", ".join(["#1"] * 1001) + "})"),
-        accepted(1, "0") + "refused 1 E_INVARG\n",
+        "blank lines may stand before, in and between batches, and the last line needs no end",
+        b"\n \t\nbatch as #3\n\n\tmax_object()\n \nend\n\n\nbatch as #2 at 5\nend",
+        THIRD + b"stale 1\n",
     ),
+    ("carriage returns on each line of a batch", b"batch as #3\r\nmax_object()\r\nend\r\n", THIRD),
+    ("blanks and tabs round a number", b"\t batch \t as  #3  at\t7 \n end\t\n", b"stale 0\n"),
+    ("zeros before a programmer, and a sign", b"batch as #007\nend\nbatch as #-1\nend\n", EMPTY + b"accepted 2\nend\n"),
+    ("#003 is #3", b"batch as #003\nmax_object()\nend\n", THIRD),
+    ("#-7 is nobody", b"batch as #-7\nmax_object()\nend\n", b"refused 1 E_PERM\n"),
+    ("an end in a header's place is a malformed batch by itself", b" end \nbatch as #3\nend\n", b"malformed 1\n" + EMPTY),
+    ("even as the last line", b"end", b"malformed 1\n"),
+    ("a carriage return is dropped before a line end alone", b"batch as #3\nend\r", b"truncated\n"),
+    ("and one alone", b"batch as #3\nend\r\r\n", b"truncated\n"),
     (
-        "the right to set it is looked at behind its length",
-        batch("create(#1, #-1)") + batch("set_accept(#1, {" + ", ".join(["#1"] * 1001) + "})", programmer=4),
-        accepted(1, "#4") + "refused 1 E_PERM\n",
+        "the first bad line is told, and the next batch goes on",
+        b"batch as #3\n\ncreat(#1)\nx\nend\nbatch as #3\nmax_object()\nend\n",
+        b"malformed 3\n" + THIRD,
     ),
-    *[
-        (
-            f"the name of a property of {length} bytes",
-            batch(f'add_property(#1, "{"a" * length}", 0, {{#3, ""}})'),
-            accepted(1, "0") if 1 <= length <= 255 else "refused 1 E_INVARG\n",
-        )
-        for length in (0, 1, 255, 256)
-    ],
-    ("a string has 65,535 bytes", batch(f'set(#1, "name", "{"a" * 65535}")', 'get(#1, "name")'), accepted(1, "0", f'"{"a" * 65535}"')),
-    ("and no more", batch(f'set(#1, "name", "{"a" * 65536}")'), "malformed 2\n"),
-    (
-        "lists nest 32 deep",
-        batch(f'add_property(#1, "deep", {"{" * 32}{"}" * 32}, {{#3, ""}})', 'get(#1, "deep")'),
-        accepted(1, "0", "{" * 32 + "}" * 32),
-    ),
-    ("and no deeper", batch(f'add_property(#1, "deep", {"{" * 33}{"}" * 33}, {{#3, ""}})'), "malformed 2\n"),
+    ("batch is read in small letters", b"Batch as #3\nend\n", b"malformed 1\n"),
+    ("a header has an as", b"batch #3\nend\n", b"malformed 1\n"),
+    ("a programmer is an object", b"batch as 3\nend\n", b"malformed 1\n"),
+    ("with its number behind its sign", b"batch as # 3\nend\n", b"malformed 1\n"),
+    ("and within 32 bits", b"batch as #2147483648\nend\n", b"malformed 1\n"),
+    ("a header names one", b"batch as\nend\n", b"malformed 1\n"),
+    ("an at has a number", b"batch as #3 at\nend\n", b"malformed 1\n"),
+    ("which has no sign", b"batch as #3 at -1\nend\n", b"malformed 1\n"),
+    ("and stands last", b"batch as #3 at 1 x\nend\n", b"malformed 1\n"),
+    ("the greatest number", b"batch as #3 at 9223372036854775807\nend\n", b"stale 0\n"),
+    ("one more is none", b"batch as #3 at 9223372036854775808\nend\n", b"malformed 1\n"),
+    ("a number of 19 digits", b"batch as #3 at 0000000000000000007\nend\n", b"stale 0\n"),
+    ("one of 20 is none", b"batch as #3 at 00000000000000000007\nend\n", b"malformed 1\n"),
+    ("end is read in small letters", b"batch as #3\nEND\nend\n", b"malformed 2\n"),
+    ("a batch of 1,000 calls", b"batch as #3\n" + b"max_object()\n" * 1000 + b"end\n", b"accepted 1\n" + b"#3\n" * 1000 + b"end\n"),
+    ("a batch of 1,001", b"batch as #3\n" + b"max_object()\n" * 1001 + b"end\n", b"malformed 1002\n"),
+    ("a line of 262,144 bytes", b"batch as #3\nmax_object(" + b" " * 262132 + b")\nend\n", THIRD),
+    ("whose end may have a carriage return", b"batch as #3\nmax_object(" + b" " * 262132 + b")\r\nend\n", THIRD),
+    ("a line of 262,145", b"batch as #3\nmax_object(" + b" " * 262133 + b")\nend\n", b"malformed 2\n"),
+    ("a blank line of 262,144 bytes", b"batch as #3\n" + b" " * 262144 + b"\nend\n", EMPTY),
+    ("one of 262,145 isn't blank", b"batch as #3\n" + b" " * 262145 + b"\nend\n", b"malformed 2\n"),
+    ("an end of 262,144 bytes", b"batch as #3\nend" + b" " * 262141 + b"\nend\n", EMPTY + b"malformed 1\n"),
+    ("one of 262,145 is none", b"batch as #3\nend" + b" " * 262142 + b"\nend\n", b"malformed 2\n"),
 ]
+
+# A call's line on a new world: a text has its reply, and HTTP the same word. None where the line is no call.
+CALLS = [
+    ("a call without arguments", "max_object()", "#3"),
+    ("a call with two, and blanks", '\tCreate ( #1 ,{1, {"a)"}} ) ', "E_TYPE"),
+    ("a comma in a string parts nothing", 'get(#1,"a\\"b,c")', "E_PROPNF"),
+    ("a call with three", "set(#-1, E_PERM, 007)", "E_TYPE"),
+    ("a word alone", "max_object", None),
+    ("a bracket that isn't closed", "max_object(", None),
+    ("a word behind the bracket", "max_object() x", None),
+    ("two words", "max object()", None),
+    ("no argument behind a comma", "create(#1,)", None),
+    ("no argument before a comma", "create(,#1)", None),
+    ("no comma between two", "create(#1 #2)", None),
+    ("a blank in an object", "create(# 1)", None),
+    ("no call", "", None),
+]
+
+# Who asks, in the body of a request.
+PROGRAMMERS = [("#-7", True), ("#3", True), ("", False), ("7", False), ("# 7", False), ("#7 ", False), ("#2147483648", False)]
 
 
 def texts():
     for name, text, replies in TEXTS:
-        case(name, run(APPLY, text), (replies, 0))
-        case(f"{name} (without words)", run([], text), (replies, 0))
-    case("a question changes nothing", run(["ask", ":memory:", "-"], batch("create(#1)") * 2), (accepted(0, "#4") * 2, 0))
-    case("a new world is checked", run(["check", ":memory:"]), ("ok seq 0 objects 4\n", 0))
-    for word in ("apply", "ask"):
-        case(f"batches that aren't there, of {word}", run([word, ":memory:", "no/such/batches"]), ("moo: read fault\n", 1))
+        case(name, run(*APPLY, text=text), (0, replies))
+        case(f"{name}, without words", run(text=text), (0, replies))
 
 
-def edited(statement, *before):
-    """A file of a new world behind some batches, and behind a change of its head by hand."""
-    if os.path.exists("edited.db"):
-        os.remove("edited.db")
-    run(["init", "edited.db"])
-    run(["apply", "edited.db", "-"], "".join(before))
-    connection = sqlite3.connect("edited.db")
-    connection.execute(f"update head set {statement}")
-    connection.commit()
-    connection.close()
+def comes_to(outcome):
+    """The reply of a text to one call, and the response of HTTP."""
+    if outcome is None:
+        return b"malformed 2\n", answer("400 Bad Request", '{"call":1,"error":"malformed"}')
+    if outcome.startswith("E_"):
+        return f"refused 1 {outcome}\n".encode(), answer("409 Conflict", f'{{"call":1,"error":"{outcome}"}}')
+    return f"accepted 1\n{outcome}\nend\n".encode(), answer("200 OK", f'{{"answers":["{outcome}"],"seq":1}}')
 
 
-def played(name, *lines):
-    """Plays batches on that file: each by its programmer, its call, and its reply."""
-    text = "".join(batch(call, programmer=programmer) for programmer, call, _ in lines)
-    case(name, run(["apply", "edited.db", "-"], text), ("".join(reply if reply.endswith("\n") else f"{reply}\n" for *_, reply in lines), 0))
+def requests(bodies):
+    """The responses of a new world to some bodies."""
+    service = Service(MOO, ":memory:", len(bodies))
+    came = [service.ask(post("/batch", json.dumps(body))) for body in bodies]
+    service.end()
+    return came
 
 
-def ends_of_counters():
-    edited("top = 2147483647", batch("create(#1, #-1)", 'add_property(#4, "ownership_quota", 0, {#3, ""})'))
-    played(
-        "no object is made once every number is given",
-        (3, "create(#1)", "full 1"),
-        (3, "create(#9)", "refused 1 E_PERM"),
-        (3, "create(#1, #9)", "refused 1 E_INVARG"),
-        (4, "create(#1)", "refused 1 E_QUOTA"),
-        (3, "max_object()", accepted(2, "#2147483647")),
-        (3, "recycle(#4)", accepted(3, "0")),
-        (3, "create(#1)", "full 1"),
-    )
-    with open(f"{HERE}/tree.txt", encoding="utf-8") as tree:
-        edited("next_prop = 4294967295", tree.read())
-    played(
-        "where no number of a property is left each check comes before",
-        (2, 'add_property(#9, "z", 1, {#3, ""})', "refused 1 E_INVARG"),
-        (2, 'add_property(#1, "z", 1, {#9, ""})', "refused 1 E_INVARG"),
-        (2, 'add_property(#1, "z", 1, {#3, "x"})', "refused 1 E_INVARG"),
-        (2, 'add_property(#1, "z", 1, {#2, ""})', "refused 1 E_PERM"),
-        (3, 'add_property(#1, "A", 1, {#3, ""})', "refused 1 E_INVARG"),
-        (3, 'add_property(#1, "z", 1, {#3, ""})', "full 1"),
-        (3, 'get(#6, "a")', accepted(2, "10")),
-    )
-    args = '{"any", "in", "this"}'
-    edited("next_verb = 4294967295", batch("create(#1, #-1)"))
-    played(
-        "no verb is added once every number is given",
-        (3, f'add_verb(#1, {{#3, "r", "get"}}, {args})', "full 1"),
-        (4, f'add_verb(#4, {{#4, "r", "get"}}, {args})', "full 1"),
-        (3, f'add_verb(#9, {{#3, "r", "get"}}, {args})', "refused 1 E_INVARG"),
-        (3, f'add_verb(#1, {{#9, "r", "get"}}, {args})', "refused 1 E_INVARG"),
-        (3, f'add_verb(#1, {{#3, "q", "get"}}, {args})', "refused 1 E_INVARG"),
-        (3, f'add_verb(#1, {{#3, "r", " "}}, {args})', "refused 1 E_INVARG"),
-        (3, 'add_verb(#1, {#3, "r", "get"}, {"any", "of", "this"})', "refused 1 E_INVARG"),
-        (4, f'add_verb(#1, {{#4, "r", "get"}}, {args})', "refused 1 E_PERM"),
-        (4, f'add_verb(#4, {{#3, "r", "get"}}, {args})', "refused 1 E_PERM"),
-        (3, "verbs(#1)", accepted(2, "{}")),
-    )
-    edited("seq = 9223372036854775806")
-    last = 9223372036854775807
-    replies = f"stale {last - 1}\n" + accepted(last) + f"full 0\nfull 0\nstale {last}\n"
-    asked = batch(at=last) + batch() + batch() + batch(at=last) + batch(at=0)
-    case("no batch is accepted after the last number", run(["apply", "edited.db", "-"], asked), (replies, 0))
+def calls():
+    for name, line, outcome in CALLS:
+        reply, response = comes_to(outcome)
+        # A blank line of a text is skipped.
+        if line:
+            case(f"{name}: {line.strip()}", run(*APPLY, text=f"batch as #3\n{line}\nend\n".encode()), (0, reply))
+        case(f"{name}, over HTTP: {line.strip()}", requests([{"as": "#3", "calls": [line]}]), [response])
 
 
-SETS = (
-    "with/using at/to in_front_of in/inside/into on_top_of/on/onto/upon out_of/from_inside/from over through under/underneath/beneath "
-    "behind beside for/about is as off/off_of"
-).replace(" ", ",").replace("_", " ").split(",")
+def programmers():
+    for word, is_one in PROGRAMMERS:
+        wanted = answer("200 OK", '{"answers":[],"seq":1}') if is_one else answer("400 Bad Request", '{"error":"bad request"}')
+        case(f"'{word}' is {'one' if is_one else 'none'} who asks over HTTP", requests([{"as": word, "calls": []}]), [wanted])
 
 
-def verbs():
-    names = [
-        ("foo*bar", ["foo", "foob", "fooba", "FOOBAR"], ["fo", "foobarx", "foox", "foo*"]),
-        ("foo*b*", ["foo", "foob", "foob*"], ["fo", "foobx", "foobar"]),
-        ("*", ["anything", "two words"], []),
-        ("Get", ["gEt"], ["ge"]),
-        ("  get   take ", ["take", "get"], ["get take"]),
-        ("get\ttake", ["GET\tTAKE"], ["get"]),
-    ]
-    for verb, good, bad in names:
-        added = batch(f'add_verb(#1, {{#3, "r", "{verb}"}}, {{"this", "none", "none"}})')
-        for word in [*good, *bad]:
-            found = accepted(2, '{"this", "none", "none"}') if word in good else "refused 1 E_VERBNF\n"
-            wanted = accepted(1, "0") + found
-            case(f"a verb {verb!r} by the word {word!r}", run(APPLY, added + batch(f'verb_args(#1, "{word}")')), (wanted, 0))
-    for verb, is_name in [("", 0), (" ", 0), ("   ", 0), ("\t", 1), (" \t ", 1), (" get", 1)]:
-        added = batch(f'add_verb(#1, {{#3, "r", "{verb}"}}, {{"this", "none", "none"}})')
-        case(f"a verb may have the names {verb!r}: {is_name}", run(APPLY, added), (accepted(1, "0") if is_name else "refused 1 E_INVARG\n", 0))
+def run_in_pieces(pieces):
+    """What comes of a text whose reader gives these pieces one by one, an empty one too, and then no more."""
+    ours, theirs = socket.socketpair(socket.AF_UNIX, socket.SOCK_SEQPACKET)
+    with subprocess.Popen([MOO, *APPLY], stdin=theirs, stdout=subprocess.PIPE, stderr=subprocess.DEVNULL) as process:
+        theirs.close()
+        try:
+            for piece in pieces:
+                ours.send(piece)
+        except ConnectionError:
+            pass  # it has ended before the last piece
+        ours.close()
+        written = process.communicate(timeout=PATIENCE)[0]
+    return process.returncode, written
 
 
-def prepositions():
-    for whole in SETS:
-        for phrase in {whole, *whole.split("/")}:
-            text = batch(f'add_verb(#1, {{#3, "dXrR", "get"}}, {{"THIS", "{phrase}", "any"}})', 'verb_args(#1, "get")', 'verb_info(#1, "get")')
-            wanted = accepted(1, "0", f'{{"this", "{whole}", "any"}}', '{#3, "rxd", "get"}')
-            case(f"the preposition {phrase!r}", run(APPLY, text), (wanted, 0))
-    for phrase, is_one in [("NONE", 1), ("Any", 1), *[(it, 0) for it in ("", "/in", "any/in", "none/", "out from", "in  front of", " in", "in ", "inn")]]:
-        text = batch(f'add_verb(#1, {{#3, "r", "get"}}, {{"this", "{phrase}", "any"}})', 'verb_args(#1, "get")')
-        wanted = accepted(1, "0", f'{{"this", "{phrase.lower()}", "any"}}') if is_one else "refused 1 E_INVARG\n"
-        case(f"the preposition {phrase!r}", run(APPLY, text), (wanted, 0))
-    text = batch('add_verb(#1, {#3, "r", "get"}, {"that", "in", "any"})')
-    case("a place that is none", run(APPLY, text), ("refused 1 E_INVARG\n", 0))
+def byte_by_byte(text):
+    return [bytes([byte]) for byte in text]
 
 
-def looks():
-    """Dumps of verbs, and objects as the service shows them."""
-    run(["init", "looks.db"])
-    text = batch('add_verb(#0, {#3, "dxr", "l*ook say\\"s"}, {"this", "on", "any"})')
-    text += batch('add_verb(#0, {#2, "", "stop"}, {"none", "none", "this"})', "recycle(#1)")
-    case("verbs are added", run(["apply", "looks.db", "-"], text), (accepted(1, "0") + accepted(2, "0", "0"), 0))
-    wanted = """object {#0, "System Object", #3, #-1, #-1, 0, 0, 0, 0, 0, 0, 0}
-verb {#0, "l*ook say\\"s", #3, "rxd", "this", "on top of/on/onto/upon", "any"}
-verb {#0, "stop", #2, "", "none", "none", "this"}
-object {#2, """
-    case("and dumped in the order of the directory", wanted in run(["dump", "looks.db"])[0], True)
-    service = Service(MOO, ":memory:", 2)
-    room = '{"children":[],"contents":["#3"],"f":0,"location":"#-1","name":"The First Room","owner":"#3","parent":"#1","player":0,"programmer":0,"r":0,"w":0,"wizard":0}'
-    case("a room is seen with its contents", service.ask(get("/object/2")), answer("200 OK", room))
-    case("and no object isn't", service.ask(get("/object/4")), answer("404 Not Found", '{"error":"E_INVARG"}'))
+# As a terminal gives pieces, with an empty one for an end of input.
+PIECES = [
+    (
+        "a text comes byte by byte",
+        byte_by_byte(b"\nbatch as #3\r\nmax_object()\r\nend\nx\nend\nbatch as #2 at 1\nend"),
+        THIRD + b"malformed 1\naccepted 2\nend\n",
+    ),
+    ("a text ends where no bytes come, in a line", [b"batch as #3\nend", b"", b"x\nbatch as #2\nend\n"], EMPTY),
+    ("or in a header", [b"batch as #3\nend\nbatch as", b"", b" #2\nend\n"], EMPTY + b"truncated\n"),
+    ("a line comes in pieces", [b"batch as #3\n", b"en", b"d", b""], EMPTY),
+    ("a text ends before it began", [b"", b"batch as #3\nend\n"], b""),
+    ("a line ends there too", [b"batch as #3\nmax_obj", b"", b"ect()\nend\n"], b"truncated\n"),
+]
+
+CUT = b'batch as #3\nend\n\nbatch as #2 at 1\nget(#1, "name")\nend\n'
 
 
-for part in (texts, ends_of_counters, verbs, prepositions, looks):
+def told_of_front(count):
+    """What is replied to so many bytes of CUT: its first batch ends with byte 15, its second with byte 53."""
+    if count == 0:
+        return b""
+    if count < 15:
+        return b"truncated\n"
+    if count < 18:
+        return EMPTY
+    if count < 53:
+        return EMPTY + b"truncated\n"
+    return EMPTY + b'accepted 2\n"Root Class"\nend\n'
+
+
+def pieces():
+    for name, given, replies in PIECES:
+        case(name, run_in_pieces(given), (0, replies))
+    counts = range(len(CUT) + 1)
+    wanted = [(0, told_of_front(count)) for count in counts]
+    case("the text that is cut off has 54 bytes", len(CUT), 54)
+    case("a text that is cut off behind any byte is truncated", [run(*APPLY, text=CUT[:count]) for count in counts], wanted)
+    case("so it is where it comes byte by byte", [run_in_pieces(byte_by_byte(CUT[:count])) for count in counts], wanted)
+
+
+def reader_that_fails():
+    """A pipe that has no more bytes but isn't closed, and doesn't wait, is an error of its reader."""
+    output, given = os.pipe()
+    os.write(given, b"batch as #3\nend\nbatch as")
+    os.set_blocking(output, False)
+    ran = subprocess.run([MOO, *APPLY], stdin=output, stdout=subprocess.PIPE, stderr=subprocess.DEVNULL, timeout=PATIENCE)
+    os.close(given)
+    os.close(output)
+    case("behind a reader that fails stand the replies before it", (ran.returncode, ran.stdout), (1, EMPTY + b"moo: read fault\n"))
+
+
+def long_texts():
+    """Files of the greatest length, and one byte longer, whose bytes behind their front are holes."""
+    for name, front, over, wanted in [
+        ("a text of 1,073,741,824 bytes", b"end\n", 0, (0, b"malformed 1\ntruncated\n")),
+        ("one byte more", b"end\n", 1, (1, b"malformed 1\nmoo: input too long\n")),
+        ("without a whole batch", b"", 1, (1, b"moo: input too long\n")),
+    ]:
+        with open("long.txt", "wb") as text:
+            text.write(front)
+            text.truncate(LONGEST_TEXT + over)
+        case(name, run("apply", ":memory:", "long.txt"), wanted)
+    os.remove("long.txt")
+
+
+def numbers():
+    """A number that is the world's own is found, however it is written."""
+    for written, number in [("7", 7), ("0000000000000000007", 7), ("9223372036854775806", 9223372036854775806)]:
+        if os.path.exists("number.db"):
+            os.remove("number.db")
+        run("init", "number.db")
+        edit("number.db", f"update head set seq = {number}")
+        reply = f"accepted {number + 1}\nend\n".encode()
+        case(f"at {written}", run("apply", "number.db", "-", text=f"batch as #3 at {written}\nend\n".encode()), (0, reply))
+
+
+# Words, the status, and what is written; None where it is any text.
+WORDS = [
+    ("init :memory:", 0, b"created\n"),
+    ("check :memory:", 0, b"ok seq 0 objects 4\n"),
+    ("apply :memory: no/such/batches", 1, b"moo: read fault\n"),
+    ("ask :memory: no/such/batches", 1, b"moo: read fault\n"),
+    ("sing", 2, None),
+    ("apply :memory:", 2, None),
+    ("serve :memory: 0 1", 2, None),
+    ("--help", 0, None),
+    ("--version", 0, None),
+]
+
+
+def words():
+    for line, status, written in WORDS:
+        came = run(*line.split())
+        case(f"moo {line}", (came[0], came[1] if written is not None else bool(came[1])), (status, True if written is None else written))
+    batch = b"batch as #3\ncreate(#1)\nend\n"
+    case("a question changes nothing", run("ask", ":memory:", "-", text=batch * 2), (0, b"accepted 0\n#4\nend\n" * 2))
+
+
+for part in (texts, calls, programmers, pieces, reader_that_fails, long_texts, numbers, words):
     part()

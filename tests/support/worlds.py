@@ -2,6 +2,7 @@
 
 Each works in the folder that it runs in."""
 import os
+import resource
 import shutil
 import sqlite3
 import subprocess
@@ -37,10 +38,14 @@ def case(name, came, wanted):
     print(f"ok {name}" if came == wanted else f"FAILED {name}: {shown(came)} and not {shown(wanted)}", flush=True)
 
 
-def run(*words, text=""):
-    """The status of the program, and what it writes."""
+def run(*words, text="", memory=None):
+    """The status of the program, and what it writes; where it may have so many bytes of memory, and no more."""
+    def bound():
+        resource.setrlimit(resource.RLIMIT_AS, (memory, memory))
+
     given = text if isinstance(text, bytes) else text.encode()
-    ran = subprocess.run([MOO, *words], input=given, stdout=subprocess.PIPE, stderr=subprocess.DEVNULL, timeout=PATIENCE)
+    out = {"stdout": subprocess.PIPE, "stderr": subprocess.DEVNULL}
+    ran = subprocess.run([MOO, *words], input=given, timeout=PATIENCE, preexec_fn=bound if memory else None, **out)
     return ran.returncode, ran.stdout.decode()
 
 

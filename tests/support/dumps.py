@@ -1,0 +1,259 @@
+"""The cases of dumps.sh: the rows of a file before a batch and behind it, dumps, and objects over HTTP."""
+import os
+import pathlib
+import resource
+import shutil
+import sqlite3
+import subprocess
+import tempfile
+
+from notation import tree
+from program import MOO, case, edit, run
+from service import PATIENCE, Service, answer, get
+
+# The columns of each table that are its key. The head has one row.
+KEYS = {"head": 0, "object": 1, "prop": 1, "slot": 2, "verb": 2}
+
+OPENING = """object {#0, "System Object", #3, #1, #-1, 0, 0, 0, 0, 0, 0, 0}
+object {#1, "Root Class", #3, #-1, #-1, 0, 0, 0, 0, 0, 1, 0}
+object {#2, "The First Room", #3, #1, #-1, 0, 0, 0, 0, 0, 0, {#1}}
+object {#3, "Wizard", #3, #1, #2, 1, 1, 1, 0, 0, 0, 0}
+"""
+
+NEW = "max_object()"
+SMALL_TREE = "; ".join(tree().calls)
+WEIGHTS = 'add_property(#1, "weight", 7, {#3, "r"}); add_property(#3, "age", 40, {#3, "r"})'
+VALUED = '; set(#6, "a", 12); set(#6, "b", {1, #2, "x"})'
+
+# Another spelling of each cell that may have one. A row that is written anew has the one that the program prints.
+OTHER_SPELLING = [
+    "update object set accept = '{ ' || substr(accept, 2) where accept like '{%'",
+    "update slot set bits = upper(bits)",
+    "update slot set value = '00' || value where value glob '[0-9]*'",
+    "update slot set value = '{ ' || substr(value, 2) where value like '{%'",
+]
+
+# What the world is, in calls; the calls of a batch on it; the rows that come (+), go (-) or differ (~); and the greatest number of an
+# object, with the next ones of a property and a verb.
+CHANGES = [
+    ("a batch without calls changes the head alone", NEW, "", "", (3, 1, 1)),
+    ("so does one that reads", NEW, "max_object()", "", (3, 1, 1)),
+    ("a new object is one change", NEW, "create(#1)", "+object 4", (4, 1, 1)),
+    ("one that comes and goes is none, but for its number", NEW, "create(#1); recycle(#4)", "", (4, 1, 1)),
+    (
+        "the changes of a move are its slots and one link",
+        SMALL_TREE,
+        "chparent(#5, #7)",
+        "~object 5, -slot 5 1, +slot 5 3, -slot 6 1, +slot 6 3",
+        (7, 4, 1),
+    ),
+    ("a move away and back changes the head alone", SMALL_TREE, "chparent(#5, #7); chparent(#5, #4)", "", (7, 4, 1)),
+    ("what is shared with a grandparent stays", SMALL_TREE, "chparent(#6, #4)", "~object 6, -slot 6 2", (7, 4, 1)),
+    ("nothing is written under the present parent", SMALL_TREE, "chparent(#5, #4)", "", (7, 4, 1)),
+    (
+        "a value is gone behind a move and the way back",
+        SMALL_TREE + VALUED,
+        "chparent(#5, #7); chparent(#5, #4)",
+        "~slot 6 1",
+        (7, 4, 1),
+    ),
+    (
+        "and behind a move by itself",
+        SMALL_TREE + VALUED + "; chparent(#5, #7)",
+        "chparent(#5, #4)",
+        "~object 5, +slot 5 1, -slot 5 3, +slot 6 1, -slot 6 3",
+        (7, 4, 1),
+    ),
+    (
+        "an object goes with all its slots and its own on descendants",
+        SMALL_TREE,
+        "recycle(#5)",
+        "-object 5, ~object 6, -prop 2, -slot 5 1, -slot 5 2, -slot 6 2",
+        (7, 4, 1),
+    ),
+    (
+        "an object takes its properties with it",
+        WEIGHTS,
+        "recycle(#1)",
+        "~object 0, -object 1, ~object 2, ~object 3, -prop 1, -slot 0 1, -slot 1 1, -slot 2 1, -slot 3 1",
+        (3, 3, 1),
+    ),
+    ("another name of a property is one change", SMALL_TREE, 'set_property_info(#4, "a", {#3, "r", "aa"})', "~prop 1", (7, 4, 1)),
+    ("a new property comes with its slots", SMALL_TREE, 'add_property(#5, "d", 1, {#3, "r"})', "+prop 4, +slot 5 4, +slot 6 4", (7, 5, 1)),
+    ("a value that is set is one change", SMALL_TREE, 'set(#6, "a", 12)', "~slot 6 1", (7, 4, 1)),
+    ("one that is put back is none", SMALL_TREE, 'set(#6, "b", 5); set(#6, "b", 21)', "", (7, 4, 1)),
+    ("an equal list is the same value", SMALL_TREE + VALUED, 'set(#6, "b", {}); set(#6, "b", {1, #2, "x"})', "", (7, 4, 1)),
+    ("an object isn't its number", SMALL_TREE + VALUED, 'set(#6, "b", {1, 2, "x"})', "~slot 6 2", (7, 4, 1)),
+    ("nor are strings the same in another case", SMALL_TREE + VALUED, 'set(#6, "b", {1, #2, "X"})', "~slot 6 2", (7, 4, 1)),
+    ("a new verb is one change", NEW, 'add_verb(#1, {#3, "r", "get"}, {"any", "in", "this"})', "+verb 1 1", (3, 1, 2)),
+]
+
+
+def text_of(calls, programmer="#3"):
+    return "\n".join([f"batch as {programmer}", *(calls.split("; ") if calls else []), "end", ""]).encode()
+
+
+def new_file(file, calls):
+    """Makes a file anew, with the world behind these calls, which have to be accepted."""
+    for end in ("", "-wal"):
+        if os.path.exists(file + end):
+            os.remove(file + end)
+    run("init", file)
+    _, replied = run("apply", file, "-", text=text_of(calls))
+    if not replied.startswith(b"accepted 1\n"):
+        raise ValueError(f"no world of {calls}: {replied}")
+
+
+def rows(file):
+    """Every row of every table, by the words of its key. A copy is read, so that the file and its log stay as they are."""
+    with tempfile.TemporaryDirectory() as room:
+        for end in ("", "-wal"):
+            if os.path.exists(file + end):
+                shutil.copyfile(file + end, f"{room}/copy{end}")
+        connection = sqlite3.connect(f"{room}/copy")
+        found = {}
+        for table, width in KEYS.items():
+            for row in connection.execute(f"select * from {table}"):
+                found[" ".join([table, *map(str, row[:width])])] = row
+        connection.close()
+    return found
+
+
+def made(file, calls):
+    """A file with the world behind these calls, in another spelling; its rows."""
+    new_file(file, calls)
+    edit(file, *OTHER_SPELLING)
+    return rows(file)
+
+
+def differences(before, behind):
+    """The keys of the rows that came, went or differ, but for the head."""
+    told = []
+    for key in sorted((before.keys() | behind.keys()) - {"head"}):
+        if before.get(key) != behind.get(key):
+            sign = "+" if key not in before else "-" if key not in behind else "~"
+            told.append(sign + key)
+    return sorted(told)
+
+
+def heads(file):
+    """The number of batches of a file, the greatest one of an object, and the next ones of a property and a verb."""
+    return rows(file)["head"][-4:]
+
+
+def changed_rows():
+    for name, world, calls, changes, counters in CHANGES:
+        before = made("change.db", world)
+        status, replied = run("apply", "change.db", "-", text=text_of(calls))
+        case(f"{name}: it is accepted", (status, replied.split(b"\n")[0]), (0, b"accepted 2"))
+        case(name, differences(before, rows("change.db")), sorted(filter(None, changes.split(", "))))
+        case(f"{name}: the head", heads("change.db"), (2, *counters))
+        case(f"{name}: the world is whole", run("check", "change.db")[0], 0)
+
+
+# Batches that change nothing, not even the head, and their replies.
+UNCHANGED = [
+    ("a refused batch", text_of("create(#1); create(#9)"), b"refused 2 E_PERM\n"),
+    ("a batch of nobody's", text_of("max_object()", "#9"), b"refused 1 E_PERM\n"),
+    ("a stale one", text_of("create(#1)", "#3 at 0"), b"stale 1\n"),
+]
+
+
+def unchanged_rows():
+    for name, text, reply in UNCHANGED:
+        before = made("same.db", SMALL_TREE)
+        case(f"{name} is refused", run("apply", "same.db", "-", text=text), (0, reply))
+        case(f"{name} changes nothing", rows("same.db"), before)
+    before = made("same.db", SMALL_TREE)
+    asked = run("ask", "same.db", "-", text=text_of("chparent(#5, #7); create(#1)"))
+    case("a question says what would come", asked, (0, b"accepted 1\n0\n#8\nend\n"))
+    case("a question changes nothing", rows("same.db"), before)
+
+
+def dumped(calls):
+    """What the world behind some calls is dumped as."""
+    new_file("dump.db", calls)
+    return run("dump", "dump.db")[1].decode()
+
+
+VERBS = (
+    'add_verb(#0, {#3, "dxr", "l*ook say\\"s"}, {"this", "on", "any"}); '
+    'add_verb(#0, {#2, "", "stop"}, {"none", "none", "this"}); recycle(#1)'
+)
+VERB_LINES = """object {#0, "System Object", #3, #-1, #-1, 0, 0, 0, 0, 0, 0, 0}
+verb {#0, "l*ook say\\"s", #3, "rxd", "this", "on top of/on/onto/upon", "any"}
+verb {#0, "stop", #2, "", "none", "none", "this"}
+object {#2, """
+# #4 is under #7, which is under #5, and #6 under #4: chains that don't go by numbers.
+CHAIN = (
+    "create(#1); create(#1); create(#4); create(#5); chparent(#4, #7); "
+    'add_property(#4, "p4", 4, {#3, ""}); add_property(#5, "p5", 5, {#3, ""}); add_property(#6, "p6", 6, {#3, ""}); '
+    'add_property(#7, "p7", 7, {#3, ""}); add_property(#1, "p1", 1, {#3, ""})'
+)
+
+
+def dumps():
+    case("a new world is dumped", run("dump", ":memory:"), (0, f"seq 0\ntop #3\n{OPENING}end\n".encode()))
+    # The slots of #6 stand by definers up its chain there, which is not the order of their numbers.
+    wanted = (pathlib.Path(__file__).parent / "tree.dump").read_text()
+    case("slots are dumped by definers up the chain", dumped(SMALL_TREE), wanted)
+    case("verbs are dumped in the order of the directory", VERB_LINES in dumped(VERBS), True)
+    slots = [line.split(", ")[1] for line in dumped(CHAIN).split("\n") if line.startswith("slot {#6,")]
+    case("a chain goes up by parents, and not by numbers", slots, ["#6", "#4", "#7", "#5", "#1"])
+
+
+LIMIT = 1 << 20
+
+
+def limited():
+    resource.setrlimit(resource.RLIMIT_FSIZE, (LIMIT, LIMIT))
+
+
+def dump_with_room(file, room):
+    """The status of a dump into a file that takes so many bytes, and these."""
+    with open("front", "wb+") as front:
+        # The limit is on where a file may be written. So its place leaves the room, and no limit is near for the database.
+        front.seek(LIMIT - room)
+        words = [MOO, "dump", file]
+        # Python ignores the signal of the limit, and so has the program to: then its write fails.
+        ran = subprocess.run(words, stdout=front, stderr=subprocess.DEVNULL, preexec_fn=limited, restore_signals=False, timeout=PATIENCE)
+        front.seek(LIMIT - room)
+        return ran.returncode, front.read().decode()
+
+
+def cut_off_dumps():
+    whole = dumped(SMALL_TREE)
+    for room in (0, 5, 100, 500):
+        case(f"a dump that is cut off behind {room} bytes is its front", dump_with_room("dump.db", room), (1, whole[:room]))
+    case("one with room enough is whole", dump_with_room("dump.db", len(whole)), (0, whole))
+
+
+# Objects of a new world.
+LOOKS = [
+    (
+        "the root class is seen with its children",
+        1,
+        "200 OK",
+        '{"children":["#0","#2","#3"],"contents":[],"f":1,"location":"#-1","name":"Root Class","owner":"#3","parent":"#-1",'
+        '"player":0,"programmer":0,"r":0,"w":0,"wizard":0}',
+    ),
+    (
+        "the room is seen with what is in it",
+        2,
+        "200 OK",
+        '{"children":[],"contents":["#3"],"f":0,"location":"#-1","name":"The First Room","owner":"#3","parent":"#1",'
+        '"player":0,"programmer":0,"r":0,"w":0,"wizard":0}',
+    ),
+    ("no object is seen as none", 4, "404 Not Found", '{"error":"E_INVARG"}'),
+]
+
+
+def looks():
+    service = Service(MOO, ":memory:", len(LOOKS))
+    for name, number, status, body in LOOKS:
+        case(name, service.ask(get(f"/object/{number}")), answer(status, body))
+    case("and that was all", service.end(), (0, f"served {len(LOOKS)} failed 0\n"))
+
+
+for part in (changed_rows, unchanged_rows, dumps, cut_off_dumps, looks):
+    part()

@@ -1,0 +1,107 @@
+"""Requests to the service of new worlds in memory, and answers to compare with what comes. For the parts of requests.py."""
+import contextlib
+import json
+import socket
+import sys
+
+from service import Service, answer
+
+MOO = sys.argv[1]
+
+
+def error(word):
+    return f'{{"error":"{word}"}}'
+
+
+BAD_REQUEST = answer("400 Bad Request", error("bad request"))
+NOT_FOUND = answer("404 Not Found", error("not found"))
+NO_OBJECT = answer("404 Not Found", error("E_INVARG"))
+TOO_LARGE = answer("413 Payload Too Large", error("too large"))
+NOTHING = b""
+SEQ_QUESTION = b"GET /seq HTTP/1.1\r\n\r\n"
+
+# A batch of 95 bytes; its answer on a new world has 116.
+BATCH = b'POST /batch HTTP/1.1\r\nhost: localhost\r\ncontent-length: 34\r\n\r\n{"as":"#3","calls":["create(#1)"]}'
+BATCH_ANSWER = answer("200 OK", '{"answers":["#4"],"seq":1}')
+
+
+def seq(number):
+    return answer("200 OK", f'{{"seq":{number}}}')
+
+
+def accepted(number, *literals):
+    """Where `number` batches are accepted by now."""
+    return answer("200 OK", json.dumps({"answers": literals, "seq": number}, separators=(",", ":")))
+
+
+def refused(call, code):
+    return answer("409 Conflict", f'{{"call":{call},"error":"{code}"}}')
+
+
+def stale(number):
+    return answer("409 Conflict", f'{{"error":"stale","seq":{number}}}')
+
+
+def malformed(call):
+    return answer("400 Bad Request", f'{{"call":{call},"error":"malformed"}}')
+
+
+def allow(method, is_head=False):
+    return answer("405 Method Not Allowed", error("method not allowed"), f"allow: {method}\r\n", is_head)
+
+
+def object_body(name, parent="#1", location="#-1", children=(), contents=(), marks=0, fertile=0):
+    """The JSON of an object of #3. The marks are those of a player, a programmer and a wizard."""
+    parts = {
+        "children": children, "contents": contents, "f": fertile, "location": location, "name": name, "owner": "#3", "parent": parent,
+        "player": marks, "programmer": marks, "r": 0, "w": 0, "wizard": marks,
+    }
+    return json.dumps(parts, separators=(",", ":"))
+
+
+def posted(path, body):
+    """A POST of bytes, with their length."""
+    return b"POST %s HTTP/1.1\r\nhost: localhost\r\ncontent-length: %d\r\n\r\n%s" % (path.encode(), len(body), body)
+
+
+def case(name, came, wanted):
+    # A large answer isn't shown whole.
+    print(f"ok {name}" if came == wanted else f"FAILED {name}: {came!r:.400} and not {wanted!r:.400}", flush=True)
+
+
+def heard_to_the_end(peer):
+    """What comes until the service closes, and how it closes: 'closed', or 'reset', where bytes were left that it hasn't read."""
+    parts = []
+    try:
+        while part := peer.recv(65536):
+            parts.append(part)
+    except ConnectionResetError:
+        return b"".join(parts), "reset"
+    return b"".join(parts), "closed"
+
+
+def send_in_pieces(peer, request, most):
+    peer.setsockopt(socket.IPPROTO_TCP, socket.TCP_NODELAY, 1)
+    for start in range(0, len(request), most):
+        peer.sendall(request[start : start + most])
+
+
+def said(service, request, most=1 << 20):
+    """What answers a request that comes in pieces of so many bytes, and behind which the input ends."""
+    with service.peer() as peer:
+        # A service that refuses what has come by then doesn't read the rest, and may have closed.
+        with contextlib.suppress(OSError):
+            send_in_pieces(peer, request, most)
+            peer.shutdown(socket.SHUT_WR)
+        return heard_to_the_end(peer)[0]
+
+
+def in_turn(title, rows, before=()):
+    """Rows of a name, a request and its answer, one after another on a new world; behind requests that aren't looked at."""
+    service = Service(MOO, ":memory:", len(before) + len(rows))
+    for request in before:
+        said(service, request)
+    for name, request, wanted in rows:
+        case(f"{title}: {name}", said(service, request), wanted)
+    count = len(before) + len(rows)
+    case(f"{title}: all of them are served", service.end(), (0, f"served {count} failed 0\n"))

@@ -1,0 +1,98 @@
+"""Scenes in the notation of tests/scenes/README.md: read, and put as texts of batches and as requests."""
+import json
+import pathlib
+from typing import NamedTuple
+
+from service import answer
+
+class Batch(NamedTuple):
+    """A batch, and what it comes to: the first line of its reply, and its answers."""
+
+    programmer: str
+    at: str
+    calls: list
+    reply: str
+    answers: list
+
+    def text(self):
+        header = f"batch as {self.programmer}" + (f" at {self.at}" if self.at else "")
+        return "\n".join([header, *self.calls, "end", ""]).encode()
+
+    def reply_text(self):
+        ended = [*self.answers, "end"] if self.reply.startswith("accepted") else []
+        return "\n".join([self.reply, *ended, ""]).encode()
+
+    def body(self):
+        at = {"at": int(self.at)} if self.at else {}
+        return json.dumps({"as": self.programmer, "calls": self.calls, **at})
+
+    def response(self):
+        status, body = response_of(self.reply.split(), self.answers)
+        return answer(status, json.dumps(body, separators=(",", ":")))
+
+
+class Scene(NamedTuple):
+    """What it shows, and its steps: batches, and statements that change the file by hand."""
+
+    name: str
+    steps: list
+
+    def is_on_file(self):
+        return any(isinstance(step, str) for step in self.steps)
+
+    def stretches(self):
+        """The batches up to each change by hand, with that change; none behind the last."""
+        batches = []
+        for step in self.steps:
+            if isinstance(step, str):
+                yield batches, step
+                batches = []
+            else:
+                batches.append(step)
+        yield batches, None
+
+
+def response_of(reply, answers):
+    """The status line and the body by which HTTP has the words of a reply."""
+    word, number = reply[0], int(reply[1])
+    if word == "accepted":
+        return "200 OK", {"answers": answers, "seq": number}
+    if word == "stale":
+        return "409 Conflict", {"error": "stale", "seq": number}
+    if word == "malformed":
+        return "400 Bad Request", {"call": number - 1, "error": "malformed"}
+    return "409 Conflict", {"call": number, "error": {"refused": reply[-1], "full": "full"}[word]}
+
+
+def parts(text):
+    """The pieces that '; ' parts, of which an empty text has none."""
+    return text.split("; ") if text else []
+
+
+def read_batch(line):
+    asked, replied = line.split(" => ")
+    who, calls = asked.split(":", 1)
+    programmer, _, at = who.partition(" at ")
+    reply, _, answers = replied.partition(": ")
+    return Batch(programmer, at, parts(calls.strip()), reply, parts(answers))
+
+
+def tree():
+    """The batch that a line `tree` stands for."""
+    _, *calls, _ = (pathlib.Path(__file__).parent / "tree.txt").read_text().splitlines()
+    return Batch("#3", "", calls, "accepted 1", ["#4", "0", "#5", "0", "#6", "0", "#7", "0"])
+
+
+def read_step(line):
+    if line.startswith("! "):
+        return line.removeprefix("! ")
+    return tree() if line == "tree" else read_batch(line)
+
+
+def read_scenes(text):
+    """The scenes of a text."""
+    for block in text.strip("\n").split("\n\n"):
+        lines = block.split("\n")
+        if not lines[0].startswith("- "):
+            raise ValueError(f"a scene without a name: {lines[0]}")
+        yield Scene(lines[0].removeprefix("- "), [read_step(line) for line in lines if not line.startswith("- ")])
