@@ -3,4 +3,5 @@
 # needs: python3
 here=$(cd "$(dirname "$0")" && pwd)
 : "${MOO:?the program to test}"
-PYTHONDONTWRITEBYTECODE=1 exec python3 "$here/support/texts.py" "$MOO"
+export MOO
+PYTHONDONTWRITEBYTECODE=1 exec python3 "$here/support/texts.py"

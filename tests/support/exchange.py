@@ -2,11 +2,9 @@
 import contextlib
 import json
 import socket
-import sys
 
+from program import MOO, case
 from service import Service, answer
-
-MOO = sys.argv[1]
 
 
 def error(word):
@@ -62,11 +60,6 @@ def object_body(name, parent="#1", location="#-1", children=(), contents=(), mar
 def posted(path, body):
     """A POST of bytes, with their length."""
     return b"POST %s HTTP/1.1\r\nhost: localhost\r\ncontent-length: %d\r\n\r\n%s" % (path.encode(), len(body), body)
-
-
-def case(name, came, wanted):
-    # A large answer isn't shown whole.
-    print(f"ok {name}" if came == wanted else f"FAILED {name}: {came!r:.400} and not {wanted!r:.400}", flush=True)
 
 
 def heard_to_the_end(peer):

@@ -1,11 +1,11 @@
-"""The program under test: runs of it in the folder that a script runs in, and the line that tells of a case."""
+"""The program under test, which the variable MOO names: runs of it in the folder that a script runs in, and the line that tells of a case."""
+import os
 import sqlite3
 import subprocess
-import sys
 
 from service import PATIENCE
 
-MOO = sys.argv[1]
+MOO = os.environ["MOO"]
 
 
 def shown(value):
@@ -26,9 +26,10 @@ def run(*words, text=b"", **how):
 
 
 def edit(file, *statements):
-    """Changes a file by hand."""
+    """Changes a file by hand. A statement is a text, or a text with values for its marks."""
     connection = sqlite3.connect(file)
+    connection.execute("pragma synchronous = off")
     for statement in statements:
-        connection.execute(statement)
+        connection.execute(*((statement,) if isinstance(statement, str) else statement))
     connection.commit()
     connection.close()

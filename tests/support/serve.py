@@ -3,22 +3,17 @@ import re
 import socket
 import sqlite3
 import subprocess
-import sys
 import threading
 import time
 
+from program import MOO, case
 from service import PATIENCE, Service, answer, free_port, get, heard, post, reset
 
-MOO = sys.argv[1]
 CREATE = '{"as":"#3","calls":["create(#1)"]}'
 ROOT = (
     '{"children":["#0","#2","#3"],"contents":[],"f":1,"location":"#-1","name":"Root Class","owner":"#3","parent":"#-1",'
     '"player":0,"programmer":0,"r":0,"w":0,"wizard":0}'
 )
-
-
-def case(name, came, wanted):
-    print(f"ok {name}" if came == wanted else f"FAILED {name}: {came!r} and not {wanted!r}", flush=True)
 
 
 def run(*words, text=b"", output=subprocess.PIPE):

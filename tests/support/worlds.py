@@ -5,11 +5,12 @@ import os
 import resource
 import shutil
 import sqlite3
-import subprocess
 from pathlib import Path
 
-MOO = os.environ["MOO"]
-PATIENCE = 60
+import program
+from program import MOO, case, edit
+from service import PATIENCE
+
 TREE = Path(__file__).with_name("tree.txt").read_text()
 # The numbers of verbs here are 1, 2 and 3.
 VERBS = TREE + """batch as #3
@@ -28,40 +29,19 @@ TABLES = {
 }
 
 
-def shown(value):
-    """A value as a line has room for it."""
-    text = repr(value)
-    return text if len(text) <= 400 else f"{text[:200]} .. {text[-200:]}"
-
-
-def case(name, came, wanted):
-    print(f"ok {name}" if came == wanted else f"FAILED {name}: {shown(came)} and not {shown(wanted)}", flush=True)
-
-
 def run(*words, text="", memory=None):
     """The status of the program, and what it writes; where it may have so many bytes of memory, and no more."""
     def bound():
         resource.setrlimit(resource.RLIMIT_AS, (memory, memory))
 
     given = text if isinstance(text, bytes) else text.encode()
-    out = {"stdout": subprocess.PIPE, "stderr": subprocess.DEVNULL}
-    ran = subprocess.run([MOO, *words], input=given, timeout=PATIENCE, preexec_fn=bound if memory else None, **out)
-    return ran.returncode, ran.stdout.decode()
+    status, written = program.run(*words, text=given, preexec_fn=bound if memory else None)
+    return status, written.decode()
 
 
 def remove(file):
     for end in ("", "-wal", "-shm"):
         Path(file + end).unlink(missing_ok=True)
-
-
-def edit(file, *statements):
-    """Changes a file by hand. A statement is a text, or a text with values for its marks."""
-    connection = sqlite3.connect(file)
-    connection.execute("pragma synchronous = off")
-    for statement in statements:
-        connection.execute(*((statement,) if isinstance(statement, str) else statement))
-    connection.commit()
-    connection.close()
 
 
 def make(file, text=""):
