@@ -9,8 +9,10 @@ NAME: ' and the first other end.
 
 To open a world takes some 3,700 growths. Without the word `whole` every 41st of these is refused, and each one behind them.
 """
+import itertools
 import os
 import shutil
+import socket
 import subprocess
 import sys
 import tempfile
@@ -26,6 +28,8 @@ REFUSER = os.path.abspath("refuse.so")
 NO_MEMORY, STORE, READ = "moo: no memory\n", "moo: store fault\n", "moo: read fault\n"
 ENOMEM, EIO, ENOSPC, KILL = 12, 5, 28, 0
 STRIDE = 41
+# Below those that the system gives to clients: services that start side by side, and their clients, don't meet.
+PORTS = itertools.count(20000)
 EVER = 10**9
 
 
@@ -35,6 +39,18 @@ def run(words, room, text="", env=None):
         [MOO, *words], cwd=room, input=text.encode(), stdout=subprocess.PIPE, stderr=subprocess.DEVNULL, env=env, timeout=PATIENCE
     )
     return ran.stdout.decode(), ran.returncode
+
+
+def next_port():
+    while True:
+        port = next(PORTS)
+        with socket.socket() as probe:
+            probe.setsockopt(socket.SOL_SOCKET, socket.SO_REUSEADDR, 1)
+            try:
+                probe.bind(("127.0.0.1", port))
+                return port
+            except OSError:
+                continue
 
 
 class Fault:
@@ -93,7 +109,7 @@ class Post(Task):
     """A task that is a POST to the service of a file; what is written is the answer, and behind it the line of the service's end."""
 
     def do(self, room, env):
-        service = Service(MOO, "w.db", 1, folder=room, env=env)
+        service = Service(MOO, "w.db", 1, port=next_port(), folder=room, env=env)
         if not service.is_listening():
             output, status = service.end()[::-1]
             return service.first + output, status
