@@ -1,5 +1,6 @@
 """The cases of cells.sh: single cells, each kind of damage, and several at once. The seventeen edits of damage.sh aren't tried again."""
-from worlds import VERBS, case, copied, edit, make, rows_of, run
+from program import case, edit
+from worlds import VERBS, copied, make, rows_of, run
 
 WHOLE = (0, "ok seq 2 objects 8\n")
 # Texts with bytes that no text has are put by their bytes.

@@ -2,7 +2,9 @@
 import concurrent.futures
 import subprocess
 
-from worlds import MOO, PATIENCE, accepted, case, run
+from program import MOO, case
+from service import PATIENCE
+from worlds import accepted, run
 
 LONGEST = 1073741824
 

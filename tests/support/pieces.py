@@ -7,7 +7,9 @@ import socket
 import subprocess
 
 from service import Service, answer, post
-from worlds import MOO, PATIENCE, accepted, case, copied, edit, make, rows_of, run, text_of
+from program import MOO, case, edit
+from service import PATIENCE
+from worlds import accepted, copied, make, rows_of, run, text_of
 
 GREATEST = 2**63 - 1
 # What is shown, the number of the world that is new but for that, the text and its replies.

@@ -8,8 +8,7 @@ import sqlite3
 from pathlib import Path
 
 import program
-from program import MOO, case, edit
-from service import PATIENCE
+from program import edit
 
 TREE = Path(__file__).with_name("tree.txt").read_text()
 # The numbers of verbs here are 1, 2 and 3.
