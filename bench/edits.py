@@ -22,6 +22,10 @@ import subprocess
 import sys
 import tempfile
 
+sys.dont_write_bytecode = True
+sys.path.insert(0, os.path.join(os.path.dirname(os.path.abspath(__file__)), "..", "tests", "support"))
+from columns import TABLES  # noqa: E402
+
 WORLD = r'''batch as #3
 create(#1)
 add_property(#4, "a", 10, {#3, "r"})
@@ -54,13 +58,6 @@ KINDS = (
     "bad-head bad-cell past-head no-parent parent-loop no-place place-loop no-definer double-name strange-slot missing-slot "
     "clear-definer strange-verb"
 ).split()
-TABLES = {
-    "head": "id version seq top next_prop next_verb".split(),
-    "object": "n name owner parent location player programmer wizard r w f accept".split(),
-    "prop": "id definer name".split(),
-    "slot": "object prop owner bits value".split(),
-    "verb": "object id names owner bits dobj prep iobj".split(),
-}
 TEXTS = {("object", "name"), ("object", "accept"), ("prop", "name"), ("slot", "bits"), ("slot", "value")} | {
     ("verb", column) for column in ("names", "bits", "dobj", "prep", "iobj")
 }

@@ -1,7 +1,8 @@
 """The cases of tables.sh: the five tables of a world's file, read by Python's sqlite3."""
 from changes import CHANGES, FIVE_CALLS, KEPT, OPENING, WORLDS
+from columns import TABLES
 from program import case, edit
-from worlds import TABLES, accepted, copied, make, read, rows_of, run, text_of
+from worlds import accepted, copied, make, read, rows_of, run, text_of
 
 NUMBERS, TEXTS = ("INTEGER", 1, None), ("TEXT", 1, None)
 OF_TEXT = {"name", "accept", "bits", "value", "names", "dobj", "prep", "iobj"}

@@ -8,6 +8,7 @@ import sqlite3
 from pathlib import Path
 
 import program
+from columns import TABLES
 from program import edit
 
 TREE = Path(__file__).with_name("tree.txt").read_text()
@@ -18,14 +19,6 @@ add_verb(#4, {#3, "rwx", "l*ook"}, {"this", "none", "none"})
 add_verb(#5, {#3, "", "put"}, {"any", "any", "any"})
 end
 """
-# The columns of each table, its key first.
-TABLES = {
-    "head": "id version seq top next_prop next_verb".split(),
-    "object": "n name owner parent location player programmer wizard r w f accept".split(),
-    "prop": "id definer name".split(),
-    "slot": "object prop owner bits value".split(),
-    "verb": "object id names owner bits dobj prep iobj".split(),
-}
 
 
 def run(*words, text="", memory=None):
