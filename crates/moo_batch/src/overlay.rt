@@ -3,10 +3,9 @@
 ghost use Rattle.std.specs.Prelude.{◌≡◌, ◌↔◌, IsTrue, option_map, Some, None};
 ghost use Rattle.std.specs.FinMap as map;
 ghost use Rattle.moo_rows.specs.Ordered.{contents, IsNextAt};
-ghost use Rattle.moo_batch.specs.Overlay.{row_over, IsNextOfEither, lesser};
+ghost use Rattle.moo_batch.specs.Overlay.{row_over, IsNextOfEither};
 
 use moo_rows::{Key, ordered};
-use std::cmp::Ordering;
 use std::collections::BTreeMap;
 
 /// The map below the changes.
@@ -42,20 +41,6 @@ pub fn get<'a, K: Key, V, B: Base<'a, K, V>>(
     }
 }
 
-/// The lesser of two keys.
-fn least<K: Key>(a: Option<K>, b: Option<K>) -> Option<K>
-    ensures { result ≡ lesser K.cmp a b }
-{
-    match (a, b) {
-        (Some(x), Some(y)) => match y.cmp(&x) {
-            Ordering::Less => b,
-            _ => a,
-        },
-        (None, _) => b,
-        (_, None) => a,
-    }
-}
-
 /// The next key that is in the base or changed.
 fn next_of_either<'a, K: Key, V, B: Base<'a, K, V>>(
     base: B,
@@ -64,7 +49,7 @@ fn next_of_either<'a, K: Key, V, B: Base<'a, K, V>>(
 ) -> Option<K>
     ensures { IsNextOfEither (B.row_at base) (contents K.cmp changes.now) from result }
 {
-    least(base.next(from), ordered::next(changes, from))
+    ordered::least(base.next(from), ordered::next(changes, from))
 }
 
 /// The next held key.

@@ -6,8 +6,11 @@ ghost use Rattle.moo_rows.specs.Exact.{object_exact, prop_exact, slot_exact, ver
 ghost use Rattle.moo_rows.specs.SameClones.{object_clone, prop_clone, slot_clone, verb_clone};
 ghost use Rattle.moo_rows.specs.SameRows.{object_row-exact, prop_row-exact, slot_row-exact, verb_row-exact};
 
+use crate::links::{
+    Links, are_same, definer_of, forget_defined, next_defined, row_defined, row_has, ties_of,
+};
 use crate::ordered::{self, Key, Row};
-use crate::row::{Head, ObjRow, PropId, PropRow, SlotRow, VerbId, VerbRow};
+use crate::row::{Head, Link, ObjRow, PropId, PropRow, SlotRow, VerbId, VerbRow};
 use crate::rows::Rows;
 use crate::writes::Writes;
 use moo_value::ObjNo;
@@ -63,6 +66,8 @@ pub struct Flat {
     props: BTreeMap<PropId, PropRow>,
     slots: BTreeMap<(ObjNo, PropId), SlotRow>,
     verbs: BTreeMap<(ObjNo, VerbId), VerbRow>,
+    links: Links,
+    definers: BTreeMap<(ObjNo, PropId), ()>,
     writes: Writes,
 }
 
@@ -85,6 +90,11 @@ impl Model for Flat {
       writes = f.writes.count;
       base = no_maps;
     } };
+
+    ghost use Rattle.std.specs.FinMap as map;
+    ghost use Rattle.moo_rows.specs.Links.{AreCovered, AreOfDefiners};
+
+    ghost invariant = { λ f. AreCovered (map.get (contents object_cmp f.objects)) f.links × AreOfDefiners (map.get (contents prop_cmp f.props)) (contents slot_cmp f.definers) };
 }
 
 impl Flat {
@@ -104,6 +114,8 @@ impl Flat {
             props: BTreeMap::new(alloc),
             slots: BTreeMap::new(alloc),
             verbs: BTreeMap::new(alloc),
+            links: Links::new(alloc),
+            definers: BTreeMap::new(alloc),
             writes: Writes::new(),
         }
     }
@@ -118,6 +130,8 @@ impl Flat {
             props: self.props.clone()?,
             slots: self.slots.clone()?,
             verbs: self.verbs.clone()?,
+            links: self.links.copy()?,
+            definers: self.definers.clone()?,
             writes: Writes::new(),
         })
     }
@@ -142,8 +156,31 @@ impl Rows for Flat {
         ordered::next(&self.objects, from)
     }
 
+    fn next_linked(&self, link: Link, after: ObjNo) -> Option<ObjNo> {
+        let mut last = after;
+        loop {
+            let key = match self.links.next(link, last) {
+                None => return None,
+                Some(key) => key,
+            };
+            if row_has(ordered::get(&self.objects, key), link) {
+                return Some(key);
+            }
+            last = key;
+        }
+    }
+
     fn put_object(&mut self, key: ObjNo, row: ObjRow) -> Result<(), AllocError> {
+        let ties = row.ties();
+        let old = ties_of(ordered::get(&self.objects, key));
+        if are_same(old, ties) {
+            ordered::put(&mut self.objects, key, row)?;
+            self.writes.rise();
+            return Ok(());
+        }
+        self.links.add(key, ties)?;
         ordered::put(&mut self.objects, key, row)?;
+        self.links.forget(key, old, Some(ties));
         self.writes.rise();
         Ok(())
     }
@@ -152,7 +189,9 @@ impl Rows for Flat {
         ensures ok { self.new ≡ without_object self.old key }
         ensures succeeds { IsOk result }
     {
+        let old = ties_of(ordered::get(&self.objects, key));
         ordered::remove(&mut self.objects, key);
+        self.links.forget(key, old, None);
         self.writes.rise();
         Ok(())
     }
@@ -165,7 +204,22 @@ impl Rows for Flat {
         ordered::next(&self.props, from)
     }
 
+    fn next_defined(&self, x: ObjNo, after: PropId) -> Option<PropId> {
+        let mut last = after;
+        loop {
+            let key = match next_defined(&self.definers, x, last) {
+                None => return None,
+                Some(key) => key,
+            };
+            if row_defined(ordered::get(&self.props, key), x) {
+                return Some(key);
+            }
+            last = key;
+        }
+    }
+
     fn put_prop(&mut self, key: PropId, row: PropRow) -> Result<(), AllocError> {
+        ordered::put(&mut self.definers, (row.definer, key), ())?;
         ordered::put(&mut self.props, key, row)?;
         self.writes.rise();
         Ok(())
@@ -175,7 +229,9 @@ impl Rows for Flat {
         ensures ok { self.new ≡ without_prop self.old key }
         ensures succeeds { IsOk result }
     {
+        let definer = definer_of(ordered::get(&self.props, key));
         ordered::remove(&mut self.props, key);
+        forget_defined(&mut self.definers, definer, key);
         self.writes.rise();
         Ok(())
     }

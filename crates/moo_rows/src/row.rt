@@ -4,6 +4,7 @@ ghost use Rattle.std.specs.Prelude.{◌≡◌, IfOk};
 ghost use Rattle.moo_value.specs.Text.{IsText};
 ghost use Rattle.moo_rows.specs.Equal.{list_eq, list_laws};
 ghost use Rattle.moo_rows.specs.PlainRow.{plain_row};
+ghost use Rattle.moo_rows.specs.Links.{ties_of, has_link};
 
 use moo_value::{MooStr, ObjNo, Value};
 use std::alloc::{AllocError, Global};
@@ -106,6 +107,48 @@ impl ObjRow {
             f: false,
             accept: None,
         })
+    }
+}
+
+/// What an object is looked up by, beside its number: its parent, its place, or that it is a player.
+#[derive(Clone, Copy, Debug, PartialEq, Eq)]
+pub enum Link {
+    ChildOf(ObjNo),
+    Within(ObjNo),
+    Player,
+}
+
+/// What ties an object to others.
+#[derive(Clone, Copy, Debug, PartialEq, Eq)]
+pub struct Ties {
+    pub parent: ObjNo,
+    pub location: ObjNo,
+    pub player: bool,
+}
+
+impl ObjRow {
+    /// What ties the object to others.
+    pub fn ties(&self) -> Ties
+        ensures { result ≡ ties_of self.now }
+    {
+        Ties {
+            parent: self.parent,
+            location: self.location,
+            player: self.player,
+        }
+    }
+}
+
+impl Ties {
+    /// Whether an object with these ties has the link.
+    pub fn have(self, link: Link) -> bool
+        ensures { result ≡ has_link link self }
+    {
+        match link {
+            Link::ChildOf(x) => self.parent == x,
+            Link::Within(x) => self.location == x,
+            Link::Player => self.player,
+        }
     }
 }
 

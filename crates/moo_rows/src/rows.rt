@@ -3,9 +3,10 @@
 ghost use Rattle.std.specs.Prelude.{◌≡◌, option_map, OnErr, OnOk};
 ghost use Rattle.std.specs.FinMap as map;
 ghost use Rattle.moo_rows.specs.Ordered.{IsNext};
-ghost use Rattle.moo_rows.specs.Maps.{Held, with_object, without_object, with_prop, without_prop, with_slot, without_slot, with_verb, without_verb};
+ghost use Rattle.moo_rows.specs.Links.{IsFirst, is_linked, is_definer};
+ghost use Rattle.moo_rows.specs.Maps.{Held, object_cmp, prop_cmp, with_object, without_object, with_prop, without_prop, with_slot, without_slot, with_verb, without_verb};
 
-use crate::row::{Head, ObjRow, PropId, PropRow, SlotRow, VerbId, VerbRow};
+use crate::row::{Head, Link, ObjRow, PropId, PropRow, SlotRow, VerbId, VerbRow};
 use moo_value::ObjNo;
 use std::alloc::AllocError;
 
@@ -34,6 +35,10 @@ pub trait Rows {
     fn next_object(&self, from: Option<ObjNo>) -> Option<ObjNo>
         ensures { IsNext (held self.now).maps.objects from result };
 
+    /// The least object past `after` that has the link, or none where no object past it has it.
+    fn next_linked(&self, link: Link, after: ObjNo) -> Option<ObjNo>
+        ensures { IsFirst object_cmp (is_linked (held self.now).maps link) after result };
+
     /// Sets the row of an object, in place of the one that it has, if any. An `Err` is want of memory.
     fn put_object(&mut self, key: ObjNo, row: ObjRow) -> Result<(), AllocError>
         ensures ok { OnOk result (held self.new ≡ with_object (held self.old) key row) }
@@ -51,6 +56,10 @@ pub trait Rows {
     /// The least property that is held past `from`, or the least of all where no `from` is given; none where there is no such property.
     fn next_prop(&self, from: Option<PropId>) -> Option<PropId>
         ensures { IsNext (held self.now).maps.props from result };
+
+    /// The least property past `after` that x defines, or none where it defines no property past it.
+    fn next_defined(&self, x: ObjNo, after: PropId) -> Option<PropId>
+        ensures { IsFirst prop_cmp (is_definer (held self.now).maps x) after result };
 
     /// Sets the row of a property, in place of the one that it has, if any. An `Err` is want of memory.
     fn put_prop(&mut self, key: PropId, row: PropRow) -> Result<(), AllocError>

@@ -1,14 +1,14 @@
 //! Going over the rows in the order of their keys.
 
-ghost use Rattle.std.specs.Prelude.{◌≡◌, IfOk};
+ghost use Rattle.std.specs.Prelude.{◌≡◌};
 ghost use Rattle.std.specs.FinMap as map;
 ghost use Rattle.std.specs.Iterator.{YieldsFirstBy, item_count};
-ghost use Rattle.moo_rows.specs.Walk.{objects_left, props_left, slots_left, verbs_left, slots_of_left, verbs_of_left, children};
+ghost use Rattle.moo_rows.specs.Links.{linked_left, defined_left};
+ghost use Rattle.moo_rows.specs.Walk.{objects_left, props_left, slots_left, verbs_left, slots_of_left, verbs_of_left};
 
-use crate::row::{ObjList, ObjRow, PropId, PropRow, SlotRow, VerbId, VerbRow};
+use crate::row::{Link, ObjRow, PropId, PropRow, SlotRow, VerbId, VerbRow};
 use crate::rows::Rows;
 use moo_value::ObjNo;
-use std::alloc::{AllocError, Global};
 
 /// The rows of one map with their keys, in the order of the keys.
 #[derive(Drop)]
@@ -163,15 +163,66 @@ pub fn each_verb_of<R: Rows>(rows: &R, object: ObjNo, last: VerbId) -> WalkOf<'_
     WalkOf { rows, object, last }
 }
 
-/// The objects whose parent is x, in ascending number. An `Err` is want of memory.
-pub fn children<R: Rows>(rows: &R, alloc: Global, x: ObjNo) -> Result<ObjList, AllocError>
-    ensures { IfOk result (λ list. list ≡ children x (R.held rows.now).maps.objects) }
-{
-    let mut list = Vec::new(alloc);
-    for (key, row) in each_object(rows) {
-        if row.parent == x {
-            list.push(key)?;
-        }
+/// The rows of the objects that have a link with their keys, in the order of the keys.
+#[derive(Drop)]
+pub struct WalkLinked<'a, R> {
+    rows: &'a R,
+    link: Link,
+    last: ObjNo,
+}
+
+impl<'a, R: Rows> Iterator for WalkLinked<'a, R> {
+    type Item = (ObjNo, &'a ObjRow);
+
+    ghost next_gives = { YieldsFirstBy (λ p. (p.0, p.1.now)) (λ s. linked_left s.link s.last (R.held s.rows.now).maps) };
+
+    ghost remaining = { item_count (λ s. linked_left s.link s.last (R.held s.rows.now).maps) };
+
+    fn next(&mut self) -> Option<(ObjNo, &'a ObjRow)> {
+        let key = self.rows.next_linked(self.link, self.last)?;
+        let row = self.rows.object(key)?;
+        self.last = key;
+        Some((key, row))
     }
-    Ok(ObjList::from_vec(list))
+}
+
+/// The objects past a number that have the link, with their rows, in order: from `#-1` on all of them. Takes no memory.
+pub fn each_linked<R: Rows>(rows: &R, link: Link, last: ObjNo) -> WalkLinked<'_, R>
+    ensures { linked_left result.link result.last (R.held result.rows.now).maps ≡ linked_left link last (R.held rows.now).maps }
+{
+    WalkLinked { rows, link, last }
+}
+
+/// The rows of the properties that an object defines with their keys, in the order of the keys.
+#[derive(Drop)]
+pub struct WalkDefined<'a, R> {
+    rows: &'a R,
+    definer: ObjNo,
+    last: PropId,
+}
+
+impl<'a, R: Rows> Iterator for WalkDefined<'a, R> {
+    type Item = (PropId, &'a PropRow);
+
+    ghost next_gives = { YieldsFirstBy (λ p. (p.0, p.1.now)) (λ s. defined_left s.definer s.last (R.held s.rows.now).maps) };
+
+    ghost remaining = { item_count (λ s. defined_left s.definer s.last (R.held s.rows.now).maps) };
+
+    fn next(&mut self) -> Option<(PropId, &'a PropRow)> {
+        let key = self.rows.next_defined(self.definer, self.last)?;
+        let row = self.rows.prop(key)?;
+        self.last = key;
+        Some((key, row))
+    }
+}
+
+/// The properties past a number that x defines, with their rows, in order: from 0 on all of them. Takes no memory.
+pub fn each_defined<R: Rows>(rows: &R, x: ObjNo, last: PropId) -> WalkDefined<'_, R>
+    ensures { defined_left result.definer result.last (R.held result.rows.now).maps ≡ defined_left x last (R.held rows.now).maps }
+{
+    WalkDefined {
+        rows,
+        definer: x,
+        last,
+    }
 }

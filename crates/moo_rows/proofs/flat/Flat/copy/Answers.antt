@@ -1,10 +1,14 @@
-use Rattle.std.proofs.Common.{rules, ap, ◌∙◌}
+use Rattle.std.proofs.Common.{rules, ap, ◌∙◌, sym, subst, refl}
+use Rattle.std.specs.Prelude.{⊤}
+use Rattle.std.specs.FinMap.{get}
+use Rattle.moo_rows.specs.Ordered.{contents}
+use Rattle.moo_rows.specs.Links.{AreCovered, AreOfDefiners}
 use Rattle.std.proofs.lemmas.Map.Entries.{entries_from_clone}
 use Rattle.std.specs.FinMap as map
 use Rattle.moo_value.specs.declared.value.ObjNo.{ObjNo}
 use Rattle.moo_rows.specs.declared.row.PropId.{PropId}
 use Rattle.moo_rows.specs.declared.row.VerbId.{VerbId}
-use Rattle.moo_rows.specs.Maps.{Held}
+use Rattle.moo_rows.specs.Maps.{Held, object_cmp, prop_cmp, slot_cmp}
 use Rattle.moo_rows.specs.SameClones.{object_clone, prop_clone, slot_clone, verb_clone}
 use Rattle.moo_rows.proofs.flat.Flat.copy.Goals as goal
 
@@ -22,3 +26,14 @@ returns c =
       slots = map.from_entries (slots i);
       verbs = map.from_entries (verbs i);
     }) ∙ ap (λ (held : Held). held.maps) c.self.view_is
+
+pub invariant_of-result : goal.invariant_of-result
+invariant_of-result c =
+    let objects = entries_from_clone _ _ (λ (x y : ObjNo) h. search rules) object_clone c.self.inside.objects.entries c.in_ok-clone.field-0.entries c.in_ok-clone.ensures.cases in
+    let props = entries_from_clone _ _ (λ (x y : PropId) h. search rules) prop_clone c.self.inside.props.entries c.in_ok-clone-2.field-0.entries c.in_ok-clone-2.ensures.cases in
+    let definers = entries_from_clone _ _ (λ (x y : ObjNo × PropId) h. search rules) (λ (x y : ⊤) h. refl) c.self.inside.definers.entries c.in_ok-clone-5.field-0.entries c.in_ok-clone-5.ensures.cases in (
+      subst (λ m. AreCovered (get m) c.in_ok-copy.field-0) (sym (λ i. map.from_entries {R = object_cmp} (objects i)))
+          (subst (AreCovered (get (contents object_cmp c.self.inside.objects))) (sym c.in_ok-copy.ensures) c.self.invariant.0),
+      subst (λ m. AreOfDefiners (get m) (contents slot_cmp c.in_ok-clone-5.field-0)) (sym (λ i. map.from_entries {R = prop_cmp} (props i)))
+          (subst (AreOfDefiners (get (contents prop_cmp c.self.inside.props))) (sym (λ i. map.from_entries {R = slot_cmp} (definers i))) c.self.invariant.1),
+    )

@@ -1,0 +1,193 @@
+-- Which objects may have a link, after more are added and some are forgotten.
+use Rattle.std.proofs.Common.{◌≡◌, ◌≢◌, Bool, true, false, cond, List, [], ◌∷◌, Option, None, Some, Ordering, Less, Equal, Greater, is_some, refl, sym, ap, ◌∙◌, subst}
+use Rattle.std.specs.Cmp.{tied_itself}
+use Rattle.std.specs.Ordering.{eq_by_cmp, is_eq, int_eq}
+use Rattle.std.specs.FinMap.{FinMap, get, insert, remove}
+use Rattle.std.specs.Option.{option_map}
+use Rattle.std.proofs.lemmas.Option.{none-some, same_Some}
+use Rattle.std.specs.Prelude.{⊤}
+use Rattle.std.proofs.lemmas.Bool.{true≢false}
+use Rattle.std.proofs.lemmas.Bool.Decides.{Decides-int_eq}
+use Rattle.moo_value.specs.declared.value.ObjNo.{ObjNo}
+use Rattle.moo_rows.specs.declared.row.ObjRow.{ObjRow}
+use Rattle.moo_rows.specs.declared.row.Ties.{Ties}
+use Rattle.moo_rows.specs.declared.row.Link.{Link}
+use Rattle.moo_rows.specs.declared.row.Link.TheVariants.{ChildOf, Within, Player}
+use Rattle.moo_rows.specs.declared.row.PropId.{PropId}
+use Rattle.moo_rows.specs.declared.row.PropRow.{PropRow}
+use Rattle.moo_rows.specs.Exact.{object_exact, prop_exact, slot_exact, tie_exact}
+use Rattle.moo_rows.specs.Maps.{Maps, object_cmp, prop_cmp, slot_cmp}
+use Rattle.moo_rows.specs.Links.{LinkSets, tie_cmp, may_have, has_link, ties_of, ties_have, row_has, row_defined, is_linked, is_definer, linked_left, defined_left, IsFirst, AreCovered, AreOfDefiners}
+use Rattle.moo_rows.proofs.Orders.{object_total, prop_total, slot_total, tie_total}
+use Rattle.moo_rows.proofs.Firsts.{lacked-insert, lacked-remove, has-insert, first-end, first-step}
+
+module _ (s : LinkSets) where
+  pub none-may : ((p : ObjNo × ObjNo) → get s.parents p ≡ None) → ((p : ObjNo × ObjNo) → get s.places p ≡ None) → ((p : ObjNo) → get s.players p ≡ None) → (l : Link) (q : ObjNo) → may_have s l q ≡ false
+  none-may a b c (ChildOf x) q = ap is_some (a (x, q))
+  none-may a b c (Within x) q = ap is_some (b (x, q))
+  none-may a b c Player q = ap is_some (c q)
+
+  pub more-parents : (new : FinMap tie_cmp ⊤) → ((p : ObjNo × ObjNo) → is_some (get new p) ≡ false → is_some (get s.parents p) ≡ false) → (l : Link) (q : ObjNo) → may_have (record s { parents = new }) l q ≡ false → may_have s l q ≡ false
+  more-parents new h (ChildOf x) q e = h (x, q) e
+  more-parents new h (Within x) q e = e
+  more-parents new h Player q e = e
+
+  pub more-places : (new : FinMap tie_cmp ⊤) → ((p : ObjNo × ObjNo) → is_some (get new p) ≡ false → is_some (get s.places p) ≡ false) → (l : Link) (q : ObjNo) → may_have (record s { places = new }) l q ≡ false → may_have s l q ≡ false
+  more-places new h (ChildOf x) q e = e
+  more-places new h (Within x) q e = h (x, q) e
+  more-places new h Player q e = e
+
+  pub more-players : (new : FinMap object_cmp ⊤) → ((p : ObjNo) → is_some (get new p) ≡ false → is_some (get s.players p) ≡ false) → (l : Link) (q : ObjNo) → may_have (record s { players = new }) l q ≡ false → may_have s l q ≡ false
+  more-players new h (ChildOf x) q e = e
+  more-players new h (Within x) q e = e
+  more-players new h Player q e = h q e
+
+  module _ (key : ObjNo) (stays : Option Ties) where
+    pub less-parents : (x : ObjNo) → false ≡ ties_have (ChildOf x) stays → (new : FinMap tie_cmp ⊤) → new ≡ remove s.parents (x, key) → (l : Link) (q : ObjNo) → (q ≡ key → ties_have l stays ≡ true) → may_have (record s { parents = new }) l q ≡ false → may_have s l q ≡ false
+    less-parents x lacks new is (ChildOf y) q has e =
+        lacked-remove tie_total tie_exact s.parents (x, key) (y, q)
+        (λ same. true≢false (sym (has (ap (λ p. p.1) same)) ∙ ap (λ (p : ObjNo × ObjNo). ties_have (ChildOf p.0) stays) same ∙ sym lacks))
+        (ap (λ m. is_some (get m (y, q))) (sym is) ∙ e)
+    less-parents x lacks new is (Within y) q has e = e
+    less-parents x lacks new is Player q has e = e
+
+    pub less-places : (x : ObjNo) → false ≡ ties_have (Within x) stays → (new : FinMap tie_cmp ⊤) → new ≡ remove s.places (x, key) → (l : Link) (q : ObjNo) → (q ≡ key → ties_have l stays ≡ true) → may_have (record s { places = new }) l q ≡ false → may_have s l q ≡ false
+    less-places x lacks new is (ChildOf y) q has e = e
+    less-places x lacks new is (Within y) q has e =
+        lacked-remove tie_total tie_exact s.places (x, key) (y, q)
+        (λ same. true≢false (sym (has (ap (λ p. p.1) same)) ∙ ap (λ (p : ObjNo × ObjNo). ties_have (Within p.0) stays) same ∙ sym lacks))
+        (ap (λ m. is_some (get m (y, q))) (sym is) ∙ e)
+    less-places x lacks new is Player q has e = e
+
+    pub less-players : false ≡ ties_have Player stays → (new : FinMap object_cmp ⊤) → new ≡ remove s.players key → (l : Link) (q : ObjNo) → (q ≡ key → ties_have l stays ≡ true) → may_have (record s { players = new }) l q ≡ false → may_have s l q ≡ false
+    less-players lacks new is (ChildOf y) q has e = e
+    less-players lacks new is (Within y) q has e = e
+    less-players lacks new is Player q has e =
+        lacked-remove object_total object_exact s.players key q (λ same. true≢false (sym (has same) ∙ sym lacks)) (ap (λ m. is_some (get m q)) (sym is) ∙ e)
+
+-- ---- links of rows
+
+module _ (row_at row_at' : ObjNo → Option ObjRow) (key : ObjNo) where
+  -- a row is put, whose links are among those that may be
+  pub covered-put : (old new : LinkSets) (row : ObjRow) → AreCovered row_at old
+      → ((l : Link) (q : ObjNo) → (q ≡ key → has_link l (ties_of row) ≡ true) → may_have new l q ≡ false → may_have old l q ≡ false)
+      → ((l : Link) → has_link l (ties_of row) ≡ true → may_have new l key ≡ true)
+      → ((q : ObjNo) → row_at' q ≡ cond (eq_by_cmp object_cmp q key) (Some row) (row_at q)) → AreCovered row_at' new
+  covered-put old new row covered kept there is l q e = ap (row_has l) (is q) ∙ by (object_cmp q key) refl
+    where
+      linked : q ≡ key → (b : Bool) → has_link l (ties_of row) ≡ b → b ≡ false
+      linked same true h = absurd (true≢false (sym (there l h) ∙ ap (may_have new l) (sym same) ∙ e))
+      linked same false h = refl
+
+      apart : (o : Ordering) → object_cmp q key ≡ o → is_eq o ≡ false → q ≡ key → has_link l (ties_of row) ≡ true
+      apart o c other same = absurd (true≢false (sym (ap is_eq (ap (λ z. object_cmp z key) same ∙ tied)) ∙ ap is_eq c ∙ other))
+        where
+          tied : object_cmp key key ≡ Equal
+          tied = tied_itself object_total key
+
+      by : (o : Ordering) → object_cmp q key ≡ o → row_has l (cond (is_eq o) (Some row) (row_at q)) ≡ false
+      by Equal o = linked (object_exact q key o) (has_link l (ties_of row)) refl
+      by Less o = covered l q (kept l q (apart Less o refl) e)
+      by Greater o = covered l q (kept l q (apart Greater o refl) e)
+
+  -- a row is removed
+  pub covered-remove : (old new : LinkSets) → AreCovered row_at old
+      → ((l : Link) (q : ObjNo) → (q ≡ key → ties_have l None ≡ true) → may_have new l q ≡ false → may_have old l q ≡ false)
+      → ((q : ObjNo) → row_at' q ≡ cond (eq_by_cmp object_cmp q key) None (row_at q)) → AreCovered row_at' new
+  covered-remove old new covered kept is l q e = ap (row_has l) (is q) ∙ by (object_cmp q key) refl
+    where
+      apart : (o : Ordering) → object_cmp q key ≡ o → is_eq o ≡ false → q ≡ key → ties_have l None ≡ true
+      apart o c other same = absurd (true≢false (sym (ap is_eq (ap (λ z. object_cmp z key) same ∙ tied)) ∙ ap is_eq c ∙ other))
+        where
+          tied : object_cmp key key ≡ Equal
+          tied = tied_itself object_total key
+
+      by : (o : Ordering) → object_cmp q key ≡ o → row_has l (cond (is_eq o) None (row_at q)) ≡ false
+      by Equal o = refl
+      by Less o = covered l q (kept l q (apart Less o refl) e)
+      by Greater o = covered l q (kept l q (apart Greater o refl) e)
+
+-- ---- walks
+
+pub linked-end : (t : Maps) (link : Link) (from : ObjNo) → IsFirst object_cmp (is_linked t link) from None → linked_left link from t ≡ []
+linked-end t link from h = first-end object_total object_exact (λ r. has_link link (ties_of r)) t.objects from h
+
+pub linked-step : (t : Maps) (link : Link) (from k : ObjNo) (row : ObjRow) → IsFirst object_cmp (is_linked t link) from (Some k) → get t.objects k ≡ Some row → linked_left link from t ≡ (k, row) ∷ linked_left link k t
+linked-step t link from k row h held = first-step object_total object_exact (λ r. has_link link (ties_of r)) t.objects from k row h held
+
+pub defined-end : (t : Maps) (x : ObjNo) (from : PropId) → IsFirst prop_cmp (is_definer t x) from None → defined_left x from t ≡ []
+defined-end t x from h = first-end prop_total prop_exact (λ r. int_eq r.definer.0 x.0) t.props from h
+
+pub defined-step : (t : Maps) (x : ObjNo) (from k : PropId) (row : PropRow) → IsFirst prop_cmp (is_definer t x) from (Some k) → get t.props k ≡ Some row → defined_left x from t ≡ (k, row) ∷ defined_left x k t
+defined-step t x from k row h held = first-step prop_total prop_exact (λ r. int_eq r.definer.0 x.0) t.props from k row h held
+
+pub links-missing : (t : Maps) (link : Link) (from k : ObjNo) → IsFirst object_cmp (is_linked t link) from (Some k) → get t.objects k ≢ None
+links-missing t link from k h none = true≢false (sym h.0 ∙ ap (row_has link) none)
+
+pub definer-missing : (t : Maps) (x : ObjNo) (from k : PropId) → IsFirst prop_cmp (is_definer t x) from (Some k) → get t.props k ≢ None
+definer-missing t x from k h none = true≢false (sym h.0 ∙ ap (row_defined x) none)
+
+-- ---- ties that stay
+
+module _ (l : Link) (row : ObjRow) where
+  pub same-there : (o : Option ObjRow) → option_map ties_of o ≡ Some (ties_of row) → has_link l (ties_of row) ≡ true → row_has l o ≡ true
+  same-there None e h = absurd (none-some (ties_of row) e)
+  same-there (Some r) e h = ap (has_link l) (same_Some (ties_of r) (ties_of row) e) ∙ h
+
+  pub covered-there : (row_at : ObjNo → Option ObjRow) (sets : LinkSets) (key : ObjNo) → AreCovered row_at sets → option_map ties_of (row_at key) ≡ Some (ties_of row) → has_link l (ties_of row) ≡ true → may_have sets l key ≡ true
+  covered-there row_at sets key covered e h = by (may_have sets l key) refl
+    where
+      by : (b : Bool) → may_have sets l key ≡ b → b ≡ true
+      by true m = refl
+      by false m = absurd (true≢false (sym (same-there (row_at key) e h) ∙ covered l key m))
+
+  pub stays-there : (final added : LinkSets) (key : ObjNo) → (may_have final l key ≡ false → may_have added l key ≡ false) → may_have added l key ≡ true → may_have final l key ≡ true
+  stays-there final added key f h = by (may_have final l key) refl
+    where
+      by : (b : Bool) → may_have final l key ≡ b → b ≡ true
+      by true m = refl
+      by false m = absurd (true≢false (sym h ∙ f m))
+
+-- ---- properties
+
+module _ (row_at row_at' : PropId → Option PropRow) (key : PropId) where
+  pub defined-put : (old new : FinMap slot_cmp ⊤) (row : PropRow) → AreOfDefiners row_at old → new ≡ insert old (row.definer, key) tt
+      → ((q : PropId) → row_at' q ≡ cond (eq_by_cmp prop_cmp q key) (Some row) (row_at q)) → AreOfDefiners row_at' new
+  defined-put old new row covered put is x q e = ap (row_defined x) (is q) ∙ by (prop_cmp q key) refl
+    where
+      lacked : is_some (get old (x, q)) ≡ false
+      lacked = lacked-insert slot_total old (row.definer, key) tt (x, q) (ap (λ m. is_some (get m (x, q))) (sym put) ∙ e)
+
+      own : q ≡ key → (b : Bool) → int_eq row.definer.0 x.0 ≡ b → b ≡ false
+      own same true h =
+          let number = (Decides-int_eq row.definer.0 x.0).0 h in
+          let pair : (row.definer, key) ≡ (x, q) = λ i. (record { 0 = number i }, sym same i) in
+          absurd (true≢false (sym (has-insert slot_total old (row.definer, key) tt) ∙ ap (λ m. is_some (get m (row.definer, key))) (sym put) ∙ ap (λ p. is_some (get new p)) pair ∙ e))
+      own same false h = refl
+
+      by : (o : Ordering) → prop_cmp q key ≡ o → row_defined x (cond (is_eq o) (Some row) (row_at q)) ≡ false
+      by Equal o = own (prop_exact q key o) (int_eq row.definer.0 x.0) refl
+      by Less o = covered x q lacked
+      by Greater o = covered x q lacked
+
+  pub defined-remove : (old new : FinMap slot_cmp ⊤) → AreOfDefiners row_at old
+      → ((x : ObjNo) (id : PropId) → id ≢ key → is_some (get new (x, id)) ≡ false → is_some (get old (x, id)) ≡ false)
+      → ((q : PropId) → row_at' q ≡ cond (eq_by_cmp prop_cmp q key) None (row_at q)) → AreOfDefiners row_at' new
+  defined-remove old new covered kept is x q e = ap (row_defined x) (is q) ∙ by (prop_cmp q key) refl
+    where
+      apart : (o : Ordering) → prop_cmp q key ≡ o → is_eq o ≡ false → q ≢ key
+      apart o c other same = true≢false (sym (ap is_eq (ap (λ z. prop_cmp z key) same ∙ tied)) ∙ ap is_eq c ∙ other)
+        where
+          tied : prop_cmp key key ≡ Equal
+          tied = tied_itself prop_total key
+
+      by : (o : Ordering) → prop_cmp q key ≡ o → row_defined x (cond (is_eq o) None (row_at q)) ≡ false
+      by Equal o = refl
+      by Less o = covered x q (kept x q (apart Less o refl) e)
+      by Greater o = covered x q (kept x q (apart Greater o refl) e)
+
+  -- a pair without the pair of the key
+  pub forgot-other : (definers : FinMap slot_cmp ⊤) (definer : ObjNo) (new : FinMap slot_cmp ⊤) → new ≡ remove definers (definer, key)
+      → (x : ObjNo) (id : PropId) → id ≢ key → is_some (get new (x, id)) ≡ false → is_some (get definers (x, id)) ≡ false
+  forgot-other definers definer new is x id other e =
+      lacked-remove slot_total slot_exact definers (definer, key) (x, id) (λ same. other (ap (λ p. p.1) same)) (ap (λ m. is_some (get m (x, id))) (sym is) ∙ e)

@@ -1,0 +1,32 @@
+use Rattle.std.proofs.Common.{◌≡◌, true, false, Some, None, sym, ap, ◌∙◌, rules}
+use Rattle.std.specs.Prelude.{is_some}
+use Rattle.std.specs.FinMap.{get, get-insert, get-remove, get-empty, from_entries}
+use Rattle.moo_rows.specs.Ordered.{contents}
+use Rattle.moo_rows.specs.Maps.{object_cmp, prop_cmp, slot_cmp}
+use Rattle.moo_rows.specs.Exact.{object_exact, prop_exact}
+use Rattle.moo_rows.specs.Links.{IsFirst, may_have, has_link, ties_of, row_has, row_defined, is_linked}
+use Rattle.moo_rows.proofs.Orders.{object_total, prop_total, slot_total}
+use Rattle.std.specs.Option.{option_map}
+use Rattle.moo_rows.proofs.Linking.{covered-put, covered-there, stays-there}
+use Rattle.moo_rows.proofs.flat.FlatRows.put_object.Goals as goal
+
+pub invariant_of-self-then-are_same : goal.invariant_of-self-then-are_same
+invariant_of-self-then-are_same c =
+    let row_at = get (contents object_cmp c.self.inside.objects) in
+    let was : option_map ties_of (row_at c.args.key) ≡ Some (ties_of c.args.row) = search rules in (
+      covered-put row_at (get (contents object_cmp c.put.new.rows)) c.args.key c.self.inside.links c.self.inside.links c.args.row c.self.invariant.0 (λ l q _ e. e)
+          (λ l h. covered-there l c.args.row row_at c.self.inside.links c.args.key c.self.invariant.0 was h)
+          (λ q. ap (λ m. get m q) c.in_ok-put.ensures.ok ∙ get-insert object_total (contents object_cmp c.self.inside.objects) c.args.key c.args.row q),
+      c.self.invariant.1,
+    )
+
+pub invariant_of-self-2 : goal.invariant_of-self-2
+invariant_of-self-2 c =
+    let row_at = get (contents object_cmp c.self.inside.objects) in
+    let ties = c.ties-ties.ensures in (
+      covered-put row_at (get (contents object_cmp c.put-2.new.rows)) c.args.key c.self.inside.links c.forget.new.self c.args.row c.self.invariant.0
+          (λ l q has e. c.in_ok-add.ensures.others l q (c.forget.ensures l q (λ same. ap (has_link l) ties ∙ has same) e))
+          (λ l h. stays-there l c.args.row c.forget.new.self c.add.new.self c.args.key (c.forget.ensures l c.args.key (λ _. ap (has_link l) ties ∙ h)) (c.in_ok-add.ensures.there l (ap (has_link l) ties ∙ h)))
+          (λ q. ap (λ m. get m q) c.in_ok-put-2.ensures.ok ∙ get-insert object_total (contents object_cmp c.self.inside.objects) c.args.key c.args.row q),
+      c.self.invariant.1,
+    )
