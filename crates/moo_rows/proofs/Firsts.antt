@@ -71,9 +71,9 @@ module _ {K : Type 0} {cmp : K → K → Ordering} (total : IsTotalOrder cmp) (e
       ] refl
 
 -- tests that answer alike have one first key
-pub first-alike : {K : Type 0} {cmp : K → K → Ordering} {a b : K → Bool} → ((q : K) → a q ≡ b q) → (after : K) (r : Option K) → IsFirst cmp a after r → IsFirst cmp b after r
-first-alike same after None h = λ q past. sym (same q) ∙ h q past
-first-alike same after (Some k) h = (sym (same k) ∙ h.0, h.1, λ q past less. sym (same q) ∙ h.2 q past less)
+pub first-alike : {K : Type 0} (cmp : K → K → Ordering) (a b : K → Bool) → ((q : K) → a q ≡ b q) → (after : K) (r : Option K) → IsFirst cmp a after r → IsFirst cmp b after r
+first-alike cmp a b same after None h = λ q past. sym (same q) ∙ h q past
+first-alike cmp a b same after (Some k) h = (sym (same k) ∙ h.0, h.1, λ q past less. sym (same q) ∙ h.2 q past less)
 
 -- ---- of pairs
 
