@@ -6,7 +6,8 @@ use Rattle.std.specs.Ordering.{match_ordering, ordering_reverse}
 use Rattle.std.specs.FinMap.{FinMap, get}
 use Rattle.std.proofs.lemmas.Bool.{false≢true}
 use Rattle.std.proofs.lemmas.Map.Lookups.{CmpEqualImpliesEq}
-use Rattle.moo_damage.specs.Differences.{IsFirstUnlike, lesser}
+use Rattle.moo_rows.specs.Ordered.{lesser}
+use Rattle.moo_damage.specs.Differences.{IsFirstUnlike}
 use Rattle.moo_damage.specs.First.{IsFirst}
 
 pub is_bad : {X : Type 0} (b : Bool) (held : Option X) (row : X) (at : Option X) → (IsTrue b ↔ (held ≡ Some row)) → b ≡ false → held ≡ at → at ≢ Some row

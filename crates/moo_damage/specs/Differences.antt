@@ -2,7 +2,6 @@
 use Rattle.std.specs.Prelude.{◌≡◌, ◌≢◌, pos, negsuc, Option, None, Some, ⊤}
 use Rattle.std.specs.declared.cmp.Ordering.{Ordering}
 use Rattle.std.specs.declared.cmp.Ordering.TheVariants.{Less}
-use Rattle.std.specs.Ordering.{match_ordering}
 use Rattle.std.specs.FinMap.{FinMap, get}
 use Rattle.moo_rows.specs.Maps.{Maps}
 use Rattle.moo_damage.specs.declared.kind.Key.{Key}
@@ -30,9 +29,3 @@ IsFirstDifference a b key = ¬ (AgreeAt a b key) × ((other : Key) → IsBelow o
 abbrev pub IsFirstUnlike : {K X : Type 0} {cmp : K → K → Ordering} → FinMap cmp X → FinMap cmp X → Option K → Type 0
 IsFirstUnlike {K = K} a b None = (k : K) → get a k ≡ get b k
 IsFirstUnlike {K = K} {cmp = cmp} a b (Some key) = (get a key ≢ get b key) × ((k : K) → cmp k key ≡ Less → get a k ≡ get b k)
-
--- the first of two keys, but the second where that is less or the first is none
-abbrev pub lesser : {K : Type 0} → (K → K → Ordering) → Option K → Option K → Option K
-lesser cmp None b = b
-lesser cmp (Some x) None = Some x
-lesser cmp (Some x) (Some y) = match_ordering (cmp y x) (Some y) (Some x) (Some x)

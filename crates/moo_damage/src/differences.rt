@@ -2,7 +2,7 @@
 
 ghost use Rattle.std.specs.Prelude.{◌≡◌, ◌≢◌, ◌↔◌, IsTrue, IfSome, IfNone, Some, option_map};
 ghost use Rattle.std.specs.FinMap.{get};
-ghost use Rattle.moo_damage.specs.Differences.{IsFirstDifference, IsFirstUnlike, lesser};
+ghost use Rattle.moo_damage.specs.Differences.{IsFirstDifference, IsFirstUnlike};
 ghost use Rattle.moo_damage.specs.First.{IsFirst};
 
 use crate::kind::{Key, object_key, prop_key, slot_key, verb_key};
@@ -10,21 +10,6 @@ use moo_rows::{
     Flat, PropId, Row, Rows, VerbId, each_object, each_prop, each_slot, each_verb, ordered,
 };
 use moo_value::ObjNo;
-use std::cmp::Ordering;
-
-/// The lesser of two keys.
-fn least<K: ordered::Key>(a: Option<K>, b: Option<K>) -> Option<K>
-    ensures { result ≡ lesser K.cmp a b }
-{
-    match (a, b) {
-        (Some(x), Some(y)) => match y.cmp(&x) {
-            Ordering::Less => b,
-            _ => a,
-        },
-        (None, _) => b,
-        (_, None) => a,
-    }
-}
 
 /// Whether this row is held.
 fn is_held<V: Row>(held: Option<&V>, row: &V) -> bool
@@ -87,25 +72,25 @@ fn verb_unlike<R: Rows>(rows: &R, there: &R) -> Option<(ObjNo, VerbId)>
 fn object_differing<R: Rows>(own: &R, found: &R) -> Option<ObjNo>
     ensures { IsFirstUnlike (R.held own.now).maps.objects (R.held found.now).maps.objects result }
 {
-    least(object_unlike(own, found), object_unlike(found, own))
+    ordered::least(object_unlike(own, found), object_unlike(found, own))
 }
 
 fn prop_differing<R: Rows>(own: &R, found: &R) -> Option<PropId>
     ensures { IsFirstUnlike (R.held own.now).maps.props (R.held found.now).maps.props result }
 {
-    least(prop_unlike(own, found), prop_unlike(found, own))
+    ordered::least(prop_unlike(own, found), prop_unlike(found, own))
 }
 
 fn slot_differing<R: Rows>(own: &R, found: &R) -> Option<(ObjNo, PropId)>
     ensures { IsFirstUnlike (R.held own.now).maps.slots (R.held found.now).maps.slots result }
 {
-    least(slot_unlike(own, found), slot_unlike(found, own))
+    ordered::least(slot_unlike(own, found), slot_unlike(found, own))
 }
 
 fn verb_differing<R: Rows>(own: &R, found: &R) -> Option<(ObjNo, VerbId)>
     ensures { IsFirstUnlike (R.held own.now).maps.verbs (R.held found.now).maps.verbs result }
 {
-    least(verb_unlike(own, found), verb_unlike(found, own))
+    ordered::least(verb_unlike(own, found), verb_unlike(found, own))
 }
 
 /// The first row in which two lots of rows differ, in the order head, objects, properties, slots, verbs, and in each by number: that both have with

@@ -3,7 +3,7 @@
 ghost use Rattle.std.specs.Prelude.{◌≡◌, OnErr, OnOk};
 ghost use Rattle.moo_rows.specs.Maps.{wrote};
 
-use moo_rows::{Flat, Head, ObjRow, PropId, PropRow, Rows, SlotRow, VerbId, VerbRow};
+use moo_rows::{Flat, Head, Link, ObjRow, PropId, PropRow, Rows, SlotRow, VerbId, VerbRow};
 use moo_value::ObjNo;
 use std::alloc::AllocError;
 
@@ -64,6 +64,10 @@ impl Rows for Counting {
         self.rows.next_object(from)
     }
 
+    fn next_linked(&self, link: Link, after: ObjNo) -> Option<ObjNo> {
+        self.rows.next_linked(link, after)
+    }
+
     fn put_object(&mut self, key: ObjNo, row: ObjRow) -> Result<(), AllocError> {
         one_more(&mut self.counts.objects.0);
         self.rows.put_object(key, row)
@@ -80,6 +84,10 @@ impl Rows for Counting {
 
     fn next_prop(&self, from: Option<PropId>) -> Option<PropId> {
         self.rows.next_prop(from)
+    }
+
+    fn next_defined(&self, x: ObjNo, after: PropId) -> Option<PropId> {
+        self.rows.next_defined(x, after)
     }
 
     fn put_prop(&mut self, key: PropId, row: PropRow) -> Result<(), AllocError> {
