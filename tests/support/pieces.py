@@ -16,6 +16,12 @@ GREATEST = 2**63 - 1
 TEXTS = [
     ("no text", 0, "", ""),
     ("blank lines alone", 0, " \t\n\n", ""),
+    (
+        "lines that end with a carriage return, a batch that is none, and a text whose last line has no end",
+        0,
+        "\nbatch as #3\r\nmax_object()\r\nend\nx\nend\nbatch as #2 at 1\nend",
+        accepted(1, "#3") + "malformed 1\n" + accepted(2),
+    ),
     ("a batch without calls", 0, "batch as #3\nend\n", accepted(1)),
     (
         "blank lines before, inside and between batches, and a last line without its end", 4,
@@ -76,6 +82,7 @@ LIMITS = [
 ENDS = [
     ("a line ends there", [b"ab", b"", b"c\n"], "truncated\n"),
     ("so does the end of a batch", [b"batch as #3\nend", b"", b"x\nbatch as #2\nend\n"], accepted(1)),
+    ("so does a call", [b"batch as #3\nmax_obj", b"", b"ect()\nend\n"], "truncated\n"),
     ("so does a header", [b"batch as #3\nend\nbatch as", b"", b" #2\nend\n"], accepted(1) + "truncated\n"),
     ("an end in two pieces", [b"batch as #3\n", b"en", b"d", b""], accepted(1)),
     ("nothing before it", [b"", b"batch as #3\nend\n"], ""),

@@ -1,7 +1,6 @@
 """The cases of texts.sh. Texts are run on a new world, under the words `moo` and `moo apply :memory: -`."""
 import json
 import os
-import socket
 import subprocess
 
 from program import MOO, case, edit, run
@@ -136,65 +135,6 @@ def programmers():
         case(f"'{word}' is {'one' if is_one else 'none'} who asks over HTTP", requests([{"as": word, "calls": []}]), [wanted])
 
 
-def run_in_pieces(pieces):
-    """What comes of a text whose reader gives these pieces one by one, an empty one too, and then no more."""
-    ours, theirs = socket.socketpair(socket.AF_UNIX, socket.SOCK_SEQPACKET)
-    with subprocess.Popen([MOO, *APPLY], stdin=theirs, stdout=subprocess.PIPE, stderr=subprocess.DEVNULL) as process:
-        theirs.close()
-        try:
-            for piece in pieces:
-                ours.send(piece)
-        except ConnectionError:
-            pass  # it has ended before the last piece
-        ours.close()
-        written = process.communicate(timeout=PATIENCE)[0]
-    return process.returncode, written
-
-
-def byte_by_byte(text):
-    return [bytes([byte]) for byte in text]
-
-
-# As a terminal gives pieces, with an empty one for an end of input.
-PIECES = [
-    (
-        "a text comes byte by byte",
-        byte_by_byte(b"\nbatch as #3\r\nmax_object()\r\nend\nx\nend\nbatch as #2 at 1\nend"),
-        THIRD + b"malformed 1\naccepted 2\nend\n",
-    ),
-    ("a text ends where no bytes come, in a line", [b"batch as #3\nend", b"", b"x\nbatch as #2\nend\n"], EMPTY),
-    ("or in a header", [b"batch as #3\nend\nbatch as", b"", b" #2\nend\n"], EMPTY + b"truncated\n"),
-    ("a line comes in pieces", [b"batch as #3\n", b"en", b"d", b""], EMPTY),
-    ("a text ends before it began", [b"", b"batch as #3\nend\n"], b""),
-    ("a line ends there too", [b"batch as #3\nmax_obj", b"", b"ect()\nend\n"], b"truncated\n"),
-]
-
-CUT = b'batch as #3\nend\n\nbatch as #2 at 1\nget(#1, "name")\nend\n'
-
-
-def told_of_front(count):
-    """What is replied to so many bytes of CUT: its first batch ends with byte 15, its second with byte 53."""
-    if count == 0:
-        return b""
-    if count < 15:
-        return b"truncated\n"
-    if count < 18:
-        return EMPTY
-    if count < 53:
-        return EMPTY + b"truncated\n"
-    return EMPTY + b'accepted 2\n"Root Class"\nend\n'
-
-
-def pieces():
-    for name, given, replies in PIECES:
-        case(name, run_in_pieces(given), (0, replies))
-    counts = range(len(CUT) + 1)
-    wanted = [(0, told_of_front(count)) for count in counts]
-    case("the text that is cut off has 54 bytes", len(CUT), 54)
-    case("a text that is cut off behind any byte is truncated", [run(*APPLY, text=CUT[:count]) for count in counts], wanted)
-    case("so it is where it comes byte by byte", [run_in_pieces(byte_by_byte(CUT[:count])) for count in counts], wanted)
-
-
 def reader_that_fails():
     """A pipe that has no more bytes but isn't closed, and doesn't wait, is an error of its reader."""
     output, given = os.pipe()
@@ -253,5 +193,5 @@ def words():
     case("a question changes nothing", run("ask", ":memory:", "-", text=batch * 2), (0, b"accepted 0\n#4\nend\n" * 2))
 
 
-for part in (texts, calls, programmers, pieces, reader_that_fails, long_texts, numbers, words):
+for part in (texts, calls, programmers, reader_that_fails, long_texts, numbers, words):
     part()
