@@ -4,7 +4,8 @@ ghost use Rattle.std.specs.Prelude.{OnOk};
 ghost use Rattle.moo_world.specs.Rows.{IsGood};
 
 use anyhow::{Result, bail};
-use moo_batch::{Changes, Verdict, apply_changes, judge};
+use moo_batch::{Verdict, judge};
+use moo_draft::{Changes, apply_changes};
 use moo_rows::Flat;
 use moo_text::read_call;
 use moo_value::{ObjNo, Value};

@@ -5,7 +5,7 @@ ghost use Rattle.moo_world.specs.Rows.{IsGood};
 
 use crate::batches::{batch, changes_of, create_each, run_each};
 use anyhow::Result;
-use moo_batch::apply_changes;
+use moo_draft::apply_changes;
 use moo_rows::Flat;
 use moo_world::good_opening;
 use std::alloc::Global;

@@ -1,5 +1,2 @@
-pub mod Overlays
-pub mod Changing
 pub mod Running
 pub mod Verdicts
-pub mod Exactly

@@ -6,10 +6,9 @@ ghost use Rattle.moo_world.specs.Judge.{is_due, run_calls};
 ghost use Rattle.moo_call_parts.specs.Outcomes.{world_in};
 ghost use Rattle.moo_batch.specs.Judge.{ComeTo, HaveKept, IsVerdict};
 
-use crate::changes::Changes;
-use crate::draft::Draft;
 use moo_call_parts::Fault;
 use moo_calls::step;
+use moo_draft::{Changes, Draft};
 use moo_rows::Rows;
 use moo_value::{Code, ObjNo, Value};
 use moo_world::{Answers, Batch, Call};

@@ -15,8 +15,8 @@ use Rattle.moo_tables.specs.Cells.{tables_with}
 use Rattle.moo_tables.specs.Inside.{Rests, Leaves, HasNoTables, no_tables}
 use Rattle.moo_tables.specs.declared.cells.CellChanges.{CellChanges}
 use Rattle.sqlite.specs.Effect.{Database as Content}
-use Rattle.moo_batch.specs.declared.changes.Changes.{Changes}
-use Rattle.moo_batch.specs.Changes.{AreChanges}
+use Rattle.moo_draft.specs.declared.changes.Changes.{Changes}
+use Rattle.moo_draft.specs.Changes.{AreChanges}
 use Rattle.moo_cells.specs.Shows.{ShowsObject, ShowsProp, ShowsSlot, ShowsVerb, ShowsOrNone, ShowsMaps, ShowsRows}
 use Rattle.moo_store.specs.Printed.{Prints}
 use Rattle.moo_store.specs.States.{KeepsRows, LeavesState}

@@ -16,8 +16,8 @@ use Rattle.moo_world.proofs.MapLaws.{decided_alike, key-Decides}
 use Rattle.moo_tables.specs.Tables.{Tables, same_number, same_pair}
 use Rattle.moo_tables.specs.Cells.{head_cells, object_cells, prop_cells, slot_cells, verb_cells, tables_with}
 use Rattle.moo_tables.specs.declared.cells.CellChanges.{CellChanges}
-use Rattle.moo_batch.specs.declared.changes.Changes.{Changes}
-use Rattle.moo_batch.specs.Changes.{AreChanges}
+use Rattle.moo_draft.specs.declared.changes.Changes.{Changes}
+use Rattle.moo_draft.specs.Changes.{AreChanges}
 use Rattle.moo_cells.specs.Shows.{ShowsObject, ShowsProp, ShowsSlot, ShowsVerb, ShowsMaps, ShowsRows}
 use Rattle.moo_store.specs.Printed.{Prints}
 use Rattle.moo_store.specs.Untouched.{KeepsCells}

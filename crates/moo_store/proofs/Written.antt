@@ -7,7 +7,7 @@ use Rattle.std.specs.FinMap.Entries.{below_all}
 use Rattle.std.proofs.lemmas.Map.Lookups.{CmpEqualImpliesEq}
 use Rattle.sqlite.specs.Order.{Row}
 use Rattle.moo_tables.specs.Tables.{with_cells}
-use Rattle.moo_batch.specs.Changes.{IsChanges}
+use Rattle.moo_draft.specs.Changes.{IsChanges}
 use Rattle.moo_cells.specs.Shows.{ShowsOrNone}
 use Rattle.moo_store.specs.Printed.{PrintEach}
 

@@ -13,7 +13,7 @@ use Rattle.moo_tables.specs.declared.cells.SlotCells.{SlotCells}
 use Rattle.moo_tables.specs.declared.cells.VerbCells.{VerbCells}
 use Rattle.moo_tables.specs.declared.cells.CellChanges.{CellChanges}
 use Rattle.moo_tables.specs.Cells.{object_cells, prop_cells, slot_cells, verb_cells}
-use Rattle.moo_batch.specs.declared.changes.Changes.{Changes}
+use Rattle.moo_draft.specs.declared.changes.Changes.{Changes}
 use Rattle.moo_cells.specs.Shows.{ShowsObject, ShowsProp, ShowsSlot, ShowsVerb, ShowsOrNone}
 
 abbrev pub PrintsObject : ObjNo → ObjectCells → ObjRow → Type 0

@@ -5,7 +5,7 @@ ghost use Rattle.moo_value.specs.Literal.{Spells};
 ghost use Rattle.moo_cells.specs.Shows.{object_list, ShowsAccept, ShowsState, ShowsOrNone};
 ghost use Rattle.moo_store.specs.Printed.{PrintEach, Prints};
 
-use moo_batch::{ChangeList, Changes};
+use moo_draft::{ChangeList, Changes};
 use moo_rows::{ObjList, ObjRow, PropId, PropRow, SlotRow, SlotState, VerbId, VerbRow};
 use moo_tables::{CellChanges, ObjectCells, PropCells, SlotCells, VerbCells};
 use moo_value::{MooStr, ObjNo, Value, ValueList, print_literal};

@@ -3,7 +3,8 @@
 use crate::committing::commit_cells;
 use crate::fault::StoreFault;
 use crate::printing::print_changes;
-use moo_batch::{Changes, Verdict, apply_changes, judge};
+use moo_batch::{Verdict, judge};
+use moo_draft::{Changes, apply_changes};
 use moo_rows::{Flat, Rows};
 use moo_tables::CellChanges;
 use moo_text::Reply;
@@ -45,7 +46,7 @@ impl<S: Alter + Drop> World<S> {
     ghost use Rattle.moo_rows.specs.Maps.{Maps};
     ghost use Rattle.moo_world.specs.Rows.{IsGood};
     ghost use Rattle.moo_world.specs.Judge.{state_of, judge as verdict, after};
-    ghost use Rattle.moo_batch.specs.Changes.{AreChanges};
+    ghost use Rattle.moo_draft.specs.Changes.{AreChanges};
     ghost use Rattle.moo_store.specs.Printed.{Prints};
     ghost use Rattle.moo_cells.specs.Shows.{ShowsRows};
     ghost use Rattle.moo_store.specs.States.{LeavesState};

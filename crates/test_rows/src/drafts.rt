@@ -1,6 +1,6 @@
 //! Drafts over rows, beside rows that take the same steps.
 
-use moo_batch::{Changes, Draft, apply_changes};
+use moo_draft::{Changes, Draft, apply_changes};
 use moo_rows::{
     Bits, Flat, PropId, Rows, SlotRow, SlotState, children, each_slot, each_slot_of, opening_world,
 };

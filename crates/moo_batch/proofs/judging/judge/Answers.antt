@@ -4,7 +4,7 @@ use Rattle.moo_rows.specs.declared.row.Head.{Head}
 use Rattle.moo_world.specs.Between.{CallsLead}
 use Rattle.moo_world.specs.Rows.{world_of}
 use Rattle.moo_world.specs.Judge.{is_due, last_seq, verdict_of, run_calls, Accepted}
-use Rattle.moo_batch.specs.Changes.{AreChanges}
+use Rattle.moo_draft.specs.Changes.{AreChanges}
 use Rattle.moo_world.specs.Judge.{state_of}
 use Rattle.moo_batch.proofs.Verdicts.{judge-stale, judge-full, judge-run, with_seq, good-with_seq, world_of-with_seq}
 use Rattle.moo_batch.proofs.judging.judge.Goals as goal

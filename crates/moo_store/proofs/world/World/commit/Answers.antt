@@ -3,7 +3,7 @@ use Rattle.sqlite.specs.Held.{state}
 use Rattle.sqlite.specs.State.{HasCleanDisk}
 use Rattle.moo_world.specs.Rows.{IsGood}
 use Rattle.moo_world.specs.Judge.{state_of}
-use Rattle.moo_batch.specs.Changes.{AreChanges}
+use Rattle.moo_draft.specs.Changes.{AreChanges}
 use Rattle.moo_store.specs.Kept.{World}
 use Rattle.moo_store.specs.World.{store_of, ShowsItsRows, IsAt}
 use Rattle.moo_store.specs.States.{KeepsRows}

@@ -2,7 +2,7 @@ use Rattle.std.proofs.Common.{◌≡◌, ◌<◌, ◌⊎◌, IfOk, refl, sym, ap
 use Rattle.moo_rows.specs.declared.row.Head.{Head}
 use Rattle.moo_world.specs.Judge.{state_of, judge, Accepted, Refused, NoRoom, Stale}
 use Rattle.moo_world.specs.Between.{BatchLeads}
-use Rattle.moo_batch.specs.Changes.{AreChanges}
+use Rattle.moo_draft.specs.Changes.{AreChanges}
 use Rattle.moo_text.specs.declared.reply.Reply.TheVariants as reply
 use Rattle.moo_store.specs.Kept.{World}
 use Rattle.moo_store.specs.States.{LeavesState}

@@ -1,0 +1,93 @@
+-- The links of a draft's objects, and the properties that its objects define.
+use Rattle.std.proofs.Common.{◌≡◌, Bool, true, false, ◌||◌, cond, Option, None, Some, Less, Equal, Greater, Ordering, unwrap_or, is_some, refl, sym, ap, ◌∙◌, subst}
+use Rattle.std.specs.Prelude.{⊤}
+use Rattle.std.specs.Option.{option_map}
+use Rattle.std.specs.Ordering.{eq_by_cmp, is_eq}
+use Rattle.std.specs.FinMap.{FinMap, get, insert, get-insert}
+use Rattle.std.proofs.lemmas.Bool.{true≢false}
+use Rattle.moo_value.specs.declared.value.ObjNo.{ObjNo}
+use Rattle.moo_rows.specs.declared.row.ObjRow.{ObjRow}
+use Rattle.moo_rows.specs.declared.row.PropId.{PropId}
+use Rattle.moo_rows.specs.declared.row.PropRow.{PropRow}
+use Rattle.moo_rows.specs.declared.row.Link.{Link}
+use Rattle.moo_rows.specs.Exact.{object_exact}
+use Rattle.moo_rows.specs.Maps.{object_cmp, prop_cmp, slot_cmp}
+use Rattle.moo_rows.specs.Links.{LinkSets, may_have, has_link, ties_of, ties_have, row_has, row_defined, AreOfDefiners}
+use Rattle.moo_rows.proofs.Firsts.{or_first, or_second}
+use Rattle.moo_rows.proofs.Linking.{defined-put, defined-remove}
+use Rattle.moo_rows.proofs.Orders.{object_total, prop_total}
+use Rattle.moo_draft.specs.Overlay.{overlaid}
+use Rattle.moo_draft.specs.Either.{of_changes, EitherCovers}
+use Rattle.moo_draft.proofs.Overlays.{get-overlaid}
+
+-- ---- objects
+
+-- no object has a link that it neither has below nor may have
+pub draft-covers : (below : FinMap object_cmp ObjRow) (changes : FinMap object_cmp (Option ObjRow)) (sets : LinkSets) → EitherCovers (get below) (of_changes changes) sets
+    → (link : Link) (q : ObjNo) → (row_has link (get below q) || may_have sets link q) ≡ false → row_has link (get (overlaid below changes) q) ≡ false
+draft-covers below changes sets covers link q h =
+    ap (row_has link) (get-overlaid object_total below changes q)
+    ∙ elim (get changes q) as (λ o. row_has link (unwrap_or o None) ≡ false → row_has link (unwrap_or o (get below q)) ≡ false) [
+      | None ↦ λ _. or_first (row_has link (get below q)) (may_have sets link q) h
+      | Some o ↦ λ k. k
+    ] (covers link q (or_second (row_has link (get below q)) (may_have sets link q) h) (or_first (row_has link (get below q)) (may_have sets link q) h))
+
+module _ (below : ObjNo → Option ObjRow) where
+  -- more may be
+  pub either-more : (above : ObjNo → Option ObjRow) (old new : LinkSets) → EitherCovers below above old → ((l : Link) (q : ObjNo) → may_have new l q ≡ false → may_have old l q ≡ false) → EitherCovers below above new
+  either-more above old new covers kept l q e = covers l q (kept l q e)
+
+  -- an object is changed
+  pub either-change : (changes new : FinMap object_cmp (Option ObjRow)) (sets : LinkSets) (key : ObjNo) (o : Option ObjRow) → EitherCovers below (of_changes changes) sets
+      → ((l : Link) → may_have sets l key ≡ false → row_has l (below key) ≡ false → row_has l o ≡ false)
+      → new ≡ insert changes key o → EitherCovers below (of_changes new) sets
+  either-change changes new sets key o covers there is l q e f =
+      ap (λ m. row_has l (of_changes m q)) is ∙ ap (λ p. row_has l (unwrap_or p None)) (get-insert object_total changes key o q) ∙ by (object_cmp q key) refl
+    where
+      by : (c : Ordering) → object_cmp q key ≡ c → row_has l (unwrap_or (cond (is_eq c) (Some o) (get changes q)) None) ≡ false
+      by Equal c =
+          let same = object_exact q key c in
+          there l (subst (λ z. may_have sets l z ≡ false) same e) (subst (λ z. row_has l (below z) ≡ false) same f)
+      by Less c = covers l q e f
+      by Greater c = covers l q e f
+
+pub ties_have-row : (l : Link) (o : Option ObjRow) → ties_have l (option_map ties_of o) ≡ row_has l o
+ties_have-row l None = refl
+ties_have-row l (Some r) = refl
+
+-- a row whose links may be, or are below
+pub put-there : (l : Link) (row : ObjRow) (b : Bool) → (has_link l (ties_of row) ≡ true → b ≡ true) → b ≡ false → has_link l (ties_of row) ≡ false
+put-there l row b there e = by (has_link l (ties_of row)) refl
+  where
+    by : (h : Bool) → has_link l (ties_of row) ≡ h → h ≡ false
+    by true h = absurd (true≢false (sym (there h) ∙ e))
+    by false h = refl
+
+-- ---- properties
+
+-- x defines no property that it neither defines below nor may define
+pub draft-defines : (below : FinMap prop_cmp PropRow) (changes : FinMap prop_cmp (Option PropRow)) (definers : FinMap slot_cmp ⊤) → AreOfDefiners (of_changes changes) definers
+    → (x : ObjNo) (q : PropId) → (row_defined x (get below q) || is_some (get definers (x, q))) ≡ false → row_defined x (get (overlaid below changes) q) ≡ false
+draft-defines below changes definers covers x q h =
+    ap (row_defined x) (get-overlaid prop_total below changes q)
+    ∙ elim (get changes q) as (λ o. row_defined x (unwrap_or o None) ≡ false → row_defined x (unwrap_or o (get below q)) ≡ false) [
+      | None ↦ λ _. or_first (row_defined x (get below q)) (is_some (get definers (x, q))) h
+      | Some o ↦ λ k. k
+    ] (covers x q (or_second (row_defined x (get below q)) (is_some (get definers (x, q))) h))
+
+module _ (changes new : FinMap prop_cmp (Option PropRow)) (key : PropId) where
+  read_change : (o : Option PropRow) → new ≡ insert changes key o → (q : PropId) → of_changes new q ≡ cond (eq_by_cmp prop_cmp q key) o (of_changes changes q)
+  read_change o is q = ap (λ m. of_changes m q) is ∙ ap (λ p. unwrap_or p None) (get-insert prop_total changes key o q) ∙ by (eq_by_cmp prop_cmp q key)
+    where
+      by : (b : Bool) → unwrap_or (cond b (Some o) (get changes q)) None ≡ cond b o (of_changes changes q)
+      by true = refl
+      by false = refl
+
+  -- a property is put, and its definer with it
+  pub draft-put : (old definers : FinMap slot_cmp ⊤) (row : PropRow) → AreOfDefiners (of_changes changes) old
+      → definers ≡ insert old (row.definer, key) tt → new ≡ insert changes key (Some row) → AreOfDefiners (of_changes new) definers
+  draft-put old definers row covers put is = defined-put (of_changes changes) (of_changes new) key old definers row covers put (read_change (Some row) is)
+
+  -- a property is removed
+  pub draft-remove : (definers : FinMap slot_cmp ⊤) → AreOfDefiners (of_changes changes) definers → new ≡ insert changes key None → AreOfDefiners (of_changes new) definers
+  draft-remove definers covers is = defined-remove (of_changes changes) (of_changes new) key definers definers covers (λ x id _ e. e) (read_change None is)

@@ -1,0 +1,4 @@
+pub mod Overlays
+pub mod Drafts
+pub mod Changing
+pub mod Exactly

@@ -1,0 +1,20 @@
+use Rattle.std.proofs.Common.{refl, sym, subst}
+use Rattle.std.specs.FinMap.{get}
+use Rattle.moo_rows.specs.Ordered.{contents}
+use Rattle.moo_rows.specs.Maps.{object_cmp, prop_cmp, slot_cmp, verb_cmp}
+use Rattle.moo_rows.proofs.Orders.{object_total, prop_total, slot_total, verb_total}
+use Rattle.moo_draft.specs.Changes.{IsChanges}
+use Rattle.moo_draft.proofs.Overlays.{get-overlaid}
+use Rattle.moo_draft.proofs.draft.Draft.into_changes.Goals as goal
+
+pub returns : goal.returns
+returns g c =
+    let d = c.self.inside in
+    let below = (g.R.Rows.held d.base.now).maps in
+    rw (← c.self.view_is) (record {
+      head = refl;
+      objects = subst (λ new. IsChanges object_cmp (get below.objects) new c.in_ok-objects.objects) (λ i q. sym (get-overlaid object_total below.objects (contents object_cmp d.objects) q) i) c.in_ok-objects.ensures;
+      props = subst (λ new. IsChanges prop_cmp (get below.props) new c.in_ok-props.props) (λ i q. sym (get-overlaid prop_total below.props (contents prop_cmp d.props) q) i) c.in_ok-props.ensures;
+      slots = subst (λ new. IsChanges slot_cmp (get below.slots) new c.in_ok-slots.slots) (λ i q. sym (get-overlaid slot_total below.slots (contents slot_cmp d.slots) q) i) c.in_ok-slots.ensures;
+      verbs = subst (λ new. IsChanges verb_cmp (get below.verbs) new c.in_ok-verbs.verbs) (λ i q. sym (get-overlaid verb_total below.verbs (contents verb_cmp d.verbs) q) i) c.in_ok-verbs.ensures;
+    })

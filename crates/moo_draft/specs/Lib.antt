@@ -1,0 +1,5 @@
+pub mod Overlay
+pub mod Either
+pub mod Changes
+pub mod Without
+pub mod Laws

@@ -1,0 +1,286 @@
+//! Drafts: rows changed over others that stay as they are.
+
+ghost use Rattle.std.specs.Prelude.{◌≡◌, IfOk};
+ghost use Rattle.std.specs.FinMap as map;
+ghost use Rattle.moo_rows.specs.Ordered.{IsNext};
+ghost use Rattle.moo_draft.specs.Changes.{AreChanges};
+
+use crate::changes::{Changes, changed_rows};
+use crate::either::{add_over, next_defined_of_either, next_linked_of_either};
+use crate::overlay;
+use crate::overlay::Base;
+use moo_rows::{
+    Head, Link, Links, ObjRow, PropId, PropRow, Rows, SlotRow, VerbId, VerbRow, Writes, ordered,
+    row_defined, row_has, ties_of,
+};
+use moo_value::ObjNo;
+use std::alloc::{AllocError, Global};
+use std::collections::BTreeMap;
+use std::marker::Model;
+
+/// Changes over rows that stay as they are: a new row or none for each changed key.
+///
+/// The links and definers are those of changed rows; what a later change has taken away may be among them still.
+#[derive(Drop)]
+pub struct Draft<'a, R: Rows> {
+    alloc: Global,
+    base: &'a R,
+    head: Head,
+    objects: BTreeMap<ObjNo, Option<ObjRow>>,
+    props: BTreeMap<PropId, Option<PropRow>>,
+    slots: BTreeMap<(ObjNo, PropId), Option<SlotRow>>,
+    verbs: BTreeMap<(ObjNo, VerbId), Option<VerbRow>>,
+    links: Links,
+    definers: BTreeMap<(ObjNo, PropId), ()>,
+    writes: Writes,
+}
+
+impl<'a, R: Rows> Model for Draft<'a, R> {
+    ghost use Rattle.moo_rows.specs.Maps.{Held, coded_held, object_cmp, prop_cmp, slot_cmp, verb_cmp};
+    ghost use Rattle.moo_rows.specs.Ordered.{contents};
+    ghost use Rattle.moo_draft.specs.Overlay.{overlaid};
+
+    ghost Value = { Held };
+
+    ghost coded = { coded_held };
+
+    ghost view = { λ d. let below = (R.held d.base.now).maps in record {
+      maps = record {
+        head = d.head;
+        objects = overlaid below.objects (contents object_cmp d.objects);
+        props = overlaid below.props (contents prop_cmp d.props);
+        slots = overlaid below.slots (contents slot_cmp d.slots);
+        verbs = overlaid below.verbs (contents verb_cmp d.verbs);
+      };
+      writes = d.writes.count;
+      base = below;
+    } };
+
+    ghost use Rattle.std.specs.FinMap as map;
+    ghost use Rattle.moo_rows.specs.Links.{AreOfDefiners};
+    ghost use Rattle.moo_draft.specs.Either.{EitherCovers, of_changes};
+
+    ghost invariant = { λ d.
+        EitherCovers (map.get (R.held d.base.now).maps.objects) (of_changes (contents object_cmp d.objects)) d.links
+        × AreOfDefiners (of_changes (contents prop_cmp d.props)) (contents slot_cmp d.definers) };
+}
+
+impl<'a, R: Rows> Draft<'a, R> {
+    /// A draft without changes.
+    pub fn new(alloc: Global, base: &'a R) -> Draft<'a, R>
+        ensures maps { result.maps ≡ (R.held base.now).maps }
+        ensures base { result.base ≡ (R.held base.now).maps }
+        ensures writes { result.writes ≡ 0 }
+    {
+        Draft {
+            alloc,
+            base,
+            head: base.head(),
+            objects: BTreeMap::new(alloc),
+            props: BTreeMap::new(alloc),
+            slots: BTreeMap::new(alloc),
+            verbs: BTreeMap::new(alloc),
+            links: Links::new(alloc),
+            definers: BTreeMap::new(alloc),
+            writes: Writes::new(),
+        }
+    }
+
+    /// The changes that make the base into the draft: a row put back is none, nor is the removal of a row that the base
+    /// lacks. The only error is want of memory.
+    pub fn into_changes(self) -> Result<Changes, AllocError>
+        ensures { IfOk result (λ changes. AreChanges self.entry.base self.entry.maps changes) }
+    {
+        let objects = changed_rows(self.alloc, self.base, self.objects)?;
+        let props = changed_rows(self.alloc, self.base, self.props)?;
+        let slots = changed_rows(self.alloc, self.base, self.slots)?;
+        let verbs = changed_rows(self.alloc, self.base, self.verbs)?;
+        Ok(Changes {
+            head: self.head,
+            objects,
+            props,
+            slots,
+            verbs,
+        })
+    }
+}
+
+impl<'a, R: Rows> Base<'a, ObjNo, ObjRow> for &'a R {
+    ghost row_at = { λ s. map.get (R.held s.now).maps.objects };
+
+    fn get(self, key: ObjNo) -> Option<&'a ObjRow> {
+        self.object(key)
+    }
+
+    fn next(self, from: Option<ObjNo>) -> Option<ObjNo>
+        ensures { IsNext (R.held self.entry.now).maps.objects from result }
+    {
+        self.next_object(from)
+    }
+}
+
+impl<'a, R: Rows> Base<'a, PropId, PropRow> for &'a R {
+    ghost row_at = { λ s. map.get (R.held s.now).maps.props };
+
+    fn get(self, key: PropId) -> Option<&'a PropRow> {
+        self.prop(key)
+    }
+
+    fn next(self, from: Option<PropId>) -> Option<PropId>
+        ensures { IsNext (R.held self.entry.now).maps.props from result }
+    {
+        self.next_prop(from)
+    }
+}
+
+impl<'a, R: Rows> Base<'a, (ObjNo, PropId), SlotRow> for &'a R {
+    ghost row_at = { λ s. map.get (R.held s.now).maps.slots };
+
+    fn get(self, key: (ObjNo, PropId)) -> Option<&'a SlotRow> {
+        self.slot(key)
+    }
+
+    fn next(self, from: Option<(ObjNo, PropId)>) -> Option<(ObjNo, PropId)>
+        ensures { IsNext (R.held self.entry.now).maps.slots from result }
+    {
+        self.next_slot(from)
+    }
+}
+
+impl<'a, R: Rows> Base<'a, (ObjNo, VerbId), VerbRow> for &'a R {
+    ghost row_at = { λ s. map.get (R.held s.now).maps.verbs };
+
+    fn get(self, key: (ObjNo, VerbId)) -> Option<&'a VerbRow> {
+        self.verb(key)
+    }
+
+    fn next(self, from: Option<(ObjNo, VerbId)>) -> Option<(ObjNo, VerbId)>
+        ensures { IsNext (R.held self.entry.now).maps.verbs from result }
+    {
+        self.next_verb(from)
+    }
+}
+
+impl<'a, R: Rows> Rows for Draft<'a, R> {
+    ghost held = { λ d. d };
+
+    fn head(&self) -> Head {
+        self.head
+    }
+
+    fn set_head(&mut self, head: Head) {
+        self.head = head;
+    }
+
+    fn object(&self, key: ObjNo) -> Option<&ObjRow> {
+        overlay::get(self.base, &self.objects, key)
+    }
+
+    fn next_object(&self, from: Option<ObjNo>) -> Option<ObjNo> {
+        overlay::next(self.base, &self.objects, from)
+    }
+
+    fn next_linked(&self, link: Link, after: ObjNo) -> Option<ObjNo> {
+        let mut last = after;
+        loop {
+            let key = match next_linked_of_either(self.base, &self.links, link, last) {
+                None => return None,
+                Some(key) => key,
+            };
+            if row_has(overlay::get(self.base, &self.objects, key), link) {
+                return Some(key);
+            }
+            last = key;
+        }
+    }
+
+    fn put_object(&mut self, key: ObjNo, row: ObjRow) -> Result<(), AllocError> {
+        let ties = row.ties();
+        let below = ties_of(self.base.object(key));
+        add_over(&mut self.links, key, below, ties)?;
+        ordered::put(&mut self.objects, key, Some(row))?;
+        self.writes.rise();
+        Ok(())
+    }
+
+    fn remove_object(&mut self, key: ObjNo) -> Result<(), AllocError> {
+        ordered::put(&mut self.objects, key, None)?;
+        self.writes.rise();
+        Ok(())
+    }
+
+    fn prop(&self, key: PropId) -> Option<&PropRow> {
+        overlay::get(self.base, &self.props, key)
+    }
+
+    fn next_prop(&self, from: Option<PropId>) -> Option<PropId> {
+        overlay::next(self.base, &self.props, from)
+    }
+
+    fn next_defined(&self, x: ObjNo, after: PropId) -> Option<PropId> {
+        let mut last = after;
+        loop {
+            let key = match next_defined_of_either(self.base, &self.definers, x, last) {
+                None => return None,
+                Some(key) => key,
+            };
+            if row_defined(overlay::get(self.base, &self.props, key), x) {
+                return Some(key);
+            }
+            last = key;
+        }
+    }
+
+    fn put_prop(&mut self, key: PropId, row: PropRow) -> Result<(), AllocError> {
+        ordered::put(&mut self.definers, (row.definer, key), ())?;
+        ordered::put(&mut self.props, key, Some(row))?;
+        self.writes.rise();
+        Ok(())
+    }
+
+    fn remove_prop(&mut self, key: PropId) -> Result<(), AllocError> {
+        ordered::put(&mut self.props, key, None)?;
+        self.writes.rise();
+        Ok(())
+    }
+
+    fn slot(&self, key: (ObjNo, PropId)) -> Option<&SlotRow> {
+        overlay::get(self.base, &self.slots, key)
+    }
+
+    fn next_slot(&self, from: Option<(ObjNo, PropId)>) -> Option<(ObjNo, PropId)> {
+        overlay::next(self.base, &self.slots, from)
+    }
+
+    fn put_slot(&mut self, key: (ObjNo, PropId), row: SlotRow) -> Result<(), AllocError> {
+        ordered::put(&mut self.slots, key, Some(row))?;
+        self.writes.rise();
+        Ok(())
+    }
+
+    fn remove_slot(&mut self, key: (ObjNo, PropId)) -> Result<(), AllocError> {
+        ordered::put(&mut self.slots, key, None)?;
+        self.writes.rise();
+        Ok(())
+    }
+
+    fn verb(&self, key: (ObjNo, VerbId)) -> Option<&VerbRow> {
+        overlay::get(self.base, &self.verbs, key)
+    }
+
+    fn next_verb(&self, from: Option<(ObjNo, VerbId)>) -> Option<(ObjNo, VerbId)> {
+        overlay::next(self.base, &self.verbs, from)
+    }
+
+    fn put_verb(&mut self, key: (ObjNo, VerbId), row: VerbRow) -> Result<(), AllocError> {
+        ordered::put(&mut self.verbs, key, Some(row))?;
+        self.writes.rise();
+        Ok(())
+    }
+
+    fn remove_verb(&mut self, key: (ObjNo, VerbId)) -> Result<(), AllocError> {
+        ordered::put(&mut self.verbs, key, None)?;
+        self.writes.rise();
+        Ok(())
+    }
+}

@@ -1,0 +1,11 @@
+//! Drafts over rows that stay as they are, and what they change.
+#![tactic(auto)]
+
+mod changes;
+mod draft;
+mod either;
+pub mod laws;
+mod overlay;
+
+pub use changes::{ChangeList, Changes, apply_changes};
+pub use draft::Draft;
