@@ -6,7 +6,8 @@ ghost use Rattle.moo_world.specs.Rows.{world_of};
 ghost use Rattle.moo_world.specs.World.{IsTree};
 
 use crate::known::Known;
-use moo_rows::{Rows, each_object};
+use crate::numbers::nothing;
+use moo_rows::{Link, Rows, each_linked, each_object};
 use moo_value::ObjNo;
 use std::alloc::{AllocError, Global};
 
@@ -34,8 +35,7 @@ pub fn children<R: Rows>(alloc: Global, rows: &R, x: ObjNo) -> Result<Vec<ObjNo>
     requires { IsTree (world_of (R.held rows.now).maps) }
     ensures { IfOk result (λ v. v.items ≡ children_of (world_of (R.held rows.now).maps) x) }
 {
-    each_object(rows)
-        .filter(move |e| e.1.parent == x)
+    each_linked(rows, Link::ChildOf(x), nothing())
         .map(|e| e.0)
         .collect(alloc)
 }
@@ -46,8 +46,7 @@ pub fn contents<R: Rows>(alloc: Global, rows: &R, x: ObjNo) -> Result<Vec<ObjNo>
     requires { IsTree (world_of (R.held rows.now).maps) }
     ensures { IfOk result (λ v. v.items ≡ contents_of (world_of (R.held rows.now).maps) x) }
 {
-    each_object(rows)
-        .filter(move |e| e.1.location == x)
+    each_linked(rows, Link::Within(x), nothing())
         .map(|e| e.0)
         .collect(alloc)
 }
@@ -58,8 +57,7 @@ pub fn players<R: Rows>(alloc: Global, rows: &R) -> Result<Vec<ObjNo>, AllocErro
     requires { IsTree (world_of (R.held rows.now).maps) }
     ensures { IfOk result (λ v. v.items ≡ players_of (world_of (R.held rows.now).maps)) }
 {
-    each_object(rows)
-        .filter(|e| e.1.player)
+    each_linked(rows, Link::Player, nothing())
         .map(|e| e.0)
         .collect(alloc)
 }
