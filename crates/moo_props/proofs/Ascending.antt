@@ -16,7 +16,7 @@ use Rattle.moo_world.specs.Rows.{world_of}
 use Rattle.moo_world.specs.Manual.{lost, gained}
 use Rattle.moo_props.specs.Dropping.{is_linked, linked_among, verbs_among}
 use Rattle.moo_props.specs.Present.{AreAscending}
-use Rattle.moo_props.specs.Reparent.{owners_under}
+use Rattle.moo_tree.specs.Under.{owners_under}
 use Rattle.moo_props.specs.Touched.{props_of, removed_keys, added_keys}
 use Rattle.moo_props.specs.Slots.{keys_on, keys_over}
 

@@ -29,7 +29,7 @@ use Rattle.moo_props.specs.Dropped.{goes_with, dropped_keys}
 use Rattle.moo_props.specs.Dropping.{ids_for, ids_among, dropped_over}
 use Rattle.moo_props.specs.Names.{defines}
 use Rattle.moo_props.specs.Present.{ArePresent, AreAscending}
-use Rattle.moo_props.specs.Reparent.{owners_under}
+use Rattle.moo_tree.specs.Under.{owners_under}
 use Rattle.moo_props.specs.Touched.{props_of}
 use Rattle.moo_props.specs.Slots.{keys_on}
 use Rattle.moo_props.proofs.Ascending.{Rises, rises_made, keys_by, keys_rise, props_rise, under_rise, ascend}

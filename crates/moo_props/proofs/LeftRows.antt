@@ -25,7 +25,7 @@ use Rattle.moo_props.specs.Dropped.{goes_with, dropped_keys, slot_left, prop_lef
 use Rattle.moo_props.specs.Dropping.{is_linked, released_row, ids_for, ids_among, verbs_among, linked_among, dropped_over, slots_dropped, props_removed, verbs_removed, with_released, row_released, rows_released}
 use Rattle.moo_props.specs.Names.{defines}
 use Rattle.moo_props.specs.Present.{ArePresent, AreAbsent}
-use Rattle.moo_props.specs.Reparent.{owners_under}
+use Rattle.moo_tree.specs.Under.{owners_under}
 use Rattle.moo_props.specs.Touched.{props_of}
 use Rattle.moo_props.specs.Slots.{keys_on, without_on}
 use Rattle.moo_props.proofs.LessRows.{held1, held2, held3, held5, only5, slots5, props5, verbs5, objects5, own_under}

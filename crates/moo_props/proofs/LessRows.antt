@@ -26,7 +26,7 @@ use Rattle.moo_world.proofs.Seen.{is_object_seen, chain_of_row}
 use Rattle.moo_world.proofs.Trees.{Chain-chain}
 use Rattle.moo_props.specs.Dropping.{is_linked, released_row, ids_for, ids_among, verbs_among, linked_among, slots_dropped, props_removed, verbs_removed, with_released, row_released, rows_released}
 use Rattle.moo_props.specs.Names.{name_of}
-use Rattle.moo_props.specs.Reparent.{owners_under}
+use Rattle.moo_tree.specs.Under.{owners_under}
 use Rattle.moo_props.specs.Touched.{props_of}
 use Rattle.moo_props.specs.Slots.{without_on}
 use Rattle.moo_props.proofs.Folding.{has_id, is_id, slot_at-without}

@@ -16,7 +16,7 @@ use Rattle.moo_world.specs.Rows.{LookUps, look_ups, world_of, prop_id}
 use Rattle.moo_world.proofs.Seen.{is_object_seen, chain_of_row}
 use Rattle.moo_props.specs.declared.slots.Origin.{Origin}
 use Rattle.moo_props.specs.Defining.{fresh_over, with_definition}
-use Rattle.moo_props.specs.Reparent.{owners_under}
+use Rattle.moo_tree.specs.Under.{owners_under}
 use Rattle.moo_props.specs.Slots.{fresh_of, slot_put}
 use Rattle.moo_props.proofs.Folding.{is_id, key_parts}
 use Rattle.moo_world.proofs.PairLists.{some_of}

@@ -20,7 +20,7 @@ use Rattle.moo_world.specs.Manual.{ancestors, lost, gained}
 use Rattle.moo_world.proofs.ManualLaw.{chain_y}
 use Rattle.moo_world.proofs.Owed.{is_among-right}
 use Rattle.moo_world.proofs.Trees.{chain_of_none}
-use Rattle.moo_props.specs.Reparent.{owners_under}
+use Rattle.moo_tree.specs.Under.{owners_under}
 use Rattle.moo_props.specs.Touched.{props_of, is_defined_among, slot_after, removed_keys, added_keys}
 use Rattle.moo_props.specs.Present.{ArePresent, AreAbsent}
 use Rattle.moo_props.specs.Slots.{keys_on, keys_over, fresh_row}

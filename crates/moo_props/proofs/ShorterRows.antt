@@ -22,7 +22,7 @@ use Rattle.moo_world.proofs.Rebuilding.{SameButSlots-rebuilt, same_world, no_slo
 use Rattle.moo_world.proofs.RowLaws.{slot_shown}
 use Rattle.moo_world.proofs.Seen.{is_object_seen}
 use Rattle.moo_props.specs.Names.{defines, spelling_of}
-use Rattle.moo_props.specs.Reparent.{owners_under}
+use Rattle.moo_tree.specs.Under.{owners_under}
 use Rattle.moo_props.specs.Undefining.{less_over}
 use Rattle.moo_props.specs.Slots.{slot_removed}
 use Rattle.moo_props.proofs.Folding.{is_id, key_parts}

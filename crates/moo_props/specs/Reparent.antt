@@ -1,27 +1,17 @@
 -- A change of parent, at the level of the rows: which slots go and which come.
 use Rattle.std.specs.Prelude.{Bool, not, ◌&&◌, List, [], ◌∷◌, map, if◌then◌else◌}
 use Rattle.std.specs.List.{filter}
-use Rattle.std.specs.FinMap.{insert, entries}
+use Rattle.std.specs.FinMap.{insert}
 use Rattle.moo_value.specs.declared.value.ObjNo.{ObjNo}
 use Rattle.moo_rows.specs.declared.row.ObjRow.{ObjRow}
 use Rattle.moo_rows.specs.declared.row.PropId.{PropId}
 use Rattle.moo_rows.specs.declared.row.PropRow.{PropRow}
 use Rattle.moo_rows.specs.Maps.{Maps, Held, wrote}
 use Rattle.moo_world.specs.Objects.{same_object, is_among}
-use Rattle.moo_world.specs.World.{World, chain}
-use Rattle.moo_world.specs.Rows.{world_of}
 use Rattle.moo_props.specs.declared.slots.Origin.{Origin}
 use Rattle.moo_props.specs.Slots.{without_on, with_fresh}
 
--- ---- who is concerned
-
--- the objects of these entries that are under x in w, with their owners
-abbrev pub under_among : World → ObjNo → List (ObjNo × ObjRow) → List (ObjNo × ObjNo)
-under_among w x es = map (λ e. (e.0, e.1.owner)) (filter (λ e. is_among x (chain w e.0)) es)
-
--- the objects under x with their owners, ascending
-abbrev pub owners_under : Maps → ObjNo → List (ObjNo × ObjNo)
-owners_under t x = under_among (world_of t) x (entries t.objects)
+-- ---- which properties are concerned
 
 -- the object is of the first list and not of the second
 abbrev pub is_only_of : List ObjNo → List ObjNo → ObjNo → Bool

@@ -13,7 +13,8 @@ use Rattle.moo_world.specs.Objects.{same_object, is_among}
 use Rattle.moo_world.specs.World.{chain, owner_of}
 use Rattle.moo_world.specs.Rows.{world_of}
 use Rattle.moo_world.specs.Manual.{lost, gained}
-use Rattle.moo_props.specs.Reparent.{owners_under, relinked_list}
+use Rattle.moo_tree.specs.Under.{owners_under}
+use Rattle.moo_props.specs.Reparent.{relinked_list}
 use Rattle.moo_props.specs.Slots.{fresh_row, keys_over}
 
 -- the properties of these entries that objects of a list define

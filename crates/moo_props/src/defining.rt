@@ -9,9 +9,9 @@ ghost use Rattle.moo_world.specs.World.{is_object, is_property_name};
 ghost use Rattle.moo_props.specs.Defining.{fresh_over, with_definition};
 ghost use Rattle.moo_world.specs.Keeps.{Keeps};
 
-use crate::reparenting::owners_under;
 use crate::slots::{Origin, put_fresh};
 use moo_rows::{Bits, PropId, PropRow, Rows, SlotRow, SlotState};
+use moo_tree::owners_under;
 use moo_value::{MooStr, ObjNo, Value};
 use std::alloc::{AllocError, Global};
 

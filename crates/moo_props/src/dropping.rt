@@ -15,9 +15,10 @@ ghost use Rattle.moo_world.specs.Keeps.{Keeps};
 ghost use Rattle.moo_props.specs.Present.{ArePresent, AreAbsent, AreAscending};
 ghost use Rattle.moo_props.specs.Touched.{props_of};
 
-use crate::reparenting::{owners_under, props_only_of};
+use crate::reparenting::props_only_of;
 use crate::slots::{SlotKeys, remove_on};
 use moo_rows::{ObjList, ObjRow, PropId, Row, Rows, VerbId, each_object, each_slot_of, each_verb};
+use moo_tree::owners_under;
 use moo_value::ObjNo;
 use std::alloc::{AllocError, Global};
 use std::marker::Model;

@@ -4,18 +4,18 @@ ghost use Rattle.std.specs.Prelude.{◌≡◌, ◌++◌, ◌+◌, ◌≤◌, map
 ghost use Rattle.std.specs.FinMap.{get, entries};
 ghost use Rattle.moo_rows.specs.Maps.{slot_cmp};
 ghost use Rattle.moo_world.specs.Objects.{is_among};
-ghost use Rattle.moo_world.specs.World.{IsTree, reparented};
+ghost use Rattle.moo_world.specs.World.{reparented};
 ghost use Rattle.moo_world.specs.Rows.{world_of, IsGood};
 ghost use Rattle.moo_world.specs.Laws.{MayReparent};
 ghost use Rattle.moo_world.specs.Keeps.{Keeps};
-ghost use Rattle.moo_props.specs.Reparent.{owners_under, props_only_of, slots_moved, relinked, relinked_list};
+ghost use Rattle.moo_props.specs.Reparent.{props_only_of, slots_moved, relinked, relinked_list};
 ghost use Rattle.moo_props.specs.Slots.{id_of, keys_over};
 ghost use Rattle.moo_props.specs.Present.{ArePresent, AreAbsent, AreAscending};
 ghost use Rattle.moo_props.specs.Touched.{removed_keys, added_keys, relinked_objects, slot_after, row_after, IsSameButSlotsAndObjects};
 
 use crate::slots::{Origin, SlotKeys, list_on, origins, put_fresh, remove_on};
-use moo_rows::{ObjList, ObjRow, PropId, Row, Rows, each_object, each_prop};
-use moo_tree::{Known, chain};
+use moo_rows::{ObjList, ObjRow, PropId, Row, Rows, each_prop};
+use moo_tree::{chain, owners_under};
 use moo_value::ObjNo;
 use std::alloc::{AllocError, Global};
 
@@ -32,25 +32,6 @@ fn is_among(list: &[ObjNo], x: ObjNo) -> bool
     ensures { result ≡ is_among x list.now }
 {
     list.contains(&x)
-}
-
-/// The objects under x with their owners, ascending. Each object is climbed over once.
-pub(crate) fn owners_under<R: Rows>(
-    alloc: Global,
-    rows: &R,
-    x: ObjNo,
-) -> Result<Vec<(ObjNo, ObjNo)>, AllocError>
-    requires { IsTree (world_of (R.held rows.now).maps) }
-    ensures { IfOk result (λ v. v.items ≡ owners_under (R.held rows.now).maps x) }
-{
-    let mut known = Known::new(alloc, rows, x);
-    let mut found = Vec::new(alloc);
-    for (y, row) in each_object(rows) {
-        if known.is_under(y)? {
-            found.push((y, row.owner))?;
-        }
-    }
-    Ok(found)
 }
 
 /// The properties that objects of one list define and not those of another, ascending.

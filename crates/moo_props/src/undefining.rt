@@ -8,8 +8,8 @@ ghost use Rattle.moo_world.specs.Keeps.{Keeps};
 ghost use Rattle.moo_props.specs.Names.{defines, spelling_of};
 ghost use Rattle.moo_props.specs.Undefining.{less_over};
 
-use crate::reparenting::owners_under;
 use moo_rows::{PropId, Rows};
+use moo_tree::owners_under;
 use moo_value::ObjNo;
 use std::alloc::{AllocError, Global};
 

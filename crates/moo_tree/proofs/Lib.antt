@@ -2,3 +2,5 @@ pub mod Climbing
 pub mod Noting
 pub mod Sharing
 pub mod Listing
+pub mod Searching
+pub mod Found

@@ -1,30 +1,62 @@
 -- What is read off the objects' rows, as lists of the world.
-use Rattle.std.proofs.Common.{◌≡◌, map, sym, ◌∙◌}
-use Rattle.std.specs.FinMap.{entries}
-use Rattle.std.specs.List.{filter}
-use Rattle.std.specs.Ordering.{int_eq}
+use Rattle.std.proofs.Common.{◌≡◌, Bool, true, List, [], ◌∷◌, map, Some, Less, refl, sym, ap, ◌∙◌, arith, pos, negsuc}
+use Rattle.std.specs.Prelude.{◌≤ℤ◌, is_some}
+use Rattle.std.specs.Cmp.{int_cmp_is}
+use Rattle.std.specs.FinMap.{entries, entries_sorted, find, get-entries}
+use Rattle.std.specs.List.{filter, AllByRecursion}
+use Rattle.std.specs.Ordering.{is_lt}
+use Rattle.std.proofs.lemmas.Int.{ints}
 use Rattle.moo_value.specs.declared.value.ObjNo.{ObjNo}
+use Rattle.moo_rows.specs.declared.row.Link.{Link}
+use Rattle.moo_rows.specs.declared.row.Link.TheVariants.{ChildOf, Within, Player}
 use Rattle.moo_rows.specs.declared.row.ObjRow.{ObjRow}
-use Rattle.moo_rows.specs.Maps.{Maps}
-use Rattle.moo_world.specs.ObjectLists.{children_of, contents_of, players_of, subtree_of}
-use Rattle.moo_world.specs.Objects.{same_object, is_among, same_object-eq}
-use Rattle.moo_world.specs.Rows.{world_of}
-use Rattle.moo_world.specs.World.{IsTree, chain}
+use Rattle.moo_rows.specs.Links.{has_link, linked_left, ties_of}
+use Rattle.moo_rows.specs.Maps.{Maps, object_cmp}
+use Rattle.moo_rows.proofs.Orders.{object_total}
+use Rattle.moo_world.specs.ObjectLists.{children_of, contents_of, objects_of, players_of, subtree_of}
+use Rattle.moo_world.specs.Objects.{nothing, same_object, is_among, same_object-eq}
+use Rattle.moo_world.specs.Rows.{look_ups, world_of}
+use Rattle.moo_world.specs.World.{IsTree, is_object, row_passes, chain}
+use Rattle.moo_world.proofs.EntriesInOrder.{all_weaker, filter_alike, own_entries}
 use Rattle.moo_world.proofs.ObjectEntries.{objects_passing, rows_passing}
+use Rattle.moo_world.proofs.Seen.{is_object_seen}
+
+all_pass : {A : Type 0} (l : List A) → filter (λ a. true) l ≡ l
+all_pass [] = refl
+all_pass (a ∷ l) = ap (λ m. a ∷ m) (all_pass l)
 
 module _ (t : Maps) (tree : IsTree (world_of t)) where
-  -- by what the rows link to
-  linked : (link : ObjRow → ObjNo) (x : ObjNo) → map (λ e. e.0) (filter (λ e. int_eq (link e.1).0 x.0) (entries t.objects)) ≡ map (λ e. e.0) (filter (λ e. same_object x (link e.1)) (entries t.objects))
-  linked link x = λ i. map (λ e. e.0) (filter (λ e. same_object-eq x (link e.1) i) (entries t.objects))
+  -- every object is past #-1
+  all_past : AllByRecursion (λ e. is_lt (object_cmp nothing e.0) ≡ true) (entries t.objects)
+  all_past =
+      all_weaker (λ e. find object_cmp e.0 (entries t.objects) ≡ Some e.1) (λ e. is_lt (object_cmp nothing e.0) ≡ true) past (entries t.objects)
+      (own_entries object_cmp object_total (entries t.objects) (entries_sorted t.objects))
+    where
+      past : (e : ObjNo × ObjRow) → find object_cmp e.0 (entries t.objects) ≡ Some e.1 → is_lt (object_cmp nothing e.0) ≡ true
+      past e h =
+          let there : is_object (world_of t) e.0 ≡ true = is_object_seen (look_ups t) e.0 ∙ ap is_some (get-entries t.objects e.0 ∙ h) in
+          let from : pos 0 ≤ℤ e.0.0 = (tree.numbers e.0 there).0 in
+          ap is_lt (sym (int_cmp_is (negsuc 0) e.0.0 Less (omega (arith, ints))))
 
-  pub children_listed : (x : ObjNo) → map (λ e. e.0) (filter (λ e. int_eq e.1.parent.0 x.0) (entries t.objects)) ≡ children_of (world_of t) x
-  children_listed x = linked (λ r. r.parent) x ∙ sym (rows_passing t tree (λ r. same_object x r.parent))
+  -- so a walk from there on meets all that have a link
+  left_whole : (link : Link) (from : ObjNo) → from ≡ nothing → linked_left link from t ≡ filter (λ e. has_link link (ties_of e.1)) (entries t.objects)
+  left_whole link from at =
+      ap (λ x. linked_left link x t) at
+      ∙ ap (filter (λ e. has_link link (ties_of e.1))) (filter_alike (λ e. is_lt (object_cmp nothing e.0)) (λ e. true) (entries t.objects) all_past ∙ all_pass (entries t.objects))
 
-  pub contents_listed : (x : ObjNo) → map (λ e. e.0) (filter (λ e. int_eq e.1.location.0 x.0) (entries t.objects)) ≡ contents_of (world_of t) x
-  contents_listed x = linked (λ r. r.location) x ∙ sym (rows_passing t tree (λ r. same_object x r.location))
+  -- as lists of the world, where the link is a test of the row
+  linked_listed : (link : Link) (from : ObjNo) (test : ObjRow → Bool) → from ≡ nothing → ((r : ObjRow) → has_link link (ties_of r) ≡ test r) → map (λ e. e.0) (linked_left link from t) ≡ filter (row_passes test (world_of t)) (objects_of (world_of t))
+  linked_listed link from test at same =
+      ap (map (λ e. e.0)) (left_whole link from at ∙ (λ i. filter (λ e. same e.1 i) (entries t.objects))) ∙ sym (rows_passing t tree test)
 
-  pub players_listed : map (λ e. e.0) (filter (λ e. e.1.player) (entries t.objects)) ≡ players_of (world_of t)
-  players_listed = sym (rows_passing t tree (λ r. r.player))
+  pub children_listed : (x from : ObjNo) → from ≡ nothing → map (λ e. e.0) (linked_left (ChildOf x) from t) ≡ children_of (world_of t) x
+  children_listed x from at = linked_listed (ChildOf x) from (λ r. same_object x r.parent) at (λ r. same_object-eq x r.parent)
+
+  pub contents_listed : (x from : ObjNo) → from ≡ nothing → map (λ e. e.0) (linked_left (Within x) from t) ≡ contents_of (world_of t) x
+  contents_listed x from at = linked_listed (Within x) from (λ r. same_object x r.location) at (λ r. same_object-eq x r.location)
+
+  pub players_listed : (from : ObjNo) → from ≡ nothing → map (λ e. e.0) (linked_left Player from t) ≡ players_of (world_of t)
+  players_listed from at = linked_listed Player from (λ r. r.player) at (λ r. refl)
 
   pub subtree_listed : (x : ObjNo) → map (λ e. e.0) (filter (λ e. is_among x (chain (world_of t) e.0)) (entries t.objects)) ≡ subtree_of (world_of t) x
   subtree_listed x = sym (objects_passing t tree (λ y. is_among x (chain (world_of t) y)))

@@ -6,9 +6,11 @@ mod known;
 mod lists;
 mod numbers;
 mod places;
+mod under;
 
 pub use ancestors::{chain, common, is_under};
 pub use known::Known;
-pub use lists::{children, contents, players, subtree};
+pub use lists::{children, contents, players};
 pub use numbers::{is_nothing, nothing, valid};
 pub use places::inside;
+pub use under::{owners_under, subtree};

@@ -1,32 +1,14 @@
 //! Lists of objects, ascending.
 
 ghost use Rattle.std.specs.Prelude.{◌≡◌, IfOk};
-ghost use Rattle.moo_world.specs.ObjectLists.{children_of, contents_of, players_of, subtree_of};
+ghost use Rattle.moo_world.specs.ObjectLists.{children_of, contents_of, players_of};
 ghost use Rattle.moo_world.specs.Rows.{world_of};
 ghost use Rattle.moo_world.specs.World.{IsTree};
 
-use crate::known::Known;
-use moo_rows::{Rows, each_object};
+use crate::numbers::nothing;
+use moo_rows::{Link, Rows, each_linked};
 use moo_value::ObjNo;
 use std::alloc::{AllocError, Global};
-
-/// x and its descendants, ascending; nothing where x is no object. An `Err` is want of memory.
-///
-/// One pass over the n objects, which looks each up a few times and notes whether it is under x: n log n steps and a note
-/// for each object, however deep the tree is.
-pub fn subtree<R: Rows>(alloc: Global, rows: &R, x: ObjNo) -> Result<Vec<ObjNo>, AllocError>
-    requires { IsTree (world_of (R.held rows.now).maps) }
-    ensures { IfOk result (λ v. v.items ≡ subtree_of (world_of (R.held rows.now).maps) x) }
-{
-    let mut known = Known::new(alloc, rows, x);
-    let mut found = Vec::new(alloc);
-    for (y, _) in each_object(rows) {
-        if known.is_under(y)? {
-            found.push(y)?;
-        }
-    }
-    Ok(found)
-}
 
 /// The objects whose parent is x, ascending; the roots for `#-1`. An `Err` is want of memory.
 /// LambdaMOO Programmer's Manual, 'Fundamental Operations on Objects': `children`.
@@ -34,8 +16,7 @@ pub fn children<R: Rows>(alloc: Global, rows: &R, x: ObjNo) -> Result<Vec<ObjNo>
     requires { IsTree (world_of (R.held rows.now).maps) }
     ensures { IfOk result (λ v. v.items ≡ children_of (world_of (R.held rows.now).maps) x) }
 {
-    each_object(rows)
-        .filter(move |e| e.1.parent == x)
+    each_linked(rows, Link::ChildOf(x), nothing())
         .map(|e| e.0)
         .collect(alloc)
 }
@@ -46,8 +27,7 @@ pub fn contents<R: Rows>(alloc: Global, rows: &R, x: ObjNo) -> Result<Vec<ObjNo>
     requires { IsTree (world_of (R.held rows.now).maps) }
     ensures { IfOk result (λ v. v.items ≡ contents_of (world_of (R.held rows.now).maps) x) }
 {
-    each_object(rows)
-        .filter(move |e| e.1.location == x)
+    each_linked(rows, Link::Within(x), nothing())
         .map(|e| e.0)
         .collect(alloc)
 }
@@ -58,8 +38,7 @@ pub fn players<R: Rows>(alloc: Global, rows: &R) -> Result<Vec<ObjNo>, AllocErro
     requires { IsTree (world_of (R.held rows.now).maps) }
     ensures { IfOk result (λ v. v.items ≡ players_of (world_of (R.held rows.now).maps)) }
 {
-    each_object(rows)
-        .filter(|e| e.1.player)
+    each_linked(rows, Link::Player, nothing())
         .map(|e| e.0)
         .collect(alloc)
 }

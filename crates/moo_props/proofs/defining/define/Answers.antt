@@ -11,7 +11,7 @@ use Rattle.moo_world.proofs.Limits.{number_within, slot_within}
 use Rattle.std.specs.FinMap.{insert}
 use Rattle.moo_props.specs.declared.slots.Origin.{Origin}
 use Rattle.moo_props.specs.Defining.{fresh_over, with_definition}
-use Rattle.moo_props.specs.Reparent.{owners_under}
+use Rattle.moo_tree.specs.Under.{owners_under}
 use Rattle.moo_props.proofs.NewProp.{sound_with, world_with, formed_with, with_property}
 use Rattle.moo_props.proofs.NewPropRows.{base-over, head-over, look_ups-with, held2, only2}
 use Rattle.moo_world.specs.Numbers.{prop_added, verbs_stay}

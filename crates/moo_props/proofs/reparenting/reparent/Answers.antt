@@ -11,7 +11,8 @@ use Rattle.moo_world.specs.World.{IsWellFormed}
 use Rattle.moo_world.specs.Rows.{look_ups, world_of, IsSound}
 use Rattle.moo_world.proofs.Reparenting.{IsWellFormed-reparented}
 use Rattle.moo_world.proofs.Seen.{is_object_seen}
-use Rattle.moo_props.specs.Reparent.{owners_under, props_only_of, slots_moved, relinked, relinked_list}
+use Rattle.moo_tree.specs.Under.{owners_under}
+use Rattle.moo_props.specs.Reparent.{props_only_of, slots_moved, relinked, relinked_list}
 use Rattle.moo_props.specs.Touched.{props_of, removed_keys, added_keys, slot_after, IsSameButSlotsAndObjects}
 use Rattle.moo_props.proofs.Definers.{new_is, no_clash}
 use Rattle.moo_props.proofs.Moved.{lost_list, gained_list, all_on_new, slots2, objects2, rest2, world2, sound2, base2, writes2}

@@ -1,19 +1,18 @@
 use Rattle.std.proofs.Common.{◌≡◌, IfOk, subst, rules}
-use Rattle.std.specs.FinMap.{entries}
 use Rattle.std.proofs.lemmas.Iterator.{items_from_collect, YieldsList-from_map}
-use Rattle.std.proofs.lemmas.Iterator.Consumers.{YieldsList-from_filter, YieldsList-from_first, YieldsList-at}
-use Rattle.moo_rows.specs.Walk.{objects_left}
+use Rattle.std.proofs.lemmas.Iterator.Consumers.{YieldsList-from_first, YieldsList-at}
+use Rattle.moo_rows.specs.Links.{linked_left}
+use Rattle.moo_rows.specs.declared.row.Link.TheVariants.{Player}
 use Rattle.moo_tree.proofs.Listing.{players_listed}
 use Rattle.moo_tree.proofs.lists.players.Goals as goal
 
 pub returns : goal.returns
 returns g c =
     let t = (g.R.Rows.held c.args.rows.now).maps in
-    subst (λ l. IfOk c.collect.result (λ v. v.items ≡ l)) (players_listed t c.requires)
+    let from = c.nothing.result in
+    subst (λ l. IfOk c.collect.result (λ v. v.items ≡ l)) (players_listed t c.requires from c.nothing.ensures)
     (items_from_collect c.collect.result c.collect.ensures.ran
     (YieldsList-from_map _ (λ e. e.0)
     (YieldsList-at c.map.ensures.source
-    (YieldsList-from_filter _ (λ e. e.1.player)
-    (YieldsList-at c.filter.ensures.source (YieldsList-from_first (λ p. (p.0, p.1.now)) (λ s. objects_left s.last (g.R.Rows.held s.rows.now).maps) (entries t.objects) c.each_object.ensures))
-    c.filter.ensures.closure (λ x r q k. search rules)))
+    (YieldsList-from_first (λ p. (p.0, p.1.now)) (λ s. linked_left s.link s.last (g.R.Rows.held s.rows.now).maps) (linked_left Player from t) c.each_linked.ensures))
     c.map.ensures.closure (λ x r q k. search rules)))

@@ -1,0 +1,296 @@
+-- A search for the objects under one, as far as it has come.
+use Rattle.std.proofs.Common.{◌≡◌, ℕ, zero, suc, ◌-◌, ◌<◌, ◌≤◌, ◌≢◌, Bool, true, false, cond, ◌||◌, Option, None, Some, List, [], ◌∷◌, ◌++◌, length, drop, Ordering, Less, Equal, Greater, refl, sym, ap, ◌∙◌, subst, arith, ◌⊎◌, inl, inr}
+use Rattle.std.specs.Prelude.{is_some, if◌then◌else◌, slice_index_or, ◌+◌}
+use Rattle.std.specs.Option.{option_map}
+use Rattle.std.specs.Ordering.{eq_by_cmp, is_eq}
+use Rattle.std.specs.Cmp.{tied_itself}
+use Rattle.std.specs.FinMap.{FinMap, get, insert, get-insert}
+use Rattle.std.proofs.lemmas.Bool.{true≢false, or_right, or_cases}
+use Rattle.std.proofs.lemmas.Option.{none-some}
+use Rattle.moo_value.specs.declared.value.ObjNo.{ObjNo}
+use Rattle.moo_rows.specs.declared.row.ObjRow.{ObjRow}
+use Rattle.moo_rows.specs.Exact.{object_exact}
+use Rattle.moo_rows.specs.Maps.{Maps, object_cmp}
+use Rattle.moo_rows.proofs.Orders.{object_total}
+use Rattle.moo_world.specs.Objects.{same_object, is_among, same_object-Decides}
+use Rattle.moo_world.specs.ObjectLists.{children_of, objects_of, has_parent}
+use Rattle.moo_world.specs.Rows.{look_ups, world_of}
+use Rattle.moo_world.specs.World.{World, IsTree, is_object, parent_of, chain, climb, numbers_to}
+use Rattle.moo_world.proofs.Trees.{chain_of_none}
+use Rattle.moo_world.proofs.Seen.{chain_of_row, chain_of_no_row, is_object_seen, passes_seen, none_passes}
+use Rattle.moo_world.proofs.Owed.{is_among-append}
+use Rattle.moo_world.proofs.Subtrees.{among_filter, object_listed}
+use Rattle.moo_world.proofs.Upward.{filter_passes}
+use Rattle.moo_tree.proofs.Sharing.{among_drop}
+use Rattle.moo_tree.specs.Under.{IsFound}
+
+either : (a b : Bool) → (a ≡ true) ⊎ (b ≡ true) → (a || b) ≡ true
+either true b h = refl
+either false b (inl h) = absurd (true≢false (sym h))
+either false b (inr h) = h
+
+module _ (t : Maps) (x : ObjNo) where
+  -- what is found is under x with its owner, what is pending is under x, the children of what is found are found or pending, and so is x
+  pub record Search (m : FinMap object_cmp ObjNo) (pending : List ObjNo) : Type 0 where
+    pub sound : (z : ObjNo) → is_among z pending ≡ true → is_among x (chain (world_of t) z) ≡ true
+    pub right : (z o : ObjNo) → get m z ≡ Some o → (is_among x (chain (world_of t) z) ≡ true) × (option_map (λ r. r.owner) (get t.objects z) ≡ Some o)
+    pub closed : (z c : ObjNo) (r : ObjRow) → get t.objects c ≡ Some r → r.parent ≡ z → is_some (get m z) ≡ true → (is_some (get m c) || is_among c pending) ≡ true
+    pub start : (is_some (get m x) || is_among x pending) ≡ true
+
+-- an object whose row names a parent has it above
+module _ (t : Maps) (tree : IsTree (world_of t)) where
+  abbrev w : World
+  w = world_of t
+
+  child_chain : (c : ObjNo) (r : ObjRow) → get t.objects c ≡ Some r → chain w c ≡ c ∷ chain w r.parent
+  child_chain c r e = chain_of_row (look_ups t) tree c r (sym e)
+
+  -- the children, by their rows
+  pub child_listed : (c y : ObjNo) (r : ObjRow) → get t.objects c ≡ Some r → r.parent ≡ y → is_among c (children_of w y) ≡ true
+  child_listed c y r e p =
+      among_filter (has_parent w y) (objects_of w) c (object_listed w tree c (is_object_seen (look_ups t) c ∙ ap is_some e))
+      (passes_seen (λ r. same_object y r.parent) (look_ups t) c r (sym e) ∙ (same_object-Decides y r.parent).1 (sym p))
+
+  pub listed_child : (c y : ObjNo) → is_among c (children_of w y) ≡ true → (r : ObjRow) × (get t.objects c ≡ Some r) × (r.parent ≡ y)
+  listed_child c y h = by (get t.objects c) refl
+    where
+      passes : has_parent w y c ≡ true
+      passes = filter_passes (has_parent w y) (objects_of w) c h
+
+      by : (o : Option ObjRow) → get t.objects c ≡ o → (r : ObjRow) × (get t.objects c ≡ Some r) × (r.parent ≡ y)
+      by None e = absurd (true≢false (sym passes ∙ none_passes (λ r. same_object y r.parent) (look_ups t) c (sym e)))
+      by (Some r) e = (r, e, sym ((same_object-Decides y r.parent).0 (sym (passes_seen (λ r. same_object y r.parent) (look_ups t) c r (sym e)) ∙ passes)))
+
+  module _ (x : ObjNo) where
+    -- what is pending is under x, so it is an object
+    pub is_there : (z : ObjNo) → is_among x (chain w z) ≡ true → is_object w z ≡ true
+    is_there z h = by (is_object w z) refl
+      where
+        by : (b : Bool) → is_object w z ≡ b → b ≡ true
+        by true e = refl
+        by false e = absurd (true≢false (sym h ∙ ap (is_among x) (chain_of_none w z e)))
+
+    -- one step
+    module _ (m : FinMap object_cmp ObjNo) (y : ObjNo) (rest below : List ObjNo) (row : ObjRow) (there : get t.objects y ≡ Some row) (s : Search t x m ((y ∷ rest) ++ below)) where
+      abbrev now : List ObjNo
+      now = rest ++ (below ++ children_of w y)
+
+      abbrev after : FinMap object_cmp ObjNo
+      after = insert m y row.owner
+
+      -- what was pending is y, or still is
+      parts : (c : ObjNo) → is_among c ((y ∷ rest) ++ below) ≡ true → (same_object c y ≡ true) ⊎ (is_among c now ≡ true)
+      parts c h = elim (or_cases (same_object c y) (is_among c (rest ++ below)) h) [
+        | inl g ↦ inl g
+        | inr g ↦ inr (is_among-append c rest (below ++ children_of w y) ∙ split (or_cases _ _ (sym (is_among-append c rest below) ∙ g)))
+      ]
+        where
+          split : (is_among c rest ≡ true) ⊎ (is_among c below ≡ true) → (is_among c rest || is_among c (below ++ children_of w y)) ≡ true
+          split (inl k) = either _ _ (inl k)
+          split (inr k) = or_right _ _ (is_among-append c below (children_of w y) ∙ either _ _ (inl k))
+
+      child_now : (c : ObjNo) → is_among c (children_of w y) ≡ true → is_among c now ≡ true
+      child_now c h = is_among-append c rest (below ++ children_of w y) ∙ or_right _ _ (is_among-append c below (children_of w y) ∙ or_right _ _ h)
+
+      was : (c : ObjNo) → is_among c now ≡ true → (is_among c ((y ∷ rest) ++ below) ≡ true) ⊎ (is_among c (children_of w y) ≡ true)
+      was c h = elim (or_cases _ _ (sym (is_among-append c rest (below ++ children_of w y)) ∙ h)) [
+        | inl g ↦ inl (or_right (same_object c y) _ (is_among-append c rest below ∙ either _ _ (inl g)))
+        | inr g ↦ elim (or_cases _ _ (sym (is_among-append c below (children_of w y)) ∙ g)) [
+          | inl k ↦ inl (or_right (same_object c y) _ (is_among-append c rest below ∙ or_right _ _ k))
+          | inr k ↦ inr k
+        ]
+      ]
+
+      got : (z : ObjNo) → get after z ≡ cond (eq_by_cmp object_cmp z y) (Some row.owner) (get m z)
+      got z = get-insert object_total m y row.owner z
+
+      same-key : (z : ObjNo) → z ≡ y → is_some (get after z) ≡ true
+      same-key z e = ap (λ k. is_some (get after k)) e ∙ ap is_some (got y) ∙ ap (λ o. is_some (cond (is_eq o) (Some row.owner) (get m y))) (tied_itself object_total y)
+
+      kept : (z : ObjNo) → is_some (get m z) ≡ true → is_some (get after z) ≡ true
+      kept z h = ap is_some (got z) ∙ by (eq_by_cmp object_cmp z y)
+        where
+          by : (b : Bool) → is_some (cond b (Some row.owner) (get m z)) ≡ true
+          by true = refl
+          by false = h
+
+      -- found or pending before, so now
+      moved : (c : ObjNo) → (is_some (get m c) || is_among c ((y ∷ rest) ++ below)) ≡ true → (is_some (get after c) || is_among c now) ≡ true
+      moved c h = elim (or_cases _ _ h) [
+        | inl g ↦ either _ _ (inl (kept c g))
+        | inr g ↦ elim (parts c g) [
+          | inl k ↦ either _ _ (inl (same-key c ((same_object-Decides c y).0 k)))
+          | inr k ↦ or_right _ _ k
+        ]
+      ]
+
+      y_under : is_among x (chain w y) ≡ true
+      y_under = s.sound y (either _ _ (inl ((same_object-Decides y y).1 refl)))
+
+      under_child : (c : ObjNo) → is_among c (children_of w y) ≡ true → is_among x (chain w c) ≡ true
+      under_child c h =
+          let k = listed_child c y h in
+          ap (is_among x) (child_chain c k.0 k.1) ∙ or_right (same_object x c) _ (ap (λ p. is_among x (chain w p)) k.2 ∙ y_under)
+
+      pub step : Search t x after now
+      step = record {
+        sound = λ z h. elim (was z h) [ inl g ↦ s.sound z g | inr g ↦ under_child z g ];
+        right = λ z o h. right-by z o (object_cmp z y) refl (sym (got z) ∙ h);
+        closed = λ z c r e p h. closed-by z c r e p (object_cmp z y) refl (sym (ap is_some (got z)) ∙ h);
+        start = moved x s.start;
+      }
+        where
+          right-by : (z o : ObjNo) (k : Ordering) → object_cmp z y ≡ k → cond (is_eq k) (Some row.owner) (get m z) ≡ Some o → (is_among x (chain w z) ≡ true) × (option_map (λ r. r.owner) (get t.objects z) ≡ Some o)
+          right-by z o Equal k h =
+              let same = object_exact z y k in
+              (ap (λ q. is_among x (chain w q)) same ∙ y_under, ap (λ q. option_map (λ r. r.owner) (get t.objects q)) same ∙ ap (option_map (λ r. r.owner)) there ∙ h)
+          right-by z o Less k h = s.right z o h
+          right-by z o Greater k h = s.right z o h
+
+          closed-by : (z c : ObjNo) (r : ObjRow) → get t.objects c ≡ Some r → r.parent ≡ z → (k : Ordering) → object_cmp z y ≡ k → is_some (cond (is_eq k) (Some row.owner) (get m z)) ≡ true → (is_some (get after c) || is_among c now) ≡ true
+          closed-by z c r e p Equal k h = or_right _ _ (child_now c (child_listed c y r e (p ∙ object_exact z y k)))
+          closed-by z c r e p Less k h = moved c (s.closed z c r e p h)
+          closed-by z c r e p Greater k h = moved c (s.closed z c r e p h)
+
+    -- at the beginning
+    pub begun : (m : FinMap object_cmp ObjNo) → ((q : ObjNo) → get m q ≡ None) → is_object w x ≡ true → Search t x m (x ∷ [])
+    begun m none ok = record {
+      sound = λ z h. elim (or_cases _ _ h) [
+        | inl g ↦ ap (λ q. is_among x (chain w q)) ((same_object-Decides z x).0 g) ∙ own
+        | inr g ↦ absurd (true≢false (sym g))
+      ];
+      right = λ z o h. absurd (none-some o (sym (none z) ∙ h));
+      closed = λ z c r e p h. absurd (true≢false (sym h ∙ ap is_some (none z)));
+      start = or_right _ _ (either _ _ (inl ((same_object-Decides x x).1 refl)));
+    }
+      where
+        own : is_among x (chain w x) ≡ true
+        own = by (get t.objects x) refl
+          where
+            by : (o : Option ObjRow) → get t.objects x ≡ o → is_among x (chain w x) ≡ true
+            by None e = absurd (true≢false (sym ok ∙ is_object_seen (look_ups t) x ∙ ap is_some e))
+            by (Some r) e = ap (is_among x) (child_chain x r e) ∙ either _ _ (inl ((same_object-Decides x x).1 refl))
+
+    -- what holds of x, and of each child of what it holds of, holds of all under x
+    along : (P : ObjNo → Type 0) → (is_object w x ≡ true → P x) → ((z : ObjNo) (r : ObjRow) → get t.objects z ≡ Some r → P r.parent → P z) → (l : List ObjNo) (z : ObjNo) → chain w z ≡ l → is_among x l ≡ true → P z
+    along P start more [] z e h = absurd (true≢false (sym h))
+    along P start more (a ∷ l) z e h = by (λ p f k. along P start more l p f k) (get t.objects z) refl
+      where
+        by : ((p : ObjNo) → chain w p ≡ l → is_among x l ≡ true → P p) → (o : Option ObjRow) → get t.objects z ≡ o → P z
+        by higher None g = absurd (true≢false (sym h ∙ ap (is_among x) (sym e ∙ chain_of_no_row (look_ups t) z (sym g))))
+        by higher (Some r) g =
+            let whole : a ∷ l ≡ z ∷ chain w r.parent = sym e ∙ child_chain z r g in
+            let rest : chain w r.parent ≡ l = sym (ap (drop 1) whole) in
+            elim (or_cases _ _ (sym (ap (is_among x) whole) ∙ h)) [
+              | inl k ↦
+                  let same : x ≡ z = (same_object-Decides x z).0 k in
+                  subst P same (start (ap (is_object w) same ∙ is_object_seen (look_ups t) z ∙ ap is_some g))
+              | inr k ↦ more z r g (higher r.parent rest (ap (is_among x) (sym rest) ∙ k))
+            ]
+
+    -- nothing is under what is no object
+    pub nothing_under : (m : FinMap object_cmp ObjNo) → ((q : ObjNo) → get m q ≡ None) → is_object w x ≡ false → IsFound t x m
+    nothing_under m none lacking q = none q ∙ by (is_among x (chain w q)) refl
+      where
+        by : (b : Bool) → is_among x (chain w q) ≡ b → None ≡ (if b then option_map (λ r. r.owner) (get t.objects q) else None)
+        by true h = absurd (true≢false (sym (along (λ z. is_object w x ≡ true) (λ o. o) (λ z r g k. k) (chain w q) q refl h) ∙ lacking))
+        by false h = refl
+
+    -- at the end
+    module _ (m : FinMap object_cmp ObjNo) (s : Search t x m []) where
+      only : (a : Bool) → (a || false) ≡ true → a ≡ true
+      only true h = refl
+      only false h = h
+
+      all : (z : ObjNo) → is_among x (chain w z) ≡ true → is_some (get m z) ≡ true
+      all z h = along (λ q. is_some (get m q) ≡ true) (λ o. only _ s.start) (λ q r g k. only _ (s.closed r.parent q r g refl k)) (chain w z) z refl h
+
+      pub ended : IsFound t x m
+      ended q = by (get m q) refl (is_among x (chain w q)) refl
+        where
+          by : (o : Option ObjNo) → get m q ≡ o → (b : Bool) → is_among x (chain w q) ≡ b → o ≡ (if b then option_map (λ r. r.owner) (get t.objects q) else None)
+          by None e false h = refl
+          by None e true h = absurd (true≢false (sym (all q h) ∙ ap is_some e))
+          by (Some o) e true h = sym (s.right q o e).1
+          by (Some o) e false h = absurd (true≢false (sym (s.right q o e).0 ∙ h))
+
+-- ---- depths
+
+climb-short : (link : ObjNo → Option ObjNo) (n : ℕ) (x : ObjNo) → length (climb n link x) ≤ n
+climb-short link zero x = omega arith
+climb-short link (suc n) x = by (λ y. climb-short link n y) (link x)
+  where
+    by : ((y : ObjNo) → length (climb n link y) ≤ n) → (o : Option ObjNo) → length (elim o as (λ _. List ObjNo) [ None ↦ [] | Some next ↦ x ∷ climb n link next ]) ≤ suc n
+    by higher None = omega arith
+    by higher (Some next) = omega (arith, higher next)
+
+pub chain-short : (w : World) (x : ObjNo) → length (chain w x) ≤ numbers_to w.top
+unfolding chain
+chain-short w x = climb-short (parent_of w) (numbers_to w.top) x
+
+-- all of a list stand as deep
+abbrev pub AreAt : World → ℕ → List ObjNo → Type 0
+AreAt w n l = (z : ObjNo) → is_among z l ≡ true → length (chain w z) ≡ n
+
+-- how many levels may be left
+abbrev pub rank : World → List ObjNo → ℕ
+rank w [] = 0
+rank w (z ∷ l) = suc (numbers_to w.top - length (chain w z))
+
+pub among-first : (z : ObjNo) (l : List ObjNo) → is_among z (z ∷ l) ≡ true
+among-first z l = either _ _ (inl ((same_object-Decides z z).1 refl))
+
+pub rank-smaller : (w : World) (n : ℕ) (level below : List ObjNo) → AreAt w n level → AreAt w (suc n) below → length level ≢ 0 → rank w below < rank w level
+rank-smaller w n [] below a b some = absurd (some refl)
+rank-smaller w n (z ∷ l) [] a b some = omega arith
+rank-smaller w n (z ∷ l) (c ∷ k) a b some =
+    let one = a z (among-first z l) in
+    let two = b c (among-first c k) in
+    omega (arith, one, two, chain-short w c)
+
+-- the children of what stands at a depth stand one deeper
+pub deeper : (t : Maps) → IsTree (world_of t) → (n : ℕ) (y : ObjNo) (below : List ObjNo) → length (chain (world_of t) y) ≡ n → AreAt (world_of t) (suc n) below → AreAt (world_of t) (suc n) (below ++ children_of (world_of t) y)
+deeper t tree n y below at rest z h = elim (or_cases _ _ (sym (is_among-append z below (children_of (world_of t) y)) ∙ h)) [
+  | inl g ↦ rest z g
+  | inr g ↦
+      let k = listed_child t tree z y g in
+      let long : length (chain (world_of t) z) ≡ suc (length (chain (world_of t) y)) = ap length (child_chain t tree z k.0 k.1) ∙ ap (λ p. suc (length (chain (world_of t) p))) k.2 in
+      long ∙ ap suc at
+]
+
+-- ---- the level, one after another
+
+pub rest_of : (l : List ObjNo) (i : ℕ) (d : ObjNo) → i < length l → drop i l ≡ slice_index_or l i d ∷ drop (i + 1) l
+rest_of [] i d h = absurd (omega arith)
+rest_of (y ∷ l) zero d h = refl
+rest_of (y ∷ l) (suc i) d h =
+    let e : i + 1 ≡ suc i = omega arith in
+    let f : suc i + 1 ≡ suc (suc i) = omega arith in
+    rest_of l i d (omega arith) ∙ ap (λ n. slice_index_or l i d ∷ drop n l) e ∙ sym (ap (λ n. slice_index_or l i d ∷ drop n (y ∷ l)) f)
+
+pub at_end : (l : List ObjNo) (i : ℕ) → length l ≤ i → ◌≡◌ {A = List ObjNo} (drop i l) []
+at_end [] zero h = refl
+at_end [] (suc i) h = refl
+at_end (y ∷ l) zero h = absurd (omega arith)
+at_end (y ∷ l) (suc i) h = at_end l i (omega arith)
+
+pub in_list : (l : List ObjNo) (i : ℕ) (y : ObjNo) (rest : List ObjNo) → drop i l ≡ y ∷ rest → is_among y l ≡ true
+in_list l i y rest e = among_drop y i l (ap (is_among y) e ∙ among-first y rest)
+
+pub alone : (w : World) (z x : ObjNo) → is_among z (x ∷ []) ≡ true → length (chain w z) ≡ length (chain w x)
+alone w z x h = elim (or_cases _ _ h) [
+  | inl g ↦ ap (λ q. length (chain w q)) ((same_object-Decides z x).0 g)
+  | inr g ↦ absurd (true≢false (sym g))
+]
+
+-- an object has a row
+pub a_row : (t : Maps) (y : ObjNo) → is_object (world_of t) y ≡ true → (row : ObjRow) × (get t.objects y ≡ Some row)
+a_row t y h = by (get t.objects y) refl
+  where
+    by : (o : Option ObjRow) → get t.objects y ≡ o → (row : ObjRow) × (get t.objects y ≡ Some row)
+    by None e = absurd (true≢false (sym h ∙ is_object_seen (look_ups t) y ∙ ap is_some e))
+    by (Some row) e = (row, e)
+
+pub no_items : (l : List ObjNo) → length l ≡ 0 → l ≡ []
+no_items [] e = refl
+no_items (x ∷ l) e = absurd (omega arith)

@@ -1,0 +1,90 @@
+//! What lies under an object.
+
+ghost use Rattle.std.specs.Prelude.{◌≡◌, ◌++◌, true, Some, IfOk, OnOk};
+ghost use Rattle.std.specs.FinMap.{get, insert};
+ghost use Rattle.moo_rows.specs.declared.row.ObjRow.{ObjRow};
+ghost use Rattle.moo_rows.specs.Maps.{object_cmp};
+ghost use Rattle.moo_rows.specs.Ordered.{contents};
+ghost use Rattle.moo_world.specs.ObjectLists.{children_of, subtree_of};
+ghost use Rattle.moo_world.specs.Rows.{world_of};
+ghost use Rattle.moo_world.specs.World.{IsTree, is_object};
+ghost use Rattle.moo_tree.specs.Under.{IsFound, owners_under};
+
+use crate::lists::children;
+use crate::numbers::valid;
+use moo_rows::{Rows, ordered};
+use moo_value::ObjNo;
+use std::alloc::{AllocError, Global};
+use std::collections::BTreeMap;
+
+/// Notes an object with its owner, and its children as those to be looked at.
+fn visit<R: Rows>(
+    alloc: Global,
+    rows: &R,
+    y: ObjNo,
+    found: &mut BTreeMap<ObjNo, ObjNo>,
+    below: &mut Vec<ObjNo>,
+) -> Result<(), AllocError>
+    requires tree { IsTree (world_of (R.held rows.now).maps) }
+    requires object { is_object (world_of (R.held rows.now).maps) y ≡ true }
+    ensures found { OnOk result ((row : ObjRow) → get (R.held rows.now).maps.objects y ≡ Some row → contents object_cmp found.new ≡ insert (contents object_cmp found.old) y row.owner) }
+    ensures below { OnOk result (below.new.items ≡ below.old.items ++ children_of (world_of (R.held rows.now).maps) y) }
+{
+    let row = match rows.object(y) {
+        None => unreachable!(),
+        Some(row) => row,
+    };
+    ordered::put(found, y, row.owner)?;
+    let children = children(alloc, rows, y)?;
+    below.extend_from_slice(children.as_slice())?;
+    Ok(())
+}
+
+/// x and its descendants, each with its owner; nothing where x is no object. It goes down level by level, so that what is
+/// done is as much as is found, and not as the world holds.
+fn find_under<R: Rows>(
+    alloc: Global,
+    rows: &R,
+    x: ObjNo,
+) -> Result<BTreeMap<ObjNo, ObjNo>, AllocError>
+    requires { IsTree (world_of (R.held rows.now).maps) }
+    ensures { IfOk result (λ found. IsFound (R.held rows.now).maps x (contents object_cmp found)) }
+{
+    let mut found = BTreeMap::new(alloc);
+    if !valid(rows, x) {
+        return Ok(found);
+    }
+    let mut level = Vec::new(alloc);
+    level.push(x)?;
+    while !level.is_empty() {
+        let mut below = Vec::new(alloc);
+        for y in level.as_slice() {
+            visit(alloc, rows, *y, &mut found, &mut below)?;
+        }
+        level = below;
+    }
+    Ok(found)
+}
+
+/// x and its descendants, ascending; nothing where x is no object. An `Err` is want of memory.
+///
+/// Only what lies under x is looked at: m log n steps for m objects there among n of the world, however deep they stand.
+pub fn subtree<R: Rows>(alloc: Global, rows: &R, x: ObjNo) -> Result<Vec<ObjNo>, AllocError>
+    requires { IsTree (world_of (R.held rows.now).maps) }
+    ensures { IfOk result (λ v. v.items ≡ subtree_of (world_of (R.held rows.now).maps) x) }
+{
+    find_under(alloc, rows, x)?.into_keys().collect(alloc)
+}
+
+/// The objects under x with their owners, ascending; nothing where x is no object. It costs what `subtree` does. An `Err`
+/// is want of memory.
+pub fn owners_under<R: Rows>(
+    alloc: Global,
+    rows: &R,
+    x: ObjNo,
+) -> Result<Vec<(ObjNo, ObjNo)>, AllocError>
+    requires { IsTree (world_of (R.held rows.now).maps) }
+    ensures { IfOk result (λ v. v.items ≡ owners_under (R.held rows.now).maps x) }
+{
+    find_under(alloc, rows, x)?.into_iter().collect(alloc)
+}
