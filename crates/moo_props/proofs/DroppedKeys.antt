@@ -1,30 +1,25 @@
 -- The slots that are removed with an object are those that go with it.
-use Rattle.std.proofs.Common.{◌≡◌, Bool, true, false, cond, ◌||◌, Option, None, Some, List, [], ◌∷◌, ◌++◌, map, Ordering, Less, refl, sym, ap, ◌∙◌, subst, ◌⊎◌, inl, inr}
+use Rattle.std.proofs.Common.{◌≡◌, Bool, true, false, ◌||◌, Option, None, Some, List, [], ◌∷◌, ◌++◌, refl, sym, ap, ◌∙◌, subst, inl, inr}
 use Rattle.std.specs.Prelude.{◌&&◌, is_some, unwrap_or, if◌then◌else◌}
 use Rattle.std.specs.Option.{option_map}
-use Rattle.std.specs.Bool.{Decides}
-use Rattle.std.specs.Cmp.{IsTotalOrder, tied_itself}
-use Rattle.std.specs.Ordering.{eq_by_cmp, is_lt, int_eq, ordering_reverse, ordering_then}
-use Rattle.std.specs.List.{filter, list_any, AllByRecursion}
+use Rattle.std.specs.Ordering.{eq_by_cmp, int_eq}
+use Rattle.std.specs.List.{list_any, AllByRecursion}
 use Rattle.std.specs.FinMap.{get, entries, find, get-entries, entries_sorted}
-use Rattle.std.proofs.lemmas.Bool.{false≢true, or_cases, or_right}
-use Rattle.std.proofs.lemmas.Bool.Decides.{Decides-int_eq}
-use Rattle.std.proofs.lemmas.Map.Lookups.{CmpEqualImpliesEq}
+use Rattle.std.proofs.lemmas.Bool.{false≢true, or_cases}
 use Rattle.moo_value.specs.declared.value.ObjNo.{ObjNo}
 use Rattle.moo_rows.specs.declared.row.ObjRow.{ObjRow}
 use Rattle.moo_rows.specs.declared.row.PropId.{PropId}
 use Rattle.moo_rows.specs.declared.row.PropRow.{PropRow}
 use Rattle.moo_rows.specs.declared.row.SlotRow.{SlotRow}
 use Rattle.moo_rows.specs.Exact.{slot_exact}
-use Rattle.moo_rows.specs.Maps.{Maps, object_cmp, prop_cmp, slot_cmp}
-use Rattle.moo_rows.proofs.Orders.{object_total, slot_total}
+use Rattle.moo_rows.specs.Maps.{Maps, prop_cmp, slot_cmp}
+use Rattle.moo_rows.proofs.Orders.{slot_total}
 use Rattle.moo_world.specs.Objects.{same_object, is_among, same_object-Decides}
-use Rattle.moo_world.specs.World.{chain, is_object}
+use Rattle.moo_world.specs.World.{chain}
 use Rattle.moo_world.specs.Rows.{IsGood, LookUps, look_ups, world_of}
-use Rattle.moo_world.proofs.MapLaws.{key-Decides, decided_alike}
+use Rattle.moo_world.proofs.MapLaws.{decided_alike}
 use Rattle.moo_world.proofs.Owed.{any-append}
 use Rattle.moo_world.proofs.Seen.{chain_of_row}
-use Rattle.moo_world.proofs.Trees.{chain_of_none}
 use Rattle.moo_props.specs.Dropped.{goes_with, dropped_keys}
 use Rattle.moo_props.specs.Dropping.{ids_for, ids_among, dropped_over}
 use Rattle.moo_props.specs.Names.{defines}
@@ -35,68 +30,14 @@ use Rattle.moo_props.specs.Slots.{keys_on}
 use Rattle.moo_props.proofs.Ascending.{Rises, rises_made, keys_by, keys_rise, props_rise, under_rise, ascend}
 use Rattle.moo_props.proofs.Folding.{has_id, is_id, key_parts, is_id-Decides}
 use Rattle.moo_world.proofs.PairLists.{some_of}
-use Rattle.moo_props.proofs.Gains.{slot_on_heir}
+use Rattle.moo_props.proofs.Gains.{object_of_chain, slot_on_heir}
 use Rattle.moo_props.proofs.LessRows.{is_own_id}
 use Rattle.moo_world.proofs.Listed.{listed, own_entries, all_made}
 use Rattle.moo_props.proofs.Moved.{under_is}
 use Rattle.moo_props.proofs.NewSlots.{has_all}
+use Rattle.moo_props.proofs.SameKeys.{holds, unique}
 use Rattle.moo_props.proofs.Walked.{Entry, walk, walk_held}
-
--- ---- ascending lists of the same keys are the same
-
-module _ {K : Type 0} (cmp : K → K → Ordering) (total : IsTotalOrder cmp) (exact : CmpEqualImpliesEq cmp) where
-  abbrev pub holds : List K → K → Bool
-  holds l k = list_any (eq_by_cmp cmp k) l
-
-  same_key : (a b : K) → Decides (eq_by_cmp cmp a b) (a ≡ b)
-  same_key a b = key-Decides cmp total exact a b
-
-  of_all : (P : K → Type 0) (l : List K) → AllByRecursion P l → (k : K) → holds l k ≡ true → P k
-  of_all P [] a k h = absurd (false≢true h)
-  of_all P (x ∷ l) a k h = by (or_cases _ _ h) (of_all P l a.1 k)
-    where
-      by : (eq_by_cmp cmp k x ≡ true) ⊎ (holds l k ≡ true) → (holds l k ≡ true → P k) → P k
-      by (inl e) r = subst P (sym ((same_key k x).0 e)) a.0
-      by (inr e) r = r e
-
-  not_less : (a : K) → cmp a a ≡ Less → ⊥
-  not_less a e = false≢true (ap is_lt (sym (tied_itself total a)) ∙ ap is_lt e)
-
-  not_both : (a b : K) → cmp a b ≡ Less → cmp b a ≡ Less → ⊥
-  not_both a b e f = false≢true (ap is_lt (sym (total.antisymm b a ∙ ap ordering_reverse e)) ∙ ap is_lt f)
-
-  -- of two ascending lists whose keys are those of the other the first keys are the same
-  same_first : (x y : K) (a b : List K) → AreAscending cmp (x ∷ a) → AreAscending cmp (y ∷ b) → holds (y ∷ b) x ≡ true → holds (x ∷ a) y ≡ true → x ≡ y
-  same_first x y a b u v h k = by (or_cases _ _ h) (or_cases _ _ k)
-    where
-      by : (eq_by_cmp cmp x y ≡ true) ⊎ (holds b x ≡ true) → (eq_by_cmp cmp y x ≡ true) ⊎ (holds a y ≡ true) → x ≡ y
-      by (inl e) k = (same_key x y).0 e
-      by (inr e) (inl f) = sym ((same_key y x).0 f)
-      by (inr e) (inr f) = absurd (not_both x y (of_all (λ z. cmp x z ≡ Less) a u.0 y f) (of_all (λ z. cmp y z ≡ Less) b v.0 x e))
-
-  later : (x y : K) (a b : List K) → x ≡ y → AreAscending cmp (x ∷ a) → (k : K) → holds a k ≡ true → holds (y ∷ b) k ≡ true → holds b k ≡ true
-  later x y a b e u k h g = by (or_cases _ _ g)
-    where
-      by : (eq_by_cmp cmp k y ≡ true) ⊎ (holds b k ≡ true) → holds b k ≡ true
-      by (inl f) = absurd (not_less x (ap (cmp x) (e ∙ sym ((same_key k y).0 f)) ∙ of_all (λ z. cmp x z ≡ Less) a u.0 k h))
-      by (inr f) = f
-
-  also : (x k : K) (a : List K) → holds a k ≡ true → holds (x ∷ a) k ≡ true
-  also x k a h = or_right (eq_by_cmp cmp k x) (holds a k) h
-
-  first : (x : K) (a : List K) → holds (x ∷ a) x ≡ true
-  first x a = ap (λ b. b || holds a x) ((same_key x x).1 refl)
-
-  pub unique : (a b : List K) → AreAscending cmp a → AreAscending cmp b → ((k : K) → holds a k ≡ true → holds b k ≡ true) → ((k : K) → holds b k ≡ true → holds a k ≡ true) → a ≡ b
-  unique [] [] u v to from = refl
-  unique [] (y ∷ b) u v to from = absurd (false≢true (from y (first y b)))
-  unique (x ∷ a) [] u v to from = absurd (false≢true (to x (first x a)))
-  unique (x ∷ a) (y ∷ b) u v to from =
-      let same = same_first x y a b u v (to x (first x a)) (from y (first y b)) in
-      let rest = unique a b u.1 v.1
-      (λ k h. later x y a b same u k h (to k (also x k a h)))
-      (λ k h. later y x b a (sym same) v k h (from k (also y k b h))) in
-      λ i. same i ∷ rest i
+use Rattle.moo_props.proofs.WalkOrder.{walk_own, walk_ids_rise}
 
 -- ---- what the code lists
 
@@ -134,34 +75,6 @@ held_by ids z j (e ∷ es) =
     by true g d = twice (has_id j (ids e.0)) (has_id j (ids z)) d (ap (λ y. has_id j (ids y)) ((same_object-Decides e.0 z).0 g))
     by false g d = refl
 
--- ---- order
-
-rises_fewer : {K A : Type 0} (cmp : K → K → Ordering) (key : A → K) (test : A → Bool) (l : List A) → Rises cmp key l → Rises cmp key (filter test l)
-rises_fewer cmp key test [] r = tt
-rises_fewer {A = A} cmp key test (a ∷ l) r = by (test a) (rises_fewer cmp key test l r.1)
-  where
-    fewer : (m : List A) → AllByRecursion (λ b. cmp (key a) (key b) ≡ Less) m → AllByRecursion (λ b. cmp (key a) (key b) ≡ Less) (filter test m)
-    fewer [] h = tt
-    fewer (b ∷ m) h = one (test b) (fewer m h.1)
-      where
-        one : (c : Bool) → AllByRecursion (λ b. cmp (key a) (key b) ≡ Less) (filter test m) → AllByRecursion (λ b. cmp (key a) (key b) ≡ Less) (cond c (b ∷ filter test m) (filter test m))
-        one true k = (h.0, k)
-        one false k = k
-
-    by : (b : Bool) → Rises cmp key (filter test l) → Rises cmp key (cond b (a ∷ filter test l) (filter test l))
-    by true k = (fewer l r.0, k)
-    by false k = k
-
--- the properties of one object's slots
-ids_rise : (x : ObjNo) (es : List Entry) → AllByRecursion (λ e. e.0.0 ≡ x) es → Rises slot_cmp (λ e. e.0) es → Rises prop_cmp (λ j. j) (ids_among es)
-ids_rise x [] a r = tt
-ids_rise x (e ∷ es) a r = (each es a.1 r.0, ids_rise x es a.1 r.1)
-  where
-    each : (l : List Entry) → AllByRecursion (λ e. e.0.0 ≡ x) l → AllByRecursion (λ b. slot_cmp e.0 b.0 ≡ Less) l → AllByRecursion (λ j. prop_cmp e.0.1 j ≡ Less) (ids_among l)
-    each [] a h = tt
-    each (b ∷ l) c h =
-        (sym (ap (λ o. ordering_then o (prop_cmp e.0.1 b.0.1)) (tied_itself object_total x)) ∙ sym (λ i. ordering_then (object_cmp (a.0 i) (c.0 i)) (prop_cmp e.0.1 b.0.1)) ∙ h.0, each l c.1 h.1)
-
 module _ (t : Maps) (good : IsGood t) (x : ObjNo) (row : ObjRow) (here : get t.objects x ≡ Some row) where
   abbrev m : LookUps
   m = look_ups t
@@ -172,29 +85,11 @@ module _ (t : Maps) (good : IsGood t) (x : ObjNo) (row : ObjRow) (here : get t.o
   abbrev own : List PropId
   own = props_of (x ∷ []) t.props
 
-  own_entry : AllByRecursion (λ (e : Entry). e.0.0 ≡ x) (walk t x)
-  own_entry = each (walk t x) (walk_held t x)
-    where
-      each : (l : List Entry) → AllByRecursion (λ (e : Entry). (get t.slots e.0 ≡ Some e.1) × (int_eq e.0.0.0 x.0 ≡ true)) l → AllByRecursion (λ (e : Entry). e.0.0 ≡ x) l
-      each [] h = tt
-      each (e ∷ l) h = (let k = (Decides-int_eq e.0.0.0 x.0).0 h.0.1 in λ i. record { 0 = k i }, each l h.1)
-
-  all_rise : Rises prop_cmp (λ j. j) all
-  all_rise = ids_rise x (walk t x) own_entry
-      (rises_fewer slot_cmp (λ (e : Entry). e.0) _ _ (rises_fewer slot_cmp (λ (e : Entry). e.0) _ (entries t.slots) (entries_rise)))
-    where
-      kept : (l : List Entry) → map (λ (e : Entry). e) (filter (λ e. true) l) ≡ l
-      kept [] = refl
-      kept (e ∷ l) = ap (λ k. e ∷ k) (kept l)
-
-      entries_rise : Rises slot_cmp (λ (e : Entry). e.0) (entries t.slots)
-      entries_rise = subst (Rises slot_cmp (λ (e : Entry). e.0)) (kept (entries t.slots)) (rises_made slot_cmp (λ (e : Entry). e.0) (λ e. true) (λ e. e) (λ e. refl) (entries t.slots) (entries_sorted t.slots))
-
   listed_ascend : AreAscending slot_cmp (dropped_over x all own (owners_under t x))
   listed_ascend = subst (AreAscending slot_cmp) (sym (over_is x all own (owners_under t x))) (keys_rise (ids_for x all own) (λ y. each (same_object x y)) (owners_under t x) (under_rise t x))
     where
       each : (b : Bool) → Rises prop_cmp (λ j. j) (if b then all else own)
-      each true = all_rise
+      each true = walk_ids_rise t x
       each false = props_rise t (x ∷ [])
 
   pub dropped_ascend : AreAscending slot_cmp (dropped_keys t x)
@@ -205,20 +100,13 @@ module _ (t : Maps) (good : IsGood t) (x : ObjNo) (row : ObjRow) (here : get t.o
   own_chain : is_among x (chain (world_of t) x) ≡ true
   own_chain = ap (is_among x) (chain_of_row m good.formed.tree x row (sym here)) ∙ ap (λ b. b || is_among x (chain (world_of t) row.parent)) ((same_object-Decides x x).1 refl)
 
-  there : (z : ObjNo) → is_among x (chain (world_of t) z) ≡ true → is_object (world_of t) z ≡ true
-  there z u = by (is_object (world_of t) z) refl
-    where
-      by : (b : Bool) → is_object (world_of t) z ≡ b → b ≡ true
-      by true e = refl
-      by false e = absurd (false≢true (sym (ap (is_among x) (chain_of_none (world_of t) z e)) ∙ u))
-
   -- a property that x defines has a slot on each object under x
   own_slot : (z : ObjNo) (j : PropId) → is_among x (chain (world_of t) z) ≡ true → defines t x j ≡ true → is_some (get t.slots (z, j)) ≡ true
   own_slot z j u d = by (get t.props j) refl d
     where
       by : (o : Option PropRow) → get t.props j ≡ o → unwrap_or (option_map (λ p. same_object p.definer x) o) false ≡ true → is_some (get t.slots (z, j)) ≡ true
       by None e h = absurd (false≢true h)
-      by (Some p) e h = slot_on_heir t good.sound good.formed z (there z u) j.0 p e (ap (λ k. is_among k (chain (world_of t) z)) ((same_object-Decides p.definer x).0 h) ∙ u)
+      by (Some p) e h = slot_on_heir t good.sound good.formed z (object_of_chain (world_of t) x z u) j.0 p e (ap (λ k. is_among k (chain (world_of t) z)) ((same_object-Decides p.definer x).0 h) ∙ u)
 
   listed_has : (z : ObjNo) (j : PropId) → holds slot_cmp slot_total slot_exact (dropped_over x all own (owners_under t x)) (z, j) ≡ (is_among x (chain (world_of t) z) && has_id j (ids_for x all own z))
   listed_has z j =
@@ -251,7 +139,7 @@ module _ (t : Maps) (good : IsGood t) (x : ObjNo) (row : ObjRow) (here : get t.o
       ]
 
       from : has_id j all ≡ true → is_some (get t.slots (x, j)) ≡ true
-      from e = each (walk t x) (walk_held t x) own_entry e
+      from e = each (walk t x) (walk_held t x) (walk_own t x) e
 
   same_keys : (z : ObjNo) (j : PropId) → (is_among x (chain (world_of t) z) && has_id j (ids_for x all own z)) ≡ (is_some (get t.slots (z, j)) && goes_with t x (z, j))
   same_keys z j = by (same_object x z) refl

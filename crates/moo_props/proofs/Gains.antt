@@ -24,6 +24,14 @@ use Rattle.moo_props.proofs.Definers.{only_gained}
 use Rattle.moo_world.proofs.Numbered.{any_from, no_later}
 use Rattle.moo_world.proofs.Shown.{SlotHere, slot_from}
 
+-- what has a chain with objects in it is an object
+pub object_of_chain : (w : World) (d z : ObjNo) → is_among d (chain w z) ≡ true → is_object w z ≡ true
+object_of_chain w d z h = by (is_object w z) refl
+  where
+    by : (b : Bool) → is_object w z ≡ b → b ≡ true
+    by true e = refl
+    by false e = absurd (false≢true (sym (ap (is_among d) (chain_of_none w z e)) ∙ h))
+
 module _ (t : Maps) (sound : IsSound t) where
   abbrev pub m : LookUps
   m = look_ups t
@@ -115,11 +123,7 @@ module _ (t : Maps) (sound : IsSound t) where
 
     -- where x gains a definer q is an object
     pub new_object : (d : ObjNo) → is_among d (gained w x q) ≡ true → is_object w q ≡ true
-    new_object d h = by (is_object w q) refl
-      where
-        by : (b : Bool) → is_object w q ≡ b → b ≡ true
-        by true e = refl
-        by false e = absurd (false≢true (sym (ap (is_among d) (chain_of_none w q e)) ∙ gained_in_chain d h))
+    new_object d h = object_of_chain w d q (gained_in_chain d h)
 
     -- a property of a definer that x gains has a slot on q
     pub slot_on_new : (id : ℕ) (p : PropRow) → m.prop id ≡ Some p → is_among p.definer (gained w x q) ≡ true → is_some (m.slot q id) ≡ true

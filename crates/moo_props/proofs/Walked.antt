@@ -36,7 +36,7 @@ Entry = (ObjNo × PropId) × SlotRow
 
 -- ---- lists
 
-all_filter : {A : Type 0} (P : A → Type 0) (test : A → Bool) (l : List A) → AllByRecursion P l → AllByRecursion P (filter test l)
+pub all_filter : {A : Type 0} (P : A → Type 0) (test : A → Bool) (l : List A) → AllByRecursion P l → AllByRecursion P (filter test l)
 all_filter P test [] a = tt
 all_filter P test (x ∷ l) a = by (test x) (all_filter P test l a.1)
   where
@@ -68,7 +68,7 @@ none_passes test (x ∷ l) e = by (test x) e (none_passes test l)
     by true k r = absurd (none-some x (sym k))
     by false k r = r k
 
-any_filter : {A : Type 0} (p test : A → Bool) (l : List A) → list_any p (filter test l) ≡ list_any (λ a. test a && p a) l
+pub any_filter : {A : Type 0} (p test : A → Bool) (l : List A) → list_any p (filter test l) ≡ list_any (λ a. test a && p a) l
 any_filter p test [] = refl
 any_filter p test (x ∷ l) = by (test x) (any_filter p test l)
   where

@@ -1,7 +1,8 @@
 -- A change of parent, at the level of the rows: which slots go and which come.
-use Rattle.std.specs.Prelude.{Bool, not, ◌&&◌, List, [], ◌∷◌, map, if◌then◌else◌}
+use Rattle.std.specs.Prelude.{Bool, false, not, ◌&&◌, List, [], ◌∷◌, map, unwrap_or, if◌then◌else◌}
+use Rattle.std.specs.Option.{option_map}
 use Rattle.std.specs.List.{filter}
-use Rattle.std.specs.FinMap.{insert}
+use Rattle.std.specs.FinMap.{get, insert}
 use Rattle.moo_value.specs.declared.value.ObjNo.{ObjNo}
 use Rattle.moo_rows.specs.declared.row.ObjRow.{ObjRow}
 use Rattle.moo_rows.specs.declared.row.PropId.{PropId}
@@ -20,6 +21,10 @@ is_only_of these others d = is_among d these && not (is_among d others)
 -- the properties of these entries whose definer is of the first list and not of the second
 abbrev pub props_only_of : List ObjNo → List ObjNo → List (PropId × PropRow) → List PropId
 props_only_of these others es = map (λ e. e.0) (filter (λ e. is_only_of these others e.1.definer) es)
+
+-- an object of the first list, and not of the second, defines the property
+abbrev pub is_defined_only : List ObjNo → List ObjNo → Maps → PropId → Bool
+is_defined_only these others t id = unwrap_or (option_map (λ p. is_only_of these others p.definer) (get t.props id)) false
 
 -- ---- what is held after each step
 

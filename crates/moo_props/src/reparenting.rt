@@ -1,20 +1,20 @@
 //! A change of parent.
 
-ghost use Rattle.std.specs.Prelude.{◌≡◌, ◌++◌, ◌+◌, ◌≤◌, map, length, IfOk, OnOk};
+ghost use Rattle.std.specs.Prelude.{◌≡◌, true, ◌++◌, ◌+◌, ◌≤◌, map, length, IfOk, OnOk};
 ghost use Rattle.std.specs.FinMap.{get, entries};
 ghost use Rattle.moo_rows.specs.Maps.{slot_cmp};
 ghost use Rattle.moo_world.specs.Objects.{is_among};
-ghost use Rattle.moo_world.specs.World.{reparented};
+ghost use Rattle.moo_world.specs.World.{chain, reparented};
 ghost use Rattle.moo_world.specs.Rows.{world_of, IsGood};
 ghost use Rattle.moo_world.specs.Laws.{MayReparent};
 ghost use Rattle.moo_world.specs.Keeps.{Keeps};
-ghost use Rattle.moo_props.specs.Reparent.{props_only_of, slots_moved, relinked, relinked_list};
+ghost use Rattle.moo_props.specs.Reparent.{is_defined_only, props_only_of, slots_moved, relinked, relinked_list};
 ghost use Rattle.moo_props.specs.Slots.{id_of, keys_over};
 ghost use Rattle.moo_props.specs.Present.{ArePresent, AreAbsent, AreAscending};
 ghost use Rattle.moo_props.specs.Touched.{removed_keys, added_keys, relinked_objects, slot_after, row_after, IsSameButSlotsAndObjects};
 
 use crate::slots::{Origin, SlotKeys, list_on, origins, put_fresh, remove_on};
-use moo_rows::{ObjList, ObjRow, PropId, Row, Rows, each_prop};
+use moo_rows::{ObjList, ObjRow, PropId, Row, Rows, each_prop, each_slot_of};
 use moo_tree::{chain, owners_under};
 use moo_value::ObjNo;
 use std::alloc::{AllocError, Global};
@@ -47,6 +47,38 @@ pub(crate) fn props_only_of<R: Rows>(
     for (id, row) in each_prop(rows) {
         if is_among(these, row.definer) && !is_among(others, row.definer) {
             found.push(id)?;
+        }
+    }
+    Ok(found)
+}
+
+/// Whether an object of one list, and not of another, defines the property.
+fn is_defined_only<R: Rows>(rows: &R, these: &[ObjNo], others: &[ObjNo], id: PropId) -> bool
+    ensures { result ≡ is_defined_only these.now others.now (R.held rows.now).maps id }
+{
+    match rows.prop(id) {
+        None => false,
+        Some(row) => is_among(these, row.definer) && !is_among(others, row.definer),
+    }
+}
+
+/// The properties that objects of one list define and not those of another, ascending. The first list is of y's chain, so
+/// that y has a slot of each: only its slots are gone over.
+fn props_among<R: Rows>(
+    alloc: Global,
+    rows: &R,
+    y: ObjNo,
+    these: &[ObjNo],
+    others: &[ObjNo],
+) -> Result<Vec<PropId>, AllocError>
+    requires good { IsGood (R.held rows.now).maps }
+    requires within { (d : ObjNo) → is_among d these.now ≡ true → is_among d (chain (world_of (R.held rows.now).maps) y) ≡ true }
+    ensures { IfOk result (λ v. v.items ≡ props_only_of these.now others.now (entries (R.held rows.now).maps.props)) }
+{
+    let mut found = Vec::new(alloc);
+    for (key, _slot) in each_slot_of(rows, y, PropId(0)) {
+        if is_defined_only(rows, these, others, key.1) {
+            found.push(key.1)?;
         }
     }
     Ok(found)
@@ -131,8 +163,8 @@ pub fn reparent<R: Rows>(
     };
     let above = chain(alloc, rows, row.parent)?;
     let ahead = chain(alloc, rows, new)?;
-    let lost = props_only_of(alloc, rows, above.as_slice(), ahead.as_slice())?;
-    let coming = props_only_of(alloc, rows, ahead.as_slice(), above.as_slice())?;
+    let lost = props_among(alloc, rows, x, above.as_slice(), ahead.as_slice())?;
+    let coming = props_among(alloc, rows, new, ahead.as_slice(), above.as_slice())?;
     let gained = origins(alloc, rows, new, coming.as_slice())?;
     let under = owners_under(alloc, rows, x)?;
     let mut removed = Vec::new(alloc);

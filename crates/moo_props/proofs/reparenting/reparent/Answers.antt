@@ -2,15 +2,16 @@ use Rattle.std.proofs.Common.{◌≡◌, ◌++◌, map, length, Some, sym, ap, s
 use Rattle.std.specs.Prelude.{is_some, unwrap_or, []}
 use Rattle.std.specs.Option.{option_map}
 use Rattle.std.specs.FinMap.{get, entries}
-use Rattle.std.proofs.lemmas.Bool.{false≢true}
+use Rattle.std.proofs.lemmas.Bool.{false≢true, or_right}
 use Rattle.moo_value.specs.declared.value.ObjNo.{ObjNo}
 use Rattle.moo_rows.specs.declared.row.PropId.{PropId}
 use Rattle.moo_rows.specs.Maps.{Maps, Held, slot_cmp}
 use Rattle.moo_world.specs.Manual.{lost, gained}
-use Rattle.moo_world.specs.World.{IsWellFormed}
+use Rattle.moo_world.specs.Objects.{same_object, is_among}
+use Rattle.moo_world.specs.World.{IsWellFormed, chain}
 use Rattle.moo_world.specs.Rows.{look_ups, world_of, IsSound}
 use Rattle.moo_world.proofs.Reparenting.{IsWellFormed-reparented}
-use Rattle.moo_world.proofs.Seen.{is_object_seen}
+use Rattle.moo_world.proofs.Seen.{chain_of_row, is_object_seen}
 use Rattle.moo_tree.specs.Under.{owners_under}
 use Rattle.moo_props.specs.Reparent.{props_only_of, slots_moved, relinked, relinked_list}
 use Rattle.moo_props.specs.Touched.{props_of, removed_keys, added_keys, slot_after, IsSameButSlotsAndObjects}
@@ -69,6 +70,16 @@ pub unreachable-requires : goal.unreachable-requires
 unreachable-requires g c =
     let m = look_ups (g.R.Rows.held c.args.rows.now).maps in
     false≢true (ap is_some c.in-None.ensures ∙ sym (is_object_seen m c.args.x) ∙ c.requires.may.object)
+
+-- what is above x is of its chain
+pub props_among-requires-clause-within : goal.props_among-requires-clause-within
+props_among-requires-clause-within g c d h =
+    let t = (g.R.Rows.held c.args.rows.now).maps in
+    let row = c.in_ok-row-in-Some.row in
+    let here = ap Some c.in_ok-row-in-Some.ensures ∙ c.in-Some.ensures in
+    let above = c.as_slice.ensures.value ∙ c.in_ok-above.ensures in
+    ap (is_among d) (chain_of_row (look_ups t) c.requires.good.formed.tree c.args.x row here)
+    ∙ or_right (same_object d c.args.x) (is_among d (chain (world_of t) row.parent)) (ap (is_among d) (sym above) ∙ h)
 
 pub returns-clause-removed : goal.returns-clause-removed
 returns-clause-removed g c = removed_is g c

@@ -1,0 +1,78 @@
+-- The properties that some of an object's chain define are among its slots.
+use Rattle.std.proofs.Common.{◌≡◌, Bool, true, false, Option, None, Some, List, [], ◌∷◌, refl, sym, ap, ◌∙◌, inl, inr}
+use Rattle.std.specs.Prelude.{◌&&◌, unwrap_or}
+use Rattle.std.specs.Option.{option_map}
+use Rattle.std.specs.List.{filter, list_any}
+use Rattle.std.specs.FinMap.{get, entries, get-entries, entries_sorted}
+use Rattle.std.proofs.lemmas.Bool.{false≢true, and_parts, or_cases}
+use Rattle.moo_value.specs.declared.value.ObjNo.{ObjNo}
+use Rattle.moo_rows.specs.declared.row.PropId.{PropId}
+use Rattle.moo_rows.specs.declared.row.PropRow.{PropRow}
+use Rattle.moo_rows.specs.Exact.{prop_exact}
+use Rattle.moo_rows.specs.Maps.{Maps, prop_cmp}
+use Rattle.moo_rows.proofs.Orders.{prop_total}
+use Rattle.moo_world.specs.Objects.{is_among}
+use Rattle.moo_world.specs.Rows.{IsGood, world_of}
+use Rattle.moo_world.specs.World.{World, chain}
+use Rattle.moo_world.proofs.Listed.{listed}
+use Rattle.moo_world.proofs.MapLaws.{decided_alike}
+use Rattle.moo_world.proofs.PairLists.{some_of, any_map}
+use Rattle.moo_props.specs.Dropping.{ids_among}
+use Rattle.moo_props.specs.Reparent.{is_only_of, is_defined_only, props_only_of}
+use Rattle.moo_props.proofs.Ascending.{rises_made, ascend}
+use Rattle.moo_props.proofs.Folding.{is_id, has_id, is_id-Decides}
+use Rattle.moo_props.proofs.Gains.{object_of_chain, slot_on_heir}
+use Rattle.moo_props.proofs.SameKeys.{unique}
+use Rattle.moo_props.proofs.WalkOrder.{passing_ids_rise}
+use Rattle.moo_props.proofs.Walked.{Entry, any_filter, walk, walk_meets}
+
+module _ (t : Maps) (good : IsGood t) (y : ObjNo) (these others : List ObjNo) (within : (d : ObjNo) → is_among d these ≡ true → is_among d (chain (world_of t) y) ≡ true) where
+  abbrev w : World
+  w = world_of t
+
+  abbrev passes : Entry → Bool
+  passes e = is_defined_only these others t e.0.1
+
+  -- the list by slots
+  abbrev by_slots : List PropId
+  by_slots = ids_among (filter passes (walk t y))
+
+  -- and that by properties
+  abbrev by_props : List PropId
+  by_props = props_only_of these others (entries t.props)
+
+  in_props : (j : PropId) → has_id j by_props ≡ is_defined_only these others t j
+  in_props j =
+      listed prop_cmp prop_total prop_exact j (λ e. is_only_of these others e.1.definer) (λ e. e.0) (is_id j) (λ e. refl) (entries t.props) (entries_sorted t.props)
+      ∙ ap (λ o. unwrap_or (option_map (λ (p : PropRow). is_only_of these others p.definer) o) false) (sym (get-entries t.props j))
+
+  -- y has a slot of each such property, and the walk meets it
+  met : (j : PropId) → is_defined_only these others t j ≡ true → list_any (λ (e : Entry). passes e && is_id j e.0.1) (walk t y) ≡ true
+  met j h = by (get t.props j) refl h
+    where
+      by : (o : Option PropRow) → get t.props j ≡ o → unwrap_or (option_map (λ (p : PropRow). is_only_of these others p.definer) o) false ≡ true → list_any (λ (e : Entry). passes e && is_id j e.0.1) (walk t y) ≡ true
+      by None e k = absurd (false≢true k)
+      by (Some p) e k =
+          let heir = within p.definer (and_parts _ _ k).0 in
+          let slot = some_of (get t.slots (y, j)) (slot_on_heir t good.sound good.formed y (object_of_chain w p.definer y heir) j.0 p e heir) in
+          walk_meets t good.sound y (λ (e : Entry). passes e && is_id j e.0.1) j slot.0 slot.1 (λ i. h i && (is_id-Decides j j).1 refl i)
+
+  defined : (j : PropId) (es : List Entry) → list_any (λ (e : Entry). passes e && is_id j e.0.1) es ≡ true → is_defined_only these others t j ≡ true
+  defined j [] h = absurd (false≢true h)
+  defined j (e ∷ es) h = elim (or_cases (passes e && is_id j e.0.1) (list_any (λ (e : Entry). passes e && is_id j e.0.1) es) h) [
+    | inl k ↦ let parts = and_parts (passes e) (is_id j e.0.1) k in ap (is_defined_only these others t) ((is_id-Decides j e.0.1).0 parts.1) ∙ parts.0
+    | inr k ↦ defined j es k
+  ]
+
+  in_slots : (j : PropId) → has_id j by_slots ≡ is_defined_only these others t j
+  in_slots j =
+      any_map (is_id j) (λ (e : Entry). e.0.1) (filter passes (walk t y))
+      ∙ any_filter (λ (e : Entry). is_id j e.0.1) passes (walk t y)
+      ∙ decided_alike _ _ (is_defined_only these others t j ≡ true) (defined j (walk t y), met j) (λ e. e, λ e. e)
+
+  pub slots_are_props : by_slots ≡ by_props
+  slots_are_props = unique prop_cmp prop_total prop_exact by_slots by_props
+      (ascend prop_cmp by_slots (passing_ids_rise t y passes))
+      (ascend prop_cmp by_props (rises_made prop_cmp (λ j. j) (λ e. is_only_of these others e.1.definer) (λ e. e.0) (λ e. refl) (entries t.props) (entries_sorted t.props)))
+      (λ j h. in_props j ∙ sym (in_slots j) ∙ h)
+      (λ j h. in_slots j ∙ sym (in_props j) ∙ h)

@@ -1,0 +1,67 @@
+-- The walk over an object's slots gives its properties in order.
+use Rattle.std.proofs.Common.{◌≡◌, Bool, true, false, cond, Some, List, [], ◌∷◌, map, Ordering, Less, sym, ap, ◌∙◌, refl, subst}
+use Rattle.std.specs.Cmp.{tied_itself}
+use Rattle.std.specs.Ordering.{int_eq, ordering_then}
+use Rattle.std.specs.List.{filter, AllByRecursion}
+use Rattle.std.specs.FinMap.{get, entries, entries_sorted}
+use Rattle.std.proofs.lemmas.Bool.Decides.{Decides-int_eq}
+use Rattle.moo_value.specs.declared.value.ObjNo.{ObjNo}
+use Rattle.moo_rows.specs.Maps.{Maps, object_cmp, prop_cmp, slot_cmp}
+use Rattle.moo_rows.proofs.Orders.{object_total}
+use Rattle.moo_props.specs.Dropping.{ids_among}
+use Rattle.moo_props.proofs.Ascending.{Rises, rises_made}
+use Rattle.moo_props.proofs.Walked.{Entry, all_filter, walk, walk_held}
+
+rises_fewer : {K A : Type 0} (cmp : K → K → Ordering) (key : A → K) (test : A → Bool) (l : List A) → Rises cmp key l → Rises cmp key (filter test l)
+rises_fewer cmp key test [] r = tt
+rises_fewer {A = A} cmp key test (a ∷ l) r = by (test a) (rises_fewer cmp key test l r.1)
+  where
+    fewer : (m : List A) → AllByRecursion (λ b. cmp (key a) (key b) ≡ Less) m → AllByRecursion (λ b. cmp (key a) (key b) ≡ Less) (filter test m)
+    fewer [] h = tt
+    fewer (b ∷ m) h = one (test b) (fewer m h.1)
+      where
+        one : (c : Bool) → AllByRecursion (λ b. cmp (key a) (key b) ≡ Less) (filter test m) → AllByRecursion (λ b. cmp (key a) (key b) ≡ Less) (cond c (b ∷ filter test m) (filter test m))
+        one true k = (h.0, k)
+        one false k = k
+
+    by : (b : Bool) → Rises cmp key (filter test l) → Rises cmp key (cond b (a ∷ filter test l) (filter test l))
+    by true k = (fewer l r.0, k)
+    by false k = k
+
+-- the properties of one object's slots
+ids_rise : (x : ObjNo) (es : List Entry) → AllByRecursion (λ e. e.0.0 ≡ x) es → Rises slot_cmp (λ e. e.0) es → Rises prop_cmp (λ j. j) (ids_among es)
+ids_rise x [] a r = tt
+ids_rise x (e ∷ es) a r = (each es a.1 r.0, ids_rise x es a.1 r.1)
+  where
+    each : (l : List Entry) → AllByRecursion (λ e. e.0.0 ≡ x) l → AllByRecursion (λ b. slot_cmp e.0 b.0 ≡ Less) l → AllByRecursion (λ j. prop_cmp e.0.1 j ≡ Less) (ids_among l)
+    each [] a h = tt
+    each (b ∷ l) c h =
+        (sym (ap (λ o. ordering_then o (prop_cmp e.0.1 b.0.1)) (tied_itself object_total x)) ∙ sym (λ i. ordering_then (object_cmp (a.0 i) (c.0 i)) (prop_cmp e.0.1 b.0.1)) ∙ h.0, each l c.1 h.1)
+
+-- each slot is the object's
+pub walk_own : (t : Maps) (x : ObjNo) → AllByRecursion (λ (e : Entry). e.0.0 ≡ x) (walk t x)
+walk_own t x = each (walk t x) (walk_held t x)
+  where
+    each : (l : List Entry) → AllByRecursion (λ (e : Entry). (get t.slots e.0 ≡ Some e.1) × (int_eq e.0.0.0 x.0 ≡ true)) l → AllByRecursion (λ (e : Entry). e.0.0 ≡ x) l
+    each [] h = tt
+    each (e ∷ l) h = (let k = (Decides-int_eq e.0.0.0 x.0).0 h.0.1 in λ i. record { 0 = k i }, each l h.1)
+
+walk_rises : (t : Maps) (x : ObjNo) → Rises slot_cmp (λ (e : Entry). e.0) (walk t x)
+walk_rises t x = rises_fewer slot_cmp (λ (e : Entry). e.0) _ _ (rises_fewer slot_cmp (λ (e : Entry). e.0) _ (entries t.slots) entries_rise)
+  where
+    kept : (l : List Entry) → map (λ (e : Entry). e) (filter (λ e. true) l) ≡ l
+    kept [] = refl
+    kept (e ∷ l) = ap (λ k. e ∷ k) (kept l)
+
+    entries_rise : Rises slot_cmp (λ (e : Entry). e.0) (entries t.slots)
+    entries_rise = subst (Rises slot_cmp (λ (e : Entry). e.0)) (kept (entries t.slots)) (rises_made slot_cmp (λ (e : Entry). e.0) (λ e. true) (λ e. e) (λ e. refl) (entries t.slots) (entries_sorted t.slots))
+
+-- all its properties
+pub walk_ids_rise : (t : Maps) (x : ObjNo) → Rises prop_cmp (λ j. j) (ids_among (walk t x))
+walk_ids_rise t x = ids_rise x (walk t x) (walk_own t x) (walk_rises t x)
+
+-- and those whose slots pass a test
+pub passing_ids_rise : (t : Maps) (x : ObjNo) (test : Entry → Bool) → Rises prop_cmp (λ j. j) (ids_among (filter test (walk t x)))
+passing_ids_rise t x test =
+    ids_rise x (filter test (walk t x)) (all_filter (λ (e : Entry). e.0.0 ≡ x) test (walk t x) (walk_own t x))
+    (rises_fewer slot_cmp (λ (e : Entry). e.0) test (walk t x) (walk_rises t x))

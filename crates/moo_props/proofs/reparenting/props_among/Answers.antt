@@ -1,0 +1,14 @@
+use Rattle.std.proofs.Common.{◌++◌, ap, ◌∙◌}
+use Rattle.std.specs.List.{filter}
+use Rattle.moo_rows.specs.Walk.{slots_of_left}
+use Rattle.moo_props.specs.Dropping.{ids_among}
+use Rattle.moo_props.specs.Reparent.{is_defined_only}
+use Rattle.moo_props.proofs.AmongSlots.{slots_are_props}
+use Rattle.moo_props.proofs.reparenting.props_among.Goals as goal
+
+pub loop-key-init : goal.loop-key-init
+loop-key-init g c =
+    let t = (g.R.Rows.held c.args.rows.now).maps in
+    let left = ap (λ walk. slots_of_left walk.object walk.last (g.R.Rows.held walk.rows.now).maps) c.into_iter-key-iterator.ensures.into_iter_gives ∙ c.each_slot_of-key-items.ensures in
+    (λ i. c.new-found.ensures.items i ++ ids_among (filter (λ e. is_defined_only c.args.these.now c.args.others.now t e.0.1) (left i)))
+    ∙ slots_are_props t c.requires.good c.args.y c.args.these.now c.args.others.now c.requires.within

@@ -1,0 +1,14 @@
+use Rattle.std.proofs.Common.{◌≡◌, ◌++◌}
+use Rattle.std.specs.FinMap.{entries}
+use Rattle.std.specs.List.{filter}
+use Rattle.moo_rows.specs.Walk.{slots_of_left}
+use Rattle.moo_props.specs.Dropping.{ids_among}
+use Rattle.moo_props.specs.Reparent.{is_defined_only, props_only_of}
+use Rattle.moo_props.proofs.reparenting.props_among.Given as goal
+
+-- those so far, and those of the slots that are left
+abbrev pub invariant-loop-key : goal.invariant-loop-key
+invariant-loop-key g l =
+    let t = (g.R.Rows.held l.rows).maps in
+    let left = slots_of_left l.key-iterator.object l.key-iterator.last (g.R.Rows.held l.key-iterator.rows.now).maps in
+    l.found.items ++ ids_among (filter (λ e. is_defined_only l.these l.others t e.0.1) left) ≡ props_only_of l.these l.others (entries t.props)
