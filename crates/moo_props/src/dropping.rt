@@ -17,7 +17,9 @@ ghost use Rattle.moo_props.specs.Touched.{props_of};
 
 use crate::reparenting::{owners_under, props_only_of};
 use crate::slots::{SlotKeys, remove_on};
-use moo_rows::{ObjList, ObjRow, PropId, Row, Rows, VerbId, each_object, each_slot_of, each_verb};
+use moo_rows::{
+    ObjList, ObjRow, PropId, Row, Rows, VerbId, each_object, each_slot_of, each_verb_of,
+};
 use moo_value::ObjNo;
 use std::alloc::{AllocError, Global};
 use std::marker::Model;
@@ -93,15 +95,10 @@ fn ids_on<R: Rows>(alloc: Global, rows: &R, x: ObjNo) -> Result<Vec<PropId>, All
 
 /// The verbs of x.
 fn verbs_on<R: Rows>(alloc: Global, rows: &R, x: ObjNo) -> Result<Vec<(ObjNo, VerbId)>, AllocError>
+    requires { IsGood (R.held rows.now).maps }
     ensures { IfOk result (λ v. v.items ≡ verbs_among x (entries (R.held rows.now).maps.verbs)) }
 {
-    let mut found = Vec::new(alloc);
-    for (key, _verb) in each_verb(rows) {
-        if key.0 == x {
-            found.push(key)?;
-        }
-    }
-    Ok(found)
+    each_verb_of(rows, x, VerbId(0)).map(|e| e.0).collect(alloc)
 }
 
 /// Whether an object's parent or place is x.
