@@ -1,17 +1,53 @@
 -- In a good world the walks that begin below the least number go over all rows.
-use Rattle.std.proofs.Common.{◌≡◌, ◌≢◌, ◌<◌, Option, None, Some, map, refl, ap}
+use Rattle.std.proofs.Common.{◌≡◌, ◌≢◌, ◌<◌, T, Option, None, Some, List, [], ◌∷◌, map, Less, Ordering, refl, sym, ap, ◌∙◌}
 use Rattle.std.specs.Prelude.{is_some}
-use Rattle.std.specs.FinMap.{get, entries}
+use Rattle.std.specs.Cmp.{IsTotalOrder, tied_itself, nat_cmp_is}
+use Rattle.std.specs.Ordering.{int_eq, is_eq}
+use Rattle.std.specs.List.{filter}
+use Rattle.std.specs.FinMap.{FinMap, get, find, is_sorted, entries, entries_sorted, get-entries}
+use Rattle.std.proofs.Math.Bool.{or-false}
 use Rattle.moo_value.specs.declared.value.ObjNo.{ObjNo}
+use Rattle.moo_rows.specs.declared.row.PropId.{PropId}
+use Rattle.moo_rows.specs.declared.row.PropRow.{PropRow}
 use Rattle.moo_rows.specs.declared.row.VerbId.{VerbId}
 use Rattle.moo_rows.specs.declared.row.VerbRow.{VerbRow}
-use Rattle.moo_rows.specs.Maps.{Maps}
-use Rattle.moo_rows.specs.Walk.{verbs_of_left}
+use Rattle.moo_rows.specs.Links.{defined_left}
+use Rattle.moo_rows.specs.Maps.{Maps, prop_cmp}
+use Rattle.moo_rows.specs.Walk.{is_past, entries_past, verbs_of_left}
 use Rattle.moo_rows.proofs.OfObject.{verbs_of_left-all}
-use Rattle.moo_world.specs.Rows.{IsGood, verb_id}
+use Rattle.moo_rows.proofs.Orders.{prop_total}
+use Rattle.moo_rows.proofs.Walking.{first_of, here, keeps, past_test, all_past}
+use Rattle.moo_world.specs.Objects.{same_object, same_object-eq}
+use Rattle.moo_world.specs.Rows.{IsGood, prop_id, verb_id}
+use Rattle.moo_world.proofs.ObjectEntries.{same_object-symm}
 use Rattle.moo_props.specs.Dropping.{verbs_among}
+use Rattle.moo_props.specs.Touched.{props_of}
+
+-- where each held key is past one, the entries past it are all
+module _ {K X : Type 0} {cmp : K → K → Ordering} (total : IsTotalOrder cmp) (from : K) where
+  all_of : (es : List (K × X)) → T (is_sorted cmp es) → ((k : K) (row : X) → find cmp k es ≡ Some row → cmp from k ≡ Less) → entries_past cmp (Some from) es ≡ es
+  all_of [] sorted h = refl
+  all_of (e ∷ es) sorted h =
+      let first : cmp from e.0 ≡ Less = h e.0 e.1 (here cmp e.0 e es (ap is_eq (tied_itself total e.0))) in
+      keeps (is_past cmp (Some from)) e es (past_test cmp (Some from) e.0 first) ∙ ap (λ l. e ∷ l) (all_past cmp total (Some from) e.0 es first (first_of _ _ sorted))
+
+  all_entries : (m : FinMap cmp X) → ((k : K) (row : X) → get m k ≡ Some row → cmp from k ≡ Less) → entries_past cmp (Some from) (entries m) ≡ entries m
+  all_entries m h = all_of (entries m) (entries_sorted m) (λ k row held. h k row (get-entries m k ∙ held))
 
 module _ (t : Maps) (good : IsGood t) (x : ObjNo) where
+  -- ---- properties
+
+  pub defined_all : defined_left x (prop_id 0) t ≡ filter (λ e. same_object e.1.definer x) (entries t.props)
+  defined_all =
+      ap (filter (λ e. int_eq e.1.definer.0 x.0)) (all_entries prop_total (prop_id 0) t.props past)
+      ∙ (λ i. filter (λ e. (same_object-eq x e.1.definer ∙ same_object-symm x e.1.definer) i) (entries t.props))
+    where
+      past : (id : PropId) (row : PropRow) → get t.props id ≡ Some row → prop_cmp (prop_id 0) id ≡ Less
+      past id row held = sym (nat_cmp_is 0 id.0 Less (good.sound.props_below id.0 (ap is_some held)).0)
+
+  pub defined_keys : map (λ e. e.0) (defined_left x (prop_id 0) t) ≡ props_of (x ∷ []) t.props
+  defined_keys = ap (map (λ e. e.0)) defined_all ∙ (λ i. map (λ e. e.0) (filter (λ e. sym (or-false (same_object e.1.definer x)) i) (entries t.props)))
+
   -- ---- verbs
 
   pub verb_keys : map (λ e. e.0) (verbs_of_left x (verb_id 0) t) ≡ verbs_among x (entries t.verbs)

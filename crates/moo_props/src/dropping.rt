@@ -15,10 +15,11 @@ ghost use Rattle.moo_world.specs.Keeps.{Keeps};
 ghost use Rattle.moo_props.specs.Present.{ArePresent, AreAbsent, AreAscending};
 ghost use Rattle.moo_props.specs.Touched.{props_of};
 
-use crate::reparenting::{owners_under, props_only_of};
+use crate::reparenting::owners_under;
 use crate::slots::{SlotKeys, remove_on};
 use moo_rows::{
-    ObjList, ObjRow, PropId, Row, Rows, VerbId, each_object, each_slot_of, each_verb_of,
+    ObjList, ObjRow, PropId, Row, Rows, VerbId, each_defined, each_object, each_slot_of,
+    each_verb_of,
 };
 use moo_value::ObjNo;
 use std::alloc::{AllocError, Global};
@@ -91,6 +92,14 @@ fn ids_on<R: Rows>(alloc: Global, rows: &R, x: ObjNo) -> Result<Vec<PropId>, All
         found.push(key.1)?;
     }
     Ok(found)
+}
+
+/// The properties that x defines.
+fn props_on<R: Rows>(alloc: Global, rows: &R, x: ObjNo) -> Result<Vec<PropId>, AllocError>
+    requires { IsGood (R.held rows.now).maps }
+    ensures { IfOk result (λ v. v.items ≡ props_of (x ∷ []) (R.held rows.now).maps.props) }
+{
+    each_defined(rows, x, PropId(0)).map(|e| e.0).collect(alloc)
 }
 
 /// The verbs of x.
@@ -249,7 +258,7 @@ pub fn drop_object<R: Rows>(alloc: Global, rows: &mut R, x: ObjNo) -> Result<Dro
     };
     let under = owners_under(alloc, rows, x)?;
     let all = ids_on(alloc, rows, x)?;
-    let own = props_only_of(alloc, rows, &[x], &[])?;
+    let own = props_on(alloc, rows, x)?;
     let verbs = verbs_on(alloc, rows, x)?;
     let relinked = linked_to(alloc, rows, x)?;
     let mut removed = Vec::new(alloc);
