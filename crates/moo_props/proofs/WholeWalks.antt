@@ -1,26 +1,34 @@
 -- In a good world the walks that begin below the least number go over all rows.
-use Rattle.std.proofs.Common.{◌≡◌, ◌≢◌, ◌<◌, T, Option, None, Some, List, [], ◌∷◌, map, Less, Ordering, refl, sym, ap, ◌∙◌}
+use Rattle.std.proofs.Common.{◌≡◌, ◌≢◌, ◌<◌, T, ◌||◌, Option, None, Some, List, [], ◌∷◌, map, Less, Ordering, negsuc, refl, sym, ap, ◌∙◌, arith}
 use Rattle.std.specs.Prelude.{is_some}
-use Rattle.std.specs.Cmp.{IsTotalOrder, tied_itself, nat_cmp_is}
+use Rattle.std.specs.Cmp.{IsTotalOrder, tied_itself, nat_cmp_is, int_cmp_is}
 use Rattle.std.specs.Ordering.{int_eq, is_eq}
 use Rattle.std.specs.List.{filter}
 use Rattle.std.specs.FinMap.{FinMap, get, find, is_sorted, entries, entries_sorted, get-entries}
 use Rattle.std.proofs.Math.Bool.{or-false}
+use Rattle.std.proofs.lemmas.Bool.{true≢false}
+use Rattle.std.proofs.lemmas.Int.{ints}
 use Rattle.moo_value.specs.declared.value.ObjNo.{ObjNo}
+use Rattle.moo_rows.specs.declared.row.ObjRow.{ObjRow}
 use Rattle.moo_rows.specs.declared.row.PropId.{PropId}
 use Rattle.moo_rows.specs.declared.row.PropRow.{PropRow}
 use Rattle.moo_rows.specs.declared.row.VerbId.{VerbId}
 use Rattle.moo_rows.specs.declared.row.VerbRow.{VerbRow}
-use Rattle.moo_rows.specs.Links.{defined_left}
-use Rattle.moo_rows.specs.Maps.{Maps, prop_cmp}
+use Rattle.moo_rows.specs.declared.row.Link.TheVariants.{ChildOf, Within}
+use Rattle.moo_rows.specs.Exact.{object_exact}
+use Rattle.moo_rows.specs.Links.{IsFirst, defined_left}
+use Rattle.moo_rows.specs.Links as links
+use Rattle.moo_rows.specs.Maps.{Maps, object_cmp, prop_cmp}
 use Rattle.moo_rows.specs.Walk.{is_past, entries_past, verbs_of_left}
+use Rattle.moo_rows.proofs.Firsts.{first-alike, first-end, first-step}
 use Rattle.moo_rows.proofs.OfObject.{verbs_of_left-all}
-use Rattle.moo_rows.proofs.Orders.{prop_total}
+use Rattle.moo_rows.proofs.Orders.{object_total, prop_total}
 use Rattle.moo_rows.proofs.Walking.{first_of, here, keeps, past_test, all_past}
-use Rattle.moo_world.specs.Objects.{same_object, same_object-eq}
-use Rattle.moo_world.specs.Rows.{IsGood, prop_id, verb_id}
+use Rattle.moo_world.specs.Objects.{nothing, same_object, same_object-eq}
+use Rattle.moo_world.specs.Rows.{IsGood, look_ups, prop_id, verb_id}
 use Rattle.moo_world.proofs.ObjectEntries.{same_object-symm}
-use Rattle.moo_props.specs.Dropping.{verbs_among}
+use Rattle.moo_world.proofs.Seen.{is_object_seen}
+use Rattle.moo_props.specs.Dropping.{is_linked, row_linked, linked_among, verbs_among}
 use Rattle.moo_props.specs.Touched.{props_of}
 
 -- where each held key is past one, the entries past it are all
@@ -59,3 +67,33 @@ module _ (t : Maps) (good : IsGood t) (x : ObjNo) where
           by : (o : Option VerbRow) → get t.verbs (x, id) ≡ o → 0 < id.0
           by None e = absurd (held e)
           by (Some row) e = (good.sound.verbs x id.0 (ap is_some e)).1
+
+  -- ---- objects by parent or place
+
+  pub linked_all : linked_among x (entries_past object_cmp (Some nothing) (entries t.objects)) ≡ linked_among x (entries t.objects)
+  linked_all = ap (linked_among x) (all_entries object_total nothing t.objects past)
+    where
+      past : (y : ObjNo) (row : ObjRow) → get t.objects y ≡ Some row → object_cmp nothing y ≡ Less
+      past y row held =
+          let range = good.formed.tree.numbers y (is_object_seen (look_ups t) y ∙ ap is_some held) in
+          sym (int_cmp_is (negsuc 0) y.0 Less (omega (arith, ints, range.0)))
+
+module _ (t : Maps) (x from : ObjNo) where
+  -- what is first of x's children and of what lies in x
+  pub linked-first : (r : Option ObjNo) → IsFirst object_cmp (λ y. links.is_linked t (ChildOf x) y || links.is_linked t (Within x) y) from r → IsFirst object_cmp (λ y. row_linked x (get t.objects y)) from r
+  linked-first = first-alike object_cmp (λ y. links.is_linked t (ChildOf x) y || links.is_linked t (Within x) y) (λ y. row_linked x (get t.objects y)) (λ y. alike (get t.objects y)) from
+    where
+      alike : (o : Option ObjRow) → (links.row_has (ChildOf x) o || links.row_has (Within x) o) ≡ row_linked x o
+      alike None = refl
+      alike (Some row) = λ i. same_object-eq x row.parent i || same_object-eq x row.location i
+
+  pub linked-end : IsFirst object_cmp (λ y. row_linked x (get t.objects y)) from None → linked_among x (entries_past object_cmp (Some from) (entries t.objects)) ≡ []
+  linked-end h = ap (map (λ e. e.0)) (first-end object_total object_exact (is_linked x) t.objects from h)
+
+  pub linked-step : (y : ObjNo) → IsFirst object_cmp (λ y. row_linked x (get t.objects y)) from (Some y)
+      → linked_among x (entries_past object_cmp (Some from) (entries t.objects)) ≡ y ∷ linked_among x (entries_past object_cmp (Some y) (entries t.objects))
+  linked-step y h = by (get t.objects y) refl
+    where
+      by : (o : Option ObjRow) → get t.objects y ≡ o → linked_among x (entries_past object_cmp (Some from) (entries t.objects)) ≡ y ∷ linked_among x (entries_past object_cmp (Some y) (entries t.objects))
+      by None e = absurd (true≢false (sym h.0 ∙ ap (row_linked x) e))
+      by (Some row) e = ap (map (λ e. e.0)) (first-step object_total object_exact (is_linked x) t.objects from y row h e)
