@@ -1,5 +1,6 @@
 -- The end of an object, at the level of the rows.
-use Rattle.std.specs.Prelude.{Bool, ◌||◌, List, [], ◌∷◌, ◌++◌, map, Option, Some, None, if◌then◌else◌}
+use Rattle.std.specs.Prelude.{Bool, false, ◌||◌, List, [], ◌∷◌, ◌++◌, map, Option, Some, None, unwrap_or, if◌then◌else◌}
+use Rattle.std.specs.Option.{option_map}
 use Rattle.std.specs.Ordering.{int_eq}
 use Rattle.std.specs.List.{filter}
 use Rattle.std.specs.FinMap.{get, insert, remove}
@@ -18,6 +19,10 @@ use Rattle.moo_props.specs.Slots.{keys_on, without_on}
 -- the object's parent or place is x
 abbrev pub is_linked : ObjNo → ObjRow → Bool
 is_linked x r = same_object x r.parent || same_object x r.location
+
+-- there is a row, and its parent or place is x
+abbrev pub row_linked : ObjNo → Option ObjRow → Bool
+row_linked x row = unwrap_or (option_map (is_linked x) row) false
 
 -- the objects of these entries whose parent or place is x
 abbrev pub linked_among : ObjNo → List (ObjNo × ObjRow) → List ObjNo

@@ -3,6 +3,7 @@
 
 ghost use Rattle.std.specs.Prelude.{◌≡◌, ◌≤◌, ◌+◌, ◌++◌, [], ◌∷◌, length, true, if◌then◌else◌, IfOk, OnOk};
 ghost use Rattle.std.specs.FinMap.{get, entries};
+ghost use Rattle.moo_rows.specs.Links.{IsFirst};
 ghost use Rattle.moo_rows.specs.Maps.{object_cmp, prop_cmp, slot_cmp, verb_cmp};
 ghost use Rattle.moo_rows.specs.Walk.{slots_of_left};
 ghost use Rattle.moo_world.specs.Objects.{same_object};
@@ -10,14 +11,16 @@ ghost use Rattle.moo_world.specs.Recycling.{recycled};
 ghost use Rattle.moo_world.specs.Rows.{world_of, IsGood};
 ghost use Rattle.moo_world.specs.World.{is_object};
 ghost use Rattle.moo_props.specs.Dropped.{dropped_keys, slot_left, prop_left, verb_left, row_left};
-ghost use Rattle.moo_props.specs.Dropping.{is_linked, released_row, ids_for, ids_among, verbs_among, linked_among, slots_dropped, dropped_over, props_removed, verbs_removed, row_released, rows_released};
+ghost use Rattle.moo_props.specs.Dropping.{row_linked, released_row, ids_for, ids_among, verbs_among, linked_among, slots_dropped, dropped_over, props_removed, verbs_removed, row_released, rows_released};
 ghost use Rattle.moo_world.specs.Keeps.{Keeps};
 ghost use Rattle.moo_props.specs.Present.{ArePresent, AreAbsent, AreAscending};
 ghost use Rattle.moo_props.specs.Touched.{props_of};
 
-use crate::reparenting::props_only_of;
 use crate::slots::{SlotKeys, remove_on};
-use moo_rows::{ObjList, ObjRow, PropId, Row, Rows, VerbId, each_object, each_slot_of, each_verb};
+use moo_rows::ordered::least;
+use moo_rows::{
+    Link, ObjList, PropId, Row, Rows, VerbId, each_defined, each_slot_of, each_verb_of,
+};
 use moo_tree::owners_under;
 use moo_value::ObjNo;
 use std::alloc::{AllocError, Global};
@@ -92,39 +95,42 @@ fn ids_on<R: Rows>(alloc: Global, rows: &R, x: ObjNo) -> Result<Vec<PropId>, All
     Ok(found)
 }
 
-/// The verbs of x.
-fn verbs_on<R: Rows>(alloc: Global, rows: &R, x: ObjNo) -> Result<Vec<(ObjNo, VerbId)>, AllocError>
-    ensures { IfOk result (λ v. v.items ≡ verbs_among x (entries (R.held rows.now).maps.verbs)) }
+/// The properties that x defines.
+fn props_on<R: Rows>(alloc: Global, rows: &R, x: ObjNo) -> Result<Vec<PropId>, AllocError>
+    requires { IsGood (R.held rows.now).maps }
+    ensures { IfOk result (λ v. v.items ≡ props_of (x ∷ []) (R.held rows.now).maps.props) }
 {
-    let mut found = Vec::new(alloc);
-    for (key, _verb) in each_verb(rows) {
-        if key.0 == x {
-            found.push(key)?;
-        }
-    }
-    Ok(found)
+    each_defined(rows, x, PropId(0)).map(|e| e.0).collect(alloc)
 }
 
-/// Whether an object's parent or place is x.
-#[tactic(auto, unfolding(moo_world::specs::Objects::same_object))]
-fn is_linked(row: &ObjRow, x: ObjNo) -> bool
-    ensures { result ≡ is_linked x row.now }
+/// The verbs of x.
+fn verbs_on<R: Rows>(alloc: Global, rows: &R, x: ObjNo) -> Result<Vec<(ObjNo, VerbId)>, AllocError>
+    requires { IsGood (R.held rows.now).maps }
+    ensures { IfOk result (λ v. v.items ≡ verbs_among x (entries (R.held rows.now).maps.verbs)) }
 {
-    if x == row.parent {
-        return true;
-    }
-    x == row.location
+    each_verb_of(rows, x, VerbId(0)).map(|e| e.0).collect(alloc)
+}
+
+/// The least object past `last` whose parent or place is x, or none where there is no such object.
+fn next_linked_to<R: Rows>(rows: &R, x: ObjNo, last: ObjNo) -> Option<ObjNo>
+    ensures { IsFirst object_cmp (λ y. row_linked x (get (R.held rows.now).maps.objects y)) last result }
+{
+    least(
+        rows.next_linked(Link::ChildOf(x), last),
+        rows.next_linked(Link::Within(x), last),
+    )
 }
 
 /// The objects whose parent or place is x.
 fn linked_to<R: Rows>(alloc: Global, rows: &R, x: ObjNo) -> Result<Vec<ObjNo>, AllocError>
+    requires { IsGood (R.held rows.now).maps }
     ensures { IfOk result (λ v. v.items ≡ linked_among x (entries (R.held rows.now).maps.objects)) }
 {
     let mut found = Vec::new(alloc);
-    for (y, row) in each_object(rows) {
-        if is_linked(row, x) {
-            found.push(y)?;
-        }
+    let mut last = ObjNo(-1);
+    while let Some(y) = next_linked_to(rows, x, last) {
+        found.push(y)?;
+        last = y;
     }
     Ok(found)
 }
@@ -253,7 +259,7 @@ pub fn drop_object<R: Rows>(alloc: Global, rows: &mut R, x: ObjNo) -> Result<Dro
     };
     let under = owners_under(alloc, rows, x)?;
     let all = ids_on(alloc, rows, x)?;
-    let own = props_only_of(alloc, rows, &[x], &[])?;
+    let own = props_on(alloc, rows, x)?;
     let verbs = verbs_on(alloc, rows, x)?;
     let relinked = linked_to(alloc, rows, x)?;
     let mut removed = Vec::new(alloc);

@@ -14,7 +14,7 @@ ghost use Rattle.moo_props.specs.Present.{ArePresent, AreAbsent, AreAscending};
 ghost use Rattle.moo_props.specs.Touched.{removed_keys, added_keys, relinked_objects, slot_after, row_after, IsSameButSlotsAndObjects};
 
 use crate::slots::{Origin, SlotKeys, list_on, origins, put_fresh, remove_on};
-use moo_rows::{ObjList, ObjRow, PropId, Row, Rows, each_prop, each_slot_of};
+use moo_rows::{ObjList, ObjRow, PropId, Row, Rows, each_slot_of};
 use moo_tree::{chain, owners_under};
 use moo_value::ObjNo;
 use std::alloc::{AllocError, Global};
@@ -32,24 +32,6 @@ fn is_among(list: &[ObjNo], x: ObjNo) -> bool
     ensures { result ≡ is_among x list.now }
 {
     list.contains(&x)
-}
-
-/// The properties that objects of one list define and not those of another, ascending.
-pub(crate) fn props_only_of<R: Rows>(
-    alloc: Global,
-    rows: &R,
-    these: &[ObjNo],
-    others: &[ObjNo],
-) -> Result<Vec<PropId>, AllocError>
-    ensures { IfOk result (λ v. v.items ≡ props_only_of these.now others.now (entries (R.held rows.now).maps.props)) }
-{
-    let mut found = Vec::new(alloc);
-    for (id, row) in each_prop(rows) {
-        if is_among(these, row.definer) && !is_among(others, row.definer) {
-            found.push(id)?;
-        }
-    }
-    Ok(found)
 }
 
 /// Whether an object of one list, and not of another, defines the property.

@@ -1,11 +1,7 @@
 use Rattle.std.proofs.Common.{◌≡◌, refl, sym, ap, ◌∙◌, subst, [], ◌∷◌, ◌++◌, length, arith, Some}
-use Rattle.std.specs.Prelude.{is_some, Bool, map}
-use Rattle.std.specs.List.{filter}
-use Rattle.std.proofs.Math.Bool.{and-true}
+use Rattle.std.specs.Prelude.{is_some}
 use Rattle.std.specs.FinMap.{get, entries, remove}
 use Rattle.std.proofs.lemmas.Bool.{false≢true}
-use Rattle.moo_value.specs.declared.value.ObjNo.{ObjNo}
-use Rattle.moo_world.specs.Objects.{is_among}
 use Rattle.moo_rows.specs.Maps.{Maps, Held, wrote, object_cmp, prop_cmp, slot_cmp, verb_cmp}
 use Rattle.moo_world.specs.Recycling.{recycled}
 use Rattle.moo_world.specs.Rows.{AreSound, look_ups, world_of, world_shown}
@@ -32,9 +28,7 @@ here : (g : _) (c : goal.After-drop-under-2 g) → get (before g c).maps.objects
 here g c = sym c.in-Some.ensures
 
 own_is : (g : _) (c : goal.After-drop-under-2 g) → c.in_ok-own.own.items ≡ props_of (c.args.x ∷ []) (before g c).maps.props
-own_is g c =
-    c.in_ok-own.ensures
-    ∙ ap (λ (test : ObjNo → Bool). map (λ e. e.0) (filter (λ e. test e.1.definer) (entries (before g c).maps.props))) (λ i d. and-true (is_among d (c.args.x ∷ [])) i)
+own_is g c = c.in_ok-own.ensures
 
 first : (g : _) (c : goal.After-drop-under-2 g) → g.R.Rows.held c.drop_slots.new.rows ≡ held1 (before g c).maps c.requires.good c.args.x c.in-Some.row.now (here g c) (before g c) refl
 first g c =

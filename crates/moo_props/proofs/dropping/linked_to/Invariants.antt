@@ -1,11 +1,16 @@
-use Rattle.std.proofs.Common.{◌≡◌, ◌++◌}
+use Rattle.std.proofs.Common.{◌≡◌, ◌++◌, Some, pos, ◌-ℤ◌, nat_abs}
 use Rattle.std.specs.FinMap.{entries}
-use Rattle.moo_rows.specs.Walk.{objects_left}
+use Rattle.moo_rows.specs.Maps.{object_cmp}
+use Rattle.moo_rows.specs.Walk.{entries_past}
 use Rattle.moo_props.specs.Dropping.{linked_among}
 use Rattle.moo_props.proofs.dropping.linked_to.Given as goal
 
--- those so far, and those among the objects that are left
+-- those so far, and those among the objects past the last
 abbrev pub invariant-loop-y : goal.invariant-loop-y
 invariant-loop-y g l =
-    let left = objects_left l.y-iterator.last (g.R.Rows.held l.y-iterator.rows.now).maps in
-    l.found.items ++ linked_among l.x left ≡ linked_among l.x (entries (g.R.Rows.held l.rows).maps.objects)
+    let all = entries (g.R.Rows.held l.rows).maps.objects in
+    l.found.items ++ linked_among l.x (entries_past object_cmp (Some l.last) all) ≡ linked_among l.x all
+
+-- the numbers past the last
+abbrev pub decreases-loop-y : goal.decreases-loop-y
+decreases-loop-y g l = nat_abs (pos 2147483647 -ℤ l.last.0)

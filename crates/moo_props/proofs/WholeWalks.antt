@@ -1,0 +1,99 @@
+-- In a good world the walks that begin below the least number go over all rows.
+use Rattle.std.proofs.Common.{◌≡◌, ◌≢◌, ◌<◌, T, ◌||◌, Option, None, Some, List, [], ◌∷◌, map, Less, Ordering, negsuc, refl, sym, ap, ◌∙◌, arith}
+use Rattle.std.specs.Prelude.{is_some}
+use Rattle.std.specs.Cmp.{IsTotalOrder, tied_itself, nat_cmp_is, int_cmp_is}
+use Rattle.std.specs.Ordering.{int_eq, is_eq}
+use Rattle.std.specs.List.{filter}
+use Rattle.std.specs.FinMap.{FinMap, get, find, is_sorted, entries, entries_sorted, get-entries}
+use Rattle.std.proofs.Math.Bool.{or-false}
+use Rattle.std.proofs.lemmas.Bool.{true≢false}
+use Rattle.std.proofs.lemmas.Int.{ints}
+use Rattle.moo_value.specs.declared.value.ObjNo.{ObjNo}
+use Rattle.moo_rows.specs.declared.row.ObjRow.{ObjRow}
+use Rattle.moo_rows.specs.declared.row.PropId.{PropId}
+use Rattle.moo_rows.specs.declared.row.PropRow.{PropRow}
+use Rattle.moo_rows.specs.declared.row.VerbId.{VerbId}
+use Rattle.moo_rows.specs.declared.row.VerbRow.{VerbRow}
+use Rattle.moo_rows.specs.declared.row.Link.TheVariants.{ChildOf, Within}
+use Rattle.moo_rows.specs.Exact.{object_exact}
+use Rattle.moo_rows.specs.Links.{IsFirst, defined_left}
+use Rattle.moo_rows.specs.Links as links
+use Rattle.moo_rows.specs.Maps.{Maps, object_cmp, prop_cmp}
+use Rattle.moo_rows.specs.Walk.{is_past, entries_past, verbs_of_left}
+use Rattle.moo_rows.proofs.Firsts.{first-alike, first-end, first-step}
+use Rattle.moo_rows.proofs.OfObject.{verbs_of_left-all}
+use Rattle.moo_rows.proofs.Orders.{object_total, prop_total}
+use Rattle.moo_rows.proofs.Walking.{first_of, here, keeps, past_test, all_past}
+use Rattle.moo_world.specs.Objects.{nothing, same_object, same_object-eq}
+use Rattle.moo_world.specs.Rows.{IsGood, look_ups, prop_id, verb_id}
+use Rattle.moo_world.proofs.ObjectEntries.{same_object-symm}
+use Rattle.moo_world.proofs.Seen.{is_object_seen}
+use Rattle.moo_props.specs.Dropping.{is_linked, row_linked, linked_among, verbs_among}
+use Rattle.moo_props.specs.Touched.{props_of}
+
+-- where each held key is past one, the entries past it are all
+module _ {K X : Type 0} {cmp : K → K → Ordering} (total : IsTotalOrder cmp) (from : K) where
+  all_of : (es : List (K × X)) → T (is_sorted cmp es) → ((k : K) (row : X) → find cmp k es ≡ Some row → cmp from k ≡ Less) → entries_past cmp (Some from) es ≡ es
+  all_of [] sorted h = refl
+  all_of (e ∷ es) sorted h =
+      let first : cmp from e.0 ≡ Less = h e.0 e.1 (here cmp e.0 e es (ap is_eq (tied_itself total e.0))) in
+      keeps (is_past cmp (Some from)) e es (past_test cmp (Some from) e.0 first) ∙ ap (λ l. e ∷ l) (all_past cmp total (Some from) e.0 es first (first_of _ _ sorted))
+
+  all_entries : (m : FinMap cmp X) → ((k : K) (row : X) → get m k ≡ Some row → cmp from k ≡ Less) → entries_past cmp (Some from) (entries m) ≡ entries m
+  all_entries m h = all_of (entries m) (entries_sorted m) (λ k row held. h k row (get-entries m k ∙ held))
+
+module _ (t : Maps) (good : IsGood t) (x : ObjNo) where
+  -- ---- properties
+
+  pub defined_all : defined_left x (prop_id 0) t ≡ filter (λ e. same_object e.1.definer x) (entries t.props)
+  defined_all =
+      ap (filter (λ e. int_eq e.1.definer.0 x.0)) (all_entries prop_total (prop_id 0) t.props past)
+      ∙ (λ i. filter (λ e. (same_object-eq x e.1.definer ∙ same_object-symm x e.1.definer) i) (entries t.props))
+    where
+      past : (id : PropId) (row : PropRow) → get t.props id ≡ Some row → prop_cmp (prop_id 0) id ≡ Less
+      past id row held = sym (nat_cmp_is 0 id.0 Less (good.sound.props_below id.0 (ap is_some held)).0)
+
+  pub defined_keys : map (λ e. e.0) (defined_left x (prop_id 0) t) ≡ props_of (x ∷ []) t.props
+  defined_keys = ap (map (λ e. e.0)) defined_all ∙ (λ i. map (λ e. e.0) (filter (λ e. sym (or-false (same_object e.1.definer x)) i) (entries t.props)))
+
+  -- ---- verbs
+
+  pub verb_keys : map (λ e. e.0) (verbs_of_left x (verb_id 0) t) ≡ verbs_among x (entries t.verbs)
+  verb_keys = ap (map (λ e. e.0)) (verbs_of_left-all x t positive)
+    where
+      positive : (id : VerbId) → get t.verbs (x, id) ≢ None → 0 < id.0
+      positive id held = by (get t.verbs (x, id)) refl
+        where
+          by : (o : Option VerbRow) → get t.verbs (x, id) ≡ o → 0 < id.0
+          by None e = absurd (held e)
+          by (Some row) e = (good.sound.verbs x id.0 (ap is_some e)).1
+
+  -- ---- objects by parent or place
+
+  pub linked_all : linked_among x (entries_past object_cmp (Some nothing) (entries t.objects)) ≡ linked_among x (entries t.objects)
+  linked_all = ap (linked_among x) (all_entries object_total nothing t.objects past)
+    where
+      past : (y : ObjNo) (row : ObjRow) → get t.objects y ≡ Some row → object_cmp nothing y ≡ Less
+      past y row held =
+          let range = good.formed.tree.numbers y (is_object_seen (look_ups t) y ∙ ap is_some held) in
+          sym (int_cmp_is (negsuc 0) y.0 Less (omega (arith, ints, range.0)))
+
+module _ (t : Maps) (x from : ObjNo) where
+  -- what is first of x's children and of what lies in x
+  pub linked-first : (r : Option ObjNo) → IsFirst object_cmp (λ y. links.is_linked t (ChildOf x) y || links.is_linked t (Within x) y) from r → IsFirst object_cmp (λ y. row_linked x (get t.objects y)) from r
+  linked-first = first-alike object_cmp (λ y. links.is_linked t (ChildOf x) y || links.is_linked t (Within x) y) (λ y. row_linked x (get t.objects y)) (λ y. alike (get t.objects y)) from
+    where
+      alike : (o : Option ObjRow) → (links.row_has (ChildOf x) o || links.row_has (Within x) o) ≡ row_linked x o
+      alike None = refl
+      alike (Some row) = λ i. same_object-eq x row.parent i || same_object-eq x row.location i
+
+  pub linked-end : IsFirst object_cmp (λ y. row_linked x (get t.objects y)) from None → linked_among x (entries_past object_cmp (Some from) (entries t.objects)) ≡ []
+  linked-end h = ap (map (λ e. e.0)) (first-end object_total object_exact (is_linked x) t.objects from h)
+
+  pub linked-step : (y : ObjNo) → IsFirst object_cmp (λ y. row_linked x (get t.objects y)) from (Some y)
+      → linked_among x (entries_past object_cmp (Some from) (entries t.objects)) ≡ y ∷ linked_among x (entries_past object_cmp (Some y) (entries t.objects))
+  linked-step y h = by (get t.objects y) refl
+    where
+      by : (o : Option ObjRow) → get t.objects y ≡ o → linked_among x (entries_past object_cmp (Some from) (entries t.objects)) ≡ y ∷ linked_among x (entries_past object_cmp (Some y) (entries t.objects))
+      by None e = absurd (true≢false (sym h.0 ∙ ap (row_linked x) e))
+      by (Some row) e = ap (map (λ e. e.0)) (first-step object_total object_exact (is_linked x) t.objects from y row h e)

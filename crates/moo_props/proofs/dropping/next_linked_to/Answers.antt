@@ -1,0 +1,17 @@
+use Rattle.std.proofs.Common.{◌||◌, sym, subst}
+use Rattle.moo_rows.specs.declared.row.Link.TheVariants.{ChildOf, Within}
+use Rattle.moo_rows.specs.Exact.{object_exact}
+use Rattle.moo_rows.specs.Links.{IsFirst, is_linked}
+use Rattle.moo_rows.specs.Maps.{object_cmp}
+use Rattle.moo_rows.proofs.Firsts.{either-first}
+use Rattle.moo_rows.proofs.Orders.{object_total}
+use Rattle.moo_props.proofs.WholeWalks.{linked-first}
+use Rattle.moo_props.proofs.dropping.next_linked_to.Goals as goal
+
+pub returns : goal.returns
+returns g c =
+    let t = (g.R.Rows.held c.args.rows.now).maps in
+    let x = c.args.x in
+    linked-first t x c.args.last c.least.result
+    (subst (IsFirst object_cmp (λ y. is_linked t (ChildOf x) y || is_linked t (Within x) y) c.args.last) (sym c.least.ensures)
+    (either-first object_total object_exact (is_linked t (ChildOf x)) (is_linked t (Within x)) c.args.last _ _ c.next_linked.ensures c.next_linked-2.ensures))
