@@ -1,8 +1,8 @@
 -- What is owed along a list of definers, by the rows of properties.
-use Rattle.std.proofs.Common.{◌≡◌, ℕ, Bool, true, false, cond, ◌||◌, Option, None, Some, List, [], ◌∷◌, refl, sym, ap, ◌∙◌, ◌⊎◌, inl, inr}
+use Rattle.std.proofs.Common.{◌≡◌, ℕ, Bool, true, false, ◌||◌, Option, None, Some, List, [], ◌∷◌, refl, sym, ap, ◌∙◌, ◌⊎◌, inl, inr}
 use Rattle.std.specs.Prelude.{◌&&◌, is_some, unwrap_or, if◌then◌else◌}
 use Rattle.std.specs.Option.{option_map, option_and_then}
-use Rattle.std.specs.List.{find, filter, filter_map, list_any, cons_option, AllByRecursion}
+use Rattle.std.specs.List.{filter_map, list_any, cons_option, AllByRecursion}
 use Rattle.std.specs.FinMap.{get, entries, get-entries, entries_sorted}
 use Rattle.std.specs.FinMap as map
 use Rattle.std.proofs.lemmas.Bool.{false≢true, and_parts, or_cases, or_right}
@@ -14,9 +14,7 @@ use Rattle.moo_rows.specs.declared.row.PropRow.{PropRow}
 use Rattle.moo_rows.specs.Maps.{Maps, prop_cmp}
 use Rattle.moo_rows.specs.Exact.{prop_exact}
 use Rattle.moo_rows.proofs.Orders.{prop_total}
-use Rattle.moo_world.specs.Changes.{clashes}
-use Rattle.moo_world.specs.ObjectLists.{objects_of, subtree_of, meets}
-use Rattle.moo_world.specs.Objects.{Name, Pair, same_object, same_text, same_pair, folded, is_among, same_object-Decides}
+use Rattle.moo_world.specs.Objects.{Name, Pair, same_object, same_pair, is_among, same_object-Decides}
 use Rattle.moo_world.specs.World.{World, Record, Slot, IsWellFormed, is_object, chain, names_of, defined_by, owed_by, pair_named, slot_of}
 use Rattle.moo_world.specs.Rows.{LookUps, IsSound, look_ups, world_of, numbers_below, name_on, prop_id}
 use Rattle.moo_world.proofs.Keeping.{same_pair-is}
@@ -25,9 +23,8 @@ use Rattle.moo_world.proofs.Owed.{any-append}
 use Rattle.moo_world.proofs.Rebuilding.{no_slot}
 use Rattle.moo_world.proofs.RowLaws.{names_shown}
 use Rattle.moo_world.proofs.Seen.{is_object_seen}
-use Rattle.moo_world.proofs.Subtrees.{among_filter, object_listed, owed_listed}
+use Rattle.moo_world.proofs.Subtrees.{owed_listed}
 use Rattle.moo_world.proofs.Trees.{Chain-chain, chain_of_none}
-use Rattle.moo_props.specs.Clashes.{clashes_with, meets_with}
 use Rattle.moo_world.proofs.PairLists.{any_map}
 use Rattle.moo_props.proofs.Gains.{defines_pair}
 use Rattle.moo_world.proofs.Listed.{own_entries}
@@ -59,14 +56,6 @@ any_pair test (y ∷ l) p h k = by (or_cases (same_pair p y) (list_any (same_pai
     by (inl g) r = left (test y) (list_any test l) (ap test (sym (same_pair-is p y g)) ∙ k)
     by (inr g) r = or_right (test y) (list_any test l) (r g k)
 
-found_any : {A : Type 0} (test : A → Bool) (l : List A) → is_some (find test l) ≡ list_any test l
-found_any test [] = refl
-found_any test (x ∷ l) = by (test x) (found_any test l)
-  where
-    by : (b : Bool) → is_some (find test l) ≡ list_any test l → is_some (cond b (Some x) (find test l)) ≡ (b || list_any test l)
-    by true r = refl
-    by false r = r
-
 any_number : {X : Type 0} (h : ℕ → Option X) (test : X → Bool) (l : List ℕ) → list_any test (filter_map h l) ≡ true → (k : ℕ) × (v : X) × (h k ≡ Some v) × (test v ≡ true)
 any_number h test [] e = absurd (false≢true e)
 any_number {X} h test (k ∷ l) e = by (h k) refl e (any_number h test l)
@@ -74,23 +63,6 @@ any_number {X} h test (k ∷ l) e = by (h k) refl e (any_number h test l)
     by : (o : Option X) → h k ≡ o → list_any test (cons_option o (filter_map h l)) ≡ true → (list_any test (filter_map h l) ≡ true → (k : ℕ) × (v : X) × (h k ≡ Some v) × (test v ≡ true)) → (k : ℕ) × (v : X) × (h k ≡ Some v) × (test v ≡ true)
     by None g e r = r e
     by (Some v) g e r = elim (or_cases (test v) (list_any test (filter_map h l)) e) [ inl t ↦ (k, v, g, t) | inr t ↦ r t ]
-
-any_or : {A : Type 0} (a b test : A → Bool) (l : List A) → (list_any (λ e. a e && test e) l || list_any (λ e. b e && test e) l) ≡ list_any (λ e. test e && (a e || b e)) l
-any_or a b test [] = refl
-any_or a b test (x ∷ l) = by (a x) (b x) (test x) (list_any (λ e. a e && test e) l) (list_any (λ e. b e && test e) l) ∙ ap (λ r. (test x && (a x || b x)) || r) (any_or a b test l)
-  where
-    right : (c : Bool) → (c || true) ≡ true
-    right true = refl
-    right false = refl
-
-    by : (a b t c d : Bool) → (((a && t) || c) || ((b && t) || d)) ≡ ((t && (a || b)) || (c || d))
-    by true b true c d = refl
-    by true true false c d = refl
-    by true false false c d = refl
-    by false true true c d = right c
-    by false false true c d = refl
-    by false true false c d = refl
-    by false false false c d = refl
 
 module _ (t : Maps) (sound : IsSound t) where
   abbrev m : LookUps
@@ -156,41 +128,6 @@ module _ (t : Maps) (sound : IsSound t) where
           let e = one_passing (λ e. get t.props e.0 ≡ Some e.1) (λ e. is_among e.1.definer l && test (e.1.definer, e.1.name)) (entries t.props) entries_held h in
           let parts = and_parts (is_among e.0.1.definer l) (test (e.0.1.definer, e.0.1.name)) e.2 in
           any_pair test (owed_by w l) (e.0.1.definer, e.0.1.name) (owed_listed w l e.0.1.definer (e.0.1.definer, e.0.1.name) parts.0 (defines_pair t sound e.0.0.0 e.0.1 e.1)) parts.1
-
-  module _ (wf : IsWellFormed w) (x : ObjNo) where
-    -- the subtree is what has x in its chain
-    pub among_subtree : (d : ObjNo) → is_among d (subtree_of w x) ≡ is_among x (chain w d)
-    among_subtree d = alike _ _ (passes (objects_of w)) listed
-      where
-        passes : (l : List ObjNo) → is_among d (filter (λ y. is_among x (chain w y)) l) ≡ true → is_among x (chain w d) ≡ true
-        passes [] h = absurd (false≢true h)
-        passes (y ∷ l) h = by (is_among x (chain w y)) refl h (passes l)
-          where
-            by : (b : Bool) → is_among x (chain w y) ≡ b → is_among d (cond b (y ∷ filter (λ y. is_among x (chain w y)) l) (filter (λ y. is_among x (chain w y)) l)) ≡ true → (is_among d (filter (λ y. is_among x (chain w y)) l) ≡ true → is_among x (chain w d) ≡ true) → is_among x (chain w d) ≡ true
-            by false e k r = r k
-            by true e k r = elim (or_cases _ _ k) [
-              | inl g ↦ ap (λ z. is_among x (chain w z)) ((same_object-Decides d y).0 g) ∙ e
-              | inr g ↦ r g
-            ]
-
-        listed : is_among x (chain w d) ≡ true → is_among d (subtree_of w x) ≡ true
-        listed u = by (is_object w d) refl
-          where
-            by : (b : Bool) → is_object w d ≡ b → is_among d (subtree_of w x) ≡ true
-            by true o = among_filter (λ y. is_among x (chain w y)) (objects_of w) d (object_listed w wf.tree d o) u
-            by false o = absurd (false≢true (sym (ap (is_among x) (chain_of_none w d o)) ∙ u))
-
-    pub clashes_law : (n : Name) → list_any (λ e. clashes_with w x n e.1) (entries t.props) ≡ clashes w x n
-    clashes_law n =
-        sym (any_or (λ e. is_among e.1.definer (chain w x)) (λ e. is_among x (chain w e.1.definer)) (λ e. same_text (folded e.1.name) (folded n)) (entries t.props))
-        ∙ (λ i. list_any (λ e. is_among e.1.definer (chain w x) && same_text (folded e.1.name) (folded n)) (entries t.props) || list_any (λ e. sym (among_subtree e.1.definer) i && same_text (folded e.1.name) (folded n)) (entries t.props))
-        ∙ (λ i. sym (any_owed (λ p. same_text (folded p.1) (folded n)) (chain w x)) i || sym (any_owed (λ p. same_text (folded p.1) (folded n)) (subtree_of w x)) i)
-        ∙ (λ i. sym (found_any (λ p. same_text (folded p.1) (folded n)) (owed_by w (chain w x))) i || sym (found_any (λ p. same_text (folded p.1) (folded n)) (owed_by w (subtree_of w x))) i)
-
-    pub meets_law : (new : ObjNo) → list_any (λ e. meets_with w x new e.1) (entries t.props) ≡ meets w x new
-    meets_law new =
-        (λ i. list_any (λ e. sym (among_subtree e.1.definer) i && is_some (pair_named (owed_by w (chain w new)) (folded e.1.name))) (entries t.props))
-        ∙ sym (any_owed (λ p. is_some (pair_named (owed_by w (chain w new)) (folded p.1))) (subtree_of w x))
 
 -- an object has a slot of just the names that are owed to it
 pub has_owed : (w : World) → IsWellFormed w → (x : ObjNo) (n : Name) → is_some (slot_of w x n) ≡ is_some (pair_named (owed_by w (chain w x)) n)

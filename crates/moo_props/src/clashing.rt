@@ -1,68 +1,81 @@
 //! Names that stand in the way of a new property, or of a change of parent.
 
-ghost use Rattle.std.specs.Prelude.{◌≡◌, true};
+ghost use Rattle.std.specs.Prelude.{◌≡◌, is_some, IfOk};
+ghost use Rattle.std.specs.List.{list_any};
 ghost use Rattle.moo_world.specs.Changes.{clashes};
-ghost use Rattle.moo_world.specs.ObjectLists.{meets};
-ghost use Rattle.moo_world.specs.Rows.{world_of, IsGood};
-ghost use Rattle.moo_world.specs.World.{is_object};
-ghost use Rattle.moo_props.specs.Clashes.{clashes_with, meets_with};
+ghost use Rattle.moo_world.specs.ObjectLists.{meets, subtree_of};
+ghost use Rattle.moo_world.specs.Objects.{folded};
+ghost use Rattle.moo_world.specs.PropertyCalls.{defines};
+ghost use Rattle.moo_world.specs.Rows.{world_of, IsGood, IsSound};
+ghost use Rattle.moo_world.specs.World.{owed_by, pair_named};
+ghost use Rattle.moo_props.specs.Clashes.{meets_on};
 
 use crate::finding::{find, is_named};
-use moo_rows::{PropRow, Rows, each_prop};
-use moo_tree::is_under;
+use moo_rows::{PropId, Rows, each_defined};
+use moo_tree::subtree;
 use moo_value::{MooStr, ObjNo};
+use std::alloc::{AllocError, Global};
 
-/// Whether a property has the name, and is defined by x, an ancestor or a descendant of x.
-fn clashes_with<R: Rows>(rows: &R, x: ObjNo, name: &MooStr, row: &PropRow) -> bool
-    requires { IsGood (R.held rows.now).maps }
-    ensures { result ≡ clashes_with (world_of (R.held rows.now).maps) x name.now row.now }
+/// Whether y itself defines a property of the name.
+fn defines_named<R: Rows>(rows: &R, y: ObjNo, name: &MooStr) -> bool
+    requires { IsSound (R.held rows.now).maps }
+    ensures { result ≡ defines (world_of (R.held rows.now).maps) y name.now }
 {
-    if !is_named(row, name.bytes()) {
-        return false;
-    }
-    if is_under(rows, x, row.definer) {
-        return true;
-    }
-    is_under(rows, row.definer, x)
+    let name = name.bytes();
+    each_defined(rows, y, PropId(0)).any(|(_id, row)| is_named(row, name))
 }
 
-/// Whether x, an ancestor or a descendant of x defines a property of a name. Names compare without ASCII case.
+/// Whether x or a descendant of x defines a property of the name. The only error is want of memory.
+fn is_defined_under<R: Rows>(
+    alloc: Global,
+    rows: &R,
+    x: ObjNo,
+    name: &MooStr,
+) -> Result<bool, AllocError>
+    requires { IsGood (R.held rows.now).maps }
+    ensures { let w = world_of (R.held rows.now).maps in IfOk result (λ r. r ≡ is_some (pair_named (owed_by w (subtree_of w x)) (folded name.now))) }
+{
+    let under = subtree(alloc, rows, x)?;
+    Ok(under.iter().any(|y| defines_named(rows, *y, name)))
+}
+
+/// Whether x, an ancestor or a descendant of x defines a property of a name. Names compare without ASCII case. The only
+/// error is want of memory.
+///
+/// The slots of x tell of x and its ancestors; below, only what the descendants define themselves is looked at.
 ///
 /// LambdaMOO Programmer's Manual, 'Operations on Properties': `add_property`.
-pub fn clashes<R: Rows>(rows: &R, x: ObjNo, name: &MooStr) -> bool
+pub fn clashes<R: Rows>(
+    alloc: Global,
+    rows: &R,
+    x: ObjNo,
+    name: &MooStr,
+) -> Result<bool, AllocError>
     requires { IsGood (R.held rows.now).maps }
-    ensures { result ≡ clashes (world_of (R.held rows.now).maps) x name.now }
+    ensures { IfOk result (λ r. r ≡ clashes (world_of (R.held rows.now).maps) x name.now) }
 {
-    for (_id, row) in each_prop(rows) {
-        if clashes_with(rows, x, name, row) {
-            return true;
-        }
+    if find(rows, x, name).is_some() {
+        return Ok(true);
     }
-    false
+    is_defined_under(alloc, rows, x, name)
 }
 
-/// Whether a property is defined by x or a descendant, and new has one of its name.
-fn meets_with<R: Rows>(rows: &R, x: ObjNo, new: ObjNo, row: &PropRow) -> bool
+/// Whether y itself defines a property of a name that new or an ancestor of new defines.
+fn meets_on<R: Rows>(rows: &R, new: ObjNo, y: ObjNo) -> bool
     requires { IsGood (R.held rows.now).maps }
-    ensures { result ≡ meets_with (world_of (R.held rows.now).maps) x new row.now }
+    ensures { result ≡ meets_on (world_of (R.held rows.now).maps) new y }
 {
-    if !is_under(rows, row.definer, x) {
-        return false;
-    }
-    find(rows, new, &row.name).is_some()
+    each_defined(rows, y, PropId(0)).any(|(_id, row)| find(rows, new, &row.name).is_some())
 }
 
-/// Whether x or a descendant of x defines a property of a name that new or an ancestor of new defines.
+/// Whether x or a descendant of x defines a property of a name that new or an ancestor of new defines. The only error is
+/// want of memory.
 ///
 /// LambdaMOO Programmer's Manual, 'Fundamental Operations on Objects': `chparent`.
-pub fn meets<R: Rows>(rows: &R, x: ObjNo, new: ObjNo) -> bool
+pub fn meets<R: Rows>(alloc: Global, rows: &R, x: ObjNo, new: ObjNo) -> Result<bool, AllocError>
     requires { IsGood (R.held rows.now).maps }
-    ensures { result ≡ meets (world_of (R.held rows.now).maps) x new }
+    ensures { IfOk result (λ r. r ≡ meets (world_of (R.held rows.now).maps) x new) }
 {
-    for (_id, row) in each_prop(rows) {
-        if meets_with(rows, x, new, row) {
-            return true;
-        }
-    }
-    false
+    let under = subtree(alloc, rows, x)?;
+    Ok(under.iter().any(|y| meets_on(rows, new, *y)))
 }

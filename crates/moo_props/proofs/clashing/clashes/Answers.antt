@@ -1,24 +1,24 @@
-use Rattle.std.proofs.Common.{◌||◌, sym, ap, ◌∙◌}
-use Rattle.std.specs.List.{list_any}
-use Rattle.moo_rows.specs.Walk.{props_left}
+use Rattle.std.proofs.Common.{◌≡◌, true, false, ◌||◌, IfOk, sym, ap, ◌∙◌, subst}
+use Rattle.std.specs.Prelude.{is_some}
+use Rattle.moo_world.specs.Objects.{folded}
+use Rattle.moo_world.specs.ObjectLists.{subtree_of}
 use Rattle.moo_world.specs.Rows.{world_of}
-use Rattle.moo_props.specs.Clashes.{clashes_with}
-use Rattle.moo_props.proofs.Owing.{clashes_law}
+use Rattle.moo_world.specs.World.{owed_by, pair_named, slot_of}
+use Rattle.moo_props.proofs.NameClashes.{slot_or_under}
 use Rattle.moo_props.proofs.clashing.clashes.Goals as goal
 
-pub returns-then-clashes_with : goal.returns-then-clashes_with
-returns-then-clashes_with g c =
-    let m = (g.R.Rows.held c.args.rows.now).maps in
-    let rest = props_left c.next.new.self.last (g.R.Rows.held c.next.new.self.rows.now).maps in
-    sym (
-    sym (clashes_law m c.requires.sound c.requires.formed c.args.x c.args.name.now)
-    ∙ sym c.loop-id.invariant
-    ∙ ap (list_any (λ e. clashes_with (world_of m) c.args.x c.args.name.now e.1)) c.in-Some.ensures.steps
-    ∙ ap (λ b. b || list_any (λ e. clashes_with (world_of m) c.args.x c.args.name.now e.1) rest) (sym c.clashes_with.ensures ∙ c.if-clashes_with.true)
-    )
+pub returns-then-is_some : goal.returns-then-is_some
+returns-then-is_some g c =
+    let w = world_of (g.R.Rows.held c.args.rows.now).maps in
+    let n = folded c.args.name.now in
+    let has : is_some (slot_of w c.args.x n) ≡ true = sym c.find.ensures.exact ∙ sym c.is_some.ensures ∙ c.if-is_some.true in
+    sym (ap (λ b. b || is_some (pair_named (owed_by w (subtree_of w c.args.x)) n)) has) ∙ slot_or_under w c.requires.formed c.args.x c.args.name.now
 
 pub returns : goal.returns
 returns g c =
-    let m = (g.R.Rows.held c.args.rows.now).maps in
-    sym (ap (list_any (λ e. clashes_with (world_of m) c.args.x c.args.name.now e.1)) c.in-None.ensures.steps.0)
-    ∙ c.loop-id.invariant ∙ clashes_law m c.requires.sound c.requires.formed c.args.x c.args.name.now
+    let w = world_of (g.R.Rows.held c.args.rows.now).maps in
+    let n = folded c.args.name.now in
+    let lacks : is_some (slot_of w c.args.x n) ≡ false = sym c.find.ensures.exact ∙ sym c.is_some.ensures ∙ c.if-is_some.false in
+    subst (λ b. IfOk c.is_defined_under.result (λ r. r ≡ b))
+    (sym (ap (λ b. b || is_some (pair_named (owed_by w (subtree_of w c.args.x)) n)) lacks) ∙ slot_or_under w c.requires.formed c.args.x c.args.name.now)
+    c.is_defined_under.ensures

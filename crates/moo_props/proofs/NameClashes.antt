@@ -1,0 +1,86 @@
+-- Clashes of names, by what each object defines itself.
+use Rattle.std.proofs.Common.{◌≡◌, Bool, true, false, cond, ◌||◌, Some, List, [], ◌∷◌, Less, refl, sym, ap, ◌∙◌}
+use Rattle.std.specs.Prelude.{is_some}
+use Rattle.std.specs.Cmp.{nat_cmp_is}
+use Rattle.std.specs.Ordering.{is_lt, int_eq}
+use Rattle.std.specs.List.{find, filter, list_any, AllByRecursion}
+use Rattle.std.specs.FinMap.{get, entries}
+use Rattle.moo_value.specs.declared.value.ObjNo.{ObjNo}
+use Rattle.moo_rows.specs.declared.row.PropId.{PropId}
+use Rattle.moo_rows.specs.declared.row.PropRow.{PropRow}
+use Rattle.moo_rows.specs.Links.{defined_left}
+use Rattle.moo_rows.specs.Maps.{Maps, prop_cmp}
+use Rattle.moo_rows.specs.Walk.{is_past}
+use Rattle.moo_world.specs.Changes.{clashes}
+use Rattle.moo_world.specs.ObjectLists.{subtree_of, meets}
+use Rattle.moo_world.specs.Objects.{Name, Pair, same_object, same_text, folded}
+use Rattle.moo_world.specs.PropertyCalls.{defines}
+use Rattle.moo_world.specs.World.{World, IsWellFormed, chain, names_of, defined_by, owed_by, pair_named, slot_of}
+use Rattle.moo_world.specs.Rows.{IsSound, world_of, prop_id}
+use Rattle.moo_world.proofs.EntriesInOrder.{all_weaker}
+use Rattle.moo_world.proofs.Owed.{any-append}
+use Rattle.moo_world.proofs.PairLists.{any_map}
+use Rattle.moo_props.specs.Clashes.{meets_on}
+use Rattle.moo_props.proofs.DefinedNames.{names_listed}
+use Rattle.moo_props.proofs.Owing.{entries_held, has_owed}
+
+-- ---- lists
+
+filter_all : {A : Type 0} (p : A → Bool) (l : List A) → AllByRecursion (λ a. p a ≡ true) l → filter p l ≡ l
+filter_all p [] h = refl
+filter_all p (x ∷ l) h = ap (λ b. cond b (x ∷ filter p l) (filter p l)) h.0 ∙ ap (λ r. x ∷ r) (filter_all p l h.1)
+
+found_any : {A : Type 0} (test : A → Bool) (l : List A) → is_some (find test l) ≡ list_any test l
+found_any test [] = refl
+found_any test (x ∷ l) = by (test x) (found_any test l)
+  where
+    by : (b : Bool) → is_some (find test l) ≡ list_any test l → is_some (cond b (Some x) (find test l)) ≡ (b || list_any test l)
+    by true r = refl
+    by false r = r
+
+-- ---- what the objects of a list define
+
+module _ (w : World) where
+  -- what passes of what is owed, object by object
+  pub any_owed_by : (test : Pair → Bool) (l : List ObjNo) → list_any test (owed_by w l) ≡ list_any (λ y. list_any (λ n. test (y, n)) (names_of w y)) l
+  any_owed_by test [] = refl
+  any_owed_by test (y ∷ l) = any-append test (defined_by w y) (owed_by w l) ∙ (λ i. any_map test (λ n. (y, n)) (names_of w y) i || any_owed_by test l i)
+
+  -- one of them defines the name
+  pub any_defines : (l : List ObjNo) (n : Name) → list_any (λ y. defines w y n) l ≡ is_some (pair_named (owed_by w l) (folded n))
+  any_defines l n = sym (found_any (λ p. same_text (folded p.1) (folded n)) (owed_by w l) ∙ any_owed_by (λ p. same_text (folded p.1) (folded n)) l)
+
+  -- one under x defines a name that new has
+  pub any_meets : (x new : ObjNo) → list_any (meets_on w new) (subtree_of w x) ≡ meets w x new
+  any_meets x new = sym (any_owed_by (λ p. is_some (pair_named (owed_by w (chain w new)) (folded p.1))) (subtree_of w x))
+
+  module _ (wf : IsWellFormed w) where
+    -- x has the name by a slot, or one under x defines it
+    pub slot_or_under : (x : ObjNo) (n : Name) → (is_some (slot_of w x (folded n)) || is_some (pair_named (owed_by w (subtree_of w x)) (folded n))) ≡ clashes w x n
+    slot_or_under x n = ap (λ b. b || is_some (pair_named (owed_by w (subtree_of w x)) (folded n))) (has_owed w wf x (folded n))
+
+    -- y defines a name of a slot that new has
+    pub meets_by_slots : (new y : ObjNo) → list_any (λ m. is_some (slot_of w new (folded m))) (names_of w y) ≡ meets_on w new y
+    meets_by_slots new y = λ i. list_any (λ m. has_owed w wf new (folded m) i) (names_of w y)
+
+-- ---- by the rows
+
+module _ (t : Maps) (sound : IsSound t) where
+  -- each number is past 0
+  past_zero : AllByRecursion (λ e. is_past prop_cmp (Some (prop_id 0)) e.0 ≡ true) (entries t.props)
+  past_zero = all_weaker (λ e. get t.props e.0 ≡ Some e.1) (λ e. is_past prop_cmp (Some (prop_id 0)) e.0 ≡ true) past (entries t.props) (entries_held t sound)
+    where
+      past : (e : PropId × PropRow) → get t.props e.0 ≡ Some e.1 → is_past prop_cmp (Some (prop_id 0)) e.0 ≡ true
+      past e h = ap is_lt (sym (nat_cmp_is 0 e.0.0 Less (sound.props_below e.0.0 (ap is_some h)).0))
+
+  -- what the walk from 0 gives is all that y defines
+  pub defined_left-all : (y : ObjNo) → defined_left y (prop_id 0) t ≡ filter (λ e. int_eq e.1.definer.0 y.0) (entries t.props)
+  defined_left-all y = ap (filter (λ e. int_eq e.1.definer.0 y.0)) (filter_all (λ e. is_past prop_cmp (Some (prop_id 0)) e.0) (entries t.props) past_zero)
+
+  -- a name that passes, by the rows
+  pub any_defined : (p : Name → Bool) (y : ObjNo) → list_any (λ e. p e.1.name) (defined_left y (prop_id 0) t) ≡ list_any p (names_of (world_of t) y)
+  unfolding same_object
+  any_defined p y =
+      ap (list_any (λ e. p e.1.name)) (defined_left-all y)
+      ∙ sym (any_map p (λ e. e.1.name) (filter (λ e. int_eq e.1.definer.0 y.0) (entries t.props)))
+      ∙ ap (list_any p) (names_listed t sound y)
