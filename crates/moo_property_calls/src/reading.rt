@@ -12,7 +12,7 @@ ghost use Rattle.moo_call_parts.specs.Outcomes.{world_in, Answers};
 use crate::slots::readable_slot;
 use moo_call_parts::{Fault, list_of, rights, text_list};
 use moo_props::value_of;
-use moo_rows::{Bits, Rows, SlotRow, each_prop};
+use moo_rows::{Bits, PropId, Rows, SlotRow, each_defined};
 use moo_tree::valid;
 use moo_value::{Code, LiteralFault, MooStr, ObjNo, Value};
 use std::alloc::{AllocError, Global};
@@ -40,10 +40,8 @@ fn names_of<R: Rows>(rows: &R, alloc: Global, x: ObjNo) -> Result<Vec<MooStr>, A
     ensures { IfOk result (λ names. names.items ≡ names_of (world_in (R.held rows.now)) x) }
 {
     let mut names = Vec::new(alloc);
-    for (_id, row) in each_prop(rows) {
-        if row.definer == x {
-            names.push(row.name.copy(alloc)?)?;
-        }
+    for (_id, row) in each_defined(rows, x, PropId(0)) {
+        names.push(row.name.copy(alloc)?)?;
     }
     Ok(names)
 }

@@ -1,12 +1,12 @@
 -- One step up, by the row.
-use Rattle.std.proofs.Common.{◌≡◌, suc, true, false, ◌∷◌, length, Some, sym, ap, ◌∙◌}
+use Rattle.std.proofs.Common.{◌≡◌, suc, true, ◌∷◌, length, Some, sym, ap, ◌∙◌}
 use Rattle.std.specs.Ordering.{int_eq}
 use Rattle.moo_value.specs.declared.value.ObjNo.{ObjNo}
 use Rattle.moo_rows.specs.declared.row.ObjRow.{ObjRow}
 use Rattle.moo_world.specs.Objects.{is_among, same_object-eq}
 use Rattle.moo_world.specs.Rows.{LookUps, world_shown}
 use Rattle.moo_world.specs.World.{World, IsTree, chain}
-use Rattle.moo_world.proofs.Chains.{is_among_here, is_among_later}
+use Rattle.moo_world.proofs.Chains.{is_among_here}
 use Rattle.moo_world.proofs.Seen.{chain_of_row}
 
 module _ (m : LookUps) (t : IsTree (world_shown m)) (x : ObjNo) (row : ObjRow) (there : Some row ≡ m.object x) where
@@ -22,7 +22,3 @@ module _ (m : LookUps) (t : IsTree (world_shown m)) (x : ObjNo) (row : ObjRow) (
   -- above stands in a chain that it begins
   pub is_here : (above : ObjNo) → true ≡ int_eq x.0 above.0 → is_among above (chain w x) ≡ true
   is_here above e = is_among_here above x (chain w row.parent) (chain w x) step (sym (same_object-eq above x) ∙ sym e)
-
-  -- and else where it stands in the chain of the parent
-  pub is_higher : (above : ObjNo) → false ≡ int_eq x.0 above.0 → is_among above (chain w row.parent) ≡ is_among above (chain w x)
-  is_higher above e = is_among_later above x (chain w row.parent) (chain w x) step (sym (same_object-eq above x) ∙ sym e)

@@ -1,5 +1,4 @@
 pub mod Climbing
-pub mod Noting
 pub mod Sharing
 pub mod Listing
 pub mod Searching

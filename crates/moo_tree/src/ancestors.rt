@@ -26,7 +26,7 @@ pub fn chain<R: Rows>(alloc: Global, rows: &R, x: ObjNo) -> Result<Vec<ObjNo>, A
 }
 
 /// Whether x is an object that is the other one or has it as an ancestor. It climbs from x to the root at most: where many
-/// are asked for, use `Known`.
+/// are asked for, take what lies under the other one by `owners_under`.
 pub fn is_under<R: Rows>(rows: &R, x: ObjNo, ancestor: ObjNo) -> bool
     requires { IsTree (world_of (R.held rows.now).maps) }
     ensures { result ≡ is_among ancestor (chain (world_of (R.held rows.now).maps) x) }

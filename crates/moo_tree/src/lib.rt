@@ -2,14 +2,12 @@
 #![tactic(auto)]
 
 mod ancestors;
-mod known;
 mod lists;
 mod numbers;
 mod places;
 mod under;
 
 pub use ancestors::{chain, common, is_under};
-pub use known::Known;
 pub use lists::{children, contents, players};
 pub use numbers::{is_nothing, nothing, valid};
 pub use places::inside;

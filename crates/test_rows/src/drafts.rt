@@ -2,7 +2,7 @@
 
 use moo_draft::{Changes, Draft, apply_changes};
 use moo_rows::{
-    Bits, Flat, PropId, Rows, SlotRow, SlotState, children, each_slot, each_slot_of, opening_world,
+    Bits, Flat, Link, PropId, Rows, SlotRow, SlotState, each_slot, each_slot_of, opening_world,
 };
 use moo_value::{ObjNo, Value};
 use std::alloc::{AllocError, Global};
@@ -140,7 +140,10 @@ fn a_removed_object_is_not_next(rt: HostRuntime) -> Result<(), Fail> {
     draft.remove_object(ObjNo(2))?;
     assert!(rt; draft.next_object(Some(ObjNo(0))) == Some(ObjNo(3)));
     assert!(rt; flat.next_object(Some(ObjNo(0))) == Some(ObjNo(1)));
-    let left = children(&draft, rt.alloc(), ObjNo(1))?;
-    assert_eq!(rt; left.items().len(), 2);
+    let child = Link::ChildOf(ObjNo(1));
+    assert!(rt; draft.next_linked(child, ObjNo(-1)) == Some(ObjNo(0)));
+    assert!(rt; draft.next_linked(child, ObjNo(0)) == Some(ObjNo(3)));
+    assert!(rt; draft.next_linked(child, ObjNo(3)).is_none());
+    assert!(rt; flat.next_linked(child, ObjNo(0)) == Some(ObjNo(2)));
     Ok(())
 }

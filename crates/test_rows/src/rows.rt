@@ -80,8 +80,11 @@ fn the_opening_world_is_the_four_objects(rt: HostRuntime) -> Result<(), Fail> {
             assert!(rt; list.items() == [ObjNo(1)].as_slice());
         }
     }
-    let under_root = children(&rows, rt.alloc(), ObjNo(1))?;
-    assert!(rt; under_root.items() == [ObjNo(0), ObjNo(2), ObjNo(3)].as_slice());
+    let child = Link::ChildOf(ObjNo(1));
+    assert!(rt; rows.next_linked(child, ObjNo(-1)) == Some(ObjNo(0)));
+    assert!(rt; rows.next_linked(child, ObjNo(0)) == Some(ObjNo(2)));
+    assert!(rt; rows.next_linked(child, ObjNo(2)) == Some(ObjNo(3)));
+    assert!(rt; rows.next_linked(child, ObjNo(3)).is_none());
     Ok(())
 }
 
