@@ -45,7 +45,7 @@ pub fn chparent<R: Rows>(
     if is_under(rows, new, x) {
         return Err(Fault::Moo(Code::RecursiveMove));
     }
-    if meets(rows, x, new) {
+    if meets(alloc, rows, x, new)? {
         return Err(Fault::Moo(Code::InvalidArgument));
     }
     reparent(alloc, rows, x, new)?;

@@ -73,7 +73,8 @@ pub(super) fn added<R: Rows>(
 {
     let name = MooStr::from_bytes(alloc, name)?;
     assert!(rt; valid(rows, ObjNo(x)));
-    assert!(rt; !clashes(rows, ObjNo(x), &name));
+    let clash = clashes(alloc, rows, ObjNo(x), &name)?;
+    assert!(rt; !clash);
     assert!(rt; rows.head().next_prop < u32::MAX);
     let value = Value::Int(value);
     Ok(define(alloc, rows, ObjNo(x), name, value, WIZARD, bits)?)
@@ -188,7 +189,8 @@ pub(super) fn moved<R: Rows>(
     assert!(rt; valid(rows, ObjNo(x)));
     assert!(rt; valid(rows, ObjNo(new)));
     assert!(rt; !is_under(rows, ObjNo(new), ObjNo(x)));
-    assert!(rt; !meets(rows, ObjNo(x), ObjNo(new)));
+    let clash = meets(alloc, rows, ObjNo(x), ObjNo(new))?;
+    assert!(rt; !clash);
     Ok(reparent(alloc, rows, ObjNo(x), ObjNo(new))?)
 }
 
