@@ -24,7 +24,7 @@ use moo_rows::{Bits, PropId, Rows};
 use moo_tree::valid;
 use moo_value::{Code, MooStr, ObjNo, Value};
 use moo_world::BuiltIn;
-use std::alloc::Global;
+use std::alloc::{AllocError, Global};
 
 /// The most bytes in the name of a property.
 const MAX_NAME: usize = 255;
@@ -38,12 +38,20 @@ fn is_property_name(name: &MooStr) -> bool
 }
 
 /// Whether a new property of x may have the name: one that a property may have, and that no property has which x, an
-/// ancestor or a descendant of x defines.
-pub(crate) fn may_define<R: Rows>(rows: &R, x: ObjNo, name: &MooStr) -> bool
+/// ancestor or a descendant of x defines. The only error is want of memory.
+pub(crate) fn may_define<R: Rows>(
+    rows: &R,
+    alloc: Global,
+    x: ObjNo,
+    name: &MooStr,
+) -> Result<bool, AllocError>
     requires { IsGood (R.held rows.now).maps }
-    ensures { result ≡ may_define (world_in (R.held rows.now)) x name.now }
+    ensures { IfOk result (λ may. may ≡ may_define (world_in (R.held rows.now)) x name.now) }
 {
-    is_property_name(name) && !clashes(rows, x, name)
+    if !is_property_name(name) {
+        return Ok(false);
+    }
+    Ok(!clashes(alloc, rows, x, name)?)
 }
 
 /// The property of a name that x itself defines.
@@ -94,6 +102,7 @@ fn has_number_left<R: Rows>(rows: &R) -> bool
 /// The rights of the property that the programmer may define on x, or the first error of `add_property`.
 fn bits_to_define<R: Rows>(
     rows: &R,
+    alloc: Global,
     programmer: ObjNo,
     x: ObjNo,
     name: &MooStr,
@@ -117,7 +126,7 @@ fn bits_to_define<R: Rows>(
     if !rights::may_own(rows, programmer, info.owner) {
         return Err(Fault::Moo(Code::Permission));
     }
-    if !may_define(rows, x, name) {
+    if !may_define(rows, alloc, x, name)? {
         return Err(Fault::Moo(Code::InvalidArgument));
     }
     if !has_number_left(rows) {
@@ -146,7 +155,7 @@ pub fn add_property<R: Rows>(
     ensures comes { ComesTo (add_property (world_in (R.held rows.old)) programmer x name.now value.now (info.entry.owner, info.entry.perms.now)) (R.held rows.old) (R.held rows.new) result }
     ensures kept { OnOk result (Keeps (R.held rows.old) (R.held rows.new)) }
 {
-    let bits = bits_to_define(rows, programmer, x, name, info)?;
+    let bits = bits_to_define(rows, alloc, programmer, x, name, info)?;
     let name = name.copy(alloc)?;
     let value = value.copy(alloc)?;
     define(alloc, rows, x, name, value, info.owner, bits)?;

@@ -30,14 +30,24 @@ fn may_give<R: Rows>(rows: &R, programmer: ObjNo, owner: ObjNo, present: ObjNo) 
 }
 
 /// Whether a property of x may have the new name, if there is one: x itself defines it, and a new property of x may have it.
-fn may_rename<R: Rows>(rows: &R, x: ObjNo, name: &MooStr, new: Option<&MooStr>) -> bool
+/// The only error is want of memory.
+fn may_rename<R: Rows>(
+    rows: &R,
+    alloc: Global,
+    x: ObjNo,
+    name: &MooStr,
+    new: Option<&MooStr>,
+) -> Result<bool, AllocError>
     requires { IsGood (R.held rows.now).maps }
-    ensures { result ≡ may_rename (world_in (R.held rows.now)) x name.now (option_map (λ n. n.now) new.entry) }
+    ensures { IfOk result (λ may. may ≡ may_rename (world_in (R.held rows.now)) x name.now (option_map (λ n. n.now) new.entry)) }
 {
-    match new {
-        None => true,
-        Some(new) => defines(rows, x, name) && may_define(rows, x, new),
+    let Some(new) = new else {
+        return Ok(true);
+    };
+    if !defines(rows, x, name) {
+        return Ok(false);
     }
+    may_define(rows, alloc, x, new)
 }
 
 /// A copy of a name, if there is one. The only error is want of memory.
@@ -78,6 +88,7 @@ fn change_info<R: Rows>(
 /// The property of a name on x and the rights that the programmer may give it, or the first error of `set_property_info`.
 fn property_to_change<R: Rows>(
     rows: &R,
+    alloc: Global,
     programmer: ObjNo,
     x: ObjNo,
     name: &MooStr,
@@ -105,7 +116,7 @@ fn property_to_change<R: Rows>(
     if !may_give(rows, programmer, info.owner, found.slot.owner) {
         return Err(Fault::Moo(Code::Permission));
     }
-    if !may_rename(rows, x, name, new_name) {
+    if !may_rename(rows, alloc, x, name, new_name)? {
         return Err(Fault::Moo(Code::InvalidArgument));
     }
     Ok((found.id, bits))
@@ -132,7 +143,7 @@ pub fn set_property_info<R: Rows>(
     ensures comes { ComesTo (set_property_info (world_in (R.held rows.old)) programmer x name.now (info.entry.owner, info.entry.perms.now) (option_map (λ n. n.now) new_name.entry)) (R.held rows.old) (R.held rows.new) result }
     ensures kept { OnOk result (Keeps (R.held rows.old) (R.held rows.new)) }
 {
-    let (id, bits) = property_to_change(rows, programmer, x, name, info, new_name)?;
+    let (id, bits) = property_to_change(rows, alloc, programmer, x, name, info, new_name)?;
     let new = copy_of(alloc, new_name)?;
     change_info(rows, alloc, x, id, info.owner, bits, new)?;
     Ok(ZERO)
