@@ -3,11 +3,13 @@
     python3 bench/each.py PROGRAM.. [--objects N..]
 
 Each PROGRAM runs `apply :memory: -` on one text a size (1,000 to 1,000,000 objects): the world is made, and then 100 batches of one
-call follow for each call, on 100 objects far from each other, each of them a leaf of the tree. A batch's time is that of its section by
-100, from the first byte to the last reply: it holds the reading, the judging, the writing of its rows to a store in memory, and the reply.
+call (20 among a million) follow for each call, on objects far from each other, each of them a leaf of the tree. A batch's time is that of
+its section by their number, from the first byte to the last reply: it holds the reading, the judging, the writing of its rows to a store
+in memory, and the reply.
 
 The world: #4 defines q and has 100 children, of which each has a child; below #1 each object has ten children; each hundredth object
-defines a property and has a verb. Times are in microseconds, the least of three runs; the columns are sizes, a line for each call.
+defines a property and has a verb. Times are in microseconds, the least of three runs (of one among a million); the
+columns are sizes, a line for each call.
 """
 import argparse
 import subprocess
@@ -15,7 +17,7 @@ import sys
 import time
 
 CALLS = 100
-RUNS = 3
+MANY = 1_000_000
 CLASS = 4
 HEIRS = range(5, 5 + CALLS)
 FIRST = 5 + 2 * CALLS
@@ -126,11 +128,12 @@ def measure(program, objects):
     session = Session(program)
     taken = plant(session, objects)
     times = {}
+    asked = 20 if objects >= MANY else CALLS
     for name, call in SECTIONS:
-        batches = [call.format(x=x, y=y) for x, y in zip(leaves(objects), HEIRS)]
+        batches = [call.format(x=x, y=y) for x, y in zip(leaves(objects)[:asked], HEIRS)]
         start = time.perf_counter()
         session.ask(batches)
-        times[name] = (time.perf_counter() - start) / CALLS * 1e6
+        times[name] = (time.perf_counter() - start) / asked * 1e6
     session.end()
     return times, taken
 
@@ -143,7 +146,7 @@ def main():
     for program in asked.programs:
         best, bytes_taken = {}, {}
         for objects in asked.objects:
-            runs = [measure(program, objects) for _ in range(RUNS)]
+            runs = [measure(program, objects) for _ in range(1 if objects >= MANY else 3)]
             best[objects] = {name: min(times[name] for times, _ in runs) for name, _ in SECTIONS}
             bytes_taken[objects] = min(taken for _, taken in runs)
         print(f"{program}")
