@@ -1,11 +1,9 @@
-use Rattle.std.proofs.Common.{◌≡◌, true, false, Some, None, sym, ap, ◌∙◌, rules}
-use Rattle.std.specs.Prelude.{is_some}
-use Rattle.std.specs.FinMap.{get, get-insert, get-remove, get-empty, from_entries}
+use Rattle.std.proofs.Common.{◌≡◌, Some, ap, ◌∙◌, rules}
+use Rattle.std.specs.FinMap.{get, get-insert}
 use Rattle.moo_rows.specs.Ordered.{contents}
-use Rattle.moo_rows.specs.Maps.{object_cmp, prop_cmp, slot_cmp}
-use Rattle.moo_rows.specs.Exact.{object_exact, prop_exact}
-use Rattle.moo_rows.specs.Links.{IsFirst, may_have, has_link, ties_of, row_has, row_defined, is_linked}
-use Rattle.moo_rows.proofs.Orders.{object_total, prop_total, slot_total}
+use Rattle.moo_rows.specs.Maps.{object_cmp}
+use Rattle.moo_rows.specs.Links.{has_link, ties_of}
+use Rattle.moo_rows.proofs.Orders.{object_total}
 use Rattle.std.specs.Option.{option_map}
 use Rattle.moo_rows.proofs.Linking.{covered-put, covered-there, stays-there}
 use Rattle.moo_rows.proofs.flat.FlatRows.put_object.Goals as goal

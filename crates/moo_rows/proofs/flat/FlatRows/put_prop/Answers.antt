@@ -1,11 +1,10 @@
-use Rattle.std.proofs.Common.{◌≡◌, true, false, Some, None, sym, ap, ◌∙◌, rules}
+use Rattle.std.proofs.Common.{sym, ap, ◌∙◌}
 use Rattle.std.specs.Prelude.{is_some}
-use Rattle.std.specs.FinMap.{get, get-insert, get-remove, get-empty, from_entries}
+use Rattle.std.specs.FinMap.{get, get-insert}
 use Rattle.moo_rows.specs.Ordered.{contents}
-use Rattle.moo_rows.specs.Maps.{object_cmp, prop_cmp, slot_cmp}
-use Rattle.moo_rows.specs.Exact.{object_exact, prop_exact}
-use Rattle.moo_rows.specs.Links.{IsFirst, may_have, has_link, ties_of, row_has, row_defined, is_linked}
-use Rattle.moo_rows.proofs.Orders.{object_total, prop_total, slot_total}
+use Rattle.moo_rows.specs.Maps.{prop_cmp, slot_cmp}
+use Rattle.moo_rows.specs.Links.{row_defined}
+use Rattle.moo_rows.proofs.Orders.{prop_total, slot_total}
 use Rattle.moo_rows.proofs.Firsts.{lacked-insert}
 use Rattle.moo_rows.proofs.Linking.{defined-put}
 use Rattle.moo_rows.proofs.flat.FlatRows.put_prop.Goals as goal
