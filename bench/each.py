@@ -7,8 +7,8 @@ call (20 among a million) follow for each call, on objects far from each other, 
 its section by their number, from the first byte to the last reply: it holds the reading, the judging, the writing of its rows to a store
 in memory, and the reply.
 
-The world: #4 defines q and has 100 children, of which each has a child; below #1 each object has ten children; each hundredth object
-defines a property and has a verb. Times are in microseconds, the least of three runs (of one among a million); the
+The world: #4 defines q and has 100 children, of which each has a child; below #1 each object has ten children; each hundredth object,
+and at most 200 of them, defines a property and has a verb. Times are in microseconds, the least of three runs (of one among a million); the
 columns are sizes, a line for each call.
 """
 import argparse
@@ -108,19 +108,24 @@ def plant(session, objects):
     for batch in by_thousands(grown):
         session.ask([batch])
     taken = (session.resident() - before) / max(1, len(grown))
-    hundredths = range(FIRST, objects, 100)
-    for batch in by_thousands([f'add_property(#{number}, "own{number}", 1, {{#3, "r"}})' for number in reversed(hundredths)]):
+    some = range(FIRST, objects, apart(objects))
+    for batch in by_thousands([f'add_property(#{number}, "own{number}", 1, {{#3, "r"}})' for number in reversed(some)]):
         session.ask([batch])
-    for batch in by_thousands([f'add_verb(#{number}, {{#3, "rd", "look"}}, {{"this", "none", "none"}})' for number in hundredths]):
+    for batch in by_thousands([f'add_verb(#{number}, {{#3, "rd", "look"}}, {{"this", "none", "none"}})' for number in some]):
         session.ask([batch])
     return taken
+
+
+def apart(objects):
+    """From one object that defines a property and has a verb to the next: they are a hundredth of all, and at most 200."""
+    return max(100, objects // 200)
 
 
 def leaves(objects):
     """100 objects that have no child and define nothing, far from each other."""
     low = FIRST + (objects - FIRST) // 10 + 10
     step = (objects - low) // CALLS
-    return [number + 1 if (number - FIRST) % 100 == 0 else number for number in range(low, low + step * CALLS, step)]
+    return [number + 1 if (number - FIRST) % apart(objects) == 0 else number for number in range(low, low + step * CALLS, step)]
 
 
 def measure(program, objects):
