@@ -18,7 +18,6 @@ import time
 
 CALLS = 100
 MANY = 1_000_000
-CLASS = 4
 HEIRS = range(5, 5 + CALLS)
 FIRST = 5 + 2 * CALLS
 

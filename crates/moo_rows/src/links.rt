@@ -1,4 +1,4 @@
-//! Objects by their links.
+//! Objects by their links, and properties by who defines them: those that may have one, whose rows are still to be looked at.
 
 ghost use Rattle.std.specs.Prelude.{◌≡◌, ◌≢◌, ◌↔◌, true, false, Some, is_some, option_map, IfOk, IsTrue, OnOk};
 ghost use Rattle.std.specs.FinMap as map;
