@@ -1,17 +1,18 @@
 """How long each of the twenty-nine calls takes, in worlds of several sizes, and what an object takes in memory.
 
-    python3 bench/each.py PROGRAM.. [--objects N..]
+    python3 bench/each.py PROGRAM.. [--objects N..] [--files FOLDER]
 
 Each PROGRAM runs `apply :memory: -` on one text a size (1,000 to 1,000,000 objects): the world is made, and then 100 batches of one
 call (20 among a million) follow for each call, on objects far from each other, each of them a leaf of the tree. A batch's time is that of
 its section by their number, from the first byte to the last reply: it holds the reading, the judging, the writing of its rows to a store
-in memory, and the reply.
+in memory, and the reply. With --files the world is a new file in that folder, and the commit to the file counts in its place.
 
 The world: #4 defines q and has 100 children, of which each has a child; below #1 each object has ten children; each hundredth object,
 and at most 200 of them, defines a property and has a verb. Times are in microseconds, the least of three runs (of one among a million); the
 columns are sizes, a line for each call.
 """
 import argparse
+import os
 import subprocess
 import sys
 import time
@@ -59,10 +60,13 @@ SECTIONS = (
 
 
 class Session:
-    """A run of the program on a world in memory, which is asked through pipes."""
+    """A run of the program on a world in memory, or in a new file of a folder, which is asked through pipes."""
 
-    def __init__(self, program):
-        self.run = subprocess.Popen([program, "apply", ":memory:", "-"], stdin=subprocess.PIPE, stdout=subprocess.PIPE)
+    def __init__(self, program, folder):
+        self.file = os.path.join(folder, f"each.{os.getpid()}.db") if folder else None
+        if self.file:
+            subprocess.run([program, "init", self.file], stdout=subprocess.DEVNULL, check=True)
+        self.run = subprocess.Popen([program, "apply", self.file or ":memory:", "-"], stdin=subprocess.PIPE, stdout=subprocess.PIPE)
 
     def ask(self, batches):
         """The replies to these batches; each has to be accepted."""
@@ -85,6 +89,9 @@ class Session:
         self.run.stdin.close()
         if self.run.wait() != 0:
             sys.exit(f"the run ended with {self.run.returncode}")
+        for end in ("", "-wal") if self.file else ():
+            if os.path.exists(self.file + end):
+                os.remove(self.file + end)
 
 
 def by_thousands(calls):
@@ -127,9 +134,9 @@ def leaves(objects):
     return [number + 1 if (number - FIRST) % apart(objects) == 0 else number for number in range(low, low + step * CALLS, step)]
 
 
-def measure(program, objects):
+def measure(program, objects, folder):
     """The time of each section by its name, and what an object takes."""
-    session = Session(program)
+    session = Session(program, folder)
     taken = plant(session, objects)
     times = {}
     asked = 20 if objects >= MANY else CALLS
@@ -146,11 +153,12 @@ def main():
     words = argparse.ArgumentParser(description=__doc__, formatter_class=argparse.RawDescriptionHelpFormatter)
     words.add_argument("programs", nargs="+")
     words.add_argument("--objects", nargs="+", type=int, default=[1_000, 10_000, 100_000, 1_000_000])
+    words.add_argument("--files", metavar="FOLDER")
     asked = words.parse_args()
     for program in asked.programs:
         best, bytes_taken = {}, {}
         for objects in asked.objects:
-            runs = [measure(program, objects) for _ in range(1 if objects >= MANY else 3)]
+            runs = [measure(program, objects, asked.files) for _ in range(1 if objects >= MANY else 3)]
             best[objects] = {name: min(times[name] for times, _ in runs) for name, _ in SECTIONS}
             bytes_taken[objects] = min(taken for _, taken in runs)
         print(f"{program}")

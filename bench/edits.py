@@ -50,7 +50,7 @@ recycle(#9)
 end
 batch as #3
 create(#7)
-set(#10, "c", -2147483648)
+set(#10, "c", -9223372036854775808)
 set(#10, "r", 1)
 end
 '''
@@ -58,14 +58,14 @@ KINDS = (
     "bad-head bad-cell past-head no-parent parent-loop no-place place-loop no-definer double-name strange-slot missing-slot "
     "clear-definer strange-verb"
 ).split()
-TEXTS = {("object", "name"), ("object", "accept"), ("prop", "name"), ("slot", "bits"), ("slot", "value")} | {
+TEXTS = {("object", "name"), ("object", "accept"), ("prop", "name"), ("slot2", "value")} | {
     ("verb", column) for column in ("names", "bits", "dobj", "prep", "iobj")
 }
 NUMBERS = [-(2**63), -(2**31) - 1, -(2**31), -2, -1, 0, 1, 2, 3, 4, 5, 6, 7, 8, 9, 10, 11, 2**31 - 1, 2**31, 2**32 - 1, 2**32, 2**63 - 1]
 # Texts that are cells of some column, and texts that are cells of none.
 WORDS = [
     "", " ", "r", "w", "rw", "CWR", "rr", "x", "rd", "none", "any", "this", "in", "in/inside/into", "with/using", "name", "A", "a", "b", "look", "l*ook get",
-    "0", "-1", "2147483647", "2147483648", "-2147483649", "#4", "#-1", "#2147483648", "{}", "{#1}", "{ #1}", "{#1,#5 }", "{1,}", "{", "}", '"', '"x"',
+    "0", "-1", "9223372036854775807", "9223372036854775808", "-9223372036854775809", "#4", "#-1", "#2147483648", "{}", "{#1}", "{ #1}", "{#1,#5 }", "{1,}", "{", "}", '"', '"x"',
     '"\\', "E_PERM", "e_perm", "E_", "{" * 32 + "}" * 32, "{" * 33 + "}" * 33, "\t", "\n", "a\nb", "\u00e9", "'", "x" * 255, "x" * 256, '"' + "x" * 65535 + '"',
     '"' + "x" * 65536 + '"', "{" + "0," * 1023 + "0}", "{" + "0," * 1024 + "0}", "a b", "a " * 300,
 ]
@@ -122,7 +122,7 @@ class Edits:
 
     def edit(self, chance):
         """A statement, and its values."""
-        table = chance.choice(["head", "object", "object", "prop", "slot", "slot", "verb"])
+        table = chance.choice(["head", "object", "object", "prop", "slot2", "slot2", "verb"])
         columns = TABLES[table]
         row = chance.choice(self.rows[table])
         keys = columns[: 1 if table in ("head", "object", "prop") else 2]
@@ -171,7 +171,7 @@ class Edits:
         told = (counts[b"object"], counts[b"property"], counts[b"slot"], counts[b"verb"])
         if status or lines[-2:] != [b"end", b""] or lines[:2] != [b"seq %d" % seq, b"top #%d" % head[3]]:
             raise Violation(f"dump: status {status}, {dump[:200]!r} .. {dump[-200:]!r}")
-        if told != tuple(len(rows[table]) for table in ("object", "prop", "slot", "verb")) or told[0] != objects or seq != head[2]:
+        if told != tuple(len(rows[table]) for table in ("object", "prop", "slot2", "verb")) or told[0] != objects or seq != head[2]:
             raise Violation(f"the dump has {told} objects, properties, slots and verbs, and check says {objects} objects")
         for line in lines[2:-2]:
             if not is_line(line):

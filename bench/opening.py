@@ -3,7 +3,7 @@
     python3 opening.py [ROWS [SHAPE [ROUNDS [FOLDER]]]]
 
 Makes a file of ROWS rows that is a sound world, by the machine's own SQLite, and in each round takes in turn: `moo check FILE` (the
-program is $MOO, or crates/moo/out/moo), `PRAGMA integrity_check`, and a read of all rows of the five tables in the order of their
+program is $MOO, or crates/moo/out/moo), `PRAGMA integrity_check`, and a read of all rows of its tables in the order of their
 keys. Each is a process of its own. Prints the median of the times, and the greatest memory of each. The time of `moo` is that of
 the whole process; that of SQLite begins where Python has started.
 
@@ -20,7 +20,7 @@ import sys
 import tempfile
 import time
 
-from sqlite_baseline import OPENING_OBJECTS, PRAGMAS, TABLES
+from sqlite_baseline import FIRST_TABLES, OPENING_OBJECTS, PRAGMAS, TABLES
 
 CLASSES = 200
 VERBS_OF_CLASS = 50
@@ -32,7 +32,7 @@ READS = [
     "SELECT * FROM head ORDER BY id",
     "SELECT * FROM object ORDER BY n",
     "SELECT * FROM prop ORDER BY id",
-    "SELECT * FROM slot ORDER BY object, prop",
+    "SELECT * FROM slot2 ORDER BY object, prop",
     "SELECT * FROM verb ORDER BY object, id",
 ]
 
@@ -82,17 +82,25 @@ def wide(rows):
     return objects, props, slots, []
 
 
-def make(path, rows):
+def numbered(slots):
+    """The rows of slots in version 2, where r is 4, w 2 and c 1."""
+    sums = {bits: sum({"r": 4, "w": 2, "c": 1}[letter] for letter in bits) for bits in {row[3] for row in slots}}
+    return [(*row[:3], sums[row[3]], row[4]) for row in slots]
+
+
+def make(path, rows, version=2):
     """Writes the file, and prints how many rows it has in each table."""
     objects, props, slots, verbs = rows
     connection = sqlite3.connect(path, isolation_level=None)
     for pragma in PRAGMAS:
         connection.execute(pragma).fetchall()
     connection.execute("BEGIN")
-    for table in TABLES:
+    for table in TABLES if version == 2 else FIRST_TABLES:
         connection.execute(table)
-    head = (1, 1, 0, max(row[0] for row in objects), len(props) + 1, len(verbs) + 1)
-    for table, part in [("head", [head]), ("object", objects), ("prop", props), ("slot", slots), ("verb", verbs)]:
+    held = ("slot2", numbered(slots)) if version == 2 else ("slot", slots)
+    petitions = [("petition_head", [(1, 1)])] if version == 2 else []
+    head = (1, version, 0, max(row[0] for row in objects), len(props) + 1, len(verbs) + 1)
+    for table, part in [("head", [head]), ("object", objects), ("prop", props), held, ("verb", verbs), *petitions]:
         if part:
             marks = ", ".join("?" * len(part[0]))
             connection.executemany(f"INSERT INTO {table} VALUES ({marks})", part)
@@ -139,6 +147,14 @@ def timed_within(command):
     return float(taken), memory, said
 
 
+def told(name, runs):
+    """Prints the median of the times of these runs, the least and the most, and the greatest memory. Answers the median."""
+    times = [run[0] for run in runs]
+    median = statistics.median(times)
+    print(f"{name}: {median:.2f} s ({min(times):.2f} to {max(times):.2f}), {max(run[1] for run in runs):.0f} MB")
+    return median
+
+
 def main():
     rows = int(sys.argv[1]) if len(sys.argv) > 1 else 1_000_000
     shape = sys.argv[2] if len(sys.argv) > 2 else "broad"
@@ -160,10 +176,7 @@ def main():
         print(f"moo check says: {ours[0][2]}; integrity_check says: {checks[0][2]}", file=sys.stderr)
         times = []
         for name, runs in [("moo check", ours), ("integrity_check", checks), ("plain read", reads)]:
-            median = statistics.median(run[0] for run in runs)
-            times.append(median)
-            least, most = min(run[0] for run in runs), max(run[0] for run in runs)
-            print(f"{name}: {median:.2f} s ({least:.2f} to {most:.2f}), {max(run[1] for run in runs):.0f} MB")
+            times.append(told(name, runs))
         print(f"ratio to both: {times[0] / (times[1] + times[2]):.2f}")
     finally:
         shutil.rmtree(folder)

@@ -18,7 +18,7 @@ PRAGMAS = [
     "PRAGMA wal_autocheckpoint = 1000",
 ]
 
-TABLES = [
+FIRST_TABLES = [
     "CREATE TABLE head (id INTEGER NOT NULL PRIMARY KEY, version INTEGER NOT NULL, seq INTEGER NOT NULL, top INTEGER NOT NULL,"
     " next_prop INTEGER NOT NULL, next_verb INTEGER NOT NULL) STRICT",
     "CREATE TABLE object (n INTEGER NOT NULL PRIMARY KEY, name TEXT NOT NULL, owner INTEGER NOT NULL, parent INTEGER NOT NULL,"
@@ -29,6 +29,12 @@ TABLES = [
     " value TEXT NOT NULL, PRIMARY KEY (object, prop)) STRICT",
     "CREATE TABLE verb (object INTEGER NOT NULL, id INTEGER NOT NULL, names TEXT NOT NULL, owner INTEGER NOT NULL,"
     " bits TEXT NOT NULL, dobj TEXT NOT NULL, prep TEXT NOT NULL, iobj TEXT NOT NULL, PRIMARY KEY (object, id)) STRICT",
+]
+TABLES = FIRST_TABLES + [
+    "CREATE TABLE slot2 (object INTEGER NOT NULL, prop INTEGER NOT NULL, owner INTEGER NOT NULL, bits INTEGER NOT NULL,"
+    " value TEXT NOT NULL, PRIMARY KEY (object, prop)) STRICT",
+    "CREATE TABLE petition (id INTEGER NOT NULL PRIMARY KEY, who INTEGER NOT NULL, calls TEXT NOT NULL) STRICT",
+    "CREATE TABLE petition_head (id INTEGER NOT NULL PRIMARY KEY, next_petition INTEGER NOT NULL) STRICT",
 ]
 
 PUT_HEAD = "INSERT OR REPLACE INTO head VALUES (?1, ?2, ?3, ?4, ?5, ?6)"
@@ -43,7 +49,7 @@ OPENING_OBJECTS = [
 
 
 def head(seq, top):
-    return (1, 1, seq, top, 1, 1)
+    return (1, 2, seq, top, 1, 1)
 
 
 def lantern(name):

@@ -24,7 +24,7 @@ damaged() {
 
 damaged 'damaged bad-head head' 'delete from head'
 damaged 'damaged bad-head head' 'update head set top = -2'
-damaged 'damaged bad-cell #6 p2' "update slot set value = '{1,}' where object = 6 and prop = 2"
+damaged 'damaged bad-cell #6 p2' "update slot2 set value = '{1,}' where object = 6 and prop = 2"
 damaged 'damaged past-head #7' 'update head set top = 6'
 damaged 'damaged past-head #-5' 'update object set n = -5 where n = 0'
 damaged 'damaged past-head p3' 'update head set next_prop = 3'
@@ -34,14 +34,16 @@ damaged 'damaged no-place #0' 'update object set location = 9 where n = 0'
 damaged 'damaged place-loop #2' 'update object set location = 3 where n = 2'
 damaged 'damaged no-definer p3' 'update prop set definer = 9 where id = 3'
 damaged 'damaged double-name p2' "update prop set name = 'A' where id = 2"
-damaged 'damaged strange-slot #7 p1' "insert into slot values (7, 1, 3, 'r', '')"
-damaged 'damaged missing-slot #6 p1' 'delete from slot where object = 6 and prop = 1'
-damaged 'damaged clear-definer #7 p3' "update slot set value = '' where object = 7 and prop = 3"
+damaged 'damaged strange-slot #7 p1' "insert into slot2 values (7, 1, 3, 4, '')"
+damaged 'damaged missing-slot #6 p1' 'delete from slot2 where object = 6 and prop = 1'
+damaged 'damaged clear-definer #7 p3' "update slot2 set value = '' where object = 7 and prop = 3"
 damaged 'damaged strange-verb #9 v1' 'update head set next_verb = 2' "insert into verb values (9, 1, 'look', 3, 'rx', 'this', 'none', 'none')"
-damaged 'newer version' 'update head set version = 2'
+damaged 'newer version' 'update head set version = 3'
+damaged 'damaged bad-head head' 'update head set version = 1'
+damaged 'damaged bad-cell #6 p2' 'update slot2 set bits = 8 where object = 6 and prop = 2'
 
 # what another spelling or another tool leaves isn't damage
-edit world.db "update object set accept = '{ #1}' where n = 2" "update slot set bits = 'RR' where object = 6 and prop = 2"
+edit world.db "update object set accept = '{ #1}' where n = 2" "update slot2 set value = ' 021' where object = 6 and prop = 2"
 expect "another spelling of a value is none" 0 'ok seq 1 objects 8\n' '' check world.db
 "$MOO" apply world.db - >/dev/null <<'B'
 batch as #3
@@ -54,12 +56,18 @@ edit world.db 'vacuum' 2>/dev/null
 expect "a file that was vacuumed is the same world" 0 'ok seq 2 objects 8\n' '' check world.db
 python3 -c '
 import sqlite3
-old = sqlite3.connect("world.db")
-new = sqlite3.connect("again.db")
-new.executescript("\n".join(old.iterdump()))
-new.close()'
+old, new = sqlite3.connect("world.db"), sqlite3.connect("again.db")
+for name, text in old.execute("select name, sql from sqlite_schema where type = ? order by rowid", ("table",)):
+    new.execute(text)
+    for row in old.execute(f"select * from {name}"):
+        new.execute("insert into {} values ({})".format(name, ", ".join("?" * len(row))), row)
+new.commit()
+by_name = sqlite3.connect("named.db")
+by_name.executescript("\n".join(old.iterdump()))
+by_name.close()'
 "$MOO" dump world.db >before
-"$MOO" dump again.db | cmp -s - before && passed "so is one that was dumped and read again as SQL" || failed "so is one that was dumped and read again as SQL" "the dumps differ"
+"$MOO" dump again.db | cmp -s - before && passed "so is one whose tables were made again in their order" || failed "so is one whose tables were made again in their order" "the dumps differ"
+expect "one in which they were made by their names isn't" 1 'moo: store fault\n' '' check named.db
 edit world.db analyze
 expect "statistics are a table that is none of ours" 1 'moo: store fault\n' '' check world.db
 edit world.db 'drop table sqlite_stat1'

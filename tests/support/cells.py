@@ -11,11 +11,11 @@ PREPOSITIONS = [
     "under/underneath/beneath", "behind", "beside", "for/about", "is", "as", "off/off of",
 ]
 VALUES = [
-    "", "0", "-0", "007", " 7", "\t7", "2147483647", "-2147483648", "#-2147483648", "#2147483647", "E_PERM", "e_Float", '""', '"\\x\\\\\\""', "{}", "{ }",
+    "", "0", "-0", "007", " 7", "\t7", "9223372036854775807", "-9223372036854775808", "#-2147483648", "#2147483647", "E_PERM", "e_Float", '""', '"\\x\\\\\\""', "{}", "{ }",
     "{1 ,2}", "{ 1,{ } }", "{" * 32 + "}" * 32, '"' + "x" * 65535 + '"', "{" + "0," * 5000 + "0}",
 ]
 NO_VALUES = [
-    " ", "+1", "-", "- 1", "7 ", "7x", "1 2", "0x10", "1.5", "2147483648", "-2147483649", "#", "# 1", "#2147483648", "E_", "E_NOPE", "E_PERMS", '"', '"a', '"\\"',
+    " ", "+1", "-", "- 1", "7 ", "7x", "1 2", "0x10", "1.5", "9223372036854775808", "-9223372036854775809", "#", "# 1", "#2147483648", "E_", "E_NOPE", "E_PERMS", '"', '"a', '"\\"',
     '"a" ', "{", "}", "{1", "{,}", "{1,}", "{,1}", "{1 2}", "{}}", "{" * 33 + "}" * 33, '"' + "x" * 65536 + '"', "'a'", "null", '"\u00e9"', '"\n"',
 ]
 LISTS = ["", "{}", "{#1}", " {#1}", "{ #1 , #-1 }", "{#99, #2147483647, #99}", "{" + ",".join(["#1"] * 1000) + "}"]
@@ -23,7 +23,7 @@ NO_LISTS = [" ", "0", "#1", "{1}", "{#1, 2}", "{{#1}}", "{#1", "{#1} ", "{#21474
 # The table, the column, the row as SQL and as it is told; values that can be read there, and values that can't.
 CELLS = [
     ("head", "id", "1", "head", [1], [0, 2, -1]),
-    ("head", "version", "1", "head", [1], [0, -1, -(2**63)]),
+    ("head", "version", "1", "head", [2], [1, 0, -1, -(2**63)]),
     ("head", "seq", "1", "head", [2], [-1, -(2**63)]),
     ("head", "top", "1", "head", [7, 2147483647], [2147483648, -2, 2**63 - 1]),
     ("head", "next_prop", "1", "head", [4, 4294967295], [0, -1, 4294967296]),
@@ -39,9 +39,9 @@ CELLS = [
         "prop", "name", "id = 3", "p3", ["c", "A", "B", " ", "player", "names", "parent", "x" * 255],
         ["", "x" * 256, "name", "Owner", "LOCATION", "contents", "programmer", "wizard", "r", "W", "f", *NONE],
     ),
-    ("slot", "owner", "object = 6 and prop = 2", "#6 p2", [3, -1, 99, -2147483648], WIDE),
-    ("slot", "bits", "object = 6 and prop = 2", "#6 p2", ["", "r", "w", "c", "rwc", "CWR", "rRr"], ["x", "d", "rw ", " ", "r,w", *NONE]),
-    ("slot", "value", "object = 6 and prop = 2", "#6 p2", VALUES, [*NO_VALUES, *NONE]),
+    ("slot2", "owner", "object = 6 and prop = 2", "#6 p2", [3, -1, 99, -2147483648], WIDE),
+    ("slot2", "bits", "object = 6 and prop = 2", "#6 p2", [0, 1, 2, 3, 4, 5, 6, 7], [-1, 8, 2147483648, 2**63 - 1, -(2**63)]),
+    ("slot2", "value", "object = 6 and prop = 2", "#6 p2", VALUES, [*NO_VALUES, *NONE]),
     ("verb", "names", "object = 4 and id = 1", "#4 v1", ["x", "\t", " x ", "*", "get take", "x" * 65535], ["", " ", "   ", "x" * 65536, *NONE]),
     ("verb", "owner", "object = 4 and id = 1", "#4 v1", [3, -1, 99, -2147483648], WIDE),
     ("verb", "bits", "object = 4 and id = 1", "#4 v1", ["", "r", "w", "x", "d", "rwxd", "DXWR", "ddd"], ["c", "rw ", " ", *NONE]),
@@ -56,10 +56,10 @@ KEYS = [
     ("bad-cell p-1", "update prop set id = -1 where id = 3"),
     ("bad-cell p4294967295", "update prop set id = 4294967295 where id = 3"),
     ("bad-cell p4294967296", "update prop set id = 4294967296 where id = 3"),
-    ("bad-cell #-2147483649 p3", "update slot set object = -2147483649 where object = 7"),
-    ("bad-cell #7 p0", "update slot set prop = 0 where object = 7"),
-    ("bad-cell #7 p-9223372036854775808", "update slot set prop = -9223372036854775808 where object = 7"),
-    ("bad-cell #7 p4294967295", "update slot set prop = 4294967295 where object = 7"),
+    ("bad-cell #-2147483649 p3", "update slot2 set object = -2147483649 where object = 7"),
+    ("bad-cell #7 p0", "update slot2 set prop = 0 where object = 7"),
+    ("bad-cell #7 p-9223372036854775808", "update slot2 set prop = -9223372036854775808 where object = 7"),
+    ("bad-cell #7 p4294967295", "update slot2 set prop = 4294967295 where object = 7"),
     ("bad-cell #9223372036854775807 v3", "update verb set object = 9223372036854775807 where id = 3"),
     ("bad-cell #5 v0", "update verb set id = 0 where id = 3"),
     ("bad-cell #5 v4294967295", "update verb set id = 4294967295 where id = 3"),
@@ -82,26 +82,26 @@ KEYS = [
     ("double-name p2", "update prop set definer = 4, name = 'a' where id = 2"),
     ("double-name p2", "update prop set definer = 6 where id = 1", "update prop set name = 'a' where id = 2"),
     ("double-name p3", "update prop set definer = 1, name = 'B' where id = 3"),
-    ("strange-slot #3 p1", "insert into slot values (3, 1, 3, '', '')"),
-    ("strange-slot #9 p1", "insert into slot values (9, 1, 3, '', '')"),
-    ("strange-slot #-1 p1", "insert into slot values (-1, 1, 3, '', '')"),
-    ("strange-slot #6 p50", "insert into slot values (6, 50, 3, '', '')"),
-    ("strange-slot #4 p2", "insert into slot values (4, 2, 3, '', ''), (4, 3, 3, '', '')"),
+    ("strange-slot #3 p1", "insert into slot2 values (3, 1, 3, 0, '')"),
+    ("strange-slot #9 p1", "insert into slot2 values (9, 1, 3, 0, '')"),
+    ("strange-slot #-1 p1", "insert into slot2 values (-1, 1, 3, 0, '')"),
+    ("strange-slot #6 p50", "insert into slot2 values (6, 50, 3, 0, '')"),
+    ("strange-slot #4 p2", "insert into slot2 values (4, 2, 3, 0, ''), (4, 3, 3, 0, '')"),
     ("strange-slot #7 p3", "delete from prop where id = 3"),
-    ("missing-slot #4 p1", "delete from slot"),
-    ("missing-slot #5 p2", "delete from slot where prop = 2"),
-    ("missing-slot #7 p3", "delete from slot where object = 7"),
+    ("missing-slot #4 p1", "delete from slot2"),
+    ("missing-slot #5 p2", "delete from slot2 where prop = 2"),
+    ("missing-slot #7 p3", "delete from slot2 where object = 7"),
     ("missing-slot #0 p4", "update head set next_prop = 5", "insert into prop values (4, 0, 'd')"),
-    ("clear-definer #4 p1", "update slot set value = ''"),
-    ("clear-definer #5 p2", "update slot set value = '' where prop = 2"),
+    ("clear-definer #4 p1", "update slot2 set value = ''"),
+    ("clear-definer #5 p2", "update slot2 set value = '' where prop = 2"),
     ("strange-verb #-1 v3", "update verb set object = -1 where id = 3"),
     ("strange-verb #9 v1", "update verb set object = 9"),
 ]
 # Of each kind one edit, in the order in which kinds are told.
 IN_ORDER = [
-    ("newer version", "update head set version = 2"),
+    ("newer version", "update head set version = 3"),
     ("damaged bad-head head", "update head set top = -2"),
-    ("damaged bad-cell #6 p2", "update slot set value = '{1,}' where object = 6 and prop = 2"),
+    ("damaged bad-cell #6 p2", "update slot2 set value = '{1,}' where object = 6 and prop = 2"),
     ("damaged past-head #7", "update head set top = 6"),
     ("damaged no-parent #6", "update object set parent = 9 where n = 6"),
     ("damaged parent-loop #4", "update object set parent = 6 where n = 4"),
@@ -109,25 +109,25 @@ IN_ORDER = [
     ("damaged place-loop #2", "update object set location = 3 where n = 2"),
     ("damaged no-definer p3", "update prop set definer = 9 where id = 3"),
     ("damaged double-name p2", "update prop set name = 'A' where id = 2"),
-    ("damaged strange-slot #7 p1", "insert into slot values (7, 1, 3, 'r', '')"),
-    ("damaged missing-slot #6 p1", "delete from slot where object = 6 and prop = 1"),
-    ("damaged clear-definer #7 p3", "update slot set value = '' where object = 7 and prop = 3"),
+    ("damaged strange-slot #7 p1", "insert into slot2 values (7, 1, 3, 4, '')"),
+    ("damaged missing-slot #6 p1", "delete from slot2 where object = 6 and prop = 1"),
+    ("damaged clear-definer #7 p3", "update slot2 set value = '' where object = 7 and prop = 3"),
     ("damaged strange-verb #9 v1", "insert into verb values (9, 1, 'look', 3, 'rx', 'this', 'none', 'none')"),
 ]
 # What is told where several rows have the same kind of damage, or an edit has something of several kinds.
 SEVERAL = [
-    ("bad-cell #2", "update object set player = 2 where n in (2, 7)", "update prop set name = ''", "update slot set bits = 'x'", "update verb set bits = 'c'"),
-    ("bad-cell p1", "update prop set name = ''", "update slot set bits = 'x'", "update verb set bits = 'c'"),
-    ("bad-cell #4 p1", "update slot set bits = 'x'", "update verb set bits = 'c'"),
+    ("bad-cell #2", "update object set player = 2 where n in (2, 7)", "update prop set name = ''", "update slot2 set bits = 8", "update verb set bits = 'c'"),
+    ("bad-cell p1", "update prop set name = ''", "update slot2 set bits = 8", "update verb set bits = 'c'"),
+    ("bad-cell #4 p1", "update slot2 set bits = 8", "update verb set bits = 'c'"),
     ("bad-cell #4 v2", "update verb set bits = 'c' where id in (2, 3)"),
     ("past-head #7", "update head set top = 6, next_prop = 1, next_verb = 1"),
     ("past-head #0", "update head set top = -1, next_prop = 1, next_verb = 1"),
     ("past-head p1", "update head set next_prop = 1, next_verb = 1"),
     ("past-head #4 v1", "update head set next_verb = 1"),
     ("past-head #4 v2", "update head set next_verb = 2"),
-    ("bad-head head", "insert into head values (2, 1, 2, 7, 4, 4)"),
-    ("bad-head head", "update head set id = 2, version = 2"),
-    ("bad-head head", "insert into head values (2, 2, 2, 7, 4, 4)", "update head set version = 2 where id = 1"),
+    ("bad-head head", "insert into head values (2, 2, 2, 7, 4, 4)"),
+    ("bad-head head", "update head set id = 2, version = 3"),
+    ("bad-head head", "insert into head values (2, 3, 2, 7, 4, 4)", "update head set version = 3 where id = 1"),
 ]
 # Edits that leave a whole world, and how many objects it has.
 HARMLESS = [
@@ -136,19 +136,19 @@ HARMLESS = [
     ("an object without a parent", 2, 8, "update object set parent = -1 where n = 0"),
     ("an object more", 2, 9, "update head set top = 8", "insert into object values (8, '', 3, 1, -1, 0, 0, 0, 0, 0, 0, '')"),
     ("an object less", 2, 7, "delete from object where n = 0"),
-    ("no object", 2, 0, "update head set top = -1", *(f"delete from {table}" for table in ("object", "prop", "slot", "verb"))),
+    ("no object", 2, 0, "update head set top = -1", *(f"delete from {table}" for table in ("object", "prop", "slot2", "verb"))),
     ("the same name in another branch", 2, 8, "update prop set name = 'a' where id = 3"),
-    ("rows that stand in another order", 2, 8, "update slot set rowid = -rowid", "update verb set rowid = 9 - rowid"),
+    ("rows that stand in another order", 2, 8, "update slot2 set rowid = -rowid", "update verb set rowid = 9 - rowid"),
     (
         "the greatest numbers", 2, 8,
         "update head set top = 2147483647, next_prop = 4294967295, next_verb = 4294967295", "update prop set id = 4294967294 where id = 3",
-        "update slot set prop = 4294967294 where prop = 3", "update verb set id = 4294967294 where id = 3",
+        "update slot2 set prop = 4294967294 where prop = 3", "update verb set id = 4294967294 where id = 3",
     ),
 ]
 NEWER = [
-    ("a newer version whose counters are none", "update head set version = 2, seq = -1, top = -2, next_prop = 0, next_verb = 0"),
+    ("a newer version whose counters are none", "update head set version = 3, seq = -1, top = -2, next_prop = 0, next_verb = 0"),
     ("the newest version", "update head set version = 9223372036854775807"),
-    ("a newer version of other rows", "update head set version = 2", "delete from object", "update slot set bits = 'x'"),
+    ("a newer version of other rows", "update head set version = 3", "delete from object", "update slot2 set bits = 8"),
 ]
 
 

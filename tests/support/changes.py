@@ -8,8 +8,10 @@ def thing(number, name="", owner=3, parent=1, location=-1, marks=(0, 0, 0, 0, 0,
     return (number, name, owner, parent, location, *marks, accept)
 
 
-OPENING = {
-    "head": [(1, 1, 0, 3, 1, 1)],
+# The tables that are made, and neither read nor written behind that.
+UNREAD = {"slot": [], "petition": [], "petition_head": [(1, 1)]}
+OPENING = UNREAD | {
+    "head": [(1, 2, 0, 3, 1, 1)],
     "object": [
         thing(0, "System Object"),
         thing(1, "Root Class", parent=-1, marks=(0, 0, 0, 0, 0, 1)),
@@ -17,36 +19,36 @@ OPENING = {
         thing(3, "Wizard", location=2, marks=(1, 1, 1, 0, 0, 0)),
     ],
     "prop": [],
-    "slot": [],
+    "slot2": [],
     "verb": [],
 }
-OF_TREE = {
-    "head": [(1, 1, 1, 7, 4, 1)],
+OF_TREE = UNREAD | {
+    "head": [(1, 2, 1, 7, 4, 1)],
     "object": OPENING["object"] + [thing(4), thing(5, parent=4), thing(6, parent=5), thing(7)],
     "prop": [(1, 4, "a"), (2, 5, "b"), (3, 7, "c")],
-    "slot": [(4, 1, 3, "r", "10"), (5, 1, 3, "r", ""), (5, 2, 3, "r", "20"), (6, 1, 3, "r", ""), (6, 2, 3, "r", "21"), (7, 3, 3, "r", "30")],
+    "slot2": [(4, 1, 3, 4, "10"), (5, 1, 3, 4, ""), (5, 2, 3, 4, "20"), (6, 1, 3, 4, ""), (6, 2, 3, 4, "21"), (7, 3, 3, 4, "30")],
     "verb": [],
 }
 GET_TAKE = (4, 1, "get take", 3, "rd", "any", "in/inside/into", "this")
 LOOK = (4, 2, "l*ook", 3, "rwx", "this", "none", "none")
 PUT = (5, 3, "put", 3, "", "any", "any", "any")
-OF_VERBS = OF_TREE | {"head": [(1, 1, 2, 7, 4, 4)], "verb": [GET_TAKE, LOOK, PUT]}
+OF_VERBS = OF_TREE | {"head": [(1, 2, 2, 7, 4, 4)], "verb": [GET_TAKE, LOOK, PUT]}
 QUOTA = """batch as #3
 add_property(#3, "ownership_quota", 2, {#3, ""})
 move(#2, #0)
 end
 """
 OF_QUOTA = OPENING | {
-    "head": [(1, 1, 1, 3, 2, 1)],
+    "head": [(1, 2, 1, 3, 2, 1)],
     "object": [thing(2, "The First Room", location=0, accept="{#1}") if row[0] == 2 else row for row in OPENING["object"]],
     "prop": [(1, 3, "ownership_quota")],
-    "slot": [(3, 1, 3, "", "2")],
+    "slot2": [(3, 1, 3, 0, "2")],
 }
 # The worlds that batches begin with: the text that makes one, and its rows.
 WORLDS = {"new": ("", OPENING), "tree": (TREE, OF_TREE), "verbs": (VERBS, OF_VERBS), "quota": (QUOTA, OF_QUOTA)}
 
 FOUR, FIVE, SIX, SEVEN = OF_TREE["object"][4:]
-A4, A5, B5, A6, B6, C7 = OF_TREE["slot"]
+A4, A5, B5, A6, B6, C7 = OF_TREE["slot2"]
 # What is shown, the world, the calls, their answers; the last three numbers of the next head, and the rows that go and that come.
 CHANGES = [
     (
@@ -59,41 +61,41 @@ CHANGES = [
     (
         "a change of parent changes one object and four slots",
         "tree", ["chparent(#5, #7)"], "0", (7, 4, 1),
-        {"object": [FIVE], "slot": [A5, A6]},
-        {"object": [thing(5, parent=7)], "slot": [(5, 3, 3, "r", ""), (6, 3, 3, "r", "")]},
+        {"object": [FIVE], "slot2": [A5, A6]},
+        {"object": [thing(5, parent=7)], "slot2": [(5, 3, 3, 4, ""), (6, 3, 3, 4, "")]},
     ),
     ("a move there and back changes the head alone", "tree", ["chparent(#5, #7)", "chparent(#5, #4)"], "0 0", (7, 4, 1), {}, {}),
     ("so does a move to where it is", "tree", ["chparent(#5, #4)", "move(#5, #-1)"], "0 0", (7, 4, 1), {}, {}),
     (
         "a move to no parent takes what was inherited",
         "tree", ["chparent(#6, #-1)"], "0", (7, 4, 1),
-        {"object": [SIX], "slot": [A6, B6]}, {"object": [thing(6, parent=-1)]},
+        {"object": [SIX], "slot2": [A6, B6]}, {"object": [thing(6, parent=-1)]},
     ),
     (
         "a new object has its slots",
         "tree", ["create(#6)"], "#8", (8, 4, 1),
-        {}, {"object": [thing(8, parent=6)], "slot": [(8, 1, 3, "r", ""), (8, 2, 3, "r", "")]},
+        {}, {"object": [thing(8, parent=6)], "slot2": [(8, 1, 3, 4, ""), (8, 2, 3, 4, "")]},
     ),
     ("an object that came and went leaves its number", "tree", ["create(#6)", "recycle(#8)"], "#8 0", (8, 4, 1), {}, {}),
     ("one owns itself", "new", ["create(#1, #-1)"], "#4", (4, 1, 1), {}, {"object": [thing(4, owner=4)]}),
     (
         "an object that goes takes its properties and slots, and its child moves up",
         "tree", ["recycle(#5)"], "0", (7, 4, 1),
-        {"object": [FIVE, SIX], "prop": [(2, 5, "b")], "slot": [A5, B5, B6]}, {"object": [thing(6, parent=4)]},
+        {"object": [FIVE, SIX], "prop": [(2, 5, "b")], "slot2": [A5, B5, B6]}, {"object": [thing(6, parent=4)]},
     ),
     ("it takes its verbs", "verbs", ["recycle(#5)"], "0", (7, 4, 4),
-        {"object": [FIVE, SIX], "prop": [(2, 5, "b")], "slot": [A5, B5, B6], "verb": [PUT]}, {"object": [thing(6, parent=4)]},
+        {"object": [FIVE, SIX], "prop": [(2, 5, "b")], "slot2": [A5, B5, B6], "verb": [PUT]}, {"object": [thing(6, parent=4)]},
     ),
     (
         "what lay in it lies nowhere",
         "quota", ["recycle(#0)"], "0", (3, 2, 1),
-        {"object": [thing(0, "System Object"), thing(2, "The First Room", location=0, accept="{#1}")], "slot": [(3, 1, 3, "", "2")]},
-        {"object": [thing(2, "The First Room", accept="{#1}")], "slot": [(3, 1, 3, "", "3")]},
+        {"object": [thing(0, "System Object"), thing(2, "The First Room", location=0, accept="{#1}")], "slot2": [(3, 1, 3, 0, "2")]},
+        {"object": [thing(2, "The First Room", accept="{#1}")], "slot2": [(3, 1, 3, 0, "3")]},
     ),
     (
         "a quota goes down by each object that is made",
         "quota", ["create(#1)", "create(#4)"], "#4 #5", (5, 2, 1),
-        {"slot": [(3, 1, 3, "", "2")]}, {"object": [thing(4), thing(5, parent=4)], "slot": [(3, 1, 3, "", "0")]},
+        {"slot2": [(3, 1, 3, 0, "2")]}, {"object": [thing(4), thing(5, parent=4)], "slot2": [(3, 1, 3, 0, "0")]},
     ),
     ("a name is set", "tree", ['set(#4, "name", "Lan\ttern \\"x\\"")'], "0", (7, 4, 1), {"object": [FOUR]}, {"object": [thing(4, 'Lan\ttern "x"')]}),
     ("a name that it has changes the head alone", "tree", ['set(#4, "name", "")', 'set(#6, "b", 21)'], "0 0", (7, 4, 1), {}, {}),
@@ -117,36 +119,36 @@ CHANGES = [
     (
         "a value is set, as the literal that is printed",
         "tree", ['set(#6, "A", {1,{"x\\"y",#4} , e_perm,-7})'], "0", (7, 4, 1),
-        {"slot": [A6]}, {"slot": [(6, 1, 3, "r", '{1, {"x\\"y", #4}, E_PERM, -7}')]},
+        {"slot2": [A6]}, {"slot2": [(6, 1, 3, 4, '{1, {"x\\"y", #4}, E_PERM, -7}')]},
     ),
-    ("a slot is cleared", "tree", ['clear_property(#6, "b")'], "0", (7, 4, 1), {"slot": [B6]}, {"slot": [(6, 2, 3, "r", "")]}),
+    ("a slot is cleared", "tree", ['clear_property(#6, "b")'], "0", (7, 4, 1), {"slot2": [B6]}, {"slot2": [(6, 2, 3, 4, "")]}),
     (
         "a new property has a slot on all that is under it, which its letter c gives to the owner there",
         "tree", ['set(#6, "owner", #4)', 'add_property(#4, "d", "t", {#5, "CWR"})'], "0 0", (7, 5, 1),
         {"object": [SIX]},
         {
             "object": [thing(6, parent=5, owner=4)], "prop": [(4, 4, "d")],
-            "slot": [(4, 4, 5, "rwc", '"t"'), (5, 4, 3, "rwc", ""), (6, 4, 4, "rwc", "")],
+            "slot2": [(4, 4, 5, 7, '"t"'), (5, 4, 3, 7, ""), (6, 4, 4, 7, "")],
         },
     ),
     (
         "without that letter its owner is the property's",
         "tree", ['add_property(#5, "d", 0, {#7, ""})'], "0", (7, 5, 1),
-        {}, {"prop": [(4, 5, "d")], "slot": [(5, 4, 7, "", "0"), (6, 4, 7, "", "")]},
+        {}, {"prop": [(4, 5, "d")], "slot2": [(5, 4, 7, 0, "0"), (6, 4, 7, 0, "")]},
     ),
     ("a property that came and went leaves its number", "tree", ['add_property(#4, "d", 1, {#3, ""})', 'delete_property(#4, "d")'], "0 0", (7, 5, 1), {}, {}),
     (
         "a property that goes takes its slots",
-        "tree", ['delete_property(#5, "B")'], "0", (7, 4, 1), {"prop": [(2, 5, "b")], "slot": [B5, B6]}, {},
+        "tree", ['delete_property(#5, "B")'], "0", (7, 4, 1), {"prop": [(2, 5, "b")], "slot2": [B5, B6]}, {},
     ),
     (
         "a property of another name keeps its number",
         "tree", ['set_property_info(#4, "a", {#3, "rw", "A2"})'], "0", (7, 4, 1),
-        {"prop": [(1, 4, "a")], "slot": [A4]}, {"prop": [(1, 4, "A2")], "slot": [(4, 1, 3, "rw", "10")]},
+        {"prop": [(1, 4, "a")], "slot2": [A4]}, {"prop": [(1, 4, "A2")], "slot2": [(4, 1, 3, 6, "10")]},
     ),
     (
         "the owner and the letters of a slot are set",
-        "tree", ['set_property_info(#6, "b", {#5, "c"})'], "0", (7, 4, 1), {"slot": [B6]}, {"slot": [(6, 2, 5, "c", "21")]},
+        "tree", ['set_property_info(#6, "b", {#5, "c"})'], "0", (7, 4, 1), {"slot2": [B6]}, {"slot2": [(6, 2, 5, 1, "21")]},
     ),
     (
         "a new verb has its number, and its preposition as the whole set",
@@ -173,10 +175,10 @@ CHANGES = [
             'set(#6, "b", 22)', 'set_verb_info(#4, 2, {#3, "rx", "drop"})', "delete_verb(#4, 1)", 'add_verb(#8, {#3, "r", "light"}, {"this", "none", "any"})',
         ],
         "0 0 #8 0 0 0 0 0 0", (8, 5, 5),
-        {"object": [FOUR, SEVEN], "prop": [(1, 4, "a"), (3, 7, "c")], "slot": [B6, C7], "verb": [GET_TAKE, LOOK]},
+        {"object": [FOUR, SEVEN], "prop": [(1, 4, "a"), (3, 7, "c")], "slot2": [B6, C7], "verb": [GET_TAKE, LOOK]},
         {
             "object": [thing(4, "Origin"), thing(8, parent=4)], "prop": [(1, 4, "hue"), (4, 6, "d")],
-            "slot": [(6, 2, 3, "r", "22"), (6, 4, 3, "w", "{}"), (8, 1, 3, "r", "")],
+            "slot2": [(6, 2, 3, 4, "22"), (6, 4, 3, 2, "{}"), (8, 1, 3, 4, "")],
             "verb": [(4, 2, "drop", 3, "rx", "this", "none", "none"), (8, 4, "light", 3, "r", "this", "none", "any")],
         },
     ),

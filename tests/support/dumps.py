@@ -12,7 +12,7 @@ from program import MOO, case, edit, run
 from service import PATIENCE, Service, answer, get
 
 # The columns of each table that are its key. The head has one row.
-KEYS = {"head": 0, "object": 1, "prop": 1, "slot": 2, "verb": 2}
+KEYS = {"head": 0, "object": 1, "prop": 1, "slot2": 2, "verb": 2}
 
 OPENING = """object {#0, "System Object", #3, #1, #-1, 0, 0, 0, 0, 0, 0, 0}
 object {#1, "Root Class", #3, #-1, #-1, 0, 0, 0, 0, 0, 1, 0}
@@ -28,9 +28,8 @@ VALUED = '; set(#6, "a", 12); set(#6, "b", {1, #2, "x"})'
 # Another spelling of each cell that may have one. A row that is written anew has the one that the program prints.
 OTHER_SPELLING = [
     "update object set accept = '{ ' || substr(accept, 2) where accept like '{%'",
-    "update slot set bits = upper(bits)",
-    "update slot set value = '00' || value where value glob '[0-9]*'",
-    "update slot set value = '{ ' || substr(value, 2) where value like '{%'",
+    "update slot2 set value = '00' || value where value glob '[0-9]*'",
+    "update slot2 set value = '{ ' || substr(value, 2) where value like '{%'",
 ]
 
 # What the world is, in calls; the calls of a batch on it; the rows that come (+), go (-) or differ (~); and the greatest number of an
@@ -44,47 +43,47 @@ CHANGES = [
         "the changes of a move are its slots and one link",
         SMALL_TREE,
         "chparent(#5, #7)",
-        "~object 5, -slot 5 1, +slot 5 3, -slot 6 1, +slot 6 3",
+        "~object 5, -slot2 5 1, +slot2 5 3, -slot2 6 1, +slot2 6 3",
         (7, 4, 1),
     ),
     ("a move away and back changes the head alone", SMALL_TREE, "chparent(#5, #7); chparent(#5, #4)", "", (7, 4, 1)),
-    ("what is shared with a grandparent stays", SMALL_TREE, "chparent(#6, #4)", "~object 6, -slot 6 2", (7, 4, 1)),
+    ("what is shared with a grandparent stays", SMALL_TREE, "chparent(#6, #4)", "~object 6, -slot2 6 2", (7, 4, 1)),
     ("nothing is written under the present parent", SMALL_TREE, "chparent(#5, #4)", "", (7, 4, 1)),
     (
         "a value is gone behind a move and the way back",
         SMALL_TREE + VALUED,
         "chparent(#5, #7); chparent(#5, #4)",
-        "~slot 6 1",
+        "~slot2 6 1",
         (7, 4, 1),
     ),
     (
         "and behind a move by itself",
         SMALL_TREE + VALUED + "; chparent(#5, #7)",
         "chparent(#5, #4)",
-        "~object 5, +slot 5 1, -slot 5 3, +slot 6 1, -slot 6 3",
+        "~object 5, +slot2 5 1, -slot2 5 3, +slot2 6 1, -slot2 6 3",
         (7, 4, 1),
     ),
     (
         "an object goes with all its slots and its own on descendants",
         SMALL_TREE,
         "recycle(#5)",
-        "-object 5, ~object 6, -prop 2, -slot 5 1, -slot 5 2, -slot 6 2",
+        "-object 5, ~object 6, -prop 2, -slot2 5 1, -slot2 5 2, -slot2 6 2",
         (7, 4, 1),
     ),
     (
         "an object takes its properties with it",
         WEIGHTS,
         "recycle(#1)",
-        "~object 0, -object 1, ~object 2, ~object 3, -prop 1, -slot 0 1, -slot 1 1, -slot 2 1, -slot 3 1",
+        "~object 0, -object 1, ~object 2, ~object 3, -prop 1, -slot2 0 1, -slot2 1 1, -slot2 2 1, -slot2 3 1",
         (3, 3, 1),
     ),
     ("another name of a property is one change", SMALL_TREE, 'set_property_info(#4, "a", {#3, "r", "aa"})', "~prop 1", (7, 4, 1)),
-    ("a new property comes with its slots", SMALL_TREE, 'add_property(#5, "d", 1, {#3, "r"})', "+prop 4, +slot 5 4, +slot 6 4", (7, 5, 1)),
-    ("a value that is set is one change", SMALL_TREE, 'set(#6, "a", 12)', "~slot 6 1", (7, 4, 1)),
+    ("a new property comes with its slots", SMALL_TREE, 'add_property(#5, "d", 1, {#3, "r"})', "+prop 4, +slot2 5 4, +slot2 6 4", (7, 5, 1)),
+    ("a value that is set is one change", SMALL_TREE, 'set(#6, "a", 12)', "~slot2 6 1", (7, 4, 1)),
     ("one that is put back is none", SMALL_TREE, 'set(#6, "b", 5); set(#6, "b", 21)', "", (7, 4, 1)),
     ("an equal list is the same value", SMALL_TREE + VALUED, 'set(#6, "b", {}); set(#6, "b", {1, #2, "x"})', "", (7, 4, 1)),
-    ("an object isn't its number", SMALL_TREE + VALUED, 'set(#6, "b", {1, 2, "x"})', "~slot 6 2", (7, 4, 1)),
-    ("nor are strings the same in another case", SMALL_TREE + VALUED, 'set(#6, "b", {1, #2, "X"})', "~slot 6 2", (7, 4, 1)),
+    ("an object isn't its number", SMALL_TREE + VALUED, 'set(#6, "b", {1, 2, "x"})', "~slot2 6 2", (7, 4, 1)),
+    ("nor are strings the same in another case", SMALL_TREE + VALUED, 'set(#6, "b", {1, #2, "X"})', "~slot2 6 2", (7, 4, 1)),
     ("a new verb is one change", NEW, 'add_verb(#1, {#3, "r", "get"}, {"any", "in", "this"})', "+verb 1 1", (3, 1, 2)),
 ]
 

@@ -21,8 +21,8 @@ BAD_BYTES = [
     ("nor a byte 0", '"a\0b"', None),
     ("nor a byte 127", '"a\x7fb"', None),
     ("nor one behind a backslash", '"a\\\x7fb"', None),
-    ("a bad byte before a number out of range", '{"\n", 2147483648}', None),
-    ("and behind one", '{2147483648, "\n"}', None),
+    ("a bad byte before a number out of range", '{"\n", 9223372036854775808}', None),
+    ("and behind one", '{9223372036854775808, "\n"}', None),
 ]
 LENGTHS = [
     ("a string of the greatest length", f'"{"a" * LONGEST}"', f'"{"a" * LONGEST}"'),
@@ -146,7 +146,10 @@ CELLS = [
     ("32 lists, one in the other", "{" * 32 + "}" * 32, True),
     ("33 lists, one in the other", "{" * 33 + "}" * 33, False),
     ("a string with a line end", '"a\nb"', False),
-    ("a number out of range", "2147483648", False),
+    ("the greatest integer", "9223372036854775807", True),
+    ("the least integer", "-9223372036854775808", True),
+    ("an integer out of range", "9223372036854775808", False),
+    ("the number of an object out of range", "#2147483648", False),
 ]
 
 
@@ -154,7 +157,7 @@ def cells():
     run("init", "cell.db")
     run("apply", "cell.db", "-", text=b'batch as #3\nadd_property(#1, "v", 0, {#3, "r"})\nend\n')
     for name, written, is_value in CELLS:
-        edit("cell.db", f"update slot set value = '{written}' where object = 1")
+        edit("cell.db", f"update slot2 set value = '{written}' where object = 1")
         came = run("ask", "cell.db", "-", text=b'batch as #3\nget(#1, "v")\nend\n')
         case(f"{name}, in a file", came, (0, accepted(written)) if is_value else (3, b"moo: damaged bad-cell #1 p1\n"))
 

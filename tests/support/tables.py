@@ -1,12 +1,17 @@
-"""The cases of tables.sh: the five tables of a world's file, read by Python's sqlite3."""
+"""The cases of tables.sh: the tables of a world's file, read by Python's sqlite3."""
 from changes import CHANGES, FIVE_CALLS, KEPT, OPENING, WORLDS
 from columns import TABLES
 from program import case, edit
 from worlds import accepted, copied, make, read, rows_of, run, text_of
 
 NUMBERS, TEXTS = ("INTEGER", 1, None), ("TEXT", 1, None)
-OF_TEXT = {"name", "accept", "bits", "value", "names", "dobj", "prep", "iobj"}
-PAIRED = ("slot", "verb")
+OF_TEXT = {"name", "accept", "bits", "value", "names", "dobj", "prep", "iobj", "calls"}
+PAIRED = ("slot", "verb", "slot2")
+
+
+def type_of(table, column):
+    """The rights of a property are a number, and those of a verb letters."""
+    return NUMBERS if (table, column) == ("slot2", "bits") or column not in OF_TEXT else TEXTS
 
 
 def schema():
@@ -16,15 +21,17 @@ def schema():
         "select type, name, tbl_name from sqlite_schema order by rootpage",
         "pragma integrity_check",
     )
-    case("there are five tables, which hold to their types", tables, [(name, 1, 0) for name in sorted(TABLES)])
+    case("there are eight tables, which hold to their types", tables, [(name, 1, 0) for name in sorted(TABLES)])
     made = [("table", name, name) for name in ("head", "object", "prop", "slot")] + [("index", "sqlite_autoindex_slot_1", "slot")]
     made += [("table", "verb", "verb"), ("index", "sqlite_autoindex_verb_1", "verb")]
-    case("they were made in their order, with the indexes of two keys", trees, made)
+    made += [("table", "slot2", "slot2"), ("index", "sqlite_autoindex_slot2_1", "slot2")]
+    made += [("table", name, name) for name in ("petition", "petition_head")]
+    case("they were made in their order, with the indexes of three keys", trees, made)
     case("SQLite finds the file whole", is_whole, [("ok",)])
     for table, columns in TABLES.items():
         keys = 2 if table in PAIRED else 1
         wanted = [
-            (column, *(TEXTS if column in OF_TEXT else NUMBERS), at + 1 if at < keys else 0)
+            (column, *type_of(table, column), at + 1 if at < keys else 0)
             for at, column in enumerate(columns)
         ]
         found = read("new.db", f"select name, type, \"notnull\", dflt_value, pk from pragma_table_info('{table}')")[0]
@@ -40,8 +47,8 @@ def worlds():
 
 def places(file):
     """Where the rows of the tables with indexes stand, by their keys: a row that is written again gets another place."""
-    slots, verbs = read(file, "select object, prop, rowid from slot", "select object, id, rowid from verb")
-    return {("slot", *row[:2]): row[2] for row in slots} | {("verb", *row[:2]): row[2] for row in verbs}
+    slots, verbs = read(file, "select object, prop, rowid from slot2", "select object, id, rowid from verb")
+    return {("slot2", *row[:2]): row[2] for row in slots} | {("verb", *row[:2]): row[2] for row in verbs}
 
 
 def untouched(before, after, gone, come):
@@ -112,7 +119,7 @@ def questions():
 def two_thousand():
     """Two thousand descendants of #4, with those that it has, and the slots of a, b and c among them."""
     def counts():
-        return read(file, "select prop, count(*) from slot group by prop order by prop")[0]
+        return read(file, "select prop, count(*) from slot2 group by prop order by prop")[0]
 
     file = copied("tree.db")
     text = text_of(["create(#6)"] * 1000) + text_of(["create(#6)"] * 999)
@@ -128,8 +135,8 @@ def two_thousand():
 SPELLINGS = [
     "update object set accept = '{ #1}' where n = 2",
     "update object set accept = ' {#4 ,\t#5}' where n = 7",
-    "update slot set bits = 'Rr' where object = 5 and prop = 1",
-    "update slot set value = ' 0021', bits = 'R' where object = 6 and prop = 2",
+    "update slot2 set value = ' 010' where object = 4 and prop = 1",
+    "update slot2 set value = ' 0021' where object = 6 and prop = 2",
     "update verb set bits = 'DRd' where object = 4 and id = 1",
 ]
 
@@ -146,27 +153,34 @@ def spellings():
     after = rows_of(file)
     lacking = [row for table in TABLES for row in spelled[table] if table != "head" and row not in after[table]]
     case("leaves them as they stand", lacking, [])
-    calls = ['set(#2, "r", 1)', 'set(#7, "name", "x")', 'set(#5, "a", 1)', 'set_property_info(#6, "b", {#4, "r"})']
+    calls = ['set(#2, "r", 1)', 'set(#7, "name", "x")', 'set(#4, "a", 1)', 'set_property_info(#6, "b", {#4, "r"})']
     calls.append('set_verb_args(#4, 1, {"any", "any", "any"})')
     case("a batch on their rows", run("apply", file, "-", text=text_of(calls)), (0, accepted(4, *"00000")))
     cells = read(
         file,
         "select accept from object where n in (2, 7) order by n",
-        "select bits, value from slot where (object, prop) in ((5, 1), (6, 2)) order by object",
+        "select bits, value from slot2 where (object, prop) in ((4, 1), (6, 2)) order by object",
         "select bits, prep from verb where object = 4 and id = 1",
     )
-    case("writes them anew", cells, [[("{#1}",), ("{#4, #5}",)], [("r", "1"), ("r", "21")], [("rd", "any")]])
+    case("writes them anew", cells, [[("{#1}",), ("{#4, #5}",)], [(4, "1"), (4, "21")], [("rd", "any")]])
 
 
-def made_anew(table, old="", new=""):
-    """A copy of a world in which a table was dropped and made again with its rows, by its text or one with another word in it."""
+def made_anew(tables, old="", new=""):
+    """A copy of a world in which tables were dropped and made again with their rows, the first by its text or one with another word in it."""
     file = copied("verbs.db")
-    rows, ((text,),) = read(file, f"select * from {table}", f"select sql from sqlite_schema where name = '{table}'")
-    if old not in text:
-        raise SystemExit(f"FAILED {old!r} stands nowhere in {text!r}")
-    marks = ", ".join("?" * len(TABLES[table]))
-    edit(file, f"drop table {table}", text.replace(old, new, 1), *((f"insert into {table} values ({marks})", row) for row in rows))
+    made = []
+    for table in tables:
+        rows, ((text,),) = read(file, f"select * from {table}", f"select sql from sqlite_schema where name = '{table}'")
+        if table == tables[0] and old not in text:
+            raise SystemExit(f"FAILED {old!r} stands nowhere in {text!r}")
+        marks = ", ".join("?" * len(TABLES[table]))
+        made += [text.replace(old, new, 1) if table == tables[0] else text, *((f"insert into {table} values ({marks})", row) for row in rows)]
+    edit(file, *(f"drop table {table}" for table in tables), *made)
     return file
+
+
+# In the order in which they were made.
+FROM_VERB = list(TABLES)[list(TABLES).index("verb") :]
 
 
 def edited(*statements):
@@ -178,14 +192,15 @@ def edited(*statements):
 STRANGE = [
     *((f"without the table {table}", [f"drop table {table}"]) for table in TABLES),
     ("with a table more", ["create table other (n integer primary key) strict"]),
-    ("with an index more", ["create index owners on slot (owner)"]),
+    ("with an index more", ["create index owners on slot2 (owner)"]),
     ("with a view", ["create view players as select n from object where player"]),
     ("with a column more", ["alter table object add column note text not null default ''"]),
     ("with a column less", ["alter table object drop column accept"]),
     ("with a column of another name", ["alter table prop rename column name to title"]),
     ("with a table of another name", ["alter table verb rename to verbs"]),
+    ("with the tables of the first version and one of the second", ["drop table petition", "drop table petition_head"]),
 ]
-# The last table is made anew, with something else in its text.
+# The table of verbs and those behind it are made anew, with something else in its text.
 OTHER_TEXTS = [
     ("which doesn't hold to its types", ") STRICT", ")"),
     ("a column of which may be empty", "names TEXT NOT NULL", "names TEXT"),
@@ -201,8 +216,8 @@ OTHER_TEXTS = [
 
 def strange_tables():
     files = [(name, lambda statements=statements: edited(*statements)) for name, statements in STRANGE]
-    files += [(f"with a table {name}", lambda change=change: made_anew("verb", *change)) for name, *change in OTHER_TEXTS]
-    files.append(("with its tables made in another order", lambda: made_anew("prop")))
+    files += [(f"with a table {name}", lambda change=change: made_anew(FROM_VERB, *change)) for name, *change in OTHER_TEXTS]
+    files.append(("with its tables made in another order", lambda: made_anew(["prop"])))
     for name, file_of in files:
         file = file_of()
         there = sorted(read(file, "select type, name, sql from sqlite_schema")[0], key=repr)
@@ -212,7 +227,7 @@ def strange_tables():
         after = sorted(read(file, "select type, name, sql from sqlite_schema")[0], key=repr)
         came.append((after, read(file, *(f"select * from {table}" for table in held))))
         case(f"a file {name} is a store fault, and stays as it is", came, [(1, "moo: store fault\n")] * 3 + [(there, before)])
-    case("one whose last table was made anew as it was opens", run("check", made_anew("verb")), (0, "ok seq 2 objects 8\n"))
+    case("one whose last tables were made anew as they were opens", run("check", made_anew(FROM_VERB)), (0, "ok seq 2 objects 8\n"))
 
 
 for world, (text, _) in WORLDS.items():

@@ -6,6 +6,7 @@ use Rattle.moo_rows.specs.Maps.{Maps}
 use Rattle.moo_world.specs.Rows.{IsGood}
 use Rattle.moo_tables.specs.Tables.{Tables}
 use Rattle.moo_tables.specs.Cells.{head_cells}
+use Rattle.moo_tables.specs.Version.{version_number}
 use Rattle.moo_damage.specs.declared.kind.Kind.{Kind}
 use Rattle.moo_damage.specs.declared.kind.Kind.TheVariants.{BadHead, BadCell, PastHead, NoParent, ParentLoop, NoPlace, PlaceLoop, NoDefiner, DoubleName, StrangeSlot, MissingSlot, ClearDefiner, StrangeVerb, Mismatch}
 use Rattle.moo_damage.specs.declared.kind.Key.{Key}
@@ -17,7 +18,7 @@ use Rattle.moo_damage.proofs.Told.{none_told}
 use Rattle.moo_cells.specs.Head.{HeadIs, ReadsHead}
 use Rattle.moo_cells.specs.Reading.{IsRead, ObjectFits, PropFits, SlotFits, VerbFits}
 use Rattle.moo_cells.specs.Shows.{ShowsOrNone, ShowsObject, ShowsProp, ShowsSlot, ShowsVerb, ShowsRows}
-use Rattle.moo_cells.specs.Damage.{version, IsNewer, IsBadHead, IsBadCell, IsMet, Damage, SaysOfCells}
+use Rattle.moo_cells.specs.Damage.{IsNewer, IsBadHead, IsBadCell, IsMet, Damage, SaysOfCells}
 use Rattle.moo_cells.specs.declared.fault.CellFault.{CellFault}
 use Rattle.moo_cells.specs.declared.fault.CellFault.TheVariants.{Damaged, NewerVersion, OutOfMemory}
 use Rattle.moo_cells.proofs.GoodRows.{head_limits, object_fits, prop_fits, slot_fits_here, verb_fits_here, good_within}
@@ -30,17 +31,17 @@ none_is o a p q = let e : None ≡ Some a = sym p ∙ q in cc
 -- ---- what the first two kinds are not, where good rows are shown
 
 module _ (t : Tables) (m : Maps) (shown : ShowsRows t m) (good : IsGood m) where
-  head_is : HeadIs t.head (head_cells m.head)
+  head_is : HeadIs t.head (head_cells t.version m.head)
   head_is = record { row = shown.head; alone = shown.no_head }
 
-  reads_head : ReadsHead version m.head (head_cells m.head)
+  reads_head : ReadsHead (version_number t.version) m.head (head_cells t.version m.head)
   reads_head = (refl, head_limits m good)
 
   pub not_newer : ¬ (IsNewer t)
-  not_newer = head_not_newer t.head (head_cells m.head) m.head head_is reads_head
+  not_newer = head_not_newer t.version t.head (head_cells t.version m.head) m.head head_is reads_head
 
   not_bad_head : (key : Key) → ¬ (IsBadHead t key)
-  not_bad_head Head bad = bad.0 (head_known t.head (head_cells m.head) m.head head_is reads_head)
+  not_bad_head Head bad = bad.0 (head_known (version_number t.version) t.head (head_cells t.version m.head) m.head head_is reads_head)
   not_bad_head (Object n) bad = bad
   not_bad_head (Prop n) bad = bad
   not_bad_head (Slot n i) bad = bad
@@ -63,7 +64,7 @@ module _ (t : Tables) (m : Maps) (shown : ShowsRows t m) (good : IsGood m) where
   not_bad_cell (Object n) bad = bad.2 (is_read ShowsObject ObjectFits (record { 0 = n }) bad.0 (t.object n) (get m.objects (record { 0 = n })) (object_fits m good (record { 0 = n })) (shown.maps.objects (record { 0 = n })) bad.1)
   not_bad_cell (Prop (pos i)) bad = bad.2 (is_read ShowsProp PropFits (record { 0 = i }) bad.0 (t.prop (pos i)) (get m.props (record { 0 = i })) (prop_fits m good (record { 0 = i })) (shown.maps.props (record { 0 = i })) bad.1)
   not_bad_cell (Prop (negsuc i)) bad = none_is (t.prop (negsuc i)) bad.0 (shown.maps.no_prop i) bad.1
-  not_bad_cell (Slot n (pos i)) bad = bad.2 (is_read ShowsSlot SlotFits (record { 0 = n }, record { 0 = i }) bad.0 (t.slot (n, pos i)) (get m.slots (record { 0 = n }, record { 0 = i })) (slot_fits_here m good (record { 0 = n }, record { 0 = i })) (shown.maps.slots (record { 0 = n }, record { 0 = i })) bad.1)
+  not_bad_cell (Slot n (pos i)) bad = bad.2 (is_read (ShowsSlot t.version) SlotFits (record { 0 = n }, record { 0 = i }) bad.0 (t.slot (n, pos i)) (get m.slots (record { 0 = n }, record { 0 = i })) (slot_fits_here m good (record { 0 = n }, record { 0 = i })) (shown.maps.slots (record { 0 = n }, record { 0 = i })) bad.1)
   not_bad_cell (Slot n (negsuc i)) bad = none_is (t.slot (n, negsuc i)) bad.0 (shown.maps.no_slot n i) bad.1
   not_bad_cell (Verb n (pos i)) bad = bad.2 (is_read ShowsVerb VerbFits (record { 0 = n }, record { 0 = i }) bad.0 (t.verb (n, pos i)) (get m.verbs (record { 0 = n }, record { 0 = i })) (verb_fits_here m good (record { 0 = n }, record { 0 = i })) (shown.maps.verbs (record { 0 = n }, record { 0 = i })) bad.1)
   not_bad_cell (Verb n (negsuc i)) bad = none_is (t.verb (n, negsuc i)) bad.0 (shown.maps.no_verb n i) bad.1

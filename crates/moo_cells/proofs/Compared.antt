@@ -11,10 +11,10 @@ use Rattle.moo_world.specs.Rows.{IsGood}
 use Rattle.moo_tables.specs.declared.reading.CellLists.{CellLists}
 use Rattle.moo_tables.specs.Listing.{tables_of}
 use Rattle.moo_tables.specs.Tables.{Tables}
+use Rattle.moo_tables.specs.Version.{version_number}
 use Rattle.moo_damage.specs.declared.kind.Key.{Key}
 use Rattle.moo_damage.specs.Differences.{IsFirstDifference}
 use Rattle.moo_cells.specs.Compared.{IsMismatch}
-use Rattle.moo_cells.specs.Damage.{version}
 use Rattle.moo_cells.specs.Each.{ShowEach}
 use Rattle.moo_cells.specs.Head.{HeadIs, ReadsHead}
 use Rattle.moo_cells.specs.Reading.{ReadsObject, ReadsProp, ReadsSlot, ReadsVerb}
@@ -24,8 +24,8 @@ use Rattle.moo_cells.proofs.Keys.{objects_bear, props_bear, slots_bear, verbs_be
 use Rattle.moo_cells.proofs.RowsLemmas.{rows_shown}
 
 -- tables whose rows show a head and the entries of four maps show these rows
-pub all_shown : (lists : CellLists) (m : Maps) → (cells : Row) × HeadIs (λ n. find (has_rowid n) lists.head.items) cells × ReadsHead version m.head cells
-    → ShowEach ReadsObject lists.object.items (entries m.objects) → ShowEach ReadsProp lists.prop.items (entries m.props) → ShowEach ReadsSlot lists.slot.items (entries m.slots) → ShowEach ReadsVerb lists.verb.items (entries m.verbs)
+pub all_shown : (lists : CellLists) (m : Maps) → (cells : Row) × HeadIs (λ n. find (has_rowid n) lists.head.items) cells × ReadsHead (version_number lists.version) m.head cells
+    → ShowEach ReadsObject lists.object.items (entries m.objects) → ShowEach ReadsProp lists.prop.items (entries m.props) → ShowEach (ReadsSlot lists.version) lists.slot.items (entries m.slots) → ShowEach ReadsVerb lists.verb.items (entries m.verbs)
     → ShowsRows (tables_of lists) m
 all_shown lists m head objects props slots verbs = rows_shown lists m (record {
   cells = head.0;
@@ -33,7 +33,7 @@ all_shown lists m head objects props slots verbs = rows_shown lists m (record {
   head_read = head.2;
   objects = each_held objects_bear object_total object_exact lists.object.items m.objects objects;
   props = each_held props_bear prop_total prop_exact lists.prop.items m.props props;
-  slots = each_held slots_bear slot_total slot_exact lists.slot.items m.slots slots;
+  slots = each_held (slots_bear lists.version) slot_total slot_exact lists.slot.items m.slots slots;
   verbs = each_held verbs_bear verb_total verb_exact lists.verb.items m.verbs verbs;
 })
 

@@ -9,9 +9,12 @@ use Rattle.sqlite_rules.proofs.ListLemmas.{all_has}
 use Rattle.sqlite_trees.specs.View.{is_int}
 use Rattle.sqlite.specs.Edit.{id_in}
 use Rattle.moo_rows.specs.declared.row.Head.{Head}
+use Rattle.moo_tables.specs.declared.version.Version.{Version}
+use Rattle.moo_tables.specs.declared.version.Version.TheVariants.{First, Second}
 use Rattle.moo_tables.specs.Inside.{AreKeyed}
+use Rattle.moo_tables.specs.Version.{version_number}
 use Rattle.moo_tables.proofs.KeyLemmas.{int_value}
-use Rattle.moo_cells.specs.Head.{head_row, HeadIs, ReadsHead, ReadsNewer, ReadsKnown, IsNewerThan, HasHead, SaysOfHead}
+use Rattle.moo_cells.specs.Head.{greatest, head_row, HeadIs, ReadsHead, ReadsNewer, ReadsKnown, IsNewerThan, HasHead, SaysOfHead}
 use Rattle.moo_cells.specs.HeadCells.{cells_of, IsHead}
 use Rattle.moo_cells.specs.declared.head.HeadCells.{HeadCells}
 use Rattle.moo_cells.specs.declared.fault.CellFault.{CellFault}
@@ -44,57 +47,53 @@ module _ (cells : Row) (n : HeadCells) (is : cells ≡ cells_of n) (v s t p q : 
   next_verb_is = int_inj n.next_verb q (at_column 5)
 
 -- cells without numbers are none of a head
-pub no_numbers : (cells : Row) → ((n : HeadCells) → cells ≡ cells_of n → ⊥) → ¬ (ReadsKnown (pos 1) cells) × ¬ (ReadsNewer (pos 1) cells)
-no_numbers cells none = (
-  (λ k. none (record { id = pos 1; version = k.0; seq = pos k.1.seq; top = k.1.top; next_prop = pos k.1.next_prop; next_verb = pos k.1.next_verb }) k.3.0),
+pub no_numbers : (v : ℤ) (cells : Row) → ((n : HeadCells) → cells ≡ cells_of n → ⊥) → ¬ (ReadsKnown v cells) × ¬ (ReadsNewer greatest cells)
+no_numbers v cells none = (
+  (λ k. none (record { id = pos 1; version = v; seq = pos k.0.seq; top = k.0.top; next_prop = pos k.0.next_prop; next_verb = pos k.0.next_verb }) k.1.0),
   (λ k. none (record { id = pos 1; version = k.0; seq = k.1; top = k.2; next_prop = k.3; next_verb = k.4 }) k.5),
 )
 
 -- nor are those of another id
-pub other_id : (cells : Row) (n : HeadCells) → cells ≡ cells_of n → n.id ≢ pos 1 → ¬ (ReadsKnown (pos 1) cells) × ¬ (ReadsNewer (pos 1) cells)
-other_id cells n is other = (
-  (λ k. other (id_is cells n is k.0 (pos k.1.seq) k.1.top (pos k.1.next_prop) (pos k.1.next_verb) k.3.0)),
+pub other_id : (v : ℤ) (cells : Row) (n : HeadCells) → cells ≡ cells_of n → n.id ≢ pos 1 → ¬ (ReadsKnown v cells) × ¬ (ReadsNewer greatest cells)
+other_id v cells n is other = (
+  (λ k. other (id_is cells n is v (pos k.0.seq) k.0.top (pos k.0.next_prop) (pos k.0.next_verb) k.1.0)),
   (λ k. other (id_is cells n is k.0 k.1 k.2 k.3 k.4 k.5)),
 )
 
-pub newer : (cells : Row) (n : HeadCells) → cells ≡ cells_of n → n.id ≡ pos 1 → pos 1 <ℤ n.version → ReadsNewer (pos 1) cells
+pub newer : (cells : Row) (n : HeadCells) → cells ≡ cells_of n → n.id ≡ pos 1 → greatest <ℤ n.version → ReadsNewer greatest cells
 newer cells n is id above =
     (n.version, n.seq, n.top, n.next_prop, n.next_verb, is ∙ (λ i. Number (id i) ∷ Number n.version ∷ Number n.seq ∷ Number n.top ∷ Number n.next_prop ∷ Number n.next_verb ∷ []), above)
 
-not_newer : (cells : Row) (n : HeadCells) → cells ≡ cells_of n → n.version ≤ℤ pos 1 → ¬ (ReadsNewer (pos 1) cells)
+not_newer : (cells : Row) (n : HeadCells) → cells ≡ cells_of n → n.version ≤ℤ greatest → ¬ (ReadsNewer greatest cells)
 not_newer cells n is low k =
     let same = version_is cells n is k.0 k.1 k.2 k.3 k.4 k.5 in
     let above = k.6 in absurd (omega (arith, ints))
 
--- the version is below the first one
-pub too_old : (cells : Row) (n : HeadCells) → cells ≡ cells_of n → n.version <ℤ pos 1 → ¬ (ReadsKnown (pos 1) cells) × ¬ (ReadsNewer (pos 1) cells)
-too_old cells n is low = (
-  (λ k.
-      let same = version_is cells n is k.0 (pos k.1.seq) k.1.top (pos k.1.next_prop) (pos k.1.next_verb) k.3.0 in
-      let above = k.2.0 in absurd (omega (arith, ints))),
-  not_newer cells n is (omega (arith, ints)),
+-- the version is a known one, and not that of the tables
+pub other_version : (v : ℤ) (cells : Row) (n : HeadCells) → cells ≡ cells_of n → n.version ≤ℤ greatest → n.version ≢ v → ¬ (ReadsKnown v cells) × ¬ (ReadsNewer greatest cells)
+other_version v cells n is low other = (
+  (λ k. other (version_is cells n is v (pos k.0.seq) k.0.top (pos k.0.next_prop) (pos k.0.next_verb) k.1.0)),
+  not_newer cells n is low,
 )
 
 -- the counters are outside their limits
-pub outside : (cells : Row) (n : HeadCells) → cells ≡ cells_of n → n.version ≤ℤ pos 1 → ((head : Head) → ¬ (IsHead n head)) → ¬ (ReadsKnown (pos 1) cells) × ¬ (ReadsNewer (pos 1) cells)
-outside cells n is low none = (
+pub outside : (v : ℤ) (cells : Row) (n : HeadCells) → cells ≡ cells_of n → n.version ≤ℤ greatest → ((head : Head) → ¬ (IsHead n head)) → ¬ (ReadsKnown v cells) × ¬ (ReadsNewer greatest cells)
+outside v cells n is low none = (
   (λ k.
-      let v = k.0 in
-      let head = k.1 in
-      let shown = k.3.0 in
+      let head = k.0 in
+      let shown = k.1.0 in
       none head (record {
         seq = seq_is cells n is v (pos head.seq) head.top (pos head.next_prop) (pos head.next_verb) shown;
         top = top_is cells n is v (pos head.seq) head.top (pos head.next_prop) (pos head.next_verb) shown;
         next_prop = next_prop_is cells n is v (pos head.seq) head.top (pos head.next_prop) (pos head.next_verb) shown;
         next_verb = next_verb_is cells n is v (pos head.seq) head.top (pos head.next_prop) (pos head.next_verb) shown;
-        fits = k.3.1;
+        fits = k.1.1;
       })),
   not_newer cells n is low,
 )
 
-pub head_shown : (cells : Row) (n : HeadCells) (head : Head) → cells ≡ cells_of n → n.id ≡ pos 1 → n.version ≤ℤ pos 1 → pos 1 ≤ℤ n.version → IsHead n head → ReadsHead (pos 1) head cells
-head_shown cells n head is id low high h =
-    let version : n.version ≡ pos 1 = omega (arith, ints) in
+pub head_shown : (v : ℤ) (cells : Row) (n : HeadCells) (head : Head) → cells ≡ cells_of n → n.id ≡ pos 1 → n.version ≡ v → IsHead n head → ReadsHead v head cells
+head_shown v cells n head is id version h =
     (is ∙ (λ i. Number (id i) ∷ Number (version i) ∷ Number (h.seq i) ∷ Number (h.top i) ∷ Number (h.next_prop i) ∷ Number (h.next_verb i) ∷ []), h.fits)
 
 -- ---- one row
@@ -146,11 +145,11 @@ one_row (x ∷ y ∷ rest) r one is = absurd (omega arith)
 
 -- ---- what is told of the table
 
-module _ (rows : List Row) (keyed : AreKeyed rows) where
+module _ (v : ℤ) (rows : List Row) (keyed : AreKeyed rows) where
   abbrev table : ℤ → Option Row
   table n = find (has_rowid n) rows
 
-  pub no_head : (length rows ≡ 1 → ⊥) → ¬ (HasHead (pos 1) table) × ¬ (IsNewerThan (pos 1) table)
+  pub no_head : (length rows ≡ 1 → ⊥) → ¬ (HasHead v table) × ¬ (IsNewerThan greatest table)
   no_head many = (
     (λ h. many (ap length (only_head rows keyed h.0 h.1))),
     (λ h. many (ap length (only_head rows keyed h.0 h.1))),
@@ -163,29 +162,31 @@ module _ (rows : List Row) (keyed : AreKeyed rows) where
     pub head_is : column r 0 ≡ Number (pos 1) → HeadIs table r
     head_is id = let P : List Row → Type 0 = λ l. HeadIs (λ n. find (has_rowid n) l) r in subst P (sym whole) (head_alone r id)
 
-    pub says_table : (fault : CellFault) → SaysOfHead (ReadsKnown (pos 1) r) (ReadsNewer (pos 1) r) fault → SaysOfHead (HasHead (pos 1) table) (IsNewerThan (pos 1) table) fault
+    pub says_table : (fault : CellFault) → SaysOfHead (ReadsKnown v r) (ReadsNewer greatest r) fault → SaysOfHead (HasHead v table) (IsNewerThan greatest table) fault
     says_table (Damaged kind key) says = (
       says.0,
       says.1,
-      (λ h. says.2 (subst (ReadsKnown (pos 1)) (same_row h.0 h.1) h.2)),
-      (λ h. says.3 (subst (ReadsNewer (pos 1)) (same_row h.0 h.1) h.2)),
+      (λ h. says.2 (subst (ReadsKnown v) (same_row h.0 h.1) h.2)),
+      (λ h. says.3 (subst (ReadsNewer greatest) (same_row h.0 h.1) h.2)),
     )
     says_table NewerVersion says = (r, head_is (ap (λ (c : Row). column c 0) says.5), says)
     says_table OutOfMemory says = says
 
 -- ---- a head that is read
 
-pub head_known : (table : ℤ → Option Row) (cells : Row) (head : Head) → HeadIs table cells → ReadsHead (pos 1) head cells → HasHead (pos 1) table
-head_known table cells head is reads = (cells, is, (pos 1, head, (omega (arith, ints), omega (arith, ints)), reads))
+pub head_known : (v : ℤ) (table : ℤ → Option Row) (cells : Row) (head : Head) → HeadIs table cells → ReadsHead v head cells → HasHead v table
+head_known v table cells head is reads = (cells, is, (head, reads))
 
-one_version : (v : ℤ) → pos 1 <ℤ v → pos 1 ≡ v → ⊥
-one_version v above same = absurd (omega (arith, ints))
+-- the number of a version is none past the greatest
+is_known : (version : Version) (v : ℤ) → greatest <ℤ v → version_number version ≡ v → ⊥
+is_known First v above same = absurd (omega (arith, ints))
+is_known Second v above same = absurd (omega (arith, ints))
 
-pub head_not_newer : (table : ℤ → Option Row) (cells : Row) (head : Head) → HeadIs table cells → ReadsHead (pos 1) head cells → ¬ (IsNewerThan (pos 1) table)
-head_not_newer table cells head is reads newer =
+pub head_not_newer : (version : Version) (table : ℤ → Option Row) (cells : Row) (head : Head) → HeadIs table cells → ReadsHead (version_number version) head cells → ¬ (IsNewerThan greatest table)
+head_not_newer version table cells head is reads newer =
     let same = one_some cells newer.0 (sym is.row ∙ newer.1.row) in
     let shown = sym reads.0 ∙ same ∙ newer.2.5 in
-    one_version newer.2.0 newer.2.6 (int_inj (pos 1) newer.2.0 (ap (λ (c : Row). column c 1) shown))
+    is_known version newer.2.0 newer.2.6 (int_inj (version_number version) newer.2.0 (ap (λ (c : Row). column c 1) shown))
   where
     one_some : (a b : Row) → Some a ≡ Some b → a ≡ b
     one_some a b e = cc

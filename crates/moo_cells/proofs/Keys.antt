@@ -11,6 +11,7 @@ use Rattle.sqlite.specs.declared.types.Value.TheVariants.{Int}
 use Rattle.sqlite.specs.Order.{Row, column, value_cmp}
 use Rattle.sqlite.specs.Tree.{rowid, has_rowid}
 use Rattle.sqlite_value.proofs.OrderLemmas.{value_cmp_total, value_cmp-Int}
+use Rattle.moo_tables.specs.declared.version.Version.{Version}
 use Rattle.moo_tables.specs.Listing.{begins_with, IsBelow}
 use Rattle.moo_cells.specs.Reading.{ReadsObject, ReadsProp, ReadsSlot, ReadsVerb}
 use Rattle.moo_cells.specs.Holding.{object_number, prop_number, slot_number, verb_number, IsLess, IsPairLess}
@@ -135,8 +136,8 @@ pair_only j r m n p q h =
     let two = tied_number (column r 1) n j.1 q a.1 in
     λ i. (one i, two i)
 
-pub slots_bear : Bears begins_with slot_number ReadsSlot IsBelow IsPairLess
-slots_bear = record {
+pub slots_bear : (version : Version) → Bears begins_with slot_number (ReadsSlot version) IsBelow IsPairLess
+slots_bear version = record {
   mine = λ k r x read. pair_mine r k.0.0 (pos k.1.0) (ap (λ (c : Row). column c 0) read.0.4) (ap (λ (c : Row). column c 1) read.0.4);
   only = λ j k r x read h. pair_only j r k.0.0 (pos k.1.0) (ap (λ (c : Row). column c 0) read.0.4) (ap (λ (c : Row). column c 1) read.0.4) h;
   one = λ k l e. let x = ap (λ (p : ℤ × ℤ). p.0) e in let id = pos_inj k.1.0 l.1.0 (ap (λ (p : ℤ × ℤ). p.1) e) in λ i. (record { 0 = x i }, record { 0 = id i });

@@ -31,17 +31,21 @@ use Rattle.moo_rows.specs.declared.row.Preposition.{Preposition}
 use Rattle.moo_rows.specs.declared.row.Preposition.TheVariants.{None as no_preposition, Any as any_preposition, Set as a_set}
 use Rattle.moo_rows.specs.declared.row.PrepositionSet.TheVariants.{With, At, InFrontOf, In, OnTopOf, OutOf, Over, Through, Under, Behind, Beside, For, Is, As, Off}
 use Rattle.moo_rows.specs.Bits.{bits_of, verb_bits_of}
+use Rattle.moo_rows.specs.declared.row.Bits.{Bits}
 use Rattle.moo_rows.specs.Maps.{Maps}
 use Rattle.moo_rows.specs.Exact.{object_exact, prop_exact, slot_exact, verb_exact}
+use Rattle.moo_rows.proofs.BitsNumber.{bits_number-injective}
 use Rattle.moo_rows.proofs.Orders.{object_total, prop_total, slot_total, verb_total}
 use Rattle.moo_world.specs.Prepositions.{all_sets, prep_text, place_text}
 use Rattle.moo_world.specs.World.{accept_fits, row_fits, state_fits}
 use Rattle.moo_world.proofs.Ranges.{fits_tested}
+use Rattle.moo_tables.specs.declared.version.Version.{Version}
+use Rattle.moo_tables.specs.declared.version.Version.TheVariants.{First, Second}
 use Rattle.moo_tables.specs.Tables.{Tables}
 use Rattle.moo_tables.specs.Cells.{flag, head_cells}
 use Rattle.moo_damage.specs.Limits.{AreWithin}
-use Rattle.moo_cells.specs.Shows.{ShowsOrNone, ShowsAccept, ShowsState, ShowsObject, ShowsProp, ShowsSlot, ShowsVerb, ShowsRows, object_list}
-use Rattle.moo_cells.proofs.Texts.{int_inj, fits_list, spread_objects}
+use Rattle.moo_cells.specs.Shows.{ShowsOrNone, ShowsAccept, ShowsBits, ShowsState, ShowsObject, ShowsProp, ShowsSlot, ShowsVerb, ShowsRows, object_list}
+use Rattle.moo_cells.proofs.Texts.{int_inj, text_inj, fits_list, spread_objects}
 use Rattle.moo_cells.proofs.Keys.{pos_inj}
 
 one_some : {A : Type 0} (x y : A) → Some x ≡ Some y → x ≡ y
@@ -90,6 +94,10 @@ prep_again (a_set Off) = refl
 
 prep_inj : (p q : Preposition) → prep_text p ≡ prep_text q → p ≡ q
 prep_inj p q e = one_some p q (sym (prep_again p) ∙ ap prep_in e ∙ prep_again q)
+
+bits_one : (version : Version) (cell : Value) (x y : Bits) → ShowsBits version cell x → ShowsBits version cell y → x ≡ y
+bits_one First cell x y p q = one_some x y (sym p.1 ∙ ap bits_of (text_inj p.0 q.0 (sym p.2 ∙ q.2)) ∙ q.1)
+bits_one Second cell x y p q = bits_number-injective x y (int_inj _ _ (sym p ∙ q))
 
 -- ---- literals
 
@@ -179,12 +187,12 @@ prop_one id c x y p q =
     let name : x.name ≡ y.name = ap (text_at 2) e in
     λ i. record { definer = record { 0 = definer i }; name = name i }
 
-slot_one : (key : ObjNo × PropId) (c : Row) (x y : SlotRow) → state_fits x.state ≡ true → state_fits y.state ≡ true → ShowsSlot key c x → ShowsSlot key c y → x ≡ y
-slot_one key c x y f g p q =
+slot_one : (version : Version) (key : ObjNo × PropId) (c : Row) (x y : SlotRow) → state_fits x.state ≡ true → state_fits y.state ≡ true → ShowsSlot version key c x → ShowsSlot version key c y → x ≡ y
+slot_one version key c x y f g p q =
     let e = sym p.4 ∙ q.4 in
     let owner = int_inj x.owner.0 y.owner.0 (ap (λ (c : Row). column c 2) e) in
-    let letters : p.0 ≡ q.0 = ap (text_at 3) e in
-    let bits = one_some x.bits y.bits (sym p.2 ∙ ap bits_of letters ∙ q.2) in
+    let cell : p.0 ≡ q.0 = ap (λ (c : Row). column c 3) e in
+    let bits = bits_one version q.0 x.bits y.bits (subst (λ v. ShowsBits version v x.bits) cell p.2) q.2 in
     let text : p.1 ≡ q.1 = ap (text_at 4) e in
     let state = state_one q.1 x.state y.state f g (subst (λ t. ShowsState t x.state) text p.3) q.3 in
     λ i. record { owner = record { 0 = owner i }; bits = bits i; state = state i }
@@ -212,9 +220,9 @@ same_row shows fits one None (Some x) y f g p q = absurd p
 same_row shows fits one (Some c) None y f g p q = absurd p
 same_row shows fits one (Some c) (Some x) None f g p q = absurd q
 
-head_one : (g h : Head) → Some (head_cells g) ≡ Some (head_cells h) → g ≡ h
-head_one g h same =
-    let e = one_some (head_cells g) (head_cells h) same in
+head_one : (version : Version) (g h : Head) → Some (head_cells version g) ≡ Some (head_cells version h) → g ≡ h
+head_one version g h same =
+    let e = one_some (head_cells version g) (head_cells version h) same in
     let seq = pos_inj g.seq h.seq (int_inj (pos g.seq) (pos h.seq) (ap (λ (c : Row). column c 2) e)) in
     let top = int_inj g.top h.top (ap (λ (c : Row). column c 3) e) in
     let next_prop = pos_inj g.next_prop h.next_prop (int_inj (pos g.next_prop) (pos h.next_prop) (ap (λ (c : Row). column c 4) e)) in
@@ -223,9 +231,9 @@ head_one g h same =
 
 pub one_rows : (t : Tables) (m n : Maps) → ShowsRows t m → AreWithin m → ShowsRows t n → AreWithin n → m ≡ n
 one_rows t m n p f q g =
-    let head = head_one m.head n.head (sym p.head ∙ q.head) in
+    let head = head_one t.version m.head n.head (sym p.head ∙ q.head) in
     let objects = same_map object_total object_exact m.objects n.objects (λ x. same_row (ShowsObject x) (λ row. row_fits row ≡ true) (object_one x) (t.object x.0) _ _ (f.objects x) (g.objects x) (p.maps.objects x) (q.maps.objects x)) in
     let props = same_map prop_total prop_exact m.props n.props (λ id. same_row (ShowsProp id) (λ row. Unit {0}) (λ c x y _ _. prop_one id c x y) (t.prop (pos id.0)) _ _ (λ r e. tt) (λ r e. tt) (p.maps.props id) (q.maps.props id)) in
-    let slots = same_map slot_total slot_exact m.slots n.slots (λ key. same_row (ShowsSlot key) (λ row. state_fits row.state ≡ true) (slot_one key) (t.slot (key.0.0, pos key.1.0)) _ _ (λ s e. (and_parts _ _ (f.slots key s e)).1) (λ s e. (and_parts _ _ (g.slots key s e)).1) (p.maps.slots key) (q.maps.slots key)) in
+    let slots = same_map slot_total slot_exact m.slots n.slots (λ key. same_row (ShowsSlot t.version key) (λ row. state_fits row.state ≡ true) (slot_one t.version key) (t.slot (key.0.0, pos key.1.0)) _ _ (λ s e. (and_parts _ _ (f.slots key s e)).1) (λ s e. (and_parts _ _ (g.slots key s e)).1) (p.maps.slots key) (q.maps.slots key)) in
     let verbs = same_map verb_total verb_exact m.verbs n.verbs (λ key. same_row (ShowsVerb key) (λ row. Unit {0}) (λ c x y _ _. verb_one key c x y) (t.verb (key.0.0, pos key.1.0)) _ _ (λ r e. tt) (λ r e. tt) (p.maps.verbs key) (q.maps.verbs key)) in
     λ i. record { head = head i; objects = objects i; props = props i; slots = slots i; verbs = verbs i }

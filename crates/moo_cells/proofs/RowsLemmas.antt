@@ -10,6 +10,7 @@ use Rattle.std.proofs.lemmas.Bool.{and_from}
 use Rattle.moo_tables.specs.declared.reading.CellLists.{CellLists}
 use Rattle.moo_tables.specs.Tables.{Tables}
 use Rattle.moo_tables.specs.Listing.{tables_of, begins_with}
+use Rattle.moo_tables.specs.Version.{version_number}
 use Rattle.moo_damage.specs.declared.kind.Kind.{Kind}
 use Rattle.moo_damage.specs.declared.kind.Kind.TheVariants.{BadHead, BadCell, PastHead, NoParent, ParentLoop, NoPlace, PlaceLoop, NoDefiner, DoubleName, StrangeSlot, MissingSlot, ClearDefiner, StrangeVerb, Mismatch}
 use Rattle.moo_damage.specs.declared.kind.Key.{Key}
@@ -20,7 +21,7 @@ use Rattle.moo_cells.specs.Head.{HeadIs, ReadsHead, HasHead, SaysOfHead}
 use Rattle.moo_cells.specs.Reading.{IsRead, ReadsObject, ReadsProp, ReadsSlot, ReadsVerb}
 use Rattle.moo_cells.specs.Shows.{ShowsOrNone, ShowsObject, ShowsProp, ShowsSlot, ShowsVerb, ShowsRows}
 use Rattle.moo_cells.specs.Holding.{HoldsTable, SaysUnread, object_number, prop_number, slot_number, verb_number, object_key, prop_key, slot_key, verb_key, IsLess, IsPairLess}
-use Rattle.moo_cells.specs.Damage.{version, IsNewer, IsBadCell, IsMet, SaysOfCells}
+use Rattle.moo_cells.specs.Damage.{IsNewer, IsBadCell, IsMet, SaysOfCells}
 use Rattle.moo_cells.specs.declared.fault.CellFault.{CellFault}
 use Rattle.moo_cells.specs.declared.fault.CellFault.TheVariants.{Damaged, NewerVersion, OutOfMemory}
 use Rattle.moo_cells.proofs.Keys.{objects_bear, props_bear, slots_bear, verbs_bear}
@@ -52,10 +53,10 @@ not_negative m n e = cc
 pub record ReadTables (lists : CellLists) (m : Maps) : Type 0 where
   pub cells : Row
   pub head_is : HeadIs (λ n. find (has_rowid n) lists.head.items) cells
-  pub head_read : ReadsHead version m.head cells
+  pub head_read : ReadsHead (version_number lists.version) m.head cells
   pub objects : HoldsTable has_rowid object_number ReadsObject lists.object.items m.objects
   pub props : HoldsTable has_rowid prop_number ReadsProp lists.prop.items m.props
-  pub slots : HoldsTable begins_with slot_number ReadsSlot lists.slot.items m.slots
+  pub slots : HoldsTable begins_with slot_number (ReadsSlot lists.version) lists.slot.items m.slots
   pub verbs : HoldsTable begins_with verb_number ReadsVerb lists.verb.items m.verbs
 
 module _ (lists : CellLists) (m : Maps) (read : ReadTables lists m) where
@@ -67,8 +68,8 @@ module _ (lists : CellLists) (m : Maps) (read : ReadTables lists m) where
       objects = λ n. shows_of (ReadsObject n) (ShowsObject n) (λ c x h. h.0) (find (has_rowid n.0) lists.object.items) (get m.objects n) (read.objects.shown n);
       props = λ id. shows_of (ReadsProp id) (ShowsProp id) (λ c x h. h.0) (find (has_rowid (pos id.0)) lists.prop.items) (get m.props id) (read.props.shown id);
       no_prop = λ n. no_other props_bear lists.prop.items read.props.read (negsuc n) (λ k e. not_negative k.0 n e);
-      slots = λ key. shows_of (ReadsSlot key) (ShowsSlot key) (λ c x h. h.0) (find (begins_with (slot_number key)) lists.slot.items) (get m.slots key) (read.slots.shown key);
-      no_slot = λ x n. no_other slots_bear lists.slot.items read.slots.read (x, negsuc n) (λ k e. not_negative k.1.0 n (ap (λ (p : ℤ × ℤ). p.1) e));
+      slots = λ key. shows_of (ReadsSlot lists.version key) (ShowsSlot lists.version key) (λ c x h. h.0) (find (begins_with (slot_number key)) lists.slot.items) (get m.slots key) (read.slots.shown key);
+      no_slot = λ x n. no_other (slots_bear lists.version) lists.slot.items read.slots.read (x, negsuc n) (λ k e. not_negative k.1.0 n (ap (λ (p : ℤ × ℤ). p.1) e));
       verbs = λ key. shows_of (ReadsVerb key) (ShowsVerb key) (λ c x h. h.0) (find (begins_with (verb_number key)) lists.verb.items) (get m.verbs key) (read.verbs.shown key);
       no_verb = λ x n. no_other verbs_bear lists.verb.items read.verbs.read (x, negsuc n) (λ k e. not_negative k.1.0 n (ap (λ (p : ℤ × ℤ). p.1) e));
     };
@@ -81,15 +82,15 @@ module _ (lists : CellLists) (m : Maps) (read : ReadTables lists m) where
     next_verb = read.head_read.1.next_verb;
     objects = λ x row e. (read_of (ReadsObject x) (find (has_rowid x.0) lists.object.items) (get m.objects x) row (read.objects.shown x) e).1.1.fits;
     props = λ id p e. let h = (read_of (ReadsProp id) (find (has_rowid (pos id.0)) lists.prop.items) (get m.props id) p (read.props.shown id) e).1.1 in (h.number.0, h.name);
-    slots = λ key s e. let h = (read_of (ReadsSlot key) (find (begins_with (slot_number key)) lists.slot.items) (get m.slots key) s (read.slots.shown key) e).1.1 in and_from _ _ h.owner h.state;
+    slots = λ key s e. let h = (read_of (ReadsSlot lists.version key) (find (begins_with (slot_number key)) lists.slot.items) (get m.slots key) s (read.slots.shown key) e).1.1 in and_from _ _ h.owner h.state;
     verbs = λ key v e. let h = (read_of (ReadsVerb key) (find (begins_with (verb_number key)) lists.verb.items) (get m.verbs key) v (read.verbs.shown key) e).1.1 in (h.number.0, h.fits);
   }
 
 -- each table after another: what was read before stays
-pub read_all : (lists : CellLists) (cells : Row) (m0 m1 m2 m3 m4 : Maps) → HeadIs (λ n. find (has_rowid n) lists.head.items) cells → ReadsHead version m0.head cells
+pub read_all : (lists : CellLists) (cells : Row) (m0 m1 m2 m3 m4 : Maps) → HeadIs (λ n. find (has_rowid n) lists.head.items) cells → ReadsHead (version_number lists.version) m0.head cells
     → m1 ≡ record m0 { objects = m1.objects } → m2 ≡ record m1 { props = m2.props } → m3 ≡ record m2 { slots = m3.slots } → m4 ≡ record m3 { verbs = m4.verbs }
     → HoldsTable has_rowid object_number ReadsObject lists.object.items m1.objects → HoldsTable has_rowid prop_number ReadsProp lists.prop.items m2.props
-    → HoldsTable begins_with slot_number ReadsSlot lists.slot.items m3.slots → HoldsTable begins_with verb_number ReadsVerb lists.verb.items m4.verbs → ReadTables lists m4
+    → HoldsTable begins_with slot_number (ReadsSlot lists.version) lists.slot.items m3.slots → HoldsTable begins_with verb_number ReadsVerb lists.verb.items m4.verbs → ReadTables lists m4
 read_all lists cells m0 m1 m2 m3 m4 is reads k1 k2 k3 k4 objects props slots verbs =
     let head : m4.head ≡ m0.head = ap (λ (m : Maps). m.head) k4 ∙ ap (λ (m : Maps). m.head) k3 ∙ ap (λ (m : Maps). m.head) k2 ∙ ap (λ (m : Maps). m.head) k1 in
     let o : m4.objects ≡ m1.objects = ap (λ (m : Maps). m.objects) k4 ∙ ap (λ (m : Maps). m.objects) k3 ∙ ap (λ (m : Maps). m.objects) k2 in
@@ -98,10 +99,10 @@ read_all lists cells m0 m1 m2 m3 m4 is reads k1 k2 k3 k4 objects props slots ver
     record {
       cells = cells;
       head_is = is;
-      head_read = subst (λ h. ReadsHead version h cells) (sym head) reads;
+      head_read = subst (λ h. ReadsHead (version_number lists.version) h cells) (sym head) reads;
       objects = subst (HoldsTable has_rowid object_number ReadsObject lists.object.items) (sym o) objects;
       props = subst (HoldsTable has_rowid prop_number ReadsProp lists.prop.items) (sym p) props;
-      slots = subst (HoldsTable begins_with slot_number ReadsSlot lists.slot.items) (sym s) slots;
+      slots = subst (HoldsTable begins_with slot_number (ReadsSlot lists.version) lists.slot.items) (sym s) slots;
       verbs = verbs;
     }
 
@@ -156,7 +157,7 @@ cell_kind StrangeVerb under = absurd (omega arith)
 cell_kind Mismatch under = absurd (omega arith)
 
 -- a bad head is told as it is
-pub says_head : (lists : CellLists) (fault : CellFault) → (let t = tables_of lists in SaysOfHead (HasHead version t.head) (IsNewer t) fault) → SaysOfCells (tables_of lists) fault
+pub says_head : (lists : CellLists) (fault : CellFault) → (let t = tables_of lists in SaysOfHead (HasHead (version_number lists.version) t.head) (IsNewer t) fault) → SaysOfCells (tables_of lists) fault
 says_head lists (Damaged kind key) says = rw (says.0, says.1) (says.3, ((λ k under other met. no_kind k under), ((says.2, says.3), (λ other under met. none other under met))))
   where
     none : (other : Key) → IsBelow other Head → IsMet (tables_of lists) BadHead other → ⊥
@@ -168,12 +169,12 @@ says_head lists (Damaged kind key) says = rw (says.0, says.1) (says.3, ((λ k un
 says_head lists NewerVersion says = says
 says_head lists OutOfMemory says = absurd says
 
-module _ (lists : CellLists) (head : HeadRow) (cells : Row) (is : HeadIs (λ n. find (has_rowid n) lists.head.items) cells) (reads : ReadsHead version head cells) where
+module _ (lists : CellLists) (head : HeadRow) (cells : Row) (is : HeadIs (λ n. find (has_rowid n) lists.head.items) cells) (reads : ReadsHead (version_number lists.version) head cells) where
   abbrev t : Tables
   t = tables_of lists
 
   no_bad_head : (key : Key) → ¬ (IsMet t BadHead key)
-  no_bad_head Head met = met.0 (head_known t.head cells head is reads)
+  no_bad_head Head met = met.0 (head_known (version_number lists.version) t.head cells head is reads)
   no_bad_head (Object n) met = met
   no_bad_head (Prop n) met = met
   no_bad_head (Slot n i) met = met
@@ -183,7 +184,7 @@ module _ (lists : CellLists) (head : HeadRow) (cells : Row) (is : HeadIs (λ n. 
   before kind under key met = no_bad_head key (subst (λ k. IsMet t k key) (head_kind kind under) met)
 
   pub says_object : (fault : CellFault) → SaysUnread has_rowid ReadsObject IsLess object_key lists.object.items fault → SaysOfCells t fault
-  says_object (Damaged kind key) says = rw (says.1, says.2) (head_not_newer t.head cells head is reads, (before, (says.3.bad, least)))
+  says_object (Damaged kind key) says = rw (says.1, says.2) (head_not_newer lists.version t.head cells head is reads, (before, (says.3.bad, least)))
     where
       least : (other : Key) → IsBelow other (Object says.0) → ¬ (IsBadCell t other)
       least Head under bad = bad
@@ -196,7 +197,7 @@ module _ (lists : CellLists) (head : HeadRow) (cells : Row) (is : HeadIs (λ n. 
 
   module _ (objects : AllByRecursion (IsRead ReadsObject) lists.object.items) where
     pub says_prop : (fault : CellFault) → SaysUnread has_rowid ReadsProp IsLess prop_key lists.prop.items fault → SaysOfCells t fault
-    says_prop (Damaged kind key) says = rw (says.1, says.2) (head_not_newer t.head cells head is reads, (before, (says.3.bad, least)))
+    says_prop (Damaged kind key) says = rw (says.1, says.2) (head_not_newer lists.version t.head cells head is reads, (before, (says.3.bad, least)))
       where
         least : (other : Key) → IsBelow other (Prop says.0) → ¬ (IsBadCell t other)
         least Head under bad = bad
@@ -208,8 +209,8 @@ module _ (lists : CellLists) (head : HeadRow) (cells : Row) (is : HeadIs (λ n. 
     says_prop OutOfMemory says = tt
 
     module _ (props : AllByRecursion (IsRead ReadsProp) lists.prop.items) where
-      pub says_slot : (fault : CellFault) → SaysUnread begins_with ReadsSlot IsPairLess slot_key lists.slot.items fault → SaysOfCells t fault
-      says_slot (Damaged kind key) says = rw (says.1, says.2) (head_not_newer t.head cells head is reads, (before, (says.3.bad, least)))
+      pub says_slot : (fault : CellFault) → SaysUnread begins_with (ReadsSlot lists.version) IsPairLess slot_key lists.slot.items fault → SaysOfCells t fault
+      says_slot (Damaged kind key) says = rw (says.1, says.2) (head_not_newer lists.version t.head cells head is reads, (before, (says.3.bad, least)))
         where
           least : (other : Key) → IsBelow other (Slot says.0.0 says.0.1) → ¬ (IsBadCell t other)
           least Head under bad = bad
@@ -220,28 +221,28 @@ module _ (lists : CellLists) (head : HeadRow) (cells : Row) (is : HeadIs (λ n. 
       says_slot NewerVersion says = absurd says
       says_slot OutOfMemory says = tt
 
-      module _ (slots : AllByRecursion (IsRead ReadsSlot) lists.slot.items) where
+      module _ (slots : AllByRecursion (IsRead (ReadsSlot lists.version)) lists.slot.items) where
         pub says_verb : (fault : CellFault) → SaysUnread begins_with ReadsVerb IsPairLess verb_key lists.verb.items fault → SaysOfCells t fault
-        says_verb (Damaged kind key) says = rw (says.1, says.2) (head_not_newer t.head cells head is reads, (before, (says.3.bad, least)))
+        says_verb (Damaged kind key) says = rw (says.1, says.2) (head_not_newer lists.version t.head cells head is reads, (before, (says.3.bad, least)))
           where
             least : (other : Key) → IsBelow other (Verb says.0.0 says.0.1) → ¬ (IsBadCell t other)
             least Head under bad = bad
             least (Object n) under bad = none_unread objects_bear lists.object.items objects n bad
             least (Prop n) under bad = none_unread props_bear lists.prop.items props n bad
-            least (Slot n i) under bad = none_unread slots_bear lists.slot.items slots (n, i) bad
+            least (Slot n i) under bad = none_unread (slots_bear lists.version) lists.slot.items slots (n, i) bad
             least (Verb n i) under bad = says.3.least (n, i) under bad
         says_verb NewerVersion says = absurd says
         says_verb OutOfMemory says = tt
 
         -- where each row of each table is read, neither of the first two kinds is met
         pub none_met : AllByRecursion (IsRead ReadsVerb) lists.verb.items → ¬ (IsNewer t) × NoneBefore (IsMet t) 3
-        none_met verbs = (head_not_newer t.head cells head is reads, λ kind under key met. go kind key (cell_kind kind under) met)
+        none_met verbs = (head_not_newer lists.version t.head cells head is reads, λ kind under key met. go kind key (cell_kind kind under) met)
           where
             bad_cell : (key : Key) → ¬ (IsBadCell t key)
             bad_cell Head bad = bad
             bad_cell (Object n) bad = none_unread objects_bear lists.object.items objects n bad
             bad_cell (Prop n) bad = none_unread props_bear lists.prop.items props n bad
-            bad_cell (Slot n i) bad = none_unread slots_bear lists.slot.items slots (n, i) bad
+            bad_cell (Slot n i) bad = none_unread (slots_bear lists.version) lists.slot.items slots (n, i) bad
             bad_cell (Verb n i) bad = none_unread verbs_bear lists.verb.items verbs (n, i) bad
 
             go : (kind : Kind) (key : Key) → (kind ≡ BadHead) ⊎ (kind ≡ BadCell) → IsMet t kind key → ⊥

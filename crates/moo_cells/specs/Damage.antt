@@ -1,31 +1,28 @@
 -- What reading the cells of tables comes to: the rows that they show, or the first kind of damage with its least key.
-use Rattle.std.specs.Prelude.{ℤ, pos, ⊤}
+use Rattle.std.specs.Prelude.{⊤}
 use Rattle.moo_rows.specs.Maps.{Maps}
 use Rattle.moo_tables.specs.Tables.{Tables}
+use Rattle.moo_tables.specs.Version.{version_number}
 use Rattle.moo_damage.specs.declared.kind.Kind.{Kind}
 use Rattle.moo_damage.specs.declared.kind.Kind.TheVariants.{BadHead, BadCell}
 use Rattle.moo_damage.specs.declared.kind.Key.{Key}
 use Rattle.moo_damage.specs.declared.kind.Key.TheVariants.{Head, Object, Prop, Slot, Verb}
 use Rattle.moo_damage.specs.Kinds.{InRows, IsFirstMet}
 use Rattle.moo_damage.specs.Limits.{AreWithin}
-use Rattle.moo_cells.specs.Head.{IsNewerThan, HasHead}
+use Rattle.moo_cells.specs.Head.{greatest, IsNewerThan, HasHead}
 use Rattle.moo_cells.specs.Reading.{ReadsObject, ReadsProp, ReadsSlot, ReadsVerb}
 use Rattle.moo_cells.specs.Shows.{ShowsRows}
 use Rattle.moo_cells.specs.Unread.{IsUnread}
 use Rattle.moo_cells.specs.declared.fault.CellFault.{CellFault}
 use Rattle.moo_cells.specs.declared.fault.CellFault.TheVariants.{Damaged, NewerVersion, OutOfMemory}
 
--- the greatest version of tables that is known
-abbrev pub version : ℤ
-version = pos 1
-
--- the head is that of a later version
+-- the head is that of a version later than the greatest that is known
 abbrev pub IsNewer : Tables → Type 0
-IsNewer t = IsNewerThan version t.head
+IsNewer t = IsNewerThan greatest t.head
 
--- there is no head, and it isn't that of a later version either
+-- there is no head of the version of the tables, and it isn't that of a later version either
 abbrev pub IsBadHead : Tables → Key → Type 0
-IsBadHead t Head = ¬ (HasHead version t.head) × ¬ (IsNewer t)
+IsBadHead t Head = ¬ (HasHead (version_number t.version) t.head) × ¬ (IsNewer t)
 IsBadHead t _ = ⊥
 
 -- a row is there that can't be read
@@ -33,7 +30,7 @@ abbrev pub IsBadCell : Tables → Key → Type 0
 IsBadCell t Head = ⊥
 IsBadCell t (Object n) = IsUnread ReadsObject t.object n
 IsBadCell t (Prop id) = IsUnread ReadsProp t.prop id
-IsBadCell t (Slot n id) = IsUnread ReadsSlot t.slot (n, id)
+IsBadCell t (Slot n id) = IsUnread (ReadsSlot t.version) t.slot (n, id)
 IsBadCell t (Verb n id) = IsUnread ReadsVerb t.verb (n, id)
 
 -- the kind is met at the key: the first two in the cells, each other one in the rows that the cells show

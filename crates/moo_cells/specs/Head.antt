@@ -8,6 +8,10 @@ use Rattle.moo_damage.specs.declared.kind.Key.TheVariants.{Head as the_head}
 use Rattle.moo_cells.specs.declared.fault.CellFault.{CellFault}
 use Rattle.moo_cells.specs.declared.fault.CellFault.TheVariants.{Damaged, NewerVersion, OutOfMemory}
 
+-- the greatest version of tables that is known
+abbrev pub greatest : ℤ
+greatest = pos 2
+
 -- the cells of a head, in the order of the columns
 abbrev pub head_row : (version seq top next_prop next_verb : ℤ) → Row
 head_row version seq top next_prop next_verb =
@@ -28,21 +32,21 @@ pub record HeadFits (head : Head) : Type 0 where
 abbrev pub ReadsHead : ℤ → Head → Row → Type 0
 ReadsHead version head cells = (cells ≡ head_row version (pos head.seq) head.top (pos head.next_prop) (pos head.next_verb)) × HeadFits head
 
--- the cells are those of a head of a version that isn't known
+-- the cells are those of a head of a version past this one
 abbrev pub ReadsNewer : ℤ → Row → Type 0
-ReadsNewer greatest cells = (version seq top next_prop next_verb : ℤ) × (cells ≡ head_row version seq top next_prop next_verb) × (greatest <ℤ version)
+ReadsNewer known cells = (version seq top next_prop next_verb : ℤ) × (cells ≡ head_row version seq top next_prop next_verb) × (known <ℤ version)
 
--- the cells are those of a head of a version from 1 to the greatest that is known
+-- the cells are those of a head of this version
 abbrev pub ReadsKnown : ℤ → Row → Type 0
-ReadsKnown greatest cells = (version : ℤ) × (head : Head) × ((pos 1 ≤ℤ version) × (version ≤ℤ greatest)) × ReadsHead version head cells
+ReadsKnown version cells = (head : Head) × ReadsHead version head cells
 
--- tables of a version past the greatest that is known
+-- tables of a version past this one
 abbrev pub IsNewerThan : ℤ → (ℤ → Option Row) → Type 0
-IsNewerThan greatest table = (cells : Row) × HeadIs table cells × ReadsNewer greatest cells
+IsNewerThan known table = (cells : Row) × HeadIs table cells × ReadsNewer known cells
 
--- tables that have a head
+-- tables that have a head of this version
 abbrev pub HasHead : ℤ → (ℤ → Option Row) → Type 0
-HasHead greatest table = (cells : Row) × HeadIs table cells × ReadsKnown greatest cells
+HasHead version table = (cells : Row) × HeadIs table cells × ReadsKnown version cells
 
 -- the fault of a head
 abbrev pub SaysOfHead : (known newer : Type 0) → CellFault → Type 0

@@ -10,6 +10,7 @@ use Rattle.moo_rows.specs.declared.row.VerbId.{VerbId}
 use Rattle.moo_rows.specs.declared.row.VerbRow.{VerbRow}
 use Rattle.moo_world.specs.Arguments.{is_number}
 use Rattle.moo_world.specs.World.{row_fits, is_property_name, state_fits, verb_fits}
+use Rattle.moo_tables.specs.declared.version.Version.{Version}
 use Rattle.moo_cells.specs.Shows.{ShowsObject, ShowsProp, ShowsSlot, ShowsVerb}
 
 -- a number that a property or a verb may have: it lies below the greatest counter
@@ -46,8 +47,8 @@ ReadsObject n cells row = ShowsObject n cells row × ObjectFits n row
 abbrev pub ReadsProp : PropId → Row → PropRow → Type 0
 ReadsProp id cells row = ShowsProp id cells row × PropFits id row
 
-abbrev pub ReadsSlot : ObjNo × PropId → Row → SlotRow → Type 0
-ReadsSlot key cells row = ShowsSlot key cells row × SlotFits key row
+abbrev pub ReadsSlot : Version → ObjNo × PropId → Row → SlotRow → Type 0
+ReadsSlot version key cells row = ShowsSlot version key cells row × SlotFits key row
 
 abbrev pub ReadsVerb : ObjNo × VerbId → Row → VerbRow → Type 0
 ReadsVerb key cells row = ShowsVerb key cells row × VerbFits key row

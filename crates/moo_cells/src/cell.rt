@@ -10,15 +10,17 @@ ghost use Rattle.moo_rows.specs.declared.row.Bits.{Bits};
 ghost use Rattle.moo_rows.specs.declared.row.VerbBits.{VerbBits};
 ghost use Rattle.moo_rows.specs.declared.row.Place.{Place};
 ghost use Rattle.moo_rows.specs.declared.row.Preposition.{Preposition};
-ghost use Rattle.moo_rows.specs.Bits.{bits_of, verb_bits_of};
+ghost use Rattle.moo_rows.specs.Bits.{verb_bits_of};
 ghost use Rattle.moo_world.specs.Arguments.{in_range, is_number, is_text};
 ghost use Rattle.moo_world.specs.Prepositions.{prep_text, place_text};
 ghost use Rattle.moo_tables.specs.Cells.{flag};
 ghost use Rattle.moo_cells.specs.Reading.{IsId};
+ghost use Rattle.moo_cells.specs.Shows.{ShowsBits};
 ghost use Rattle.moo_cells.specs.declared.fault.RowFault.TheVariants.{Unreadable};
 
 use crate::fault::RowFault;
 use moo_rows::{Bits, Place, Preposition, VerbBits};
+use moo_tables::Version;
 use moo_value::{MooStr, ObjNo};
 use moo_verbs::{read_place_cell, read_prep_cell};
 use sqlite::Row;
@@ -109,13 +111,35 @@ pub(crate) fn string_at(alloc: Global, cells: &Row, at: usize) -> Result<MooStr,
 }
 
 /// The rights on a property whose letters stand in a column.
-pub(crate) fn bits_at(cells: &Row, at: usize) -> Result<Bits, RowFault>
-    ensures ok { IfOk result (λ bits. (text : List ℕ) × (bits_of text ≡ Some bits) × (column cells.now at ≡ Text text)) }
-    ensures err { IfErr result (λ _. (text : List ℕ) (bits : Bits) → bits_of text ≡ Some bits → column cells.now at ≢ Text text) }
+fn lettered_bits_at(cells: &Row, at: usize) -> Result<Bits, RowFault>
+    ensures ok { IfOk result (λ bits. ShowsBits Version.First (column cells.now at) bits) }
+    ensures err { IfErr result (λ _. (bits : Bits) → ¬ (ShowsBits Version.First (column cells.now at) bits)) }
 {
     match Bits::of_letters(text_at(cells, at)?) {
         Some(bits) => Ok(bits),
         None => Err(RowFault::Unreadable),
+    }
+}
+
+/// The rights on a property whose number stands in a column.
+fn numbered_bits_at(cells: &Row, at: usize) -> Result<Bits, RowFault>
+    ensures ok { IfOk result (λ bits. ShowsBits Version.Second (column cells.now at) bits) }
+    ensures err { IfErr result (λ _. (bits : Bits) → ¬ (ShowsBits Version.Second (column cells.now at) bits)) }
+{
+    match Bits::from_number(int_at(cells, at)?) {
+        Some(bits) => Ok(bits),
+        None => Err(RowFault::Unreadable),
+    }
+}
+
+/// The rights on a property in a column: letters in tables of the first version, a number in those of the second.
+pub(crate) fn bits_at(version: Version, cells: &Row, at: usize) -> Result<Bits, RowFault>
+    ensures ok { IfOk result (λ bits. ShowsBits version (column cells.now at) bits) }
+    ensures err { IfErr result (λ _. (bits : Bits) → ¬ (ShowsBits version (column cells.now at) bits)) }
+{
+    match version {
+        Version::First => lettered_bits_at(cells, at),
+        Version::Second => numbered_bits_at(cells, at),
     }
 }
 

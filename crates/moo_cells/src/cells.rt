@@ -1,6 +1,6 @@
 //! The rows of a world, from the cells of its tables.
 
-ghost use Rattle.std.specs.Prelude.{◌≡◌, IfOk, IfErr};
+ghost use Rattle.std.specs.Prelude.{◌≡◌, ◌<◌, ◌^◌, IfOk, IfErr};
 ghost use Rattle.moo_rows.specs.Maps.{Maps};
 ghost use Rattle.moo_world.specs.Rows.{IsGood};
 ghost use Rattle.moo_tables.specs.Listing.{AreListed, tables_of};
@@ -25,6 +25,8 @@ pub fn read_cells(alloc: Global, lists: &Cells) -> Result<Flat, CellFault>
     ensures rows { IfOk result (λ rows. ShowsRows (tables_of lists.now) rows.maps) }
     // What is read is good whatever the tables hold.
     ensures good { IfOk result (λ rows. IsGood rows.maps) }
+    // The number of the last batch is that of a cell, and so is below 2^63.
+    ensures limit { IfOk result (λ rows. rows.maps.head.seq < 2 ^ 63) }
     // Good rows that the tables show are the ones that are read.
     ensures one { (m : Maps) → ShowsRows (tables_of lists.now) m → IsGood m → IfOk result (λ rows. rows.maps ≡ m) }
     // Which fault it is.

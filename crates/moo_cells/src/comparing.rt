@@ -1,10 +1,11 @@
 //! The tables, beside rows that were known before.
 
-ghost use Rattle.std.specs.Prelude.{◌≡◌, true, pos, find, IfOk, IfErr, IfSome, IfNone};
+ghost use Rattle.std.specs.Prelude.{◌≡◌, true, find, IfOk, IfErr, IfSome, IfNone};
 ghost use Rattle.sqlite.specs.Tree.{has_rowid};
 ghost use Rattle.moo_world.specs.Rows.{IsGood};
 ghost use Rattle.moo_tables.specs.Inside.{AreKeyed};
 ghost use Rattle.moo_tables.specs.Listing.{AreListed, tables_of};
+ghost use Rattle.moo_tables.specs.Version.{version_number};
 ghost use Rattle.moo_cells.specs.Head.{HeadIs, ReadsHead};
 ghost use Rattle.moo_cells.specs.Shows.{ShowsRows};
 ghost use Rattle.moo_cells.specs.Damage.{SaysOfCells};
@@ -16,16 +17,16 @@ use crate::head::read_head;
 use crate::showing::show_each;
 use moo_damage::{Key, first_difference};
 use moo_rows::{Flat, Head, Rows, each_object, each_prop, each_slot, each_verb};
-use moo_tables::CellLists as Cells;
+use moo_tables::{CellLists as Cells, Version};
 use sqlite::Row;
 use std::alloc::{AllocError, Global};
 
-/// Whether the table of the head shows this one.
-fn shows_head(rows: &[Row], head: Head) -> bool
+/// Whether the table of the head, in tables of this version, shows this one.
+fn shows_head(version: Version, rows: &[Row], head: Head) -> bool
     requires { AreKeyed rows.now }
-    ensures { result ≡ true → (cells : _) × HeadIs (λ n. find (has_rowid n) rows.now) cells × ReadsHead (pos 1) head cells }
+    ensures { result ≡ true → (cells : _) × HeadIs (λ n. find (has_rowid n) rows.now) cells × ReadsHead (version_number version) head cells }
 {
-    match read_head(rows) {
+    match read_head(version, rows) {
         Ok(read) => read == head,
         Err(_) => false,
     }
@@ -36,19 +37,19 @@ fn show_rows(alloc: Global, lists: &Cells, rows: &Flat) -> Result<bool, AllocErr
     requires { AreListed lists.now }
     ensures { IfOk result (λ show. show ≡ true → ShowsRows (tables_of lists.now) rows.now.maps) }
 {
-    if !shows_head(&lists.head, rows.head()) {
+    if !shows_head(lists.version, &lists.head, rows.head()) {
         return Ok(false);
     }
-    if !show_each(alloc, &lists.object, each_object(rows))? {
+    if !show_each(alloc, lists.version, &lists.object, each_object(rows))? {
         return Ok(false);
     }
-    if !show_each(alloc, &lists.prop, each_prop(rows))? {
+    if !show_each(alloc, lists.version, &lists.prop, each_prop(rows))? {
         return Ok(false);
     }
-    if !show_each(alloc, &lists.slot, each_slot(rows))? {
+    if !show_each(alloc, lists.version, &lists.slot, each_slot(rows))? {
         return Ok(false);
     }
-    show_each(alloc, &lists.verb, each_verb(rows))
+    show_each(alloc, lists.version, &lists.verb, each_verb(rows))
 }
 
 /// The first row in which the tables differ from the rows of a world, in the order of `first_difference`, or none where they show these.

@@ -1,11 +1,12 @@
 //! The table of the head.
 
-ghost use Rattle.std.specs.Prelude.{◌≡◌, ◌≢◌, ℕ, ◌<◌, ◌≤◌, ℤ, pos, negsuc, ◌≤ℤ◌, find, FitsSigned, IfOk, IfErr, IfSome, IfNone};
+ghost use Rattle.std.specs.Prelude.{◌≡◌, ◌≢◌, ℕ, ◌<◌, ◌≤◌, ◌^◌, pos, negsuc, ◌≤ℤ◌, find, FitsSigned, IfOk, IfErr, IfSome, IfNone};
 ghost use Rattle.std.specs.Int.{w32};
 ghost use Rattle.sqlite.specs.Tree.{has_rowid};
 ghost use Rattle.moo_rows.specs.declared.row.Head.{Head};
 ghost use Rattle.moo_tables.specs.Inside.{AreKeyed};
-ghost use Rattle.moo_cells.specs.Head.{HeadIs, ReadsHead, ReadsNewer, ReadsKnown, IsNewerThan, HasHead, SaysOfHead};
+ghost use Rattle.moo_tables.specs.Version.{version_number};
+ghost use Rattle.moo_cells.specs.Head.{greatest, HeadIs, ReadsHead, ReadsNewer, ReadsKnown, IsNewerThan, HasHead, SaysOfHead};
 ghost use Rattle.moo_cells.specs.HeadCells.{cells_of, AreWords, IsHead};
 ghost use Rattle.moo_cells.specs.declared.head.HeadCells.{HeadCells};
 
@@ -13,13 +14,14 @@ use crate::cell::int_at;
 use crate::fault::{CellFault, RowFault};
 use moo_damage::{Key, Kind};
 use moo_rows::Head;
+use moo_tables::Version;
 use sqlite::Row;
 
 /// How many columns the table of the head has.
 const COLUMNS: usize = 6;
 
-/// The greatest version of tables that is known, and the only one.
-const VERSION: i64 = 1;
+/// The greatest version of tables that is known.
+const VERSION: i64 = 2;
 
 const BAD_HEAD: CellFault = CellFault::Damaged(Kind::BadHead, Key::Head);
 
@@ -62,6 +64,7 @@ fn numbers_of(cells: &Row) -> Result<HeadCells, RowFault>
 /// How many batches were accepted.
 fn seq_in(number: i64) -> Option<u64>
     ensures some { IfSome result (λ seq. number ≡ pos seq) }
+    ensures limit { IfSome result (λ seq. seq < 2 ^ 63) }
     ensures none { IfNone result ((seq : ℕ) → number ≢ pos seq) }
 {
     u64::try_from(number).ok()
@@ -96,6 +99,7 @@ fn counter_in(number: i64) -> Option<u32>
 fn head_within(numbers: HeadCells) -> Option<Head>
     requires { AreWords numbers }
     ensures some { IfSome result (λ head. IsHead numbers head) }
+    ensures limit { IfSome result (λ head. head.seq < 2 ^ 63) }
     ensures none { IfNone result ((head : Head) → ¬ (IsHead numbers head)) }
 {
     let seq = seq_in(numbers.seq)?;
@@ -110,10 +114,11 @@ fn head_within(numbers: HeadCells) -> Option<Head>
     })
 }
 
-/// The head that these cells show.
-fn head_of(cells: &Row) -> Result<Head, CellFault>
-    ensures ok { IfOk result (λ head. ReadsHead (pos 1) head cells.now) }
-    ensures err { IfErr result (SaysOfHead (ReadsKnown (pos 1) cells.now) (ReadsNewer (pos 1) cells.now)) }
+/// The head that these cells show in tables of this version.
+fn head_of(version: Version, cells: &Row) -> Result<Head, CellFault>
+    ensures ok { IfOk result (λ head. ReadsHead (version_number version) head cells.now) }
+    ensures limit { IfOk result (λ head. head.seq < 2 ^ 63) }
+    ensures err { IfErr result (SaysOfHead (ReadsKnown (version_number version) cells.now) (ReadsNewer greatest cells.now)) }
 {
     let Ok(numbers) = numbers_of(cells) else {
         return Err(BAD_HEAD);
@@ -124,7 +129,7 @@ fn head_of(cells: &Row) -> Result<Head, CellFault>
     if VERSION < numbers.version {
         return Err(CellFault::NewerVersion);
     }
-    if numbers.version < 1 {
+    if numbers.version != version.number() {
         return Err(BAD_HEAD);
     }
     match head_within(numbers) {
@@ -133,17 +138,18 @@ fn head_of(cells: &Row) -> Result<Head, CellFault>
     }
 }
 
-/// The head, from the rows of its table.
+/// The head of tables of this version, from the rows of its table.
 ///
-/// Errors: `Damaged(BadHead, Head)` where the table isn't one row of id 1 with numbers within their limits;
-/// `NewerVersion` where it is one row of id 1 with whole numbers, the version above 1.
-pub fn read_head(rows: &[Row]) -> Result<Head, CellFault>
+/// Errors: `Damaged(BadHead, Head)` where the table isn't one row of id 1 with the number of the version and with counters
+/// within their limits; `NewerVersion` where it is one row of id 1 with whole numbers, the version above 2.
+pub fn read_head(version: Version, rows: &[Row]) -> Result<Head, CellFault>
     requires { AreKeyed rows.now }
-    ensures ok { IfOk result (λ head. (cells : _) × HeadIs (λ n. find (has_rowid n) rows.now) cells × ReadsHead (pos 1) head cells) }
-    ensures err { IfErr result (SaysOfHead (HasHead (pos 1) (λ n. find (has_rowid n) rows.now)) (IsNewerThan (pos 1) (λ n. find (has_rowid n) rows.now))) }
+    ensures ok { IfOk result (λ head. (cells : _) × HeadIs (λ n. find (has_rowid n) rows.now) cells × ReadsHead (version_number version) head cells) }
+    ensures limit { IfOk result (λ head. head.seq < 2 ^ 63) }
+    ensures err { IfErr result (SaysOfHead (HasHead (version_number version) (λ n. find (has_rowid n) rows.now)) (IsNewerThan greatest (λ n. find (has_rowid n) rows.now))) }
 {
     if rows.len() != 1 {
         return Err(BAD_HEAD);
     }
-    head_of(&rows[0])
+    head_of(version, &rows[0])
 }

@@ -1,6 +1,6 @@
 //! The rows of all tables.
 
-ghost use Rattle.std.specs.Prelude.{◌≡◌, IfOk, IfErr, OnOk};
+ghost use Rattle.std.specs.Prelude.{◌≡◌, ◌<◌, ◌^◌, IfOk, IfErr, OnOk};
 ghost use Rattle.moo_rows.specs.Maps.{no_maps};
 ghost use Rattle.moo_tables.specs.Listing.{AreListed, tables_of};
 ghost use Rattle.moo_damage.specs.Kinds.{NoneBefore};
@@ -32,15 +32,16 @@ pub fn read_rows(alloc: Global, lists: &Cells) -> Result<Flat, CellFault>
     requires { AreListed lists.now }
     ensures shown { IfOk result (λ rows. ShowsRows (tables_of lists.now) rows.maps) }
     ensures within { IfOk result (λ rows. AreWithin rows.maps) }
+    ensures limit { IfOk result (λ rows. rows.maps.head.seq < 2 ^ 63) }
     // Neither a bad head nor a bad cell is met.
     ensures read { OnOk result (¬ (IsNewer (tables_of lists.now)) × NoneBefore (IsMet (tables_of lists.now)) 3) }
     ensures fault { IfErr result (SaysOfCells (tables_of lists.now)) }
 {
-    let head = read_head(&lists.head)?;
+    let head = read_head(lists.version, &lists.head)?;
     let mut rows = under(alloc, head);
     read_objects(alloc, &lists.object, &mut rows)?;
     read_props(alloc, &lists.prop, &mut rows)?;
-    read_slots(alloc, &lists.slot, &mut rows)?;
+    read_slots(alloc, lists.version, &lists.slot, &mut rows)?;
     read_verbs(alloc, &lists.verb, &mut rows)?;
     Ok(rows)
 }

@@ -2,9 +2,11 @@
 
 ghost use Rattle.std.specs.Prelude.{IfOk};
 ghost use Rattle.sqlite.specs.Order.{Row as Cells};
+ghost use Rattle.moo_tables.specs.declared.version.Version.{Version};
 
 use crate::fault::RowFault;
 use moo_rows::Key;
+use moo_tables::Version;
 use sqlite::Row;
 use std::alloc::Global;
 
@@ -12,10 +14,10 @@ use std::alloc::Global;
 pub(crate) trait TableRow: moo_rows::Row {
     type Key: Key;
 
-    /// Whether cells show a row of a key.
-    ghost reads: { Self.Key → Cells → Self → Type 0 };
+    /// Whether cells of tables of a version show a row of a key.
+    ghost reads: { Version → Self.Key → Cells → Self → Type 0 };
 
     /// The row that these cells show, and its key.
-    fn read(alloc: Global, cells: &Row) -> Result<(Self::Key, Self), RowFault>
-        ensures { IfOk result (λ r. reads r.0 cells.now r.1) };
+    fn read(alloc: Global, version: Version, cells: &Row) -> Result<(Self::Key, Self), RowFault>
+        ensures { IfOk result (λ r. reads version r.0 cells.now r.1) };
 }

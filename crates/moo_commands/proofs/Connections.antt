@@ -18,7 +18,8 @@ use Rattle.moo_store.specs.Kept.{World}
 use Rattle.moo_store.specs.World.{store_of, CrashLeaves, StandsFor}
 use Rattle.moo_store.specs.declared.fault.StoreFault.{StoreFault}
 use Rattle.moo_store.specs.declared.fault.StoreFault.TheVariants as store_fault
-use Rattle.moo_store.specs.Opening.{IsOfStore}
+use Rattle.moo_store.specs.Opening.{IsOfStore, Adopts}
+use Rattle.moo_store.specs.States.{ShowsState}
 
 -- what a new world can't be made for, and what the opening of one that stands fails for
 pub of_making : {A : Type 0} (fault : StoreFault) (failure : Failure) → failure ≡ store_failure fault → ((fault ≡ store_fault.OutOfMemory) × A) ⊎ ((error : Error) × (fault ≡ store_fault.Store error)) → IsOpening failure
@@ -90,8 +91,8 @@ pub either_unseen : (task : Task) (s : State) (input old new : Option (List ℕ)
 either_unseen task s input old new status Clean Crash (inl fails) = inl fails
 either_unseen task s input old new status Clean Crash (inr it) = inr (unseen task s input old new status Clean Crash it)
 
-pub as_before : (old new : Database) → Survives old new (λ _. ⊥) → HasCleanDisk new → LeavesAsBefore old new
-as_before old new it clean trees may = elim (it.crash clean trees may) [ inl before ↦ before | inr none ↦ absurd none ]
+pub as_before : (old new : Database) (s : State) → ShowsState old s → Survives old new (Adopts old) → HasCleanDisk new → LeavesAsBefore s old new
+as_before old new s shown it clean trees may = elim (it.crash clean trees may) [ inl before ↦ inl before | inr adopts ↦ inr (adopts.1 s shown) ]
 
 -- any fault of opening is a refusal
 each_refusal : (fault : StoreFault) → IsRefusal (store_failure fault)

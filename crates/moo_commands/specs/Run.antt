@@ -21,6 +21,7 @@ use Rattle.moo_store.specs.declared.fault.StoreFault.{StoreFault}
 use Rattle.moo_store.specs.Stand.{Stand, Works, RunsBatch, AsksBatch}
 use Rattle.moo_store.specs.Turns.{Completes, Halts}
 use Rattle.moo_store.specs.Opening.{IsOfStore}
+use Rattle.moo_store.specs.States.{LeavesState}
 use Rattle.moo_store.specs.Kept.{World}
 use Rattle.moo_store.specs.World.{store_of, CrashLeaves}
 use Rattle.moo_words.specs.declared.task.Task.{Task}
@@ -153,9 +154,9 @@ RefusesFile old new status = (failure : Failure) × IsRefusal failure × Reports
 abbrev pub FailsAtOnce : Option (List ℕ) → Option (List ℕ) → ℕ → Type 0
 FailsAtOnce old new status = (failure : Failure) × IsOpening failure × Reports failure old new status
 
--- a crash leaves nothing that it couldn't leave before
-abbrev pub LeavesAsBefore : Database → Database → Type 0
-LeavesAsBefore old new = (trees : Trees) → new.may_leave trees → old.may_leave trees
+-- a crash leaves nothing that it couldn't leave before, but tables that show this state
+abbrev pub LeavesAsBefore : State → Database → Database → Type 0
+LeavesAsBefore s old new = (trees : Trees) → new.may_leave trees → old.may_leave trees ⊎ LeavesState trees s
 
 -- the status of a mistake in the words: asking for help or the version is none
 abbrev pub mistake_status : ErrorKind → ℕ

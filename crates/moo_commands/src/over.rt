@@ -5,7 +5,7 @@ ghost use Rattle.sqlite.specs.State.{HasCleanDisk};
 ghost use Rattle.sqlite.specs.Held.{state};
 ghost use Rattle.moo_rows.specs.Opening.{opening_maps};
 ghost use Rattle.moo_world.specs.Judge.{State, state_of};
-ghost use Rattle.moo_store.specs.States.{Keeps};
+ghost use Rattle.moo_store.specs.States.{ShowsState};
 ghost use Rattle.moo_store.specs.World.{store_of, CrashLeaves, StandsFor};
 ghost use Rattle.moo_commands.specs.Lines.{Reports};
 ghost use Rattle.moo_commands.specs.Run.{begins_anew, Runs, RunsOpened, FailsAtOnce, LeavesAsBefore};
@@ -95,8 +95,8 @@ fn run_opened<R: Read + Drop, W: Write, S: Alter + Drop>(
     status: &mut u8,
 ) -> Connection<S>
     requires outside { conn.in_transaction ≡ false }
-    ensures kept { (s : State) → Keeps (state S.Store conn) s → HasCleanDisk (state S.Store result) →
-        (FailsAtOnce (W.contents output.old) (W.contents output.new) status.new × LeavesAsBefore (state S.Store conn) (state S.Store result))
+    ensures kept { (s : State) → ShowsState (state S.Store conn) s → HasCleanDisk (state S.Store result) →
+        (FailsAtOnce (W.contents output.old) (W.contents output.new) status.new × LeavesAsBefore s (state S.Store conn) (state S.Store result))
         ⊎ Runs task.entry s (R.remaining input) (W.contents output.old) (W.contents output.new) status.new (HasCleanDisk (state S.Store result)) (CrashLeaves (state S.Store result)) }
     ensures opened { RunsOpened task.entry (R.remaining input) (W.contents output.old) (W.contents output.new) status.new }
 {
@@ -126,9 +126,9 @@ pub fn run_over<R: Read + Drop, W: Write, S: Alter + Drop>(
     // A task that begins with a new world runs from the opening world on.
     ensures anew { begins_anew task.entry ≡ true → FailsAtOnce (W.contents output.old) (W.contents output.new) status.new
         ⊎ Runs task.entry (state_of opening_maps) (R.remaining input) (W.contents output.old) (W.contents output.new) status.new (HasCleanDisk (state S.Store result)) (CrashLeaves (state S.Store result)) }
-    // Any other runs from the state on that the tables of the connection show, on a disk that returns what was written.
-    ensures kept { (s : State) → begins_anew task.entry ≡ false → Keeps (state S.Store conn) s → HasCleanDisk (state S.Store result) →
-        (FailsAtOnce (W.contents output.old) (W.contents output.new) status.new × LeavesAsBefore (state S.Store conn) (state S.Store result))
+    // Any other runs from the state on that the tables of the connection show, of either version, on a disk that returns what was written.
+    ensures kept { (s : State) → begins_anew task.entry ≡ false → ShowsState (state S.Store conn) s → HasCleanDisk (state S.Store result) →
+        (FailsAtOnce (W.contents output.old) (W.contents output.new) status.new × LeavesAsBefore s (state S.Store conn) (state S.Store result))
         ⊎ Runs task.entry s (R.remaining input) (W.contents output.old) (W.contents output.new) status.new (HasCleanDisk (state S.Store result)) (CrashLeaves (state S.Store result)) }
     // Whatever they show, it is refused, or the task runs from a well formed world on.
     ensures opened { begins_anew task.entry ≡ false → RunsOpened task.entry (R.remaining input) (W.contents output.old) (W.contents output.new) status.new }

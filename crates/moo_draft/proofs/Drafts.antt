@@ -12,42 +12,53 @@ use Rattle.moo_rows.specs.declared.row.PropRow.{PropRow}
 use Rattle.moo_rows.specs.declared.row.Link.{Link}
 use Rattle.moo_rows.specs.Exact.{object_exact}
 use Rattle.moo_rows.specs.Maps.{object_cmp, prop_cmp, slot_cmp}
-use Rattle.moo_rows.specs.Links.{LinkSets, may_have, has_link, ties_of, ties_have, row_has, row_defined, AreOfDefiners}
+use Rattle.moo_rows.specs.Links.{LinkSets, may_have, is_kept, is_candidate, is_to_nothing, has_link, ties_of, ties_have, row_has, row_defined, AreOfDefiners}
 use Rattle.moo_rows.proofs.Firsts.{or_first, or_second}
 use Rattle.moo_rows.proofs.Linking.{defined-put, defined-remove}
 use Rattle.moo_rows.proofs.Orders.{object_total, prop_total}
 use Rattle.moo_draft.specs.Overlay.{overlaid}
-use Rattle.moo_draft.specs.Either.{of_changes, EitherCovers}
+use Rattle.moo_draft.specs.declared.own.OwnLinks.{OwnLinks}
+use Rattle.moo_draft.specs.Either.{of_changes, is_that, may_own, is_candidate_of_either, EitherCovers}
 use Rattle.moo_draft.proofs.Overlays.{get-overlaid}
 
 -- ---- objects
 
--- no object has a link that it neither has below nor may have
-pub draft-covers : (below : FinMap object_cmp ObjRow) (changes : FinMap object_cmp (Option ObjRow)) (sets : LinkSets) → EitherCovers (get below) (of_changes changes) sets
-    → (link : Link) (q : ObjNo) → (row_has link (get below q) || may_have sets link q) ≡ false → row_has link (get (overlaid below changes) q) ≡ false
-draft-covers below changes sets covers link q h =
-    ap (row_has link) (get-overlaid object_total below changes q)
-    ∙ elim (get changes q) as (λ o. row_has link (unwrap_or o None) ≡ false → row_has link (unwrap_or o (get below q)) ≡ false) [
-      | None ↦ λ _. or_first (row_has link (get below q)) (may_have sets link q) h
-      | Some o ↦ λ k. k
-    ] (covers link q (or_second (row_has link (get below q)) (may_have sets link q) h) (or_first (row_has link (get below q)) (may_have sets link q) h))
+-- who is no candidate in a draft hasn't the link there
+pub draft-covers : (below : FinMap object_cmp ObjRow) (changes : FinMap object_cmp (Option ObjRow)) (own : OwnLinks) → EitherCovers (get below) (of_changes changes) own
+    → (link : Link) (q : ObjNo) → is_candidate_of_either (get below) changes own link q ≡ false → row_has link (get (overlaid below changes) q) ≡ false
+draft-covers below changes own covers link q h =
+    ap (row_has link) (get-overlaid object_total below changes q) ∙ by (is_to_nothing link) (is_that own.first q) (get changes q) (covers link q) apart
+  where
+    lacks : row_has link (get below q) ≡ false
+    lacks = or_first (row_has link (get below q)) (is_that own.first q || is_candidate own.others changes link q) h
+
+    apart : (is_that own.first q || is_candidate own.others changes link q) ≡ false
+    apart = or_second (row_has link (get below q)) (is_that own.first q || is_candidate own.others changes link q) h
+
+    by : (b first : Bool) (o : Option (Option ObjRow))
+        → ((first || (b || is_kept own.others link q)) ≡ false → row_has link (get below q) ≡ false → row_has link (unwrap_or o None) ≡ false)
+        → (first || cond b (is_some o) (is_kept own.others link q)) ≡ false → row_has link (unwrap_or o (get below q)) ≡ false
+    by b true o k e = absurd (true≢false e)
+    by b false None k e = lacks
+    by true false (Some o) k e = absurd (true≢false e)
+    by false false (Some o) k e = k e lacks
 
 module _ (below : ObjNo → Option ObjRow) where
   -- more may be
-  pub either-more : (above : ObjNo → Option ObjRow) (old new : LinkSets) → EitherCovers below above old → ((l : Link) (q : ObjNo) → may_have new l q ≡ false → may_have old l q ≡ false) → EitherCovers below above new
+  pub either-more : (above : ObjNo → Option ObjRow) (old new : OwnLinks) → EitherCovers below above old → ((l : Link) (q : ObjNo) → may_own new l q ≡ false → may_own old l q ≡ false) → EitherCovers below above new
   either-more above old new covers kept l q e = covers l q (kept l q e)
 
   -- an object is changed
-  pub either-change : (changes new : FinMap object_cmp (Option ObjRow)) (sets : LinkSets) (key : ObjNo) (o : Option ObjRow) → EitherCovers below (of_changes changes) sets
-      → ((l : Link) → may_have sets l key ≡ false → row_has l (below key) ≡ false → row_has l o ≡ false)
-      → new ≡ insert changes key o → EitherCovers below (of_changes new) sets
-  either-change changes new sets key o covers there is l q e f =
+  pub either-change : (changes new : FinMap object_cmp (Option ObjRow)) (own : OwnLinks) (key : ObjNo) (o : Option ObjRow) → EitherCovers below (of_changes changes) own
+      → ((l : Link) → may_own own l key ≡ false → row_has l (below key) ≡ false → row_has l o ≡ false)
+      → new ≡ insert changes key o → EitherCovers below (of_changes new) own
+  either-change changes new own key o covers there is l q e f =
       ap (λ m. row_has l (of_changes m q)) is ∙ ap (λ p. row_has l (unwrap_or p None)) (get-insert object_total changes key o q) ∙ by (object_cmp q key) refl
     where
       by : (c : Ordering) → object_cmp q key ≡ c → row_has l (unwrap_or (cond (is_eq c) (Some o) (get changes q)) None) ≡ false
       by Equal c =
           let same = object_exact q key c in
-          there l (subst (λ z. may_have sets l z ≡ false) same e) (subst (λ z. row_has l (below z) ≡ false) same f)
+          there l (subst (λ z. may_own own l z ≡ false) same e) (subst (λ z. row_has l (below z) ≡ false) same f)
       by Less c = covers l q e f
       by Greater c = covers l q e f
 

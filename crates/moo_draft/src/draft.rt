@@ -6,12 +6,13 @@ ghost use Rattle.moo_rows.specs.Ordered.{IsNext};
 ghost use Rattle.moo_draft.specs.Changes.{AreChanges};
 
 use crate::changes::{Changes, changed_rows};
-use crate::either::{add_over, next_defined_of_either, next_linked_of_either};
+use crate::either::{next_defined_of_either, next_linked_of_either};
 use crate::overlay;
 use crate::overlay::Base;
+use crate::own::OwnLinks;
 use moo_rows::{
-    Head, Link, Links, ObjRow, PropId, PropRow, Rows, SlotRow, VerbId, VerbRow, Writes, ordered,
-    row_defined, row_has, ties_of,
+    Head, Link, ObjRow, PropId, PropRow, Rows, SlotRow, VerbId, VerbRow, Writes, ordered,
+    row_defined, row_has,
 };
 use moo_value::ObjNo;
 use std::alloc::{AllocError, Global};
@@ -30,7 +31,7 @@ pub struct Draft<'a, R: Rows> {
     props: BTreeMap<PropId, Option<PropRow>>,
     slots: BTreeMap<(ObjNo, PropId), Option<SlotRow>>,
     verbs: BTreeMap<(ObjNo, VerbId), Option<VerbRow>>,
-    links: Links,
+    links: OwnLinks,
     definers: BTreeMap<(ObjNo, PropId), ()>,
     writes: Writes,
 }
@@ -80,7 +81,7 @@ impl<'a, R: Rows> Draft<'a, R> {
             props: BTreeMap::new(alloc),
             slots: BTreeMap::new(alloc),
             verbs: BTreeMap::new(alloc),
-            links: Links::new(alloc),
+            links: OwnLinks::new(alloc),
             definers: BTreeMap::new(alloc),
             writes: Writes::new(),
         }
@@ -183,7 +184,13 @@ impl<'a, R: Rows> Rows for Draft<'a, R> {
     fn next_linked(&self, link: Link, after: ObjNo) -> Option<ObjNo> {
         let mut last = after;
         loop {
-            let key = match next_linked_of_either(self.base, &self.links, link, last) {
+            let key = match next_linked_of_either(
+                self.base,
+                &self.objects,
+                &self.links,
+                link,
+                last,
+            ) {
                 None => return None,
                 Some(key) => key,
             };
@@ -195,9 +202,7 @@ impl<'a, R: Rows> Rows for Draft<'a, R> {
     }
 
     fn put_object(&mut self, key: ObjNo, row: ObjRow) -> Result<(), AllocError> {
-        let ties = row.ties();
-        let below = ties_of(self.base.object(key));
-        add_over(&mut self.links, key, below, ties)?;
+        self.links.add(self.base, key, row.ties())?;
         ordered::put(&mut self.objects, key, Some(row))?;
         self.writes.rise();
         Ok(())

@@ -6,6 +6,7 @@ mod draft;
 mod either;
 pub mod laws;
 mod overlay;
+mod own;
 
 pub use changes::{ChangeList, Changes, apply_changes};
 pub use draft::Draft;

@@ -7,9 +7,11 @@ use Rattle.sqlite.specs.State.{State as Database, HasCleanDisk, Survives, Opens,
 use Rattle.sqlite.specs.Start.{FindsIn}
 use Rattle.sqlite.specs.declared.error.Error.{Error}
 use Rattle.moo_world.specs.Judge.{State}
-use Rattle.moo_tables.specs.Tables.{moo_schema, no_schema}
+use Rattle.moo_tables.specs.declared.version.Version.{Version}
+use Rattle.moo_tables.specs.declared.version.Version.TheVariants.{First, Second}
+use Rattle.moo_tables.specs.Tables.{schema_of, no_schema}
 use Rattle.moo_tables.proofs.ReopenLemmas.{opened}
-use Rattle.moo_store.specs.States.{Keeps, LeavesState}
+use Rattle.moo_store.specs.States.{ShowsState, LeavesState}
 use Rattle.moo_store.specs.Opening.{IsOfStore}
 use Rattle.moo_store.specs.declared.fault.StoreFault.{StoreFault}
 use Rattle.moo_store.specs.declared.fault.StoreFault.TheVariants.{Store, OutOfMemory}
@@ -22,21 +24,26 @@ none_below n m le e = omega (arith, le, e)
 pub was_clean : (old new : Database) (Commits : _) → Survives old new Commits → HasCleanDisk new → HasCleanDisk old
 was_clean old new Commits it clean = none_below _ _ it.clean clean
 
-pub keeps_held : (image : Image) (store : Database) (s : State) → Opens store → IsLive store → FindsIn image store → HoldsState image s → Keeps store s
-keeps_held image store s opens live found it =
+pub shows_held : (image : Image) (store : Database) (s : State) → Opens store → IsLive store → FindsIn image store → HoldsState image s → ShowsState store s
+shows_held image store s opens live found it =
     let shows : LeavesState store.now.trees s = subst (λ trees. LeavesState trees s) (sym (ap (λ db. db.trees) opens.clean ∙ found.holds it.trees it.holds)) it.shows in
     record {
+      tables = shows.leaves.tables;
+      rests = opened store shows.leaves.tables opens (live opens.is_open).0 shows.leaves.leaves;
       rows = shows.rows;
+      shows = shows.leaves.shows;
       good = shows.good;
       state = shows.state;
-      keeps = record { tables = shows.leaves.tables; rests = opened store shows.leaves.tables opens (live opens.is_open).0 shows.leaves.leaves; shows = shows.leaves.shows };
     }
 
--- what keeps a state has tables
-pub has_tables : (store : Database) (s : State) → Keeps store s → store.now.schema ≢ no_schema
-has_tables store s it none =
-    let odd : suc 4 ≡ zero = ap (λ (schema : Schema). length schema.tables) (sym it.keeps.rests.holds.schema ∙ none) in
-    absurd cc
+-- each version has tables
+some_tables : (version : Version) → schema_of version ≢ no_schema
+some_tables First none = let odd : suc 4 ≡ zero = ap (λ (schema : Schema). length schema.tables) none in absurd cc
+some_tables Second none = let odd : suc 7 ≡ zero = ap (λ (schema : Schema). length schema.tables) none in absurd cc
+
+-- what shows a state has tables
+pub has_tables : (store : Database) (s : State) → ShowsState store s → store.now.schema ≢ no_schema
+has_tables store s it none = some_tables it.tables.version (sym it.rests.holds.schema ∙ none)
 
 -- what a new world can't be made for says nothing of tables
 pub each_fault : {W C : Type 0} (Kept : StoreFault × C → Type 0) (r : Result W (StoreFault × C)) → IfErr r (λ e. ((e.0 ≡ OutOfMemory) × Kept e) ⊎ ((error : Error) × (e.0 ≡ Store error))) → IfErr r (λ e. IsOfStore e.0)

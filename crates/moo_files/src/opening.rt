@@ -7,9 +7,9 @@ ghost use Rattle.sqlite.specs.WalFiles.{image_at};
 ghost use Rattle.moo_world.specs.Rows.{IsGood};
 ghost use Rattle.moo_world.specs.Judge.{State, state_of};
 ghost use Rattle.moo_tables.specs.Inside.{RestsAt};
-ghost use Rattle.moo_store.specs.States.{Keeps};
+ghost use Rattle.moo_store.specs.States.{ShowsState};
 ghost use Rattle.moo_store.specs.Opening.{IsOfStore, Adopts};
-ghost use Rattle.moo_store.specs.World.{store_of, StandsFor};
+ghost use Rattle.moo_store.specs.World.{store_of, StandsFor, Left};
 ghost use Rattle.moo_files.specs.Contents.{HoldsState};
 
 use moo_store::{StoreFault, World, adopt};
@@ -35,16 +35,19 @@ pub fn adopt_files<D: Disk + Drop>(
     conn: Connection<FileStore<D>>,
 ) -> Result<World<FileStore<D>>, (StoreFault, Connection<FileStore<D>>)>
     requires outside { conn.in_transaction ≡ false }
-    // Tables that show a world and a number give a World that stands for these, unless the store fails or memory is refused.
-    ensures stands { (s : State) → Keeps (file_state conn) s → IfOk result (λ world. HasCleanDisk (store_of over_files world) → StandsFor over_files true world s) }
-    ensures whole { (s : State) → Keeps (file_state conn) s → IfErr result (λ e. HasCleanDisk (file_state e.1) → IsOfStore e.0) }
+    // Tables of either version that show a world and a number give a World that stands for these, unless the store fails or memory is refused.
+    ensures stands { (s : State) → ShowsState (file_state conn) s → IfOk result (λ world. HasCleanDisk (store_of over_files world) → StandsFor over_files true world s) }
+    ensures whole { (s : State) → ShowsState (file_state conn) s → IfErr result (λ e. HasCleanDisk (file_state e.1) → IsOfStore e.0) }
     // Whatever is opened, its rows are good, and what is said of rows alone is said of them.
     ensures rows { IfOk result (λ world. IsGood world.rows.maps × StandsFor over_files false world (state_of world.rows.maps)) }
     ensures works { IfOk result (λ world. world.failed ≡ false) }
-    // Nothing is committed: a crash leaves what it could leave before, and a refusal the database as it was.
+    // A crash leaves what it could leave before, or of tables of the first version those that they were taken over to; and a refusal leaves
+    // the database as it was.
     ensures crash { IfOk result (λ world. Survives (file_state conn) (store_of over_files world) (Adopts (file_state conn))) }
     ensures crash_refused { IfErr result (λ e. Survives (file_state conn) (file_state e.1) (Adopts (file_state conn))) }
     ensures undone { IfErr result (λ e. (e.1 ≡ conn) ⊎ (HasCleanDisk (file_state e.1) → IsTrue (file_state e.1).is_open → RestsAt (file_state e.1) (file_state conn).now)) }
+    ensures left { (s : State) → ShowsState (file_state conn) s → Left (file_state conn) s → IfOk result (λ world. HasCleanDisk (store_of over_files world) → Left (store_of over_files world) s) }
+    ensures left_refused { (s : State) → ShowsState (file_state conn) s → Left (file_state conn) s → IfErr result (λ e. HasCleanDisk (file_state e.1) → Left (file_state e.1) s) }
 {
     adopt(alloc, conn)
 }
@@ -77,7 +80,8 @@ pub fn open_from<T: Start>(
     }
 }
 
-/// Opens the world that a file holds. It writes nothing, and never makes the file.
+/// Opens the world that a file holds. It never makes the file. One of the first version is taken over to the second, in one
+/// transaction, once the whole world was read and found sound; nothing else is written.
 ///
 /// Store with `ErrorCode::CannotOpen`: there is no file of this name, it is none, or it can't be opened. Store with
 /// `ErrorCode::DatabaseBusy`: another handle has it open. Store with `ErrorCode::NotADatabase`: it is no database, or has other

@@ -9,7 +9,7 @@ use Rattle.std.proofs.lemmas.Str.Ascii.{IsAscii-nil}
 use Rattle.std.proofs.lemmas.Fmt.{IsAscii-decimal}
 use Rattle.moo_value.specs.Text.{is_allowed, IsText}
 use Rattle.moo_value.specs.Values.{Values, no_values, int, object, string, error, list}
-use Rattle.moo_value.specs.Literal.{name, escape, print_string, print_comma, print_items, print, HoldIn, HoldInside, InRange}
+use Rattle.moo_value.specs.Literal.{name, escape, print_string, print_comma, print_items, print, HoldIn, HoldInside, NumberKind, an_integer, an_object, InRange}
 use Rattle.moo_value.specs.declared.code.Code.{Code}
 use Rattle.moo_value.specs.declared.code.Code.TheVariants.{None, «Type», Division, Permission, PropertyNotFound, VerbNotFound, VariableNotFound, InvalidIndirection, RecursiveMove, MaxRecursion, Range, Arguments, NotAccepted, InvalidArgument, Quota, Float}
 use Rattle.moo_value.specs.declared.value.Value.{Value}
@@ -27,15 +27,17 @@ tested : (bs : List ℕ) → list_all (λ c. nat_lt c 128) bs ≡ true → IsAsc
 tested [] all = IsAscii-nil
 tested (c ∷ cs) all = let h = both (nat_lt c 128) (list_all (λ c. nat_lt c 128) cs) all in behind c cs (grind (arith, h.0)) (tested cs h.1)
 
-fits : (n : ℕ) → InRange (pos n) → n < 2 ^ 64
-fits n h = omega (arith, h)
+fits : (kind : NumberKind) (n : ℕ) → InRange kind (pos n) → n < 2 ^ 64
+fits an_integer n h = omega (arith, h)
+fits an_object n h = omega (arith, h)
 
-fits_negative : (n : ℕ) → InRange (negsuc n) → suc n < 2 ^ 64
-fits_negative n h = omega (arith, h)
+fits_negative : (kind : NumberKind) (n : ℕ) → InRange kind (negsuc n) → suc n < 2 ^ 64
+fits_negative an_integer n h = omega (arith, h)
+fits_negative an_object n h = omega (arith, h)
 
-number_ascii : (n : ℤ) → InRange n → IsAscii (signed_decimal n)
-number_ascii (pos n) h = IsAscii-decimal n (fits n h)
-number_ascii (negsuc n) h = behind 45 _ (omega arith) (IsAscii-decimal (suc n) (fits_negative n h))
+number_ascii : (kind : NumberKind) (n : ℤ) → InRange kind n → IsAscii (signed_decimal n)
+number_ascii kind (pos n) h = IsAscii-decimal n (fits kind n h)
+number_ascii kind (negsuc n) h = behind 45 _ (omega arith) (IsAscii-decimal (suc n) (fits_negative kind n h))
 
 allowed_below : (c : ℕ) → is_allowed c ≡ true → c < 128
 allowed_below c h = grind (arith, h)
@@ -85,15 +87,15 @@ comma_ascii false = tested (44 ∷ 32 ∷ []) refl
 
 items_ascii : (first : Bool) (vs : Values) → HoldInside InRange IsText vs → IsAscii (print_items first vs)
 items_ascii first no_values h = tested (125 ∷ []) refl
-items_ascii first (int n vs) h = IsAscii-append _ _ (comma_ascii first) (IsAscii-append _ _ (number_ascii n h.0) (items_ascii false vs h.1))
-items_ascii first (object n vs) h = IsAscii-append _ _ (comma_ascii first) (IsAscii-append (35 ∷ signed_decimal n) _ (behind 35 _ (omega arith) (number_ascii n h.0)) (items_ascii false vs h.1))
+items_ascii first (int n vs) h = IsAscii-append _ _ (comma_ascii first) (IsAscii-append _ _ (number_ascii an_integer n h.0) (items_ascii false vs h.1))
+items_ascii first (object n vs) h = IsAscii-append _ _ (comma_ascii first) (IsAscii-append (35 ∷ signed_decimal n) _ (behind 35 _ (omega arith) (number_ascii an_object n h.0)) (items_ascii false vs h.1))
 items_ascii first (string s vs) h = IsAscii-append _ _ (comma_ascii first) (IsAscii-append (print_string s) _ (string_ascii s h.0) (items_ascii false vs h.1))
 items_ascii first (error e vs) h = IsAscii-append _ _ (comma_ascii first) (IsAscii-append (name e) _ (name_ascii e) (items_ascii false vs h))
 items_ascii first (list us vs) h = IsAscii-append _ _ (comma_ascii first) (IsAscii-append (123 ∷ print_items true us) _ (behind 123 _ (omega arith) (items_ascii true us h.0)) (items_ascii false vs h.1))
 
 value_ascii : (v : Value) → HoldIn InRange IsText v → IsAscii (print v)
-value_ascii (Int n) h = number_ascii n h
-value_ascii (Obj o) h = behind 35 _ (omega arith) (number_ascii o.0 h)
+value_ascii (Int n) h = number_ascii an_integer n h
+value_ascii (Obj o) h = behind 35 _ (omega arith) (number_ascii an_object o.0 h)
 value_ascii (Str s) h = string_ascii s h
 value_ascii (Error e) h = name_ascii e
 value_ascii (a_list vs) h = behind 123 _ (omega arith) (items_ascii true vs h)

@@ -12,7 +12,10 @@ pub(crate) fn read_limits(value: &Value)
     ensures { HoldIn InRange IsText value.now }
 {
     match value {
-        Value::Int(number) | Value::Obj(ObjNo(number)) => {
+        Value::Int(number) => {
+            let _number = *number;
+        }
+        Value::Obj(ObjNo(number)) => {
             let _number = *number;
         }
         Value::Str(text) => {

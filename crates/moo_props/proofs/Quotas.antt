@@ -1,5 +1,5 @@
 -- What an object reads as its quota.
-use Rattle.std.proofs.Common.{◌≡◌, true, false, [], FitsSigned, w32, pos, negsuc, arith, Option, Some, None, refl, sym, ap, ◌∙◌, ℤ}
+use Rattle.std.proofs.Common.{◌≡◌, true, false, [], FitsSigned, w64, pos, negsuc, arith, Option, Some, None, refl, sym, ap, ◌∙◌, ℤ}
 use Rattle.std.specs.Prelude.{is_some, unwrap_or, ◌+ℤ◌, int_lt}
 use Rattle.std.specs.Option.{option_map}
 use Rattle.std.specs.FinMap.{get}
@@ -57,7 +57,7 @@ moved w o n had by e h =
     ap (λ k. with_record w o (set_slot k (Set (Int (had +ℤ by))))) e
     ∙ sym (ap (λ q. elim q [ None ↦ w | Some k ↦ with_record w o (set_slot quota_name (Set (Int (k +ℤ by)))) ]) h)
 
-fits_less : (k : ℤ) → FitsSigned w32 k → int_lt (pos 0) k ≡ true → FitsSigned w32 (k +ℤ negsuc 0)
+fits_less : (k : ℤ) → FitsSigned w64 k → int_lt (pos 0) k ≡ true → FitsSigned w64 (k +ℤ negsuc 0)
 fits_less k f h = grind (arith, ints)
 
 -- where one is left there is room for one less

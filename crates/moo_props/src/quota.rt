@@ -18,7 +18,7 @@ use moo_value::{ObjNo, Value};
 use std::alloc::AllocError;
 
 /// The integer that o reads as its quota, with its property.
-fn quota_here<R: Rows>(rows: &R, o: ObjNo) -> Option<(PropId, i32)>
+fn quota_here<R: Rows>(rows: &R, o: ObjNo) -> Option<(PropId, i64)>
     requires { IsGood (R.held rows.now).maps }
     ensures quota { option_map (λ p. p.1) result ≡ quota_of (world_of (R.held rows.now).maps) o }
     ensures has { IfSome result (λ p. is_some (get (R.held rows.now).maps.slots (o, p.0)) ≡ true) }
@@ -36,7 +36,7 @@ fn quota_here<R: Rows>(rows: &R, o: ObjNo) -> Option<(PropId, i32)>
 
 /// The quota of o: the integer that it reads for `ownership_quota`. None where o has no such property, where its value
 /// is no integer, or where o is no object.
-pub fn quota_of<R: Rows>(rows: &R, o: ObjNo) -> Option<i32>
+pub fn quota_of<R: Rows>(rows: &R, o: ObjNo) -> Option<i64>
     requires { IsGood (R.held rows.now).maps }
     ensures { result ≡ quota_of (world_of (R.held rows.now).maps) o }
 {
@@ -47,7 +47,7 @@ pub fn quota_of<R: Rows>(rows: &R, o: ObjNo) -> Option<i32>
 }
 
 /// A slot set to a quota and so many more.
-fn set_to(quota: i32, by: i32) -> SlotState
+fn set_to(quota: i64, by: i64) -> SlotState
     requires { HasRoom (Some quota) by }
     ensures { result ≡ SlotState.Set (Value.Int (quota +ℤ by)) }
 {
@@ -56,7 +56,7 @@ fn set_to(quota: i32, by: i32) -> SlotState
 
 /// Adds to the quota of o, where it has one. What is stored is set on o itself; owner and bits of its slot stay. The only error
 /// is want of memory.
-pub fn move_quota<R: Rows>(rows: &mut R, o: ObjNo, by: i32) -> Result<(), AllocError>
+pub fn move_quota<R: Rows>(rows: &mut R, o: ObjNo, by: i64) -> Result<(), AllocError>
     requires good { IsGood (R.held rows.old).maps }
     requires room { HasRoom (quota_of (world_of (R.held rows.old).maps) o) by }
     ensures world { OnOk result (world_of (R.held rows.new).maps ≡ quota_moved (world_of (R.held rows.old).maps) o by) }
@@ -90,7 +90,7 @@ pub fn return_quota<R: Rows>(rows: &mut R, o: ObjNo) -> Result<(), AllocError>
     ensures rest { OnOk result (IsSameButSlots (R.held rows.old).maps (R.held rows.new).maps) }
 {
     match quota_of(rows, o) {
-        Some(quota) if quota < i32::MAX => move_quota(rows, o, 1),
+        Some(quota) if quota < i64::MAX => move_quota(rows, o, 1),
         _ => Ok(()),
     }
 }

@@ -1,5 +1,5 @@
 -- Which objects may have a link, after more are added and some are forgotten.
-use Rattle.std.proofs.Common.{◌≡◌, ◌≢◌, Bool, true, false, cond, [], ◌∷◌, Option, None, Some, Ordering, Less, Equal, Greater, is_some, refl, sym, ap, ◌∙◌}
+use Rattle.std.proofs.Common.{◌≡◌, ◌≢◌, Bool, true, false, cond, ◌||◌, [], ◌∷◌, Option, None, Some, Ordering, Less, Equal, Greater, is_some, refl, sym, ap, ◌∙◌}
 use Rattle.std.specs.Cmp.{tied_itself}
 use Rattle.std.specs.Ordering.{eq_by_cmp, is_eq, int_eq}
 use Rattle.std.specs.FinMap.{FinMap, get, insert, remove}
@@ -17,33 +17,33 @@ use Rattle.moo_rows.specs.declared.row.PropId.{PropId}
 use Rattle.moo_rows.specs.declared.row.PropRow.{PropRow}
 use Rattle.moo_rows.specs.Exact.{object_exact, prop_exact, slot_exact, tie_exact}
 use Rattle.moo_rows.specs.Maps.{Maps, object_cmp, prop_cmp, slot_cmp}
-use Rattle.moo_rows.specs.Links.{LinkSets, tie_cmp, may_have, has_link, ties_of, ties_have, row_has, row_defined, is_linked, is_definer, linked_left, defined_left, IsFirst, AreCovered, AreOfDefiners}
+use Rattle.moo_rows.specs.Links.{LinkSets, tie_cmp, is_kept, is_to_nothing, is_candidate, may_have, has_link, ties_of, ties_have, row_has, row_defined, is_linked, is_definer, linked_left, defined_left, IsFirst, AreCovered, AreOfDefiners}
 use Rattle.moo_rows.proofs.Orders.{object_total, prop_total, slot_total, tie_total}
 use Rattle.moo_rows.proofs.Firsts.{lacked-insert, lacked-remove, has-insert, first-end, first-step}
 
 module _ (s : LinkSets) where
-  pub none-may : ((p : ObjNo × ObjNo) → get s.parents p ≡ None) → ((p : ObjNo × ObjNo) → get s.places p ≡ None) → ((p : ObjNo) → get s.players p ≡ None) → (l : Link) (q : ObjNo) → may_have s l q ≡ false
+  pub none-may : ((p : ObjNo × ObjNo) → get s.parents p ≡ None) → ((p : ObjNo × ObjNo) → get s.places p ≡ None) → ((p : ObjNo) → get s.players p ≡ None) → (l : Link) (q : ObjNo) → is_kept s l q ≡ false
   none-may a b c (ChildOf x) q = ap is_some (a (x, q))
   none-may a b c (Within x) q = ap is_some (b (x, q))
   none-may a b c Player q = ap is_some (c q)
 
-  pub more-parents : (new : FinMap tie_cmp ⊤) → ((p : ObjNo × ObjNo) → is_some (get new p) ≡ false → is_some (get s.parents p) ≡ false) → (l : Link) (q : ObjNo) → may_have (record s { parents = new }) l q ≡ false → may_have s l q ≡ false
+  pub more-parents : (new : FinMap tie_cmp ⊤) → ((p : ObjNo × ObjNo) → is_some (get new p) ≡ false → is_some (get s.parents p) ≡ false) → (l : Link) (q : ObjNo) → is_kept (record s { parents = new }) l q ≡ false → is_kept s l q ≡ false
   more-parents new h (ChildOf x) q e = h (x, q) e
   more-parents new h (Within x) q e = e
   more-parents new h Player q e = e
 
-  pub more-places : (new : FinMap tie_cmp ⊤) → ((p : ObjNo × ObjNo) → is_some (get new p) ≡ false → is_some (get s.places p) ≡ false) → (l : Link) (q : ObjNo) → may_have (record s { places = new }) l q ≡ false → may_have s l q ≡ false
+  pub more-places : (new : FinMap tie_cmp ⊤) → ((p : ObjNo × ObjNo) → is_some (get new p) ≡ false → is_some (get s.places p) ≡ false) → (l : Link) (q : ObjNo) → is_kept (record s { places = new }) l q ≡ false → is_kept s l q ≡ false
   more-places new h (ChildOf x) q e = e
   more-places new h (Within x) q e = h (x, q) e
   more-places new h Player q e = e
 
-  pub more-players : (new : FinMap object_cmp ⊤) → ((p : ObjNo) → is_some (get new p) ≡ false → is_some (get s.players p) ≡ false) → (l : Link) (q : ObjNo) → may_have (record s { players = new }) l q ≡ false → may_have s l q ≡ false
+  pub more-players : (new : FinMap object_cmp ⊤) → ((p : ObjNo) → is_some (get new p) ≡ false → is_some (get s.players p) ≡ false) → (l : Link) (q : ObjNo) → is_kept (record s { players = new }) l q ≡ false → is_kept s l q ≡ false
   more-players new h (ChildOf x) q e = e
   more-players new h (Within x) q e = e
   more-players new h Player q e = h q e
 
   module _ (key : ObjNo) (stays : Option Ties) where
-    pub less-parents : (x : ObjNo) → false ≡ ties_have (ChildOf x) stays → (new : FinMap tie_cmp ⊤) → new ≡ remove s.parents (x, key) → (l : Link) (q : ObjNo) → (q ≡ key → ties_have l stays ≡ true) → may_have (record s { parents = new }) l q ≡ false → may_have s l q ≡ false
+    pub less-parents : (x : ObjNo) → false ≡ ties_have (ChildOf x) stays → (new : FinMap tie_cmp ⊤) → new ≡ remove s.parents (x, key) → (l : Link) (q : ObjNo) → (q ≡ key → ties_have l stays ≡ true) → is_kept (record s { parents = new }) l q ≡ false → is_kept s l q ≡ false
     less-parents x lacks new is (ChildOf y) q has e =
         lacked-remove tie_total tie_exact s.parents (x, key) (y, q)
         (λ same. true≢false (sym (has (ap (λ p. p.1) same)) ∙ ap (λ (p : ObjNo × ObjNo). ties_have (ChildOf p.0) stays) same ∙ sym lacks))
@@ -51,7 +51,7 @@ module _ (s : LinkSets) where
     less-parents x lacks new is (Within y) q has e = e
     less-parents x lacks new is Player q has e = e
 
-    pub less-places : (x : ObjNo) → false ≡ ties_have (Within x) stays → (new : FinMap tie_cmp ⊤) → new ≡ remove s.places (x, key) → (l : Link) (q : ObjNo) → (q ≡ key → ties_have l stays ≡ true) → may_have (record s { places = new }) l q ≡ false → may_have s l q ≡ false
+    pub less-places : (x : ObjNo) → false ≡ ties_have (Within x) stays → (new : FinMap tie_cmp ⊤) → new ≡ remove s.places (x, key) → (l : Link) (q : ObjNo) → (q ≡ key → ties_have l stays ≡ true) → is_kept (record s { places = new }) l q ≡ false → is_kept s l q ≡ false
     less-places x lacks new is (ChildOf y) q has e = e
     less-places x lacks new is (Within y) q has e =
         lacked-remove tie_total tie_exact s.places (x, key) (y, q)
@@ -59,11 +59,37 @@ module _ (s : LinkSets) where
         (ap (λ m. is_some (get m (y, q))) (sym is) ∙ e)
     less-places x lacks new is Player q has e = e
 
-    pub less-players : false ≡ ties_have Player stays → (new : FinMap object_cmp ⊤) → new ≡ remove s.players key → (l : Link) (q : ObjNo) → (q ≡ key → ties_have l stays ≡ true) → may_have (record s { players = new }) l q ≡ false → may_have s l q ≡ false
+    pub less-players : false ≡ ties_have Player stays → (new : FinMap object_cmp ⊤) → new ≡ remove s.players key → (l : Link) (q : ObjNo) → (q ≡ key → ties_have l stays ≡ true) → is_kept (record s { players = new }) l q ≡ false → is_kept s l q ≡ false
     less-players lacks new is (ChildOf y) q has e = e
     less-players lacks new is (Within y) q has e = e
     less-players lacks new is Player q has e =
         lacked-remove object_total object_exact s.players key q (λ same. true≢false (sym (has same) ∙ sym lacks)) (ap (λ m. is_some (get m q)) (sym is) ∙ e)
+
+-- who is kept for no link but those that it was kept for may have no others
+pub may-as-kept : (old new : LinkSets) (l : Link) (q : ObjNo) → (is_kept new l q ≡ false → is_kept old l q ≡ false) → may_have new l q ≡ false → may_have old l q ≡ false
+may-as-kept old new l q kept e = by (is_to_nothing l) e
+  where
+    by : (b : Bool) → (b || is_kept new l q) ≡ false → (b || is_kept old l q) ≡ false
+    by true h = h
+    by false h = kept h
+
+-- who is kept for a link may have it
+pub kept-may : (sets : LinkSets) (l : Link) (q : ObjNo) → is_kept sets l q ≡ true → may_have sets l q ≡ true
+kept-may sets l q kept = by (is_to_nothing l)
+  where
+    by : (b : Bool) → (b || is_kept sets l q) ≡ true
+    by true = refl
+    by false = kept
+
+-- who isn't to be looked at hasn't the link
+pub candidate-covers : (objects : FinMap object_cmp ObjRow) (sets : LinkSets) → AreCovered (get objects) sets
+    → (l : Link) (q : ObjNo) → is_candidate sets objects l q ≡ false → row_has l (get objects q) ≡ false
+candidate-covers objects sets covered l q e = by (is_to_nothing l) (get objects q) (covered l q) e
+  where
+    by : (b : Bool) (o : Option ObjRow) → ((b || is_kept sets l q) ≡ false → row_has l o ≡ false) → cond b (is_some o) (is_kept sets l q) ≡ false → row_has l o ≡ false
+    by true None h e = refl
+    by true (Some r) h e = absurd (true≢false e)
+    by false o h e = h e
 
 -- ---- links of rows
 

@@ -159,7 +159,7 @@ impl Rows for Flat {
     fn next_linked(&self, link: Link, after: ObjNo) -> Option<ObjNo> {
         let mut last = after;
         loop {
-            let key = match self.links.next(link, last) {
+            let key = match self.links.next(&self.objects, link, last) {
                 None => return None,
                 Some(key) => key,
             };
@@ -172,15 +172,17 @@ impl Rows for Flat {
 
     fn put_object(&mut self, key: ObjNo, row: ObjRow) -> Result<(), AllocError> {
         let ties = row.ties();
-        let old = ties_of(ordered::get(&self.objects, key));
-        if are_same(old, ties) {
-            ordered::put(&mut self.objects, key, row)?;
+        let old = ordered::replace(&mut self.objects, key, row)?;
+        let was = ties_of(old.as_ref());
+        if are_same(was, ties) {
             self.writes.rise();
             return Ok(());
         }
-        self.links.add(key, ties)?;
-        ordered::put(&mut self.objects, key, row)?;
-        self.links.forget(key, old, Some(ties));
+        if let Err(error) = self.links.add(key, ties) {
+            ordered::put_back(&mut self.objects, key, old);
+            return Err(error);
+        }
+        self.links.forget(key, was, Some(ties));
         self.writes.rise();
         Ok(())
     }

@@ -8,7 +8,7 @@ ghost use Rattle.moo_rows.specs.declared.row.PropId.{PropId};
 ghost use Rattle.moo_rows.specs.Exact.{tie_exact};
 ghost use Rattle.moo_rows.specs.Maps.{object_cmp, prop_cmp, slot_cmp};
 ghost use Rattle.moo_rows.specs.Ordered.{contents};
-ghost use Rattle.moo_rows.specs.Links.{IsFirst, tie_cmp, has_link, may_have, row_defined, row_has, ties_have, ties_of};
+ghost use Rattle.moo_rows.specs.Links.{IsFirst, tie_cmp, has_link, is_candidate, is_kept, may_have, row_defined, row_has, ties_have, ties_of};
 
 use crate::ordered::{self, Key};
 use crate::row::{Link, ObjRow, PropId, PropRow, Ties};
@@ -21,7 +21,8 @@ impl Key for (ObjNo, ObjNo) {
     ghost exact = { tie_exact };
 }
 
-/// Which objects may have a link. Those that have it are among them, whoever keeps this; others may be too.
+/// Which objects may have a link. Those that have it are among them, whoever keeps this; others may be too. A link to `#-1` each
+/// object may have: hardly anybody asks for those, and most objects have one, so that none is kept for it.
 #[derive(Drop)]
 pub struct Links {
     parents: BTreeMap<(ObjNo, ObjNo), ()>,
@@ -90,8 +91,8 @@ fn next_tied(pairs: &BTreeMap<(ObjNo, ObjNo), ()>, x: ObjNo, after: ObjNo) -> Op
     if of == x { Some(key) } else { None }
 }
 
-/// The next object of a set.
-fn next_of(objects: &BTreeMap<ObjNo, ()>, after: ObjNo) -> Option<ObjNo>
+/// The next object of a map.
+fn next_of<V>(objects: &BTreeMap<ObjNo, V>, after: ObjNo) -> Option<ObjNo>
     ensures { IsFirst object_cmp (λ q. is_some (map.get (contents object_cmp objects.now) q)) after result }
 {
     ordered::next(objects, Some(after))
@@ -145,9 +146,9 @@ fn have_link(ties: Option<Ties>, link: Link) -> bool
 }
 
 impl Links {
-    /// No object may have a link.
+    /// No object is kept for a link.
     pub fn new(alloc: Global) -> Links
-        ensures { (link : Link) (key : ObjNo) → may_have result link key ≡ false }
+        ensures { (link : Link) (key : ObjNo) → is_kept result link key ≡ false }
     {
         Links {
             parents: BTreeMap::new(alloc),
@@ -167,9 +168,9 @@ impl Links {
         })
     }
 
-    /// The next object that may have the link. Takes no memory.
-    pub fn next(&self, link: Link, after: ObjNo) -> Option<ObjNo>
-        ensures { IsFirst object_cmp (may_have self.now link) after result }
+    /// The next object that is kept for the link. Takes no memory.
+    fn next_kept(&self, link: Link, after: ObjNo) -> Option<ObjNo>
+        ensures { IsFirst object_cmp (is_kept self.now link) after result }
     {
         match link {
             Link::ChildOf(x) => next_tied(&self.parents, x, after),
@@ -178,11 +179,26 @@ impl Links {
         }
     }
 
+    /// The next object that is to be looked at for the link: of all that are held where it is to `#-1`, else of those that are kept
+    /// for it. Takes no memory.
+    pub fn next<V>(&self, held: &BTreeMap<ObjNo, V>, link: Link, after: ObjNo) -> Option<ObjNo>
+        ensures { IsFirst object_cmp (is_candidate self.now (contents object_cmp held.now) link) after result }
+    {
+        if link.is_to_nothing() {
+            next_of(held, after)
+        } else {
+            self.next_kept(link, after)
+        }
+    }
+
     /// From now on the object may have the link.
     fn add_one(&mut self, link: Link, key: ObjNo) -> Result<(), AllocError>
         ensures others { (l : Link) (q : ObjNo) → may_have self.new l q ≡ false → may_have self.old l q ≡ false }
         ensures there { OnOk result (may_have self.new link key ≡ true) }
     {
+        if link.is_to_nothing() {
+            return Ok(());
+        }
         match link {
             Link::ChildOf(x) => ordered::put(&mut self.parents, (x, key), ()),
             Link::Within(x) => ordered::put(&mut self.places, (x, key), ()),
@@ -207,6 +223,9 @@ impl Links {
     fn forget_one(&mut self, link: Link, key: ObjNo, stays: Option<Ties>)
         ensures { (l : Link) (q : ObjNo) → (q ≡ key → ties_have l stays ≡ true) → may_have self.new l q ≡ false → may_have self.old l q ≡ false }
     {
+        if link.is_to_nothing() {
+            return;
+        }
         if have_link(stays, link) {
             return;
         }

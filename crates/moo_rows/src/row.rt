@@ -4,11 +4,14 @@ ghost use Rattle.std.specs.Prelude.{◌≡◌, IfOk};
 ghost use Rattle.moo_value.specs.Text.{IsText};
 ghost use Rattle.moo_rows.specs.Equal.{list_eq, list_laws};
 ghost use Rattle.moo_rows.specs.PlainRow.{plain_row};
-ghost use Rattle.moo_rows.specs.Links.{ties_of, has_link};
+ghost use Rattle.moo_rows.specs.Links.{ties_of, has_link, is_to_nothing};
 
 use moo_value::{MooStr, ObjNo, Value};
 use std::alloc::{AllocError, Global};
 use std::marker::Model;
+
+/// The number that stands for no object.
+const NOTHING: ObjNo = ObjNo(-1);
 
 /// The number of a property: 1 and up, in the order of definition, and never used again.
 #[derive(Clone, Copy, Debug, PartialEq, Eq, PartialOrd, Ord)]
@@ -116,6 +119,19 @@ pub enum Link {
     ChildOf(ObjNo),
     Within(ObjNo),
     Player,
+}
+
+impl Link {
+    /// Whether it is to `#-1`: the link of an object that has no parent, or lies nowhere.
+    pub fn is_to_nothing(self) -> bool
+        ensures { result ≡ is_to_nothing self }
+    {
+        match self {
+            Link::ChildOf(x) => x == NOTHING,
+            Link::Within(x) => x == NOTHING,
+            Link::Player => false,
+        }
+    }
 }
 
 /// What ties an object to others.

@@ -1,19 +1,28 @@
 -- From what was read of a connection to the World over it.
 use Rattle.std.proofs.Common.{◌≡◌, ◌⊎◌, inl, inr, Result, Ok, Err, IfOk, IfErr, IsTrue, false, sym, ap, subst, subst₂, ◌∙◌, true}
+use Rattle.sqlite.specs.Tree.{Trees}
+use Rattle.sqlite.specs.Effect.{Database as Content}
+use Rattle.sqlite.proofs.StateLemmas.{survives_then}
 use Rattle.sqlite.specs.State.{State as Database, HasCleanDisk, IsUnchanged, IsRolledBack, Survives}
 use Rattle.sqlite.specs.Store.{Ghosts}
 use Rattle.sqlite.specs.Held.{Held, state}
 use Rattle.moo_rows.specs.Maps.{Maps}
 use Rattle.moo_world.specs.Rows.{IsGood}
 use Rattle.moo_world.specs.Judge.{State, state_of}
-use Rattle.moo_tables.specs.Tables.{Tables, moo_schema}
+use Rattle.moo_tables.specs.declared.version.Version.{Version}
+use Rattle.moo_tables.specs.declared.version.Version.TheVariants.{First}
+use Rattle.moo_tables.specs.Tables.{Tables, schema_of}
 use Rattle.moo_tables.specs.Inside.{Rests, RestsAt, HasTables, Reads, FailsToRead}
-use Rattle.moo_tables.proofs.InsideLemmas.{stays}
+use Rattle.moo_tables.proofs.InsideLemmas.{stays, clean_before}
 use Rattle.moo_tables.proofs.ReadLemmas.{rests_on}
 use Rattle.moo_cells.specs.Shows.{ShowsRows}
-use Rattle.moo_store.specs.States.{Keeps, KeepsRows}
+use Rattle.moo_store.specs.States.{Keeps, KeepsRows, ShowsState}
+use Rattle.moo_store.specs.Opening.{Says, IsOfStore, Adopts, TakesOver}
+use Rattle.moo_store.specs.declared.fault.StoreFault.{StoreFault}
+use Rattle.moo_store.specs.declared.fault.StoreFault.TheVariants.{Store, Damaged, NewerVersion, OutOfMemory, Closed}
 use Rattle.moo_store.specs.Kept.{World}
-use Rattle.moo_store.specs.World.{store_of, StandsFor}
+use Rattle.moo_store.specs.World.{store_of, StandsFor, Left}
+use Rattle.moo_store.proofs.Versions.{version_is}
 
 pub on_each_ok : {A E : Type 0} (P Q : A → Type 0) (r : Result A E) → ((a : A) → P a → Q a) → IfOk r P → IfOk r Q
 on_each_ok P Q (Ok a) f p = f a p
@@ -51,41 +60,118 @@ at_rest old new settled outside (inr back) opened =
     let was = sym (settled (back.was_open opened)) in
     record { outside = outside; now_is = both.0 ∙ was; committed_is = both.1 ∙ was }
 
+-- what is committed may be told of less exactly
+pub survives_more : (old new : Database) (P Q : Trees → Type 0) → (HasCleanDisk new → (trees : Trees) → P trees → Q trees) → Survives old new P → Survives old new Q
+survives_more old new P Q more s = record {
+  clean = s.clean;
+  shield = s.shield;
+  counts = s.counts;
+  limit = s.limit;
+  closes = s.closes;
+  crash = λ clean trees left. elim (s.crash clean trees left) [ inl was ↦ inl was | inr p ↦ inr (more clean trees p) ];
+}
+
+-- where nothing was done, nothing was committed
+pub unmoved : {S : Type 0} (g : Ghosts S) (old new : Held S) (P : Trees → Type 0) → new ≡ old → Survives (state g old) (state g new) P
+unmoved g old new P same = subst (λ h. Survives (state g old) (state g h) P) (sym same) (survives_more (state g old) (state g old) (λ _. ⊥) P (λ clean trees none. absurd none) (stays (state g old)).survives)
+
 module _ {S : Type 0} (g : Ghosts S) (old new : Held S) where
   abbrev Refused : Type 0
-  Refused = (new ≡ old) ⊎ (HasTables moo_schema (state g old) × FailsToRead moo_schema (state g old) (state g new))
+  Refused = (new ≡ old) ⊎ ((version : Version) × HasTables (schema_of version) (state g old) × FailsToRead (schema_of version) (state g old) (state g new))
 
   pub undone : Refused → (IsTrue (state g old).is_open → (state g old).now ≡ (state g old).committed) → (state g new).in_transaction ≡ false
       → (new ≡ old) ⊎ (HasCleanDisk (state g new) → IsTrue (state g new).is_open → RestsAt (state g new) (state g old).now)
   undone (inl same) settled outside = inl same
-  undone (inr (has, fails)) settled outside = inr (λ clean opened. at_rest (state g old) (state g new) settled outside (fails.kept clean has) opened)
+  undone (inr (version, has, fails)) settled outside = inr (λ clean opened. at_rest (state g old) (state g new) settled outside (fails.kept clean has) opened)
 
-  pub crash_refused : Refused → Survives (state g old) (state g new) (λ _. ⊥)
-  crash_refused (inl same) = subst (λ h. Survives (state g old) (state g h) (λ _. ⊥)) (sym same) (stays (state g old)).survives
-  crash_refused (inr (has, fails)) = fails.crash (λ _. has)
+  pub refused_survives : Refused → Survives (state g old) (state g new) (Adopts (state g old))
+  refused_survives (inl same) = unmoved g old new (Adopts (state g old)) same
+  refused_survives (inr (version, has, fails)) = survives_more (state g old) (state g new) (λ _. ⊥) (Adopts (state g old)) (λ clean trees none. absurd none) (fails.crash (λ _. has))
 
-  module _ (world : World S) (rows : Maps) (is : world.connection ≡ new) (same_rows : world.rows.maps ≡ rows) (works : world.failed ≡ false) (has : HasTables moo_schema (state g old)) (read : Reads moo_schema (state g old) (state g new)) where
-    pub crash : Survives (state g old) (store_of g world) (λ _. ⊥)
-    crash = subst (λ h. Survives (state g old) (state g h) (λ _. ⊥)) (sym is) (read.crash (λ _. has))
+-- ---- rows were read of tables of a version, and these brought to the present one
 
-    pub clean_at : HasCleanDisk (store_of g world) → HasCleanDisk (state g new)
-    clean_at clean = subst (λ h. HasCleanDisk (state g h)) is clean
+module _ {S : Type 0} (g : Ghosts S) (old mid : Held S) (version : Version) (rows : Maps) (has : HasTables (schema_of version) (state g old)) (read : Reads (schema_of version) (state g old) (state g mid)) where
+  pub has_still : HasCleanDisk (state g mid) → HasTables (schema_of version) (state g mid)
+  has_still clean = ap (λ (db : Content). db.schema) (read.same clean has).0.now_is ∙ has
 
-    pub stands : IsGood rows → (HasCleanDisk (state g new) → (tables : Tables) → Rests (state g old) tables → ShowsRows tables rows)
-        → (HasCleanDisk (state g new) → (tables : Tables) (m : Maps) → Rests (state g old) tables → ShowsRows tables m → IsGood m → rows ≡ m)
-        → (s : State) → Keeps (state g old) s → HasCleanDisk (store_of g world) → StandsFor g true world s
-    stands good shown one s it first =
-        let clean = clean_at first in
-        let k = it.keeps in
-        let same : rows ≡ it.rows = one clean k.tables it.rows k.rests k.shows it.good in
-        let rests = rests_on (state g old) (state g new) k.tables (read.same clean has) k.rests in
-        let is_state : state_of rows ≡ s = ap state_of same ∙ it.state in
-        let keeps : KeepsRows (state g new) rows = record { tables = k.tables; rests = rests; shows = shown clean k.tables k.rests } in
-        record {
-          works = works;
-          is_at = record {
-            tables = λ _ _. subst (λ h. Keeps (state g h) s) (sym is) (record { rows = rows; good = good; state = is_state; keeps = keeps });
-            rows = λ _. ap state_of same_rows ∙ is_state;
-            shown = λ _ _ _. subst₂ (λ h m. KeepsRows (state g h) m) (sym is) (sym same_rows) keeps;
-          };
-        }
+  pub rests_still : HasCleanDisk (state g mid) → (tables : Tables) → Rests (state g old) tables → Rests (state g mid) tables
+  rests_still clean tables rests = rests_on (state g old) (state g mid) tables (read.same clean has) rests
+
+  pub version_of_old : (tables : Tables) → Rests (state g old) tables → tables.version ≡ version
+  version_of_old tables rests = version_is (state g old) version tables has rests
+
+  -- what is known of the rows that were read
+  abbrev ShowsOld : Type 0
+  ShowsOld = (tables : Tables) → Rests (state g old) tables → ShowsRows tables rows
+
+  abbrev IsOne : Type 0
+  IsOne = (tables : Tables) (m : Maps) → Rests (state g old) tables → ShowsRows tables m → IsGood m → rows ≡ m
+
+  module _ (new : Held S) where
+    abbrev Takes : Trees → Type 0
+    Takes trees = (version ≡ First) × TakesOver rows (state g mid) trees
+
+    pub crash : Survives (state g mid) (state g new) Takes → IsGood rows → (HasCleanDisk (state g mid) → ShowsOld) → (HasCleanDisk (state g mid) → IsOne) → Survives (state g old) (state g new) (Adopts (state g old))
+    crash survives good shown one =
+        survives_then (state g old) (state g mid) (state g new) (λ _. ⊥) Takes (Adopts (state g old)) (λ clean trees none. absurd none)
+        (λ clean trees takes.
+        let early = clean_before (state g mid) (state g new) Takes survives clean in (
+          has ∙ ap schema_of takes.0,
+          λ s it.
+              let same : rows ≡ it.rows = one early it.tables it.rows it.rests it.shows it.good in
+              record { rows = rows; good = good; state = ap state_of same ∙ it.state; leaves = takes.1 it.tables (rests_still early it.tables it.rests) (shown early it.tables it.rests) },
+        ))
+        (read.crash (λ _. has)) survives
+
+    -- a refusal behind the reading
+    pub undone_late : (IsTrue (state g old).is_open → (state g old).now ≡ (state g old).committed) → Survives (state g mid) (state g new) Takes → (state g new).in_transaction ≡ false
+        → (new ≡ mid) ⊎ (HasCleanDisk (state g new) → IsTrue (state g new).is_open → RestsAt (state g new) (state g mid).committed)
+        → HasCleanDisk (state g new) → IsTrue (state g new).is_open → RestsAt (state g new) (state g old).now
+    undone_late settled survives outside (inl same) clean opened =
+        let early = clean_before (state g mid) (state g new) Takes survives clean in
+        at_rest (state g old) (state g new) settled outside (subst (λ h. IsUnchanged (state g old) (state g h) ⊎ IsRolledBack (state g old) (state g h)) (sym same) (inl (read.same early has))) opened
+    undone_late settled survives outside (inr undone) clean opened =
+        let early = clean_before (state g mid) (state g new) Takes survives clean in
+        let shown = (read.same early has).0 in
+        subst (RestsAt (state g new)) (shown.committed_is ∙ sym (settled shown.was_open)) (undone clean opened)
+
+-- ---- the World over what was opened
+
+module _ {S : Type 0} (g : Ghosts S) (old new : Held S) (world : World S) (rows : Maps) (is : world.connection ≡ new) (same_rows : world.rows.maps ≡ rows) (works : world.failed ≡ false) where
+  pub clean_at : HasCleanDisk (store_of g world) → HasCleanDisk (state g new)
+  clean_at clean = subst (λ h. HasCleanDisk (state g h)) is clean
+
+  pub survives_at : Survives (state g old) (state g new) (Adopts (state g old)) → Survives (state g old) (store_of g world) (Adopts (state g old))
+  survives_at survives = subst (λ h. Survives (state g old) (state g h) (Adopts (state g old))) (sym is) survives
+
+  pub stands : IsGood rows → (HasCleanDisk (state g new) → (tables : Tables) (m : Maps) → Rests (state g old) tables → ShowsRows tables m → IsGood m → rows ≡ m)
+      → (HasCleanDisk (state g new) → (tables : Tables) → Rests (state g old) tables → KeepsRows (state g new) rows)
+      → (s : State) → ShowsState (state g old) s → HasCleanDisk (store_of g world) → StandsFor g true world s
+  stands good one keeps s it first =
+      let clean = clean_at first in
+      let same : rows ≡ it.rows = one clean it.tables it.rows it.rests it.shows it.good in
+      let is_state : state_of rows ≡ s = ap state_of same ∙ it.state in
+      let kept : KeepsRows (state g new) rows = keeps clean it.tables it.rests in
+      record {
+        works = works;
+        is_at = record {
+          tables = λ _ _. subst (λ h. Keeps (state g h) s) (sym is) (record { rows = rows; good = good; state = is_state; keeps = kept });
+          rows = λ _. ap state_of same_rows ∙ is_state;
+          shown = λ _ _ _. subst₂ (λ h m. KeepsRows (state g h) m) (sym is) (sym same_rows) kept;
+        };
+      }
+
+-- a fault of the store says nothing of any tables
+pub says_of_store : (tables : Tables) (fault : StoreFault) → IsOfStore fault → Says tables fault
+says_of_store tables (Store error) it = tt
+says_of_store tables (Damaged kind key) it = absurd it
+says_of_store tables NewerVersion it = absurd it
+says_of_store tables OutOfMemory it = tt
+says_of_store tables Closed it = absurd it
+
+-- where a crash left a state, it leaves that state still
+pub left_still : (old new : Database) (s : State) → Survives old new (Adopts old) → ShowsState old s → Left old s → HasCleanDisk new → Left new s
+left_still old new s survives shown left clean trees lies = elim (survives.crash clean trees lies) [
+  | inl was ↦ left trees was
+  | inr adopts ↦ adopts.1 s shown
+]

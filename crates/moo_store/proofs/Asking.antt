@@ -1,5 +1,5 @@
 -- What the asking of a text answers.
-use Rattle.std.proofs.Common.{◌≡◌, inl, inr, ℕ, true, List, Option, Result, Ok, Err, refl, ap, subst, sym, Bool}
+use Rattle.std.proofs.Common.{◌≡◌, inl, inr, ℕ, List, Option, Result, Ok, Err, refl, ap, subst, sym, Bool}
 use Rattle.std.specs.Prelude.{◌⊎◌, IsTrue, IfOk}
 use Rattle.std.specs.Result.{IsOkAnd}
 use Rattle.sqlite.specs.Store.{Ghosts}

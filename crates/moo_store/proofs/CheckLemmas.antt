@@ -1,11 +1,10 @@
 -- From what a check read to the World that it leaves.
-use Rattle.std.proofs.Common.{◌≡◌, ◌⊎◌, inl, inr, ◌≤◌, ◌≤ℤ◌, ℕ, ℤ, pos, negsuc, suc, zero, [], ◌∷◌, length, map, Bool, true, false, Result, Ok, Err, refl, sym, ap, subst, ◌∙◌, arith, length-append}
+use Rattle.std.proofs.Common.{◌≡◌, inl, ◌≤◌, ◌≤ℤ◌, ℕ, ℤ, pos, negsuc, suc, zero, [], ◌∷◌, length, map, Bool, true, false, Result, Ok, Err, refl, sym, ap, subst, ◌∙◌, arith, length-append}
 use Rattle.std.proofs.lemmas.List.{length-map}
 use Rattle.std.proofs.lemmas.List.Sums.{count_by-le-length, length-filter}
 use Rattle.std.proofs.lemmas.Int.{ints}
 use Rattle.std.specs.Prelude.{IfErr, MatchResult}
 use Rattle.std.specs.FinMap.{entries}
-use Rattle.sqlite.specs.declared.error.Error.{Error}
 use Rattle.sqlite.specs.State.{HasCleanDisk}
 use Rattle.sqlite.specs.Store.{Ghosts}
 use Rattle.sqlite.specs.Held.{Held, state}
@@ -16,9 +15,8 @@ use Rattle.moo_world.specs.Rows.{IsGood, world_of, numbers_below}
 use Rattle.moo_world.specs.World.{is_object, numbers_to}
 use Rattle.moo_world.specs.Judge.{State}
 use Rattle.moo_world.proofs.ObjectEntries.{objects_listed}
-use Rattle.moo_tables.specs.Tables.{Tables, moo_schema}
-use Rattle.moo_tables.specs.Inside.{Rests, Reads}
-use Rattle.moo_tables.proofs.ReadLemmas.{rests_on}
+use Rattle.moo_tables.specs.Tables.{Tables}
+use Rattle.moo_tables.specs.Inside.{Rests}
 use Rattle.moo_damage.specs.declared.kind.Key.{Key}
 use Rattle.moo_damage.specs.declared.kind.Key.TheVariants.{Head, Object, Prop, Slot, Verb}
 use Rattle.moo_damage.specs.Differences.{AgreeAt}
@@ -67,7 +65,7 @@ works_on (Err Closed) failed P fails works it = absurd (let e : true ≡ false =
 pub stands_on : {S : Type 0} (g : Ghosts S) (known : Bool) (old : World S) (conn : Held S) (failed : Bool) (s : State) → StandsFor g known old s → failed ≡ false → (HasCleanDisk (state g conn) → HasCleanDisk (store_of g old))
     → ((tables : Tables) → Rests (store_of g old) tables → Rests (state g conn) tables) → HasCleanDisk (state g conn) → StandsFor g known (record { connection = conn; rows = old.rows; failed = failed }) s
 stands_on g known old conn failed s it works clean stays late =
-    let over : (rows : Maps) → KeepsRows (store_of g old) rows → KeepsRows (state g conn) rows = λ rows kept. record { tables = kept.tables; rests = stays kept.tables kept.rests; shows = kept.shows } in
+    let over : (rows : Maps) → KeepsRows (store_of g old) rows → KeepsRows (state g conn) rows = λ rows kept. record { tables = kept.tables; rests = stays kept.tables kept.rests; current = kept.current; shows = kept.shows } in
     record {
       works = works;
       is_at = record {
@@ -99,14 +97,3 @@ few_objects t good =
     let many = length-map (numbers_below (numbers_to (world_of t).top)) object_at in
     let count = length-numbers_below (numbers_to (world_of t).top) in
     omega (arith, top, fewer, is, many, count)
-
--- ---- where the store did not fail
-
-pub rests_still : {S : Type 0} (g : Ghosts S) (old new : Held S) → (new ≡ old) ⊎ Reads moo_schema (state g old) (state g new) → HasCleanDisk (state g new) → (tables : Tables) → Rests (state g old) tables → Rests (state g new) tables
-rests_still g old new (inl same) clean tables rests = subst (λ h. Rests (state g h) tables) (sym same) rests
-rests_still g old new (inr read) clean tables rests = rests_on (state g old) (state g new) tables (read.same clean rests.holds.schema) rests
-
-pub rests_without_memory : {S : Type 0} (g : Ghosts S) (old new : Held S) (fault : StoreFault) → ((error : Error) × (fault ≡ Store error)) ⊎ ((new ≡ old) ⊎ Reads moo_schema (state g old) (state g new)) → fault ≡ OutOfMemory → HasCleanDisk (state g new)
-    → (tables : Tables) → Rests (state g old) tables → Rests (state g new) tables
-rests_without_memory g old new fault (inl failed) is clean = absurd (let e : Store failed.0 ≡ OutOfMemory = sym failed.1 ∙ is in cc)
-rests_without_memory g old new fault (inr read) is clean = rests_still g old new read clean

@@ -1,12 +1,12 @@
 -- Tables of some rows, changed, are those of the next ones.
-use Rattle.std.proofs.Common.{◌≡◌, ◌⊎◌, inl, inr, Bool, true, false, Result, Ok, Err, OnOk, refl, sym, subst, ◌∙◌, arith}
+use Rattle.std.proofs.Common.{◌≡◌, ◌⊎◌, inl, inr, Bool, true, false, Result, Ok, Err, OnOk, refl, subst, arith}
 use Rattle.sqlite.specs.State.{State as Database, HasCleanDisk, Survives}
 use Rattle.sqlite.specs.Tree.{Trees}
 use Rattle.sqlite_trees.specs.View.{doubt}
 use Rattle.moo_rows.specs.Maps.{Maps}
 use Rattle.moo_tables.specs.Tables.{Tables}
 use Rattle.moo_tables.specs.Cells.{tables_with}
-use Rattle.moo_tables.specs.Inside.{Rests, Leaves, no_tables}
+use Rattle.moo_tables.specs.Inside.{Rests, Leaves, IsCurrent, no_tables}
 use Rattle.moo_tables.specs.declared.cells.CellChanges.{CellChanges}
 use Rattle.moo_tables.proofs.InsideLemmas.{clean_before}
 use Rattle.moo_draft.specs.declared.changes.Changes.{Changes}
@@ -16,29 +16,33 @@ use Rattle.moo_store.specs.Printed.{Prints}
 use Rattle.moo_store.specs.States.{KeepsRows, LeavesRows}
 use Rattle.moo_store.specs.Untouched.{KeepsCells}
 use Rattle.moo_store.proofs.Shown.{shows-written, keeps-written}
+use Rattle.moo_store.proofs.Versions.{one_tables}
 
 module _ (cells : CellChanges) (changes : Changes) (base next : Maps) (printed : Prints cells changes) (exact : AreChanges base next changes) where
-  pub shows_next : (t : Tables) → ShowsRows t base → ShowsRows (tables_with cells t) next
-  shows_next t shows = shows-written cells changes base next t printed exact shows.no_head shows.maps
+  pub shows_next : (t : Tables) → IsCurrent t → ShowsRows t base → ShowsRows (tables_with cells t) next
+  shows_next t current shows = shows-written cells changes base next t printed exact current shows.no_head shows.maps
 
-  pub keeps_next : (old new : Database) → ((t : Tables) → Rests old t → Rests new (tables_with cells t)) → KeepsRows old base → KeepsRows new next
-  keeps_next old new rests it = record { tables = tables_with cells it.tables; rests = rests it.tables it.rests; shows = shows_next it.tables it.shows }
+  pub keeps_next : (old new : Database) → ((t : Tables) → Rests old t → IsCurrent t → Rests new (tables_with cells t)) → KeepsRows old base → KeepsRows new next
+  keeps_next old new rests it = record { tables = tables_with cells it.tables; rests = rests it.tables it.rests it.current; current = it.current; shows = shows_next it.tables it.current it.shows }
 
 pub at_written : {E : Type 0} (old new : Database) (cells : CellChanges) (r : Result (Unit {0}) E)
-    → OnOk r ((t : Tables) → Rests old t → Rests new (tables_with cells t))
+    → OnOk r ((t : Tables) → Rests old t → IsCurrent t → Rests new (tables_with cells t))
     → OnOk r ((changes : Changes) (base next : Maps) → Prints cells changes → AreChanges base next changes → KeepsRows old base → KeepsRows new next)
 at_written old new cells (Ok x) f = λ changes base next printed exact it. keeps_next cells changes base next printed exact old new f it
 at_written old new cells (Err e) f = tt
 
 pub at_kept : {E : Type 0} (old new : Database) (cells : CellChanges) (r : Result (Unit {0}) E)
-    → OnOk r ((t : Tables) → Rests old t → Rests new (tables_with cells t))
-    → OnOk r ((changes : Changes) (base next : Maps) (t : Tables) → Prints cells changes → AreChanges base next changes → Rests old t → ShowsRows t base → (after : Tables) × Rests new after × KeepsCells base next t after)
-at_kept old new cells (Ok x) f = λ changes base next t printed exact rests shown. (tables_with cells t, f t rests, keeps-written cells changes base next t printed exact shown)
+    → OnOk r ((t : Tables) → Rests old t → IsCurrent t → Rests new (tables_with cells t))
+    → OnOk r ((changes : Changes) (base next : Maps) (t : Tables) → Prints cells changes → AreChanges base next changes → Rests old t → IsCurrent t → ShowsRows t base → (after : Tables) × Rests new after × KeepsCells base next t after)
+at_kept old new cells (Ok x) f = λ changes base next t printed exact rests current shown. (tables_with cells t, f t rests current, keeps-written cells changes base next t printed exact current shown)
 at_kept old new cells (Err e) f = tt
 
--- no two tables rest in one store, so that any that do show its rows
+-- no two tables rest in one store, so that any that do show its rows, and are of the present version
 pub shown_by : (store : Database) (rows : Maps) (t : Tables) → KeepsRows store rows → Rests store t → ShowsRows t rows
-shown_by store rows t it rests = subst (λ x. ShowsRows x rows) (sym it.rests.holds.rows ∙ rests.holds.rows) it.shows
+shown_by store rows t it rests = subst (λ x. ShowsRows x rows) (one_tables store it.tables t it.rests rests) it.shows
+
+pub current_by : (store : Database) (rows : Maps) (t : Tables) → KeepsRows store rows → Rests store t → IsCurrent t
+current_by store rows t it rests = subst IsCurrent (one_tables store it.tables t it.rests rests) it.current
 
 pub survives-map : (old new : Database) (P Q : Trees → Type 0) → Survives old new P → (HasCleanDisk old → (trees : Trees) → P trees → Q trees) → Survives old new Q
 survives-map old new P Q s f = record {
@@ -56,19 +60,19 @@ in_doubt true = inl refl
 in_doubt false = inr (λ e. omega (arith, e))
 
 -- A disk that returns what was written did so before, whatever tables it had.
-pub clean_at_commit : (old new : Database) (P : Tables → Trees → Type 0) → ((t : Tables) → (HasCleanDisk old → Rests old t) → Survives old new (P t)) → HasCleanDisk new → HasCleanDisk old
+pub clean_at_commit : (old new : Database) (P : Tables → Trees → Type 0) → ((t : Tables) → (HasCleanDisk old → Rests old t) → IsCurrent t → Survives old new (P t)) → HasCleanDisk new → HasCleanDisk old
 clean_at_commit old new P survives clean = elim (in_doubt old.is_clean) [
   | inl was ↦ was
-  | inr failed ↦ clean_before old new (P no_tables) (survives no_tables (λ was. absurd (failed was))) clean
+  | inr failed ↦ clean_before old new (P no_tables) (survives no_tables (λ was. absurd (failed was)) refl) clean
 ]
 
 -- The tables are known only of a clean disk, so the clean and the failed disk are told apart.
 pub survives_next : (old new : Database) (cells : CellChanges) (changes : Changes) (base next : Maps) → Prints cells changes → AreChanges base next changes
-    → ((t : Tables) → (HasCleanDisk old → Rests old t) → Survives old new (λ trees. Leaves trees (tables_with cells t)))
+    → ((t : Tables) → (HasCleanDisk old → Rests old t) → IsCurrent t → Survives old new (λ trees. Leaves trees (tables_with cells t)))
     → (HasCleanDisk old → KeepsRows old base) → Survives old new (λ trees. LeavesRows trees next)
 survives_next old new cells changes base next printed exact survives keeps = elim (in_doubt old.is_clean) [
-  | inl clean ↦ (let it = keeps clean in survives-map old new (λ trees. Leaves trees (tables_with cells it.tables)) (λ trees. LeavesRows trees next) (survives it.tables (λ _. it.rests))
-      (λ _ trees lies. record { tables = tables_with cells it.tables; leaves = lies; shows = shows_next cells changes base next printed exact it.tables it.shows }))
-  | inr failed ↦ survives-map old new (λ trees. Leaves trees (tables_with cells no_tables)) (λ trees. LeavesRows trees next) (survives no_tables (λ clean. absurd (failed clean)))
+  | inl clean ↦ (let it = keeps clean in survives-map old new (λ trees. Leaves trees (tables_with cells it.tables)) (λ trees. LeavesRows trees next) (survives it.tables (λ _. it.rests) it.current)
+      (λ _ trees lies. record { tables = tables_with cells it.tables; leaves = lies; shows = shows_next cells changes base next printed exact it.tables it.current it.shows }))
+  | inr failed ↦ survives-map old new (λ trees. Leaves trees (tables_with cells no_tables)) (λ trees. LeavesRows trees next) (survives no_tables (λ clean. absurd (failed clean)) refl)
       (λ clean trees lies. absurd (failed clean))
 ]

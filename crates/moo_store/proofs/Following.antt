@@ -1,5 +1,5 @@
 -- What answers the items of a text, seen as something else.
-use Rattle.std.proofs.Common.{◌≡◌, ℕ, List, [], ◌∷◌, Option, refl, sym, subst}
+use Rattle.std.proofs.Common.{ℕ, List, [], ◌∷◌, Option, refl, sym, subst}
 use Rattle.moo_world.specs.declared.call.Batch.{Batch}
 use Rattle.moo_text.specs.Items.{items}
 use Rattle.moo_text.specs.declared.next.Next.{Next}

@@ -12,7 +12,7 @@ use Rattle.moo_text.specs.Replies.{answer_text}
 use Rattle.moo_text.specs.Side.{Side, untouched, IsOver}
 use Rattle.moo_text.specs.Given.{Gives, Explains, BreaksOff, ReadsNext, ReadsItems}
 use Rattle.moo_text.specs.declared.next.Next.{Next}
-use Rattle.moo_text.specs.declared.next.Next.TheVariants.{Batch as Whole, Malformed, Truncated, End}
+use Rattle.moo_text.specs.declared.next.Next.TheVariants.{End}
 use Rattle.moo_text.specs.declared.reply.Answer.{Answer}
 use Rattle.moo_text.specs.declared.fault.TextFault.{TextFault}
 use Rattle.moo_text.specs.declared.fault.TextFault.TheVariants.{Read, Write, OutOfMemory, Long}

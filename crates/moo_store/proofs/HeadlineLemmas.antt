@@ -9,7 +9,7 @@ use Rattle.moo_world.specs.Judge.{State, judge, left_by, after}
 use Rattle.moo_text.specs.declared.reply.Reply.{Reply}
 use Rattle.moo_tables.specs.Inside.{MayOpenAs}
 use Rattle.moo_tables.proofs.ReopenLemmas.{opened}
-use Rattle.moo_store.specs.States.{Keeps, LeavesState}
+use Rattle.moo_store.specs.States.{ShowsState, LeavesState}
 use Rattle.moo_store.specs.Answered.{acknowledged}
 use Rattle.moo_store.specs.Kept.{World}
 use Rattle.moo_store.specs.World.{store_of, IsAt, StandsFor, Left, LeftOrNext, MatchStore}
@@ -21,13 +21,15 @@ pub after_joined : (s : State) (first second : List Batch) → after s (first ++
 after_joined s [] second = refl
 after_joined s (batch ∷ first) second = after_joined (left_by s (judge s batch)) first second
 
--- what a crash left, opened again, keeps its state
-keeps_again : (again : Database) (t : State) → Opens again → IsDatabase again.now → LeavesState again.now.trees t → Keeps again t
-keeps_again again t opens sound it = record {
+-- what a crash left, opened again, shows its state
+shows_again : (again : Database) (t : State) → Opens again → IsDatabase again.now → LeavesState again.now.trees t → ShowsState again t
+shows_again again t opens sound it = record {
+  tables = it.leaves.tables;
+  rests = opened again it.leaves.tables opens sound it.leaves.leaves;
   rows = it.rows;
+  shows = it.leaves.shows;
   good = it.good;
   state = it.state;
-  keeps = record { tables = it.leaves.tables; rests = opened again it.leaves.tables opens sound it.leaves.leaves; shows = it.leaves.shows };
 }
 
 -- at every exit of a run a crash leaves the state after the acknowledged batches, or one more
@@ -41,17 +43,17 @@ leaves_one g world (Err NewerVersion) end rest is left clean trees lies = (0, om
 leaves_one g world (Err OutOfMemory) end rest is left clean trees lies = (0, omega arith, left clean trees lies)
 leaves_one g world (Err Closed) end rest is left clean trees lies = (0, omega arith, left clean trees lies)
 
--- a state that a connection keeps which was opened on what a crash left
+-- a state that a connection shows which was opened on what a crash left
 pub record Found (again : Database) (s : State) (batches : List Batch) (replies : List Reply) : Type 0 where
   pub more : ℕ
   pub at_most_one : more ≤ 1
-  pub keeps : Keeps again (after s (acknowledged batches replies ++ take more (drop (length replies) batches)))
+  pub shows : ShowsState again (after s (acknowledged batches replies ++ take more (drop (length replies) batches)))
 
 pub found : (crashed again : Database) (s : State) (batches : List Batch) (replies : List Reply) → LeftOrNext crashed (after s (acknowledged batches replies)) (drop (length replies) batches) → MayOpenAs crashed again → Found again s batches replies
 found crashed again s batches replies left may =
     let it = left again.now.trees may.found in
-    let keeps = keeps_again again _ may.opens may.sound it.2 in
-    record { more = it.0; at_most_one = it.1; keeps = subst (Keeps again) (sym (after_joined s (acknowledged batches replies) (take it.0 (drop (length replies) batches)))) keeps }
+    let shows = shows_again again _ may.opens may.sound it.2 in
+    record { more = it.0; at_most_one = it.1; shows = subst (ShowsState again) (sym (after_joined s (acknowledged batches replies) (take it.0 (drop (length replies) batches)))) shows }
 
 pub holds : {T : Type 0} (g : Ghosts T) (again : Database) (world : World T) (s : State) (batches : List Batch) (replies : List Reply) (it : Found again s batches replies)
     → StandsFor g true world (after s (acknowledged batches replies ++ take it.more (drop (length replies) batches))) → HoldsAcknowledged g world s batches replies

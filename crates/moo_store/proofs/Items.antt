@@ -58,7 +58,11 @@ turns_written g old now new batches (item ∷ items) (a ∷ answers) was turns =
 over_at : {S : Type 0} (g : Ghosts S) (known : Bool) (world : World S) (stand : Stand) (tables : Tables) → IsTrue known → StandsAt g known world stand → HasCleanDisk (store_of g world) → Rests (store_of g world) tables → IsOver g world tables
 over_at g known world (Works s) tables sure at clean rests = is_over g known world s tables sure at.is_at clean rests
 over_at g known world (Failed s) tables sure at clean rests = is_over g known world s tables sure at.1 clean rests
-over_at g known world (StoreFailed s hand) tables sure at clean rests = record { rests = rests; shows = λ works. let no : true ≡ false = sym at.0 ∙ works in absurd cc }
+over_at g known world (StoreFailed s hand) tables sure at clean rests = record {
+  rests = rests;
+  current = λ works. let no : true ≡ false = sym at.0 ∙ works in absurd cc;
+  shows = λ works. let no : true ≡ false = sym at.0 ∙ works in absurd cc;
+}
 
 keeps_rest : {S : Type 0} (g : Ghosts S) (known : Bool) (old new : World S) (stand : Stand) (batches : List Batch) → Written g old new batches → StandsAt g known old stand → IsTrue known → KeepsRest g old new batches
 keeps_rest g known old new stand batches it at sure clean works tables rests = it.written clean works tables (over_at g known old stand tables sure at (it.clean clean) rests)

@@ -1,4 +1,6 @@
+pub mod Versions
 pub mod Written
+pub mod AllRows
 pub mod Shown
 pub mod Committed
 pub mod Crashes
@@ -15,5 +17,6 @@ pub mod Untouched
 pub mod Numbered
 pub mod Asking
 pub mod AdoptLemmas
+pub mod Migrated
 pub mod HeadlineLemmas
 pub mod CheckLemmas

@@ -10,6 +10,7 @@ use Rattle.moo_rows.specs.declared.row.SlotRow.{SlotRow}
 use Rattle.moo_rows.specs.declared.row.VerbRow.{VerbRow}
 use Rattle.moo_world.specs.Rows.{IsGood}
 use Rattle.moo_world.specs.Judge.{state_of}
+use Rattle.moo_tables.specs.declared.version.Version.TheVariants.{Second}
 use Rattle.moo_tables.specs.Tables.{no_schema}
 use Rattle.moo_tables.specs.Cells.{tables_with}
 use Rattle.moo_tables.specs.Inside.{Rests, Leaves, HasNoTables, no_tables}
@@ -29,7 +30,7 @@ shows_nothing = record {
   objects = λ n. let P : Option ObjRow → Type 0 = λ r. ShowsOrNone (ShowsObject n) None r in subst P (sym (get-empty object_cmp n)) tt;
   props = λ id. let P : Option PropRow → Type 0 = λ r. ShowsOrNone (ShowsProp id) None r in subst P (sym (get-empty prop_cmp id)) tt;
   no_prop = λ n. refl;
-  slots = λ key. let P : Option SlotRow → Type 0 = λ r. ShowsOrNone (ShowsSlot key) None r in subst P (sym (get-empty slot_cmp key)) tt;
+  slots = λ key. let P : Option SlotRow → Type 0 = λ r. ShowsOrNone (ShowsSlot Second key) None r in subst P (sym (get-empty slot_cmp key)) tt;
   no_slot = λ x n. refl;
   verbs = λ key. let P : Option VerbRow → Type 0 = λ r. ShowsOrNone (ShowsVerb key) None r in subst P (sym (get-empty verb_cmp key)) tt;
   no_verb = λ x n. refl;
@@ -48,11 +49,11 @@ pub has_no_tables : (db : Content) → db.schema ≡ no_schema → HasNoTables d
 has_no_tables db e = record { schema_is = e; empty = tt }
 
 shows_opening : (cells : CellChanges) → PrintsOpening cells → ShowsRows (tables_with cells no_tables) opening_maps
-shows_opening cells p = shows-written cells p.0 no_maps opening_maps no_tables p.1 p.2 (λ n h. refl) shows_nothing
+shows_opening cells p = shows-written cells p.0 no_maps opening_maps no_tables p.1 p.2 refl (λ n h. refl) shows_nothing
 
 -- the new tables show the opening rows
 pub keeps_opening : (store : Database) (cells : CellChanges) (rows : Maps) → PrintsOpening cells → rows ≡ opening_maps → Rests store (tables_with cells no_tables) → KeepsRows store rows
-keeps_opening store cells rows p is rests = subst (KeepsRows store) (sym is) (record { tables = tables_with cells no_tables; rests = rests; shows = shows_opening cells p })
+keeps_opening store cells rows p is rests = subst (KeepsRows store) (sym is) (record { tables = tables_with cells no_tables; rests = rests; current = refl; shows = shows_opening cells p })
 
 -- and so does what a crash leaves of them
 pub survives_opening : (old new : Database) (cells : CellChanges) → PrintsOpening cells → IsGood opening_maps → Survives old new (λ trees. Leaves trees (tables_with cells no_tables)) → Survives old new (λ trees. LeavesState trees (state_of opening_maps))

@@ -1,5 +1,5 @@
--- The five tables, after changes are written, show the new rows.
-use Rattle.std.proofs.Common.{◌≡◌, ◌≢◌, ℕ, ℤ, pos, negsuc, Bool, true, false, cond, None, Some, refl, ap, ◌∙◌}
+-- The tables, after changes are written, show the new rows; and so do tables of the first version that are taken over.
+use Rattle.std.proofs.Common.{◌≡◌, ◌≢◌, ℕ, ℤ, pos, negsuc, Bool, true, false, cond, List, Option, None, Some, refl, sym, ap, ◌∙◌, subst}
 use Rattle.std.specs.Prelude.{◌&&◌}
 use Rattle.std.specs.Bool.{Decides}
 use Rattle.std.specs.Ordering.{eq_by_cmp}
@@ -13,14 +13,19 @@ use Rattle.moo_rows.specs.Maps.{Maps, object_cmp, prop_cmp, slot_cmp, verb_cmp}
 use Rattle.moo_rows.specs.Exact.{object_exact, prop_exact, slot_exact, verb_exact}
 use Rattle.moo_rows.proofs.Orders.{prop_total, slot_total, verb_total}
 use Rattle.moo_world.proofs.MapLaws.{decided_alike, key-Decides}
+use Rattle.moo_tables.specs.declared.version.Version.{Version}
+use Rattle.moo_tables.specs.declared.version.Version.TheVariants.{Second}
 use Rattle.moo_tables.specs.Tables.{Tables, same_number, same_pair}
-use Rattle.moo_tables.specs.Cells.{head_cells, object_cells, prop_cells, slot_cells, verb_cells, tables_with}
+use Rattle.moo_tables.specs.Cells.{head_cells, object_cells, prop_cells, slot_cells, verb_cells, tables_with, migrated}
+use Rattle.moo_tables.specs.Inside.{IsCurrent}
 use Rattle.moo_tables.specs.declared.cells.CellChanges.{CellChanges}
+use Rattle.moo_tables.specs.declared.cells.SlotCells.{SlotCells}
 use Rattle.moo_draft.specs.declared.changes.Changes.{Changes}
 use Rattle.moo_draft.specs.Changes.{AreChanges}
 use Rattle.moo_cells.specs.Shows.{ShowsObject, ShowsProp, ShowsSlot, ShowsVerb, ShowsMaps, ShowsRows}
-use Rattle.moo_store.specs.Printed.{Prints}
+use Rattle.moo_store.specs.Printed.{PrintEach, PrintsSlot, Prints, all_of}
 use Rattle.moo_store.specs.Untouched.{KeepsCells}
+use Rattle.moo_store.proofs.AllRows.{all_changed}
 use Rattle.moo_store.proofs.Written.{written, stays, elsewhere}
 
 -- a test of what doesn't hold is false
@@ -85,28 +90,49 @@ no_pair x n y id = decided_false _ _ (same_pair-Decides (x, negsuc n) (y, pos id
 not_one : (n : ℤ) → n ≢ pos 1 → same_number n (pos 1) ≡ false
 not_one n h = decided_false _ _ (same_number-Decides n (pos 1)) h
 
-pub shows-written : (cells : CellChanges) (changes : Changes) (base new : Maps) (t : Tables) → Prints cells changes → AreChanges base new changes → ((n : ℤ) → n ≢ pos 1 → t.head n ≡ None) → ShowsMaps t base → ShowsRows (tables_with cells t) new
-shows-written cells changes base new t p c alone shows = record {
-  head = ap (λ b. cond b (Some (head_cells cells.head)) (t.head (pos 1))) ((same_number-Decides (pos 1) (pos 1)).1 refl) ∙ ap (λ h. Some (head_cells h)) (p.head ∙ c.head);
-  no_head = λ n h. ap (λ b. cond b (Some (head_cells cells.head)) (t.head n)) (not_one n h) ∙ alone n h;
+-- slots are printed as tables of the present version show them
+prints_slots : (version : Version) (cells : CellChanges) (changes : Changes) → version ≡ Second → Prints cells changes → PrintEach (λ key cells row. ShowsSlot version key (slot_cells key cells) row) cells.slots.items changes.slots
+prints_slots version cells changes current p = subst (λ v. PrintEach (λ key cells row. ShowsSlot v key (slot_cells key cells) row) cells.slots.items changes.slots) (sym current) p.slots
+
+pub shows-written : (cells : CellChanges) (changes : Changes) (base new : Maps) (t : Tables) → Prints cells changes → AreChanges base new changes → IsCurrent t → ((n : ℤ) → n ≢ pos 1 → t.head n ≡ None) → ShowsMaps t base → ShowsRows (tables_with cells t) new
+shows-written cells changes base new t p c current alone shows = record {
+  head = ap (λ b. cond b (Some (head_cells Second cells.head)) (t.head (pos 1))) ((same_number-Decides (pos 1) (pos 1)).1 refl) ∙ ap (λ h. Some (head_cells Second h)) (p.head ∙ c.head) ∙ ap (λ v. Some (head_cells v new.head)) (sym current);
+  no_head = λ n h. ap (λ b. cond b (Some (head_cells Second cells.head)) (t.head n)) (not_one n h) ∙ alone n h;
   maps = record {
     objects = written object_cmp object_exact same_number (λ n. n.0) number_alike object_cells ShowsObject cells.objects.items changes.objects (get base.objects) (get new.objects) t.object p.objects c.objects shows.objects;
     props = written prop_cmp prop_exact same_number (λ id. pos id.0) id_alike prop_cells ShowsProp cells.props.items changes.props (get base.props) (get new.props) t.prop p.props c.props shows.props;
     no_prop = λ n. elsewhere prop_cmp prop_exact same_number (λ id. pos id.0) id_alike prop_cells ShowsProp cells.props.items t.prop (negsuc n) (no_id n) ∙ shows.no_prop n;
-    slots = written slot_cmp slot_exact same_pair (λ k. (k.0.0, pos k.1.0)) slot_alike slot_cells ShowsSlot cells.slots.items changes.slots (get base.slots) (get new.slots) t.slot p.slots c.slots shows.slots;
-    no_slot = λ x n. elsewhere slot_cmp slot_exact same_pair (λ k. (k.0.0, pos k.1.0)) slot_alike slot_cells ShowsSlot cells.slots.items t.slot (x, negsuc n) (λ k. no_pair x n k.0.0 k.1.0) ∙ shows.no_slot x n;
+    slots = written slot_cmp slot_exact same_pair (λ k. (k.0.0, pos k.1.0)) slot_alike slot_cells (ShowsSlot t.version) cells.slots.items changes.slots (get base.slots) (get new.slots) t.slot (prints_slots t.version cells changes current p) c.slots shows.slots;
+    no_slot = λ x n. elsewhere slot_cmp slot_exact same_pair (λ k. (k.0.0, pos k.1.0)) slot_alike slot_cells (ShowsSlot Second) cells.slots.items t.slot (x, negsuc n) (λ k. no_pair x n k.0.0 k.1.0) ∙ shows.no_slot x n;
     verbs = written verb_cmp verb_exact same_pair (λ k. (k.0.0, pos k.1.0)) verb_alike verb_cells ShowsVerb cells.verbs.items changes.verbs (get base.verbs) (get new.verbs) t.verb p.verbs c.verbs shows.verbs;
     no_verb = λ x n. elsewhere verb_cmp verb_exact same_pair (λ k. (k.0.0, pos k.1.0)) verb_alike verb_cells ShowsVerb cells.verbs.items t.verb (x, negsuc n) (λ k. no_pair x n k.0.0 k.1.0) ∙ shows.no_verb x n;
   };
 }
 
 -- the rows that stay keep their cells
-pub keeps-written : (cells : CellChanges) (changes : Changes) (base new : Maps) (t : Tables) → Prints cells changes → AreChanges base new changes → ShowsRows t base → KeepsCells base new t (tables_with cells t)
-keeps-written cells changes base new t p c shown = record {
+pub keeps-written : (cells : CellChanges) (changes : Changes) (base new : Maps) (t : Tables) → Prints cells changes → AreChanges base new changes → IsCurrent t → ShowsRows t base → KeepsCells base new t (tables_with cells t)
+keeps-written cells changes base new t p c current shown = record {
+  version = refl;
   shown = shown;
-  shows = shows-written cells changes base new t p c shown.no_head shown.maps;
+  shows = shows-written cells changes base new t p c current shown.no_head shown.maps;
   objects = stays object_cmp object_exact same_number (λ n. n.0) number_alike object_cells ShowsObject cells.objects.items changes.objects (get base.objects) (get new.objects) t.object p.objects c.objects;
   props = stays prop_cmp prop_exact same_number (λ id. pos id.0) id_alike prop_cells ShowsProp cells.props.items changes.props (get base.props) (get new.props) t.prop p.props c.props;
-  slots = stays slot_cmp slot_exact same_pair (λ k. (k.0.0, pos k.1.0)) slot_alike slot_cells ShowsSlot cells.slots.items changes.slots (get base.slots) (get new.slots) t.slot p.slots c.slots;
+  slots = stays slot_cmp slot_exact same_pair (λ k. (k.0.0, pos k.1.0)) slot_alike slot_cells (ShowsSlot Second) cells.slots.items changes.slots (get base.slots) (get new.slots) t.slot p.slots c.slots;
   verbs = stays verb_cmp verb_exact same_pair (λ k. (k.0.0, pos k.1.0)) verb_alike verb_cells ShowsVerb cells.verbs.items changes.verbs (get base.verbs) (get new.verbs) t.verb p.verbs c.verbs;
+}
+
+-- Tables that show rows, taken over with their head and all their slots printed anew, show the same rows.
+pub shows-migrated : (m : Maps) (slots : List ((ObjNo × PropId) × Option SlotCells)) (t : Tables) → PrintEach PrintsSlot slots (all_of m.slots) → ShowsRows t m → ShowsRows (migrated m.head slots t) m
+shows-migrated m slots t printed shown = record {
+  head = ap (λ b. cond b (Some (head_cells Second m.head)) (t.head (pos 1))) ((same_number-Decides (pos 1) (pos 1)).1 refl);
+  no_head = λ n h. ap (λ b. cond b (Some (head_cells Second m.head)) (t.head n)) (not_one n h) ∙ shown.no_head n h;
+  maps = record {
+    objects = shown.maps.objects;
+    props = shown.maps.props;
+    no_prop = shown.maps.no_prop;
+    slots = written slot_cmp slot_exact same_pair (λ k. (k.0.0, pos k.1.0)) slot_alike slot_cells (ShowsSlot Second) slots (all_of m.slots) (λ _. None) (get m.slots) (λ _. None) printed (all_changed slot_cmp m.slots) (λ k. tt);
+    no_slot = λ x n. elsewhere slot_cmp slot_exact same_pair (λ k. (k.0.0, pos k.1.0)) slot_alike slot_cells (ShowsSlot Second) slots (λ _. None) (x, negsuc n) (λ k. no_pair x n k.0.0 k.1.0);
+    verbs = shown.maps.verbs;
+    no_verb = shown.maps.no_verb;
+  };
 }

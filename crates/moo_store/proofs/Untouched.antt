@@ -7,7 +7,7 @@ use Rattle.sqlite.specs.State.{HasCleanDisk}
 use Rattle.sqlite.specs.Store.{Ghosts}
 use Rattle.moo_rows.specs.Maps.{Maps}
 use Rattle.moo_tables.specs.Tables.{Tables}
-use Rattle.moo_tables.specs.Inside.{Rests}
+use Rattle.moo_tables.specs.Inside.{Rests, IsCurrent}
 use Rattle.moo_world.specs.declared.call.Batch.{Batch}
 use Rattle.moo_text.specs.declared.reply.Reply.{Reply}
 use Rattle.moo_text.specs.declared.reply.Reply.TheVariants as reply
@@ -20,14 +20,18 @@ use Rattle.moo_cells.specs.Shows.{ShowsRows}
 use Rattle.moo_store.specs.World.{store_of, IsAt, MatchStore}
 use Rattle.moo_store.specs.Kept.{World}
 use Rattle.moo_store.specs.Untouched.{KeepsCells, Writes, IsOver, HasWritten, WritesOne, IsKnown, taken_of}
-use Rattle.moo_store.proofs.Committed.{shown_by}
+use Rattle.moo_store.proofs.Committed.{shown_by, current_by}
 use Rattle.moo_store.proofs.Running.{Progress, FailsAtStore}
 use Rattle.moo_store.specs.declared.fault.StoreFault.{StoreFault}
 use Rattle.moo_store.specs.declared.fault.StoreFault.TheVariants.{Store, Damaged, NewerVersion, OutOfMemory, Closed}
 
 -- tables that rest in the store of a World that is at a state
 pub is_over : {S : Type 0} (g : Ghosts S) (known : Bool) (world : World S) (s : State) (tables : Tables) → IsTrue known → IsAt g known world s → HasCleanDisk (store_of g world) → Rests (store_of g world) tables → IsOver g world tables
-is_over g known world s tables sure at clean rests = record { rests = rests; shows = λ works. shown_by (store_of g world) world.rows.maps tables (at.shown sure works clean) rests }
+is_over g known world s tables sure at clean rests = record {
+  rests = rests;
+  current = λ works. current_by (store_of g world) world.rows.maps tables (at.shown sure works clean) rests;
+  shows = λ works. shown_by (store_of g world) world.rows.maps tables (at.shown sure works clean) rests;
+}
 
 -- what is written in turn is written by the joined list
 writes-append : (rows : Maps) (tables : Tables) (batches : List Batch) (mid : Maps) (between : Tables) (more : List Batch) (end : Maps) (after : Tables)
@@ -63,19 +67,20 @@ acknowledged-push (b ∷ bs) (reply.Stale seq ∷ rs) batch r low is = acknowled
 acknowledged-push (b ∷ bs) (reply.NoMemory ∷ rs) batch r low is = acknowledged-push bs rs batch r (omega (arith, low)) is
 
 -- nothing is written for no batch
-pub none_written : {S : Type 0} (g : Ghosts S) (old : World S) (tables : Tables) → Rests (store_of g old) tables → HasWritten g old old tables []
-none_written g old tables rests = record { end = old.rows.maps; after = tables; rests = rests; writes = (refl, refl); rows = λ works. refl }
+pub none_written : {S : Type 0} (g : Ghosts S) (old : World S) (tables : Tables) → IsOver g old tables → HasWritten g old old tables []
+none_written g old tables over = record { end = old.rows.maps; after = tables; rests = over.rests; current = over.current; writes = (refl, refl); rows = λ works. refl }
 
 -- what a World has written, and then, while it works, what it writes on
 pub written_then : {S : Type 0} (g : Ghosts S) (old mid new : World S) (tables : Tables) (first second : List Batch) → mid.failed ≡ false
     → ShowsRows tables old.rows.maps → HasWritten g old mid tables first → ((between : Tables) → IsOver g mid between → HasWritten g mid new between second) → HasWritten g old new tables (first ++ second)
 written_then g old mid new tables first second works shown was on =
     let shows : ShowsRows was.after mid.rows.maps = subst (ShowsRows was.after) (sym (was.rows works)) (writes-show old.rows.maps tables first was.end was.after was.writes shown) in
-    let here = on was.after (record { rests = was.rests; shows = λ _. shows }) in
+    let here = on was.after (record { rests = was.rests; current = was.current; shows = λ _. shows }) in
     record {
       end = here.end;
       after = here.after;
       rests = here.rests;
+      current = here.current;
       writes = writes-append old.rows.maps tables first was.end was.after second here.end here.after was.writes (subst (λ m. Writes m was.after second here.end here.after) (was.rows works) here.writes);
       rows = here.rows;
     }
@@ -84,24 +89,25 @@ written_then g old mid new tables first second works shown was on =
 pub nothing_written : {S : Type 0} (g : Ghosts S) (old : World S) (batch : Batch) (r : Result Reply StoreFault) → taken_of batch r ≡ [] → WritesOne g old old batch r
 nothing_written g old batch r none = record {
   clean = λ c. c;
-  written = λ c known tables over. subst (HasWritten g old old tables) (sym none) (none_written g old tables over.rests);
+  written = λ c known tables over. subst (HasWritten g old old tables) (sym none) (none_written g old tables over);
 }
 
 -- an accepted batch writes its changes, or the store failed and nothing is written
 pub accepted_writes : {S : Type 0} (g : Ghosts S) (old new : World S) (batch : Batch) (answers : List Value) (seq : ℕ) (next : Maps) (r : Result Reply StoreFault) → old.failed ≡ false → IsGood next → BatchLeads batch old.rows.maps next
     → judge (state_of old.rows.maps) batch ≡ Accepted answers (state_of next)
     → IfOk r (λ r. r ≡ reply.Accepted seq answers) → OnOk r (new.failed ≡ false → new.rows.maps ≡ next)
-    → OnOk r ((tables : Tables) → HasCleanDisk (store_of g new) → Rests (store_of g old) tables → ShowsRows tables old.rows.maps → (after : Tables) × Rests (store_of g new) after × KeepsCells old.rows.maps next tables after)
-    → OnErr r (HasCleanDisk (store_of g new) → IsTrue (store_of g new).is_open → (tables : Tables) → Rests (store_of g old) tables → Rests (store_of g new) tables)
+    → OnOk r ((tables : Tables) → HasCleanDisk (store_of g new) → Rests (store_of g old) tables → IsCurrent tables → ShowsRows tables old.rows.maps → (after : Tables) × Rests (store_of g new) after × KeepsCells old.rows.maps next tables after)
+    → OnErr r (HasCleanDisk (store_of g new) → IsTrue (store_of g new).is_open → (tables : Tables) → Rests (store_of g old) tables → IsCurrent tables → Rests (store_of g new) tables)
     → (HasCleanDisk (store_of g new) → HasCleanDisk (store_of g old)) → IfErr r (λ fault. (error : _) × (fault ≡ Store error)) → OnErr r (new.failed ≡ true) → WritesOne g old new batch r
 accepted_writes g old new batch answers seq next (Ok reply) works good leads judged is rows cells undone clean fault failed = record {
   clean = clean;
   written = λ c known tables over.
-      let it = cells tables c over.rests (over.shows works) in
+      let it = cells tables c over.rests (over.current works) (over.shows works) in
       record {
         end = next;
         after = it.0;
         rests = it.1;
+        current = λ _. it.2.version ∙ over.current works;
         writes = subst (λ x. Writes old.rows.maps tables (acknowledged (batch ∷ []) (x ∷ [])) next it.0) (sym is) (next, it.0, good, leads, sym (ap (left_by (state_of old.rows.maps)) judged), it.2, (refl, refl));
         rows = rows;
       };
@@ -111,7 +117,8 @@ accepted_writes g old new batch answers seq next (Err (Store error)) works good 
   written = λ c opened tables over. record {
     end = old.rows.maps;
     after = tables;
-    rests = undone c opened tables over.rests;
+    rests = undone c opened tables over.rests (over.current works);
+    current = λ on. let no : true ≡ false = sym failed ∙ on in absurd cc;
     writes = (refl, refl);
     rows = λ on. let no : true ≡ false = sym failed ∙ on in absurd cc;
   };
@@ -140,7 +147,7 @@ pub record Written {S : Type 0} (g : Ghosts S) (old now : World S) (batches : Li
   pub written : HasCleanDisk (store_of g now) → (now.failed ≡ false) ⊎ IsTrue (store_of g now).is_open → (tables : Tables) → IsOver g old tables → HasWritten g old now tables batches
 
 pub written_none : {S : Type 0} (g : Ghosts S) (old : World S) → Written g old old []
-written_none g old = record { clean = λ c. c; works = λ works. works; written = λ c known tables over. none_written g old tables over.rests }
+written_none g old = record { clean = λ c. c; works = λ works. works; written = λ c known tables over. none_written g old tables over }
 
 -- one more batch was run
 pub written_on : {S : Type 0} (g : Ghosts S) (old now next : World S) (batches : List Batch) (batch : Batch) (r : Result Reply StoreFault)
@@ -181,7 +188,7 @@ pub wrote_none : {S : Type 0} (g : Ghosts S) (old : World S) (all : List Batch) 
 wrote_none g old all = record {
   clean = λ c. c;
   works = λ works. works;
-  written = λ c tables over. subst (HasWritten g old old tables) (sym (none_without_replies all)) (none_written g old tables over.rests);
+  written = λ c tables over. subst (HasWritten g old old tables) (sym (none_without_replies all)) (none_written g old tables over);
   same = λ none. refl;
 }
 

@@ -1,9 +1,14 @@
 -- What opening a store may answer, and what it may leave.
-use Rattle.std.specs.Prelude.{⊤}
+use Rattle.std.specs.Prelude.{◌≡◌, ⊤}
 use Rattle.sqlite.specs.State.{State as Database}
 use Rattle.sqlite.specs.Tree.{Trees}
-use Rattle.moo_tables.specs.Tables.{Tables}
+use Rattle.moo_rows.specs.Maps.{Maps}
+use Rattle.moo_world.specs.Judge.{State}
+use Rattle.moo_tables.specs.Tables.{Tables, first_schema}
+use Rattle.moo_tables.specs.Inside.{Rests}
+use Rattle.moo_cells.specs.Shows.{ShowsRows}
 use Rattle.moo_cells.specs.Damage.{Damage, IsNewer}
+use Rattle.moo_store.specs.States.{LeavesRows, ShowsState, LeavesState}
 use Rattle.moo_store.specs.declared.fault.StoreFault.{StoreFault}
 use Rattle.moo_store.specs.declared.fault.StoreFault.TheVariants.{Store, Damaged, NewerVersion, OutOfMemory, Closed}
 
@@ -23,6 +28,10 @@ IsOfStore NewerVersion = ⊥
 IsOfStore OutOfMemory = ⊤
 IsOfStore Closed = ⊥
 
--- what opening may commit: nothing
+-- in place of tables that show these rows the trees have others that show them
+abbrev pub TakesOver : Maps → Database → Trees → Type 0
+TakesOver rows store trees = (tables : Tables) → Rests store tables → ShowsRows tables rows → LeavesRows trees rows
+
+-- what opening may commit: in place of tables of the first version others that show what those showed
 abbrev pub Adopts : Database → Trees → Type 0
-Adopts conn trees = ⊥
+Adopts conn trees = (conn.now.schema ≡ first_schema) × ((s : State) → ShowsState conn s → LeavesState trees s)

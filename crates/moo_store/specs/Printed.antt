@@ -1,5 +1,7 @@
 -- Cells that are printed from changes of rows.
-use Rattle.std.specs.Prelude.{◌≡◌, List, [], ◌∷◌, Option, ⊤}
+use Rattle.std.specs.Prelude.{◌≡◌, List, [], ◌∷◌, map, Option, Some, ⊤}
+use Rattle.std.specs.FinMap.{FinMap, entries}
+use Rattle.std.specs.declared.cmp.Ordering.{Ordering}
 use Rattle.moo_value.specs.declared.value.ObjNo.{ObjNo}
 use Rattle.moo_rows.specs.declared.row.ObjRow.{ObjRow}
 use Rattle.moo_rows.specs.declared.row.PropId.{PropId}
@@ -12,6 +14,7 @@ use Rattle.moo_tables.specs.declared.cells.PropCells.{PropCells}
 use Rattle.moo_tables.specs.declared.cells.SlotCells.{SlotCells}
 use Rattle.moo_tables.specs.declared.cells.VerbCells.{VerbCells}
 use Rattle.moo_tables.specs.declared.cells.CellChanges.{CellChanges}
+use Rattle.moo_tables.specs.declared.version.Version.TheVariants.{Second}
 use Rattle.moo_tables.specs.Cells.{object_cells, prop_cells, slot_cells, verb_cells}
 use Rattle.moo_draft.specs.declared.changes.Changes.{Changes}
 use Rattle.moo_cells.specs.Shows.{ShowsObject, ShowsProp, ShowsSlot, ShowsVerb, ShowsOrNone}
@@ -23,7 +26,7 @@ abbrev pub PrintsProp : PropId → PropCells → PropRow → Type 0
 PrintsProp id cells row = ShowsProp id (prop_cells id cells) row
 
 abbrev pub PrintsSlot : ObjNo × PropId → SlotCells → SlotRow → Type 0
-PrintsSlot key cells row = ShowsSlot key (slot_cells key cells) row
+PrintsSlot key cells row = ShowsSlot Second key (slot_cells key cells) row
 
 abbrev pub PrintsVerb : ObjNo × VerbId → VerbCells → VerbRow → Type 0
 PrintsVerb key cells row = ShowsVerb key (verb_cells key cells) row
@@ -34,6 +37,13 @@ PrintEach prints [] [] = ⊤
 PrintEach prints (f ∷ fs) (e ∷ es) = (f.0 ≡ e.0) × ShowsOrNone (prints e.0) f.1 e.1 × PrintEach prints fs es
 PrintEach prints (f ∷ fs) [] = ⊥
 PrintEach prints [] (e ∷ es) = ⊥
+
+-- each row of a map, as a change from none
+abbrev pub as_changes : {K X : Type 0} → List (K × X) → List (K × Option X)
+as_changes es = map (λ e. (e.0, Some e.1)) es
+
+abbrev pub all_of : {K X : Type 0} {cmp : K → K → Ordering} → FinMap cmp X → List (K × Option X)
+all_of m = as_changes (entries m)
 
 pub record Prints (cells : CellChanges) (changes : Changes) : Type 0 where
   pub head : cells.head ≡ changes.head

@@ -1,5 +1,5 @@
 -- Where a World stands, and what running or asking one batch makes of that.
-use Rattle.std.specs.Prelude.{◌≡◌, ◌⊎◌, List, [], ◌∷◌, ⊤}
+use Rattle.std.specs.Prelude.{◌≡◌, ◌⊎◌, ⊤}
 use Rattle.moo_world.specs.declared.call.Batch.{Batch}
 use Rattle.moo_world.specs.Judge as model
 use Rattle.moo_world.specs.Judge.{State, judge}

@@ -8,7 +8,7 @@ use Rattle.moo_rows.specs.declared.row.PropId.{PropId}
 use Rattle.moo_rows.specs.declared.row.VerbId.{VerbId}
 use Rattle.moo_rows.specs.Maps.{Maps}
 use Rattle.moo_tables.specs.Tables.{Tables}
-use Rattle.moo_tables.specs.Inside.{Rests}
+use Rattle.moo_tables.specs.Inside.{Rests, IsCurrent}
 use Rattle.moo_world.specs.declared.call.Batch.{Batch}
 use Rattle.moo_world.specs.Rows.{IsGood}
 use Rattle.moo_world.specs.Between.{BatchLeads}
@@ -22,6 +22,7 @@ use Rattle.moo_store.specs.declared.fault.StoreFault.{StoreFault}
 
 -- From rows that the tables show to rows that the tables then show: where a row is the same in both, so are its cells.
 pub record KeepsCells (rows next : Maps) (old new : Tables) : Type 0 where
+  pub version : new.version ≡ old.version
   pub shown : ShowsRows old rows
   pub shows : ShowsRows new next
   pub objects : (n : ObjNo) → get rows.objects n ≡ get next.objects n → new.object n.0 ≡ old.object n.0
@@ -41,6 +42,7 @@ pub record HasWritten {S : Type 0} (g : Ghosts S) (old new : World S) (tables : 
   pub end : Maps
   pub after : Tables
   pub rests : Rests (store_of g new) after
+  pub current : new.failed ≡ false → IsCurrent after
   pub writes : Writes old.rows.maps tables batches end after
   pub rows : new.failed ≡ false → new.rows.maps ≡ end
 
@@ -49,9 +51,10 @@ abbrev pub taken_of : Batch → Result Reply StoreFault → List Batch
 taken_of batch (Ok reply) = acknowledged (batch ∷ []) (reply ∷ [])
 taken_of batch (Err fault) = []
 
--- These tables rest in the store of a World, and show its rows while it works.
+-- These tables rest in the store of a World; while it works they are of the present version, and show its rows.
 pub record IsOver {S : Type 0} (g : Ghosts S) (world : World S) (tables : Tables) : Type 0 where
   pub rests : Rests (store_of g world) tables
+  pub current : world.failed ≡ false → IsCurrent tables
   pub shows : world.failed ≡ false → ShowsRows tables world.rows.maps
 
 -- where the store failed, its connection is open still

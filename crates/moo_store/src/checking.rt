@@ -14,12 +14,12 @@ ghost use Rattle.moo_store.specs.Checked.{SaysInCheck, Fails};
 ghost use Rattle.moo_store.specs.World.{store_of, StandsFor};
 
 use crate::fault::StoreFault;
-use crate::reading::{read_lists, test_tables};
+use crate::reading::{read_lists, test_current};
 use crate::world::World;
 use moo_cells::{CellFault, compare_cells};
 use moo_damage::Kind;
 use moo_rows::{Flat, Rows, each_object};
-use moo_tables::{CellLists, are_listed};
+use moo_tables::{CellLists, Version, are_listed};
 use sqlite::{Alter, Connection, Error, ErrorCode};
 use std::alloc::Global;
 
@@ -75,11 +75,11 @@ fn check_rows<S: Alter>(
     ensures crash { Survives (state S.Store conn.old) (state S.Store conn.new) (λ _. ⊥) }
     ensures open { IfErr result (λ fault. fault ≢ StoreFault.Closed) }
 {
-    match test_tables(alloc, conn) {
+    match test_current(alloc, conn) {
         Ok(()) => {}
         Err(fault) => return Err(fault),
     }
-    match read_lists(conn) {
+    match read_lists(conn, Version::Second) {
         Ok(lists) => compare_lists(alloc, &lists, own),
         Err(fault) => Err(fault),
     }

@@ -10,7 +10,7 @@ ghost use Rattle.moo_cells.specs.Shows.{ShowsRows};
 ghost use Rattle.moo_store.specs.Printed.{Prints};
 ghost use Rattle.moo_store.specs.States.{KeepsRows, LeavesRows};
 ghost use Rattle.moo_tables.specs.Tables.{Tables};
-ghost use Rattle.moo_tables.specs.Inside.{Rests};
+ghost use Rattle.moo_tables.specs.Inside.{Rests, IsCurrent};
 ghost use Rattle.moo_store.specs.Untouched.{KeepsCells};
 
 use moo_tables::{CellChanges, commit_changes};
@@ -25,9 +25,9 @@ pub(crate) fn commit_cells<S: Alter>(
     requires outside { (state S.Store conn.old).in_transaction ≡ false }
     ensures outside { (state S.Store conn.new).in_transaction ≡ false }
     ensures written { HasCleanDisk (state S.Store conn.new) → OnOk result ((changes : Changes) (base next : Maps) → Prints cells.now changes → AreChanges base next changes → KeepsRows (state S.Store conn.old) base → KeepsRows (state S.Store conn.new) next) }
-    ensures cells { HasCleanDisk (state S.Store conn.new) → OnOk result ((changes : Changes) (base next : Maps) (tables : Tables) → Prints cells.now changes → AreChanges base next changes → Rests (state S.Store conn.old) tables → ShowsRows tables base → (after : Tables) × Rests (state S.Store conn.new) after × KeepsCells base next tables after) }
+    ensures cells { HasCleanDisk (state S.Store conn.new) → OnOk result ((changes : Changes) (base next : Maps) (tables : Tables) → Prints cells.now changes → AreChanges base next changes → Rests (state S.Store conn.old) tables → IsCurrent tables → ShowsRows tables base → (after : Tables) × Rests (state S.Store conn.new) after × KeepsCells base next tables after) }
     ensures clean { HasCleanDisk (state S.Store conn.new) → HasCleanDisk (state S.Store conn.old) }
-    ensures undone { HasCleanDisk (state S.Store conn.new) → OnErr result (IsTrue (state S.Store conn.new).is_open → (tables : Tables) → Rests (state S.Store conn.old) tables → Rests (state S.Store conn.new) tables) }
+    ensures undone { HasCleanDisk (state S.Store conn.new) → OnErr result (IsTrue (state S.Store conn.new).is_open → (tables : Tables) → Rests (state S.Store conn.old) tables → IsCurrent tables → Rests (state S.Store conn.new) tables) }
     ensures crash { (changes : Changes) (base next : Maps) → Prints cells.now changes → AreChanges base next changes → (HasCleanDisk (state S.Store conn.old) → KeepsRows (state S.Store conn.old) base) → Survives (state S.Store conn.old) (state S.Store conn.new) (λ trees. LeavesRows trees next) }
 {
     commit_changes(conn, cells)

@@ -12,6 +12,7 @@ mod dumping;
 mod fault;
 pub mod laws;
 mod looking;
+mod migrating;
 #[cfg(test)]
 mod mismatch_tests;
 mod output;

@@ -3,10 +3,12 @@
 ghost use Rattle.std.specs.Prelude.{◌≡◌, IfOk, map};
 ghost use Rattle.moo_value.specs.Literal.{Spells};
 ghost use Rattle.moo_cells.specs.Shows.{object_list, ShowsAccept, ShowsState, ShowsOrNone};
-ghost use Rattle.moo_store.specs.Printed.{PrintEach, Prints};
+ghost use Rattle.moo_store.specs.Printed.{PrintEach, PrintsSlot, Prints, all_of};
 
 use moo_draft::{ChangeList, Changes};
-use moo_rows::{ObjList, ObjRow, PropId, PropRow, SlotRow, SlotState, VerbId, VerbRow};
+use moo_rows::{
+    Flat, ObjList, ObjRow, PropId, PropRow, SlotRow, SlotState, VerbId, VerbRow, each_slot,
+};
 use moo_tables::{CellChanges, ObjectCells, PropCells, SlotCells, VerbCells};
 use moo_value::{MooStr, ObjNo, Value, ValueList, print_literal};
 use moo_verbs::{print_place, print_prep};
@@ -112,11 +114,10 @@ impl Print<(ObjNo, PropId), SlotCells> for SlotRow {
     ghost prints = { PrintsSlot };
 
     fn cells(&self, alloc: Global) -> Result<SlotCells, AllocError> {
-        let bits = self.bits.letters().as_bytes().to_vec(alloc)?;
         let value = state_cell(alloc, &self.state)?;
         Ok(SlotCells {
             owner: self.owner,
-            bits,
+            bits: self.bits.number(),
             value,
         })
     }
@@ -162,6 +163,21 @@ fn print_each<K: Copy + Drop, C: Drop, V: Print<K, C>>(
     let mut cells = Vec::with_capacity(alloc, changes.items().len())?;
     for (key, row) in changes.items() {
         cells.push((*key, print_row(alloc, row)?))?;
+    }
+    Ok(cells)
+}
+
+/// The cells of all slots, in the order of their keys. The only error is want of memory.
+pub(crate) fn print_slots(
+    alloc: Global,
+    rows: &Flat,
+) -> Result<Vec<((ObjNo, PropId), Option<SlotCells>)>, AllocError>
+    ensures { IfOk result (λ cells. PrintEach PrintsSlot cells.items (all_of rows.now.maps.slots)) }
+{
+    let mut cells = Vec::new(alloc);
+    for (key, row) in each_slot(rows) {
+        let printed = row.cells(alloc)?;
+        cells.push((key, Some(printed)))?;
     }
     Ok(cells)
 }

@@ -52,7 +52,7 @@ impl<S: Alter + Drop> World<S> {
     ghost use Rattle.moo_store.specs.States.{LeavesState};
     ghost use Rattle.moo_store.specs.Answered.{answer_of, IsRun, AnsweredOne, Answered, acknowledged, added};
     ghost use Rattle.moo_tables.specs.Tables.{Tables};
-    ghost use Rattle.moo_tables.specs.Inside.{Rests};
+    ghost use Rattle.moo_tables.specs.Inside.{Rests, IsCurrent};
     ghost use Rattle.moo_store.specs.Untouched.{KeepsCells, WritesOne, HasWritten, IsKnown, taken_of};
     ghost use Rattle.moo_store.specs.Stand.{Stand};
     ghost use Rattle.moo_store.specs.Text.{answer_to, StandsBehind, RunsAll};
@@ -90,8 +90,8 @@ impl<S: Alter + Drop> World<S> {
         ensures reply { IfOk result (λ reply. reply ≡ Reply.Accepted changes.head.seq answers) }
         ensures is_at { OnOk result ((known : Bool) (next : Maps) → (IsTrue known → ShowsItsRows S.Store self.old) → AreChanges self.old.rows.maps next changes → IsGood next → IsAt S.Store known self.new (state_of next)) }
         ensures rows { OnOk result ((next : Maps) → AreChanges self.old.rows.maps next changes → self.new.failed ≡ false → self.new.rows.maps ≡ next) }
-        ensures cells { OnOk result ((next : Maps) (tables : Tables) → AreChanges self.old.rows.maps next changes → HasCleanDisk (store_of S.Store self.new) → Rests (store_of S.Store self.old) tables → ShowsRows tables self.old.rows.maps → (after : Tables) × Rests (store_of S.Store self.new) after × KeepsCells self.old.rows.maps next tables after) }
-        ensures undone { OnErr result (HasCleanDisk (store_of S.Store self.new) → IsTrue (store_of S.Store self.new).is_open → (tables : Tables) → Rests (store_of S.Store self.old) tables → Rests (store_of S.Store self.new) tables) }
+        ensures cells { OnOk result ((next : Maps) (tables : Tables) → AreChanges self.old.rows.maps next changes → HasCleanDisk (store_of S.Store self.new) → Rests (store_of S.Store self.old) tables → IsCurrent tables → ShowsRows tables self.old.rows.maps → (after : Tables) × Rests (store_of S.Store self.new) after × KeepsCells self.old.rows.maps next tables after) }
+        ensures undone { OnErr result (HasCleanDisk (store_of S.Store self.new) → IsTrue (store_of S.Store self.new).is_open → (tables : Tables) → Rests (store_of S.Store self.old) tables → IsCurrent tables → Rests (store_of S.Store self.new) tables) }
         ensures clean { HasCleanDisk (store_of S.Store self.new) → HasCleanDisk (store_of S.Store self.old) }
         ensures fault { IfErr result (λ fault. (error : _) × (fault ≡ Store error)) }
         ensures failed { OnErr result (self.new.failed ≡ true) }

@@ -142,6 +142,7 @@ is_value_cmp m n = sym (value_cmp-Int m n)
 -- no table has another row
 pub lists_are : (lists : CellLists) (tables : Tables) → ListsTables lists tables → tables_of lists ≡ tables
 lists_are lists tables it = λ i. record {
+  version = it.version i;
   head = λ n. it.head.found n i;
   object = λ n. it.object.found n i;
   prop = λ n. it.prop.found n i;

@@ -1,5 +1,5 @@
 -- What the queries of the tables answer.
-use Rattle.std.proofs.Common.{◌≡◌, ◌⊎◌, ℕ, ℤ, List, [], ◌∷◌, map, drop, codes, option_map, true, false, not, Vec, inl, inr, Result, Ok, Err, IfOk, IfErr, OnOk, OnErr, IsTrue, refl, sym, ap, subst, subst₂, ◌∙◌, Ordering, Less, Equal}
+use Rattle.std.proofs.Common.{◌≡◌, ◌⊎◌, ◌&&◌, None, ℕ, ℤ, List, [], ◌∷◌, map, drop, codes, option_map, true, false, not, Vec, inl, inr, Result, Ok, Err, IfOk, IfErr, OnOk, OnErr, IsTrue, refl, sym, ap, subst, ◌∙◌, Ordering, Less, Equal}
 use Rattle.std.specs.Ordering.{is_eq, ordering_then}
 use Rattle.std.specs.Cmp.{on_total}
 use Rattle.std.specs.List.Sorted.{IsPermutation}
@@ -13,6 +13,11 @@ use Rattle.sqlite.specs.Term.{Term, eval_all}
 use Rattle.sqlite.specs.Query.{Query, Output, output, output_cmp}
 use Rattle.sqlite.specs.Program.{overlay}
 use Rattle.sqlite.specs.Schema.{Schema}
+use Rattle.sqlite.specs.Table.{Table}
+use Rattle.sqlite.specs.Tree.{Trees}
+use Rattle.sqlite_schema.specs.declared.schema.Column.{Column}
+use Rattle.sqlite_schema.specs.declared.schema.Kind.TheVariants.{Integer}
+use Rattle.std.specs.List.{AllByRecursion}
 use Rattle.sqlite.specs.Effect.{Database}
 use Rattle.sqlite.specs.Listing.{understood}
 use Rattle.sqlite.specs.State.{State, HasCleanDisk, Shown, ShowsRows, Survives, CommitsShowing, IsUnchanged, IsRolledBack, FailsToQuery, FailsToShow, IsNotRun}
@@ -24,7 +29,7 @@ use Rattle.sqlite_trees.specs.View.{is_int}
 use Rattle.sqlite_value.proofs.OrderLemmas.{then-Equal}
 use Rattle.sqlite_sql.proofs.QueryLemmas.{output_cmp_total}
 use Rattle.sqlite_schema.specs.declared.schema.Constraint.TheVariants.{Datatype, NotNull, Unique}
-use Rattle.sqlite_schema.specs.Rules.{clashes, has_computed}
+use Rattle.sqlite_schema.specs.Rules.{clashes, are_typed, are_present, has_computed}
 use Rattle.sqlite_value.specs.Keys.{plain}
 use Rattle.sqlite_catalog.specs.Listing.{IsSound}
 use Rattle.sqlite_rules.specs.Lists.{Has}
@@ -32,10 +37,13 @@ use Rattle.sqlite_rules.proofs.ListLemmas.{all_has, all_from, has_contained, con
 use Rattle.sqlite_keyed.specs.Lists.{sort_by}
 use Rattle.sqlite_keyed.proofs.SortLemmas.{sorted_is-sort_by, IsPermutation-sort_by, sort_by-map}
 use Rattle.sqlite_keyed.proofs.ListLemmas.{ascending-map, ascending_from_map, ascending_weaker, all_map}
-use Rattle.moo_tables.specs.Tables.{Tables, moo_schema, slot_table, verb_table, has_pair, cells_at, found_in, head_places, object_places, prop_places, slot_places, verb_places}
+use Rattle.moo_tables.specs.declared.version.Version.{Version}
+use Rattle.moo_tables.specs.declared.version.Version.TheVariants.{First, Second}
+use Rattle.moo_tables.specs.Tables.{Tables, required, schema_of, slot_tree, slot_table, slot2_table, verb_table, has_pair, cells_at, found_in, numbered_in, paired_in, head_places, object_places, prop_places, slot_places, verb_places}
 use Rattle.moo_tables.specs.Inside.{AreKeyed, Holds, Rests, HasTables, Reads, FailsToRead}
 use Rattle.moo_tables.specs.Listing.{ListsNumbers, ListsPairs, IsBelow, begins_with}
-use Rattle.moo_tables.proofs.TextLemmas.{plain_query, number_order, pair_order, select_head_text, select_head_is, select_head_plain, head_columns, select_object_text, select_object_is, select_object_plain, object_columns, select_prop_text, select_prop_is, select_prop_plain, prop_columns, select_slot_text, select_slot_is, select_slot_plain, slot_columns, select_verb_text, select_verb_is, select_verb_plain, verb_columns}
+use Rattle.moo_tables.proofs.TextLemmas.{plain_query, in_order, number_order, pair_order}
+use Rattle.moo_tables.proofs.SelectLemmas.{IsSelect, select_head_text, head_columns, select_head, select_object_text, object_columns, select_object, select_prop_text, prop_columns, select_prop, select_slot_text, slot_columns, select_slot, select_verb_text, verb_columns, select_verb}
 use Rattle.moo_tables.proofs.InsideLemmas.{clean_before}
 use Rattle.moo_tables.proofs.QueryLemmas.{chosen, Selects, selects, shows_in_order, shown_rows}
 use Rattle.moo_tables.proofs.SortLemmas.{rises-sort_by}
@@ -50,6 +58,15 @@ unchanged_as sql params old new rows plain h =
 pub all_chosen : (params : Row) (rows : List Row) → chosen [] params rows ≡ rows
 all_chosen params [] = refl
 all_chosen params (r ∷ rows) = ap (λ more. r ∷ more) (all_chosen params rows)
+
+-- two columns are whole numbers, and tell the row
+pub record ArePairs (rows : List Row) : Type 0 where
+  pub ints : (r : Row) → Has rows r → IsTrue (is_int (column r 1)) × IsTrue (is_int (column r 2))
+  pub one : (key : ℤ × ℤ) (r s : Row) → Has rows r → Has rows s → has_pair key r ≡ true → has_pair key s ≡ true → r ≡ s
+
+each_shown : (project : List Term) (places : List ℕ) → ((r : Row) → eval_all project ([] ∷ r ∷ []) ≡ cells_at places r) → (rs : List Row) → map (λ r. eval_all project ([] ∷ r ∷ [])) rs ≡ map (cells_at places) rs
+each_shown project places shows [] = refl
+each_shown project places shows (r ∷ rs) = ap (λ c. c ∷ map (λ r. eval_all project ([] ∷ r ∷ [])) rs) (shows r) ∙ ap (λ cs. cells_at places r ∷ cs) (each_shown project places shows rs)
 
 module _ (tree : ℕ) (project : List Term) (places : List ℕ) (shows : (r : Row) → eval_all project ([] ∷ r ∷ []) ≡ cells_at (1 ∷ 2 ∷ places) r) (rows shown : List Row) (it : Selects (plain_query tree [] project pair_order) [] rows shown)
     (keyed : AreKeyed rows) (ints : (r : Row) → Has rows r → IsTrue (is_int (column r 1)) × IsTrue (is_int (column r 2)))
@@ -72,14 +89,10 @@ module _ (tree : ℕ) (project : List Term) (places : List ℕ) (shows : (r : Ro
   apart : IsAscending (λ a b. is_eq (output_cmp q a b) ≡ false) (map out rows)
   apart = ascending-map (λ a b. is_eq (output_cmp q a b) ≡ false) out rows (no_ties rows keyed ints one rows (λ r has. has) keyed.0)
 
-  each_shown : (rs : List Row) → map (λ r. eval_all project ([] ∷ r ∷ [])) rs ≡ map cells rs
-  each_shown [] = refl
-  each_shown (r ∷ rs) = ap (λ c. c ∷ map (λ r. eval_all project ([] ∷ r ∷ [])) rs) (shows r) ∙ ap (λ cs. cells r ∷ cs) (each_shown rs)
-
   shown_is : shown ≡ map cells sorted
   shown_is =
       let ordered = sorted_is-sort_by (output_cmp q) (output_cmp_total q) (map out rows) it.ordered apart it.same it.sorted ∙ sort_by-map (output_cmp q) out rows in
-      it.shown_is ∙ ap (map (λ (o : Output). o.1)) ordered ∙ shown_rows q [] sorted ∙ each_shown sorted
+      it.shown_is ∙ ap (map (λ (o : Output). o.1)) ordered ∙ shown_rows q [] sorted ∙ each_shown project (1 ∷ 2 ∷ places) shows sorted
 
   rises : IsAscending IsBelow (map cells sorted)
   rises =
@@ -105,11 +118,6 @@ module _ (tree : ℕ) (project : List Term) (places : List ℕ) (shows : (r : Ro
 
   pub lists_pairs : ListsPairs shown (found_in has_pair cells rows)
   lists_pairs = subst (λ cs. ListsPairs cs (found_in has_pair cells rows)) (sym shown_is) sorted_lists
-
--- ---- each table
-
-sound_in : (db : Database) (tables : Tables) → Holds db tables → IsSound moo_schema db.trees
-sound_in db tables holds = subst (λ s. IsSound s db.trees) holds.schema holds.sound
 
 -- ---- a query of the tables changes nothing
 
@@ -205,61 +213,82 @@ module _ (schema : Schema) (sql : List ℕ) (known : IsPlain (understood schema 
         crash = quiet;
       }
 
-  pub lists : (Lists : List Row → Tables → Type 0) → ((rows : List Row) (tables : Tables) → Holds old.now tables → Shown sql [] old new rows → Lists rows tables) → (HasCleanDisk new → IfOk r (λ rows. Shown sql [] old new rows.items))
-      → HasCleanDisk new → IfOk r (λ rows. (tables : Tables) → Rests old tables → Lists rows.items tables)
-  lists Lists shows ok = go r ok
-    where
-      go : (r : Result (Vec Row Global) Error) → (HasCleanDisk new → IfOk r (λ rows. Shown sql [] old new rows.items)) → HasCleanDisk new → IfOk r (λ rows. (tables : Tables) → Rests old tables → Lists rows.items tables)
-      go (Err e) ok clean = tt
-      go (Ok rows) ok clean = λ tables it. shows rows.items tables it.holds (ok clean)
+-- what a query shows of the tables that the connection has
+pub lists : (sql : List ℕ) (old new : State) (r : Result (Vec Row Global) Error) (Lists : List Row → Tables → Type 0) → ((rows : List Row) (tables : Tables) → Holds old.now tables → Shown sql [] old new rows → Lists rows tables)
+    → (HasCleanDisk new → IfOk r (λ rows. Shown sql [] old new rows.items)) → HasCleanDisk new → IfOk r (λ rows. (tables : Tables) → Rests old tables → Lists rows.items tables)
+lists sql old new (Err e) Lists shows ok clean = tt
+lists sql old new (Ok rows) Lists shows ok clean = λ tables it. shows rows.items tables it.holds (ok clean)
+
+-- ---- the rows of a table that the query reads whole
+
+module _ (schema : Schema) (text : List ℕ) (tree : ℕ) (columns : List Term) (names : List (List ℕ)) (places : List ℕ) (old new : State) (rows : List Row) (has : HasTables schema old) (keyed : AreKeyed (old.now.trees tree)) (stored : overlay old.now.trees [] tree ≡ old.now.trees tree)
+    (h : Shown text [] old new rows) where
+  abbrev the_rows : List Row
+  the_rows = old.now.trees tree
+
+  numbers_listed : IsSelect schema text (in_order tree columns number_order) names → ((r : Row) → eval_all columns ([] ∷ r ∷ []) ≡ cells_at (0 ∷ places) r) → ListsNumbers rows (numbered_in (0 ∷ places) the_rows)
+  numbers_listed known shows =
+      let q = plain_query tree [] columns number_order in
+      let read = reads_as text [] old new schema has _ known.command known.plain known.unlisted rows h in
+      let it = subst (λ found. Selects q [] found rows) (ap (chosen [] []) stored ∙ all_chosen [] the_rows) (selects tree [] columns number_order (overlay old.now.trees []) [] rows (read.answer Null)) in
+      let shown = shows_in_order q [] _ (λ a b below. ap (λ o. ordering_then o Equal) below) the_rows rows keyed.0 it ∙ each_shown columns (0 ∷ places) shows the_rows in
+      subst (λ cells. ListsNumbers cells (numbered_in (0 ∷ places) the_rows)) (sym shown) (lists_numbers places the_rows keyed)
+
+  pairs_listed : IsSelect schema text (in_order tree columns pair_order) names → ((r : Row) → eval_all columns ([] ∷ r ∷ []) ≡ cells_at (1 ∷ 2 ∷ places) r) → ArePairs the_rows → ListsPairs rows (paired_in (1 ∷ 2 ∷ places) the_rows)
+  pairs_listed known shows pairs =
+      let read = reads_as text [] old new schema has _ known.command known.plain known.unlisted rows h in
+      let it = subst (λ found. Selects (plain_query tree [] columns pair_order) [] found rows) (ap (chosen [] []) stored ∙ all_chosen [] the_rows) (selects tree [] columns pair_order (overlay old.now.trees []) [] rows (read.answer Null)) in
+      lists_pairs tree columns places shows the_rows rows it keyed pairs.ints pairs.one
+
+-- ---- what the schema asks of the rows of a table with a key of two columns
+
+pairs_in : (one two : List ℕ) (more : List Column) (t : Table) (rows : List Row) → AreKeyed rows
+    → AllByRecursion (λ r. (are_typed None 0 (required Integer one ∷ required Integer two ∷ more) (drop 1 r) && has_computed t r) ≡ true) rows
+    → AllByRecursion (λ r. are_present None 0 (required Integer one ∷ required Integer two ∷ more) r ≡ true) rows
+    → AllByRecursion (λ r. (not (clashes plain (1 ∷ 2 ∷ []) rows r) && true) ≡ true) rows → ArePairs rows
+pairs_in one two more t rows keyed typed present unique =
+    let ints = λ (r : Row) (has : Has rows r). two_ints r one two more (and_parts _ (has_computed t r) (all_has _ rows r typed has)).0 (all_has _ rows r present has) in
+    let alone = λ (r : Row) (has : Has rows r). not-true _ (and_parts (not (clashes plain (1 ∷ 2 ∷ []) rows r)) true (all_has _ rows r unique has)).0 in
+    record { ints = ints; one = one_pair rows keyed alone ints }
+
+slot_pairs : (version : Version) (db : Trees) → IsSound (schema_of version) db → AreKeyed (db (slot_tree version)) → ArePairs (db (slot_tree version))
+slot_pairs First db sound keyed = pairs_in (codes "object") (codes "prop") (drop 2 slot_table.columns) slot_table (db 3) keyed (sound.obeys.rules Datatype).1.1.1.0 (sound.obeys.rules NotNull).1.1.1.0 (sound.obeys.rules Unique).1.1.1.0
+slot_pairs Second db sound keyed =
+    pairs_in (codes "object") (codes "prop") (drop 2 slot2_table.columns) slot2_table (db 7) keyed (sound.obeys.rules Datatype).1.1.1.1.1.0 (sound.obeys.rules NotNull).1.1.1.1.1.0 (sound.obeys.rules Unique).1.1.1.1.1.0
+
+slots_stored : (version : Version) (db : Trees) → overlay db [] (slot_tree version) ≡ db (slot_tree version)
+slots_stored First db = refl
+slots_stored Second db = refl
+
+verb_pairs : (version : Version) (db : Trees) → IsSound (schema_of version) db → AreKeyed (db 5) → ArePairs (db 5)
+verb_pairs First db sound keyed = pairs_in (codes "object") (codes "id") (drop 2 verb_table.columns) verb_table (db 5) keyed (sound.obeys.rules Datatype).1.1.1.1.0 (sound.obeys.rules NotNull).1.1.1.1.0 (sound.obeys.rules Unique).1.1.1.1.0
+verb_pairs Second db sound keyed = pairs_in (codes "object") (codes "id") (drop 2 verb_table.columns) verb_table (db 5) keyed (sound.obeys.rules Datatype).1.1.1.1.0 (sound.obeys.rules NotNull).1.1.1.1.0 (sound.obeys.rules Unique).1.1.1.1.0
+
+sound_in : (db : Database) (tables : Tables) → Holds db tables → IsSound (schema_of tables.version) db.trees
+sound_in db tables holds = subst (λ s. IsSound s db.trees) holds.schema holds.sound
 
 -- ---- what each query lists
 
 pub head_lists : (old new : State) (rows : List Row) (tables : Tables) → Holds old.now tables → Shown select_head_text [] old new rows → ListsNumbers rows tables.head
 head_lists old new rows tables holds h =
-    let read = reads_as select_head_text [] old new moo_schema holds.schema _ select_head_is.0 select_head_plain select_head_is.1 rows h in
-    let the_rows = old.now.trees 0 in
-    let keyed = holds.heads in
-    let it = subst (λ found. Selects (plain_query 0 [] head_columns number_order) [] found rows) (all_chosen [] the_rows) (selects 0 [] head_columns number_order (overlay old.now.trees []) [] rows (read.answer Null)) in
-    let shown = shows_in_order (plain_query 0 [] head_columns number_order) [] _ (λ a b below. ap (λ o. ordering_then o Equal) below) the_rows rows keyed.0 it in
-    subst₂ ListsNumbers (sym shown) (ap (λ (t : Tables). t.head) holds.rows) (lists_numbers (drop 1 head_places) the_rows keyed)
+    subst (ListsNumbers rows) (ap (λ (t : Tables). t.head) holds.rows) (numbers_listed (schema_of tables.version) select_head_text 0 head_columns _ (drop 1 head_places) old new rows holds.schema holds.heads refl h (select_head tables.version) (λ r. refl))
 
 pub object_lists : (old new : State) (rows : List Row) (tables : Tables) → Holds old.now tables → Shown select_object_text [] old new rows → ListsNumbers rows tables.object
 object_lists old new rows tables holds h =
-    let read = reads_as select_object_text [] old new moo_schema holds.schema _ select_object_is.0 select_object_plain select_object_is.1 rows h in
-    let the_rows = old.now.trees 1 in
-    let keyed = holds.objects in
-    let it = subst (λ found. Selects (plain_query 1 [] object_columns number_order) [] found rows) (all_chosen [] the_rows) (selects 1 [] object_columns number_order (overlay old.now.trees []) [] rows (read.answer Null)) in
-    let shown = shows_in_order (plain_query 1 [] object_columns number_order) [] _ (λ a b below. ap (λ o. ordering_then o Equal) below) the_rows rows keyed.0 it in
-    subst₂ ListsNumbers (sym shown) (ap (λ (t : Tables). t.object) holds.rows) (lists_numbers (drop 1 object_places) the_rows keyed)
+    subst (ListsNumbers rows) (ap (λ (t : Tables). t.object) holds.rows) (numbers_listed (schema_of tables.version) select_object_text 1 object_columns _ (drop 1 object_places) old new rows holds.schema holds.objects refl h (select_object tables.version) (λ r. refl))
 
 pub prop_lists : (old new : State) (rows : List Row) (tables : Tables) → Holds old.now tables → Shown select_prop_text [] old new rows → ListsNumbers rows tables.prop
 prop_lists old new rows tables holds h =
-    let read = reads_as select_prop_text [] old new moo_schema holds.schema _ select_prop_is.0 select_prop_plain select_prop_is.1 rows h in
-    let the_rows = old.now.trees 2 in
-    let keyed = holds.props in
-    let it = subst (λ found. Selects (plain_query 2 [] prop_columns number_order) [] found rows) (all_chosen [] the_rows) (selects 2 [] prop_columns number_order (overlay old.now.trees []) [] rows (read.answer Null)) in
-    let shown = shows_in_order (plain_query 2 [] prop_columns number_order) [] _ (λ a b below. ap (λ o. ordering_then o Equal) below) the_rows rows keyed.0 it in
-    subst₂ ListsNumbers (sym shown) (ap (λ (t : Tables). t.prop) holds.rows) (lists_numbers (drop 1 prop_places) the_rows keyed)
+    subst (ListsNumbers rows) (ap (λ (t : Tables). t.prop) holds.rows) (numbers_listed (schema_of tables.version) select_prop_text 2 prop_columns _ (drop 1 prop_places) old new rows holds.schema holds.props refl h (select_prop tables.version) (λ r. refl))
 
-pub slot_lists : (old new : State) (rows : List Row) (tables : Tables) → Holds old.now tables → Shown select_slot_text [] old new rows → ListsPairs rows tables.slot
-slot_lists old new rows tables holds h =
-    let read = reads_as select_slot_text [] old new moo_schema holds.schema _ select_slot_is.0 select_slot_plain select_slot_is.1 rows h in
-    let the_rows = old.now.trees 3 in
-    let keyed = holds.slots in
-    let it = subst (λ found. Selects (plain_query 3 [] slot_columns pair_order) [] found rows) (all_chosen [] the_rows) (selects 3 [] slot_columns pair_order (overlay old.now.trees []) [] rows (read.answer Null)) in
-    let sound = sound_in old.now tables holds in
-    let ints = λ (r : Row) (has : Has the_rows r). two_ints r (codes "object") (codes "prop") (drop 2 slot_table.columns) (and_parts _ (has_computed slot_table r) (all_has _ the_rows r (sound.obeys.rules Datatype).1.1.1.0 has)).0 (all_has _ the_rows r (sound.obeys.rules NotNull).1.1.1.0 has) in
-    let unique = λ (r : Row) (has : Has the_rows r). not-true _ (and_parts (not (clashes plain (1 ∷ 2 ∷ []) the_rows r)) true (all_has _ the_rows r (sound.obeys.rules Unique).1.1.1.0 has)).0 in
-    subst (ListsPairs rows) (ap (λ (t : Tables). t.slot) holds.rows) (lists_pairs 3 slot_columns (drop 2 slot_places) (λ r. refl) the_rows rows it keyed ints (one_pair the_rows keyed unique ints))
+pub slot_lists : (version : Version) (old new : State) (rows : List Row) (tables : Tables) → Holds old.now tables → Shown (select_slot_text version) [] old new rows → tables.version ≡ version → ListsPairs rows tables.slot
+slot_lists version old new rows tables holds h is =
+    let shown = subst (λ v. Shown (select_slot_text v) [] old new rows) (sym is) h in
+    let pairs = slot_pairs tables.version old.now.trees (sound_in old.now tables holds) holds.slots in
+    subst (ListsPairs rows) (ap (λ (t : Tables). t.slot) holds.rows)
+    (pairs_listed (schema_of tables.version) (select_slot_text tables.version) (slot_tree tables.version) slot_columns _ (drop 2 slot_places) old new rows holds.schema holds.slots (slots_stored tables.version old.now.trees) shown (select_slot tables.version) (λ r. refl) pairs)
 
 pub verb_lists : (old new : State) (rows : List Row) (tables : Tables) → Holds old.now tables → Shown select_verb_text [] old new rows → ListsPairs rows tables.verb
 verb_lists old new rows tables holds h =
-    let read = reads_as select_verb_text [] old new moo_schema holds.schema _ select_verb_is.0 select_verb_plain select_verb_is.1 rows h in
-    let the_rows = old.now.trees 5 in
-    let keyed = holds.verbs in
-    let it = subst (λ found. Selects (plain_query 5 [] verb_columns pair_order) [] found rows) (all_chosen [] the_rows) (selects 5 [] verb_columns pair_order (overlay old.now.trees []) [] rows (read.answer Null)) in
-    let sound = sound_in old.now tables holds in
-    let ints = λ (r : Row) (has : Has the_rows r). two_ints r (codes "object") (codes "id") (drop 2 verb_table.columns) (and_parts _ (has_computed verb_table r) (all_has _ the_rows r (sound.obeys.rules Datatype).1.1.1.1.0 has)).0 (all_has _ the_rows r (sound.obeys.rules NotNull).1.1.1.1.0 has) in
-    let unique = λ (r : Row) (has : Has the_rows r). not-true _ (and_parts (not (clashes plain (1 ∷ 2 ∷ []) the_rows r)) true (all_has _ the_rows r (sound.obeys.rules Unique).1.1.1.1.0 has)).0 in
-    subst (ListsPairs rows) (ap (λ (t : Tables). t.verb) holds.rows) (lists_pairs 5 verb_columns (drop 2 verb_places) (λ r. refl) the_rows rows it keyed ints (one_pair the_rows keyed unique ints))
+    let pairs = verb_pairs tables.version old.now.trees (sound_in old.now tables holds) holds.verbs in
+    subst (ListsPairs rows) (ap (λ (t : Tables). t.verb) holds.rows) (pairs_listed (schema_of tables.version) select_verb_text 5 verb_columns _ (drop 2 verb_places) old new rows holds.schema holds.verbs refl h (select_verb tables.version) (λ r. refl) pairs)

@@ -1,6 +1,7 @@
 -- What the calls of one transaction leave of a connection, and what a whole one leaves.
-use Rattle.std.specs.Prelude.{◌≡◌, ◌⊎◌, ℕ, false, IsTrue, List, [], None, Result, IfOk}
+use Rattle.std.specs.Prelude.{◌≡◌, ◌⊎◌, ℕ, pos, false, IsTrue, List, [], ◌∷◌, None, Result, IfOk}
 use Rattle.std.specs.List.{AllByRecursion}
+use Rattle.sqlite.specs.declared.types.Value.TheVariants.{Null, Int}
 use Rattle.sqlite.specs.Schema.{Schema}
 use Rattle.sqlite.specs.Order.{Row}
 use Rattle.sqlite.specs.Tree.{Trees}
@@ -9,27 +10,33 @@ use Rattle.sqlite_trees.specs.declared.store.Shape.TheVariants.{Table}
 use Rattle.sqlite.specs.Effect.{Database, IsDatabase}
 use Rattle.sqlite.specs.declared.error.Error.{Error}
 use Rattle.sqlite.specs.State.{State, HasCleanDisk, Executes, IsUnchanged, IsRolledBack, KeepsCommit, Survives, Opens}
-use Rattle.moo_tables.specs.Tables.{Tables, tables_in, no_schema, moo_schema}
+use Rattle.moo_tables.specs.declared.version.Version.TheVariants.{First, Second}
+use Rattle.moo_tables.specs.Tables.{Tables, tables_in, no_schema, schema_of, slot_tree}
 
 -- the rows rise by their numbers, which are whole
 abbrev pub AreKeyed : List Row → Type 0
 AreKeyed = IsShaped Table
 
+-- the tables are of the version that is written
+abbrev pub IsCurrent : Tables → Type 0
+IsCurrent tables = tables.version ≡ Second
+
 -- a sound database of exactly these tables, with these rows
 pub record Holds (db : Database) (tables : Tables) : Type 0 where
   pub sound : IsDatabase db
-  pub schema : db.schema ≡ moo_schema
-  pub rows : tables_in db.trees ≡ tables
+  pub schema : db.schema ≡ schema_of tables.version
+  pub rows : tables_in tables.version db.trees ≡ tables
   pub heads : AreKeyed (db.trees 0)
   pub objects : AreKeyed (db.trees 1)
   pub props : AreKeyed (db.trees 2)
-  pub slots : AreKeyed (db.trees 3)
+  pub slots : AreKeyed (db.trees (slot_tree tables.version))
   pub verbs : AreKeyed (db.trees 5)
 
 -- a transaction is open, and sees these tables
 pub record Sees (s : State) (tables : Tables) : Type 0 where
   pub is_open : IsTrue s.is_open
   pub inside : IsTrue s.in_transaction
+  pub current : IsCurrent tables
   pub holds : Holds s.now tables
 
 -- the connection is open and in no transaction, and has these tables
@@ -70,11 +77,11 @@ pub record FailsToRead (schema : Schema) (old new : State) : Type 0 where
 
 -- trees of exactly these tables, with these rows
 abbrev pub Leaves : Trees → Tables → Type 0
-Leaves trees tables = Holds (record { schema = moo_schema; trees = trees }) tables
+Leaves trees tables = Holds (record { schema = schema_of tables.version; trees = trees }) tables
 
 -- tables without rows
 abbrev pub no_tables : Tables
-no_tables = record { head = λ _. None; object = λ _. None; prop = λ _. None; slot = λ _. None; verb = λ _. None }
+no_tables = record { version = Second; head = λ _. None; object = λ _. None; prop = λ _. None; slot = λ _. None; verb = λ _. None }
 
 -- the connection is in no transaction, and its database is this one, committed
 pub record RestsAt (s : State) (db : Database) : Type 0 where
@@ -93,6 +100,24 @@ pub record MayOpenAs (crashed s : State) : Type 0 where
 pub record IsMade (schema : Schema) (trees : List ℕ) (db : Database) : Type 0 where
   pub schema_is : db.schema ≡ schema
   pub empty : AllByRecursion (λ tree. db.trees tree ≡ []) trees
+
+-- the five tables of the first layout, without rows
+abbrev pub no_first_tables : Tables
+no_first_tables = record no_tables { version = First }
+
+-- On the way from the first layout to the second: the trees of the first are those of the base, and these have been made since, empty.
+pub record IsGrown (base : Database) (schema : Schema) (made : List ℕ) (db : Database) : Type 0 where
+  pub schema_is : db.schema ≡ schema
+  pub same : AllByRecursion (λ tree. db.trees tree ≡ base.trees tree) (0 ∷ 1 ∷ 2 ∷ 3 ∷ 5 ∷ [])
+  pub empty : AllByRecursion (λ tree. db.trees tree ≡ []) made
+
+-- the one row of `petition_head` in a new store, as its tree has it: the next petition is the first
+abbrev pub first_petition : List Row
+first_petition = (Int (pos 1) ∷ Null ∷ Int (pos 1) ∷ []) ∷ []
+
+-- the same tables in the second layout, in which there is no slot yet
+abbrev pub grown : Tables → Tables
+grown tables = record tables { version = Second; slot = λ _. None }
 
 -- a database without tables
 abbrev pub HasNoTables : Database → Type 0

@@ -1,172 +1,20 @@
-//! Whether a database has exactly the five tables.
+//! Which of the two layouts a database has.
 
-ghost use Rattle.std.specs.Prelude.{◌≡◌, [], ◌∷◌, drop, IsTrue, IfOk};
+ghost use Rattle.std.specs.Prelude.{◌≡◌, [], ◌∷◌, drop, IsTrue, IfOk, IfSome};
 ghost use Rattle.sqlite_value.specs.Keys.{plain};
-ghost use Rattle.moo_tables.specs.Tables.{required, head_table, object_table, prop_table, slot_table, verb_table, key_index, moo_schema};
+ghost use Rattle.moo_tables.specs.Tables.{head_table, object_table, prop_table, slot_table, verb_table, slot2_table, petition_table, petition_head_table, key_index, first_schema, second_schema, schema_of};
 ghost use Rattle.moo_tables.specs.Ours.{HasNoRules, IsNumbered, IsPaired};
 
+use crate::columns::{
+    are_head_columns, are_object_columns, are_petition_columns, are_petition_head_columns,
+    are_prop_columns, are_slot_columns, are_slot2_columns, are_verb_columns,
+};
+use crate::version::Version;
 use sqlite_items::Items;
 use sqlite_schema::code::Terms;
-use sqlite_schema::schema::{Column, Index, Kind, Schema, Table};
-use sqlite_value::keys::{Collation, Order};
-use sqlite_value::value::Value;
+use sqlite_schema::schema::{Index, Schema, Table};
+use sqlite_value::keys::Order;
 use std::alloc::{AllocError, Global};
-
-/// Whether it is a column of a STRICT table with this name and type that is never empty, and has no default.
-fn is_required(column: &Column, name: &[u8], kind: Kind) -> bool
-    ensures { IsTrue result → column.now ≡ required kind name.now }
-{
-    column.name.as_slice() == name
-        && column.kind == kind
-        && column.is_strict
-        && column.not_null
-        && matches!(column.default, Value::Null)
-        && column.collation == Collation::Binary
-}
-
-fn is_number(column: &Column, name: &[u8]) -> bool
-    ensures { IsTrue result → column.now ≡ required Kind.Integer name.now }
-{
-    is_required(column, name, Kind::Integer)
-}
-
-fn is_text(column: &Column, name: &[u8]) -> bool
-    ensures { IsTrue result → column.now ≡ required Kind.Text name.now }
-{
-    is_required(column, name, Kind::Text)
-}
-
-fn are_counters(columns: &[Column]) -> bool
-    ensures { IsTrue result → columns.now ≡ drop 3 head_table.columns }
-{
-    match columns {
-        [top, next_prop, next_verb] => {
-            is_number(top, b"top")
-                && is_number(next_prop, b"next_prop")
-                && is_number(next_verb, b"next_verb")
-        }
-        _ => false,
-    }
-}
-
-fn are_head_columns(columns: &[Column]) -> bool
-    ensures { IsTrue result → columns.now ≡ head_table.columns }
-{
-    match columns {
-        [id, version, seq, rest @ ..] => {
-            is_number(id, b"id")
-                && is_number(version, b"version")
-                && is_number(seq, b"seq")
-                && are_counters(rest)
-        }
-        _ => false,
-    }
-}
-
-fn are_accept(columns: &[Column]) -> bool
-    ensures { IsTrue result → columns.now ≡ drop 11 object_table.columns }
-{
-    match columns {
-        [accept] => is_text(accept, b"accept"),
-        _ => false,
-    }
-}
-
-fn are_rights(columns: &[Column]) -> bool
-    ensures { IsTrue result → columns.now ≡ drop 8 object_table.columns }
-{
-    match columns {
-        [r, w, f, rest @ ..] => {
-            is_number(r, b"r") && is_number(w, b"w") && is_number(f, b"f") && are_accept(rest)
-        }
-        _ => false,
-    }
-}
-
-fn are_flags(columns: &[Column]) -> bool
-    ensures { IsTrue result → columns.now ≡ drop 4 object_table.columns }
-{
-    match columns {
-        [location, player, programmer, wizard, rest @ ..] => {
-            is_number(location, b"location")
-                && is_number(player, b"player")
-                && is_number(programmer, b"programmer")
-                && is_number(wizard, b"wizard")
-                && are_rights(rest)
-        }
-        _ => false,
-    }
-}
-
-fn are_object_columns(columns: &[Column]) -> bool
-    ensures { IsTrue result → columns.now ≡ object_table.columns }
-{
-    match columns {
-        [n, name, owner, parent, rest @ ..] => {
-            is_number(n, b"n")
-                && is_text(name, b"name")
-                && is_number(owner, b"owner")
-                && is_number(parent, b"parent")
-                && are_flags(rest)
-        }
-        _ => false,
-    }
-}
-
-fn are_prop_columns(columns: &[Column]) -> bool
-    ensures { IsTrue result → columns.now ≡ prop_table.columns }
-{
-    match columns {
-        [id, definer, name] => {
-            is_number(id, b"id") && is_number(definer, b"definer") && is_text(name, b"name")
-        }
-        _ => false,
-    }
-}
-
-fn are_slot_columns(columns: &[Column]) -> bool
-    ensures { IsTrue result → columns.now ≡ slot_table.columns }
-{
-    match columns {
-        [object, prop, owner, bits, value] => {
-            is_number(object, b"object")
-                && is_number(prop, b"prop")
-                && is_number(owner, b"owner")
-                && is_text(bits, b"bits")
-                && is_text(value, b"value")
-        }
-        _ => false,
-    }
-}
-
-fn are_words(columns: &[Column]) -> bool
-    ensures { IsTrue result → columns.now ≡ drop 4 verb_table.columns }
-{
-    match columns {
-        [bits, dobj, prep, iobj] => {
-            is_text(bits, b"bits")
-                && is_text(dobj, b"dobj")
-                && is_text(prep, b"prep")
-                && is_text(iobj, b"iobj")
-        }
-        _ => false,
-    }
-}
-
-fn are_verb_columns(columns: &[Column]) -> bool
-    ensures { IsTrue result → columns.now ≡ verb_table.columns }
-{
-    match columns {
-        [object, id, names, owner, rest @ ..] => {
-            is_number(object, b"object")
-                && is_number(id, b"id")
-                && is_text(names, b"names")
-                && is_number(owner, b"owner")
-                && are_words(rest)
-        }
-        _ => false,
-    }
-}
 
 fn are_none(alloc: Global, terms: &Terms) -> Result<bool, AllocError>
     ensures { IfOk result (λ none. IsTrue none → terms.now ≡ []) }
@@ -273,6 +121,35 @@ fn is_verb(alloc: Global, table: &Table) -> Result<bool, AllocError>
     Ok(plain && is_paired(table, b"verb", 5) && are_verb_columns(table.columns.as_slice()))
 }
 
+fn is_slot2(alloc: Global, table: &Table) -> Result<bool, AllocError>
+    ensures { IfOk result (λ is. IsTrue is → table.now ≡ slot2_table) }
+{
+    let plain = has_no_rules(alloc, table)?;
+    Ok(plain && is_paired(table, b"slot2", 7) && are_slot2_columns(table.columns.as_slice()))
+}
+
+fn is_petition(alloc: Global, table: &Table) -> Result<bool, AllocError>
+    ensures { IfOk result (λ is. IsTrue is → table.now ≡ petition_table) }
+{
+    let plain = has_no_rules(alloc, table)?;
+    Ok(
+        plain
+            && is_numbered(table, b"petition", 9)
+            && are_petition_columns(table.columns.as_slice()),
+    )
+}
+
+fn is_petition_head(alloc: Global, table: &Table) -> Result<bool, AllocError>
+    ensures { IfOk result (λ is. IsTrue is → table.now ≡ petition_head_table) }
+{
+    let plain = has_no_rules(alloc, table)?;
+    Ok(
+        plain
+            && is_numbered(table, b"petition_head", 10)
+            && are_petition_head_columns(table.columns.as_slice()),
+    )
+}
+
 fn is_key(index: &Index, name: &[u8], tree: u32, table: u32) -> bool
     ensures { IsTrue result → index.now ≡ key_index name.now tree table }
 {
@@ -284,8 +161,8 @@ fn is_key(index: &Index, name: &[u8], tree: u32, table: u32) -> bool
         && index.is_unique
 }
 
-fn are_tables(alloc: Global, tables: &[Table]) -> Result<bool, AllocError>
-    ensures { IfOk result (λ are. IsTrue are → tables.now ≡ moo_schema.tables) }
+fn are_first_tables(alloc: Global, tables: &[Table]) -> Result<bool, AllocError>
+    ensures { IfOk result (λ are. IsTrue are → tables.now ≡ first_schema.tables) }
 {
     match tables {
         [head, object, prop, slot, verb] => {
@@ -300,8 +177,36 @@ fn are_tables(alloc: Global, tables: &[Table]) -> Result<bool, AllocError>
     }
 }
 
-fn are_keys(indexes: &[Index]) -> bool
-    ensures { IsTrue result → indexes.now ≡ moo_schema.indexes }
+/// Whether they are the tables that the second layout adds.
+fn are_added_tables(alloc: Global, tables: &[Table]) -> Result<bool, AllocError>
+    ensures { IfOk result (λ are. IsTrue are → tables.now ≡ drop 5 second_schema.tables) }
+{
+    match tables {
+        [slot2, petition, petition_head] => {
+            let slot2 = is_slot2(alloc, slot2)?;
+            let petition = is_petition(alloc, petition)?;
+            let petition_head = is_petition_head(alloc, petition_head)?;
+            Ok(slot2 && petition && petition_head)
+        }
+        _ => Ok(false),
+    }
+}
+
+fn are_second_tables(alloc: Global, tables: &[Table]) -> Result<bool, AllocError>
+    ensures { IfOk result (λ are. IsTrue are → tables.now ≡ second_schema.tables) }
+{
+    match tables.split_at_checked(5) {
+        Some((first, added)) => {
+            let first = are_first_tables(alloc, first)?;
+            let added = are_added_tables(alloc, added)?;
+            Ok(first && added)
+        }
+        None => Ok(false),
+    }
+}
+
+fn are_first_keys(indexes: &[Index]) -> bool
+    ensures { IsTrue result → indexes.now ≡ first_schema.indexes }
 {
     match indexes {
         [slot, verb] => {
@@ -312,10 +217,45 @@ fn are_keys(indexes: &[Index]) -> bool
     }
 }
 
-/// Whether the tables, indexes and views are the five tables, made in their order, with the two indexes of their keys.
-pub fn is_ours(alloc: Global, schema: &Schema) -> Result<bool, AllocError>
-    ensures { IfOk result (λ is. IsTrue is → schema.now ≡ moo_schema) }
+fn are_second_keys(indexes: &[Index]) -> bool
+    ensures { IsTrue result → indexes.now ≡ second_schema.indexes }
 {
-    let tables = are_tables(alloc, schema.tables.as_slice())?;
-    Ok(tables && are_keys(schema.indexes.as_slice()) && schema.views.is_empty())
+    match indexes {
+        [slot, verb, slot2] => {
+            is_key(slot, b"sqlite_autoindex_slot_1", 4, 3)
+                && is_key(verb, b"sqlite_autoindex_verb_1", 6, 5)
+                && is_key(slot2, b"sqlite_autoindex_slot2_1", 8, 7)
+        }
+        _ => false,
+    }
+}
+
+fn is_first(alloc: Global, schema: &Schema) -> Result<bool, AllocError>
+    ensures { IfOk result (λ is. IsTrue is → schema.now ≡ first_schema) }
+{
+    let tables = are_first_tables(alloc, schema.tables.as_slice())?;
+    Ok(tables && are_first_keys(schema.indexes.as_slice()) && schema.views.is_empty())
+}
+
+fn is_second(alloc: Global, schema: &Schema) -> Result<bool, AllocError>
+    ensures { IfOk result (λ is. IsTrue is → schema.now ≡ second_schema) }
+{
+    let tables = are_second_tables(alloc, schema.tables.as_slice())?;
+    Ok(tables && are_second_keys(schema.indexes.as_slice()) && schema.views.is_empty())
+}
+
+/// Which of the two layouts a database has.
+///
+/// It is one of them if it has exactly its tables, made in their order, the indexes of their keys, no other index and
+/// no view. Answers none of any other database, and `AllocError` where memory is refused.
+pub fn version_of(alloc: Global, schema: &Schema) -> Result<Option<Version>, AllocError>
+    ensures { IfOk result (λ found. IfSome found (λ version. schema.now ≡ schema_of version)) }
+{
+    if is_first(alloc, schema)? {
+        return Ok(Some(Version::First));
+    }
+    if is_second(alloc, schema)? {
+        return Ok(Some(Version::Second));
+    }
+    Ok(None)
 }

@@ -3,15 +3,19 @@
 ghost use Rattle.std.specs.Prelude.{◌≡◌, false, IfOk, OnOk, OnErr};
 ghost use Rattle.sqlite.specs.State.{HasCleanDisk};
 ghost use Rattle.sqlite.specs.Held.{state};
-ghost use Rattle.moo_tables.specs.Tables.{moo_schema};
+ghost use Rattle.moo_tables.specs.declared.version.Version.{Version};
+ghost use Rattle.moo_tables.specs.Tables.{schema_of};
 ghost use Rattle.moo_tables.specs.Inside.{Rests, Reads, FailsToRead};
 ghost use Rattle.moo_tables.specs.Listing.{ListsNumbers, ListsPairs, ListsTables};
 
+use crate::version::Version;
 use sqlite::{Alter, Connection, Error, Row};
 
 /// The rows of each table, each key once, in the order of the keys.
 #[derive(Drop)]
 pub struct CellLists {
+    /// Which tables these are the rows of.
+    pub version: Version,
     pub head: Vec<Row>,
     pub object: Vec<Row>,
     pub prop: Vec<Row>,
@@ -22,9 +26,9 @@ pub struct CellLists {
 /// The row of the head.
 fn head_cells_of<S: Alter>(conn: &mut Connection<S>) -> Result<Vec<Row>, Error>
     ensures outside { (state S.Store conn.old).in_transaction ≡ false → (state S.Store conn.new).in_transaction ≡ false }
-    ensures read { OnOk result (Reads moo_schema (state S.Store conn.old) (state S.Store conn.new)) }
+    ensures read { (version : Version) → OnOk result (Reads (schema_of version) (state S.Store conn.old) (state S.Store conn.new)) }
     ensures listed { HasCleanDisk (state S.Store conn.new) → IfOk result (λ rows. (tables : _) → Rests (state S.Store conn.old) tables → ListsNumbers rows.items tables.head) }
-    ensures failed { OnErr result (FailsToRead moo_schema (state S.Store conn.old) (state S.Store conn.new)) }
+    ensures failed { (version : Version) → OnErr result (FailsToRead (schema_of version) (state S.Store conn.old) (state S.Store conn.new)) }
 {
     conn.query_all(
         "SELECT id, version, seq, top, next_prop, next_verb FROM head ORDER BY id",
@@ -35,9 +39,9 @@ fn head_cells_of<S: Alter>(conn: &mut Connection<S>) -> Result<Vec<Row>, Error>
 /// The rows of `object`, in the order of their numbers.
 fn object_cells_of<S: Alter>(conn: &mut Connection<S>) -> Result<Vec<Row>, Error>
     ensures outside { (state S.Store conn.old).in_transaction ≡ false → (state S.Store conn.new).in_transaction ≡ false }
-    ensures read { OnOk result (Reads moo_schema (state S.Store conn.old) (state S.Store conn.new)) }
+    ensures read { (version : Version) → OnOk result (Reads (schema_of version) (state S.Store conn.old) (state S.Store conn.new)) }
     ensures listed { HasCleanDisk (state S.Store conn.new) → IfOk result (λ rows. (tables : _) → Rests (state S.Store conn.old) tables → ListsNumbers rows.items tables.object) }
-    ensures failed { OnErr result (FailsToRead moo_schema (state S.Store conn.old) (state S.Store conn.new)) }
+    ensures failed { (version : Version) → OnErr result (FailsToRead (schema_of version) (state S.Store conn.old) (state S.Store conn.new)) }
 {
     conn.query_all(
         "SELECT n, name, owner, parent, location, player, programmer, wizard, r, w, f, accept FROM object ORDER BY n",
@@ -48,32 +52,38 @@ fn object_cells_of<S: Alter>(conn: &mut Connection<S>) -> Result<Vec<Row>, Error
 /// The rows of `prop`, in the order of their numbers.
 fn prop_cells_of<S: Alter>(conn: &mut Connection<S>) -> Result<Vec<Row>, Error>
     ensures outside { (state S.Store conn.old).in_transaction ≡ false → (state S.Store conn.new).in_transaction ≡ false }
-    ensures read { OnOk result (Reads moo_schema (state S.Store conn.old) (state S.Store conn.new)) }
+    ensures read { (version : Version) → OnOk result (Reads (schema_of version) (state S.Store conn.old) (state S.Store conn.new)) }
     ensures listed { HasCleanDisk (state S.Store conn.new) → IfOk result (λ rows. (tables : _) → Rests (state S.Store conn.old) tables → ListsNumbers rows.items tables.prop) }
-    ensures failed { OnErr result (FailsToRead moo_schema (state S.Store conn.old) (state S.Store conn.new)) }
+    ensures failed { (version : Version) → OnErr result (FailsToRead (schema_of version) (state S.Store conn.old) (state S.Store conn.new)) }
 {
     conn.query_all("SELECT id, definer, name FROM prop ORDER BY id", &[])
 }
 
-/// The rows of `slot`, in the order of their objects, then of their properties.
-fn slot_cells_of<S: Alter>(conn: &mut Connection<S>) -> Result<Vec<Row>, Error>
+/// The rows of the slots, in the order of their objects, then of their properties.
+fn slot_cells_of<S: Alter>(conn: &mut Connection<S>, version: Version) -> Result<Vec<Row>, Error>
     ensures outside { (state S.Store conn.old).in_transaction ≡ false → (state S.Store conn.new).in_transaction ≡ false }
-    ensures read { OnOk result (Reads moo_schema (state S.Store conn.old) (state S.Store conn.new)) }
-    ensures listed { HasCleanDisk (state S.Store conn.new) → IfOk result (λ rows. (tables : _) → Rests (state S.Store conn.old) tables → ListsPairs rows.items tables.slot) }
-    ensures failed { OnErr result (FailsToRead moo_schema (state S.Store conn.old) (state S.Store conn.new)) }
+    ensures read { OnOk result (Reads (schema_of version) (state S.Store conn.old) (state S.Store conn.new)) }
+    ensures listed { HasCleanDisk (state S.Store conn.new) → IfOk result (λ rows. (tables : _) → Rests (state S.Store conn.old) tables → tables.version ≡ version → ListsPairs rows.items tables.slot) }
+    ensures failed { OnErr result (FailsToRead (schema_of version) (state S.Store conn.old) (state S.Store conn.new)) }
 {
-    conn.query_all(
-        "SELECT object, prop, owner, bits, value FROM slot ORDER BY object, prop",
-        &[],
-    )
+    match version {
+        Version::First => conn.query_all(
+            "SELECT object, prop, owner, bits, value FROM slot ORDER BY object, prop",
+            &[],
+        ),
+        Version::Second => conn.query_all(
+            "SELECT object, prop, owner, bits, value FROM slot2 ORDER BY object, prop",
+            &[],
+        ),
+    }
 }
 
 /// The rows of `verb`, in the order of their objects, then of their numbers.
 fn verb_cells_of<S: Alter>(conn: &mut Connection<S>) -> Result<Vec<Row>, Error>
     ensures outside { (state S.Store conn.old).in_transaction ≡ false → (state S.Store conn.new).in_transaction ≡ false }
-    ensures read { OnOk result (Reads moo_schema (state S.Store conn.old) (state S.Store conn.new)) }
+    ensures read { (version : Version) → OnOk result (Reads (schema_of version) (state S.Store conn.old) (state S.Store conn.new)) }
     ensures listed { HasCleanDisk (state S.Store conn.new) → IfOk result (λ rows. (tables : _) → Rests (state S.Store conn.old) tables → ListsPairs rows.items tables.verb) }
-    ensures failed { OnErr result (FailsToRead moo_schema (state S.Store conn.old) (state S.Store conn.new)) }
+    ensures failed { (version : Version) → OnErr result (FailsToRead (schema_of version) (state S.Store conn.old) (state S.Store conn.new)) }
 {
     conn.query_all(
         "SELECT object, id, names, owner, bits, dobj, prep, iobj FROM verb ORDER BY object, id",
@@ -81,21 +91,24 @@ fn verb_cells_of<S: Alter>(conn: &mut Connection<S>) -> Result<Vec<Row>, Error>
     )
 }
 
-/// Reads the rows of all five tables.
+/// Reads the rows of `head`, `object`, `prop` and `verb`, and of `slot` in the first version or `slot2` in the second.
 ///
-/// Nothing is written. After a fault of the store the tables are as they were, unless the fault shut the connection.
-pub fn read_tables<S: Alter>(conn: &mut Connection<S>) -> Result<CellLists, Error>
+/// The version has to be that of the database (`version_of`): of another one nothing is said. Nothing is written. After
+/// a fault of the store the tables are as they were, unless the fault shut the connection.
+pub fn read_tables<S: Alter>(conn: &mut Connection<S>, version: Version) -> Result<CellLists, Error>
     ensures outside { (state S.Store conn.old).in_transaction ≡ false → (state S.Store conn.new).in_transaction ≡ false }
-    ensures read { OnOk result (Reads moo_schema (state S.Store conn.old) (state S.Store conn.new)) }
-    ensures listed { HasCleanDisk (state S.Store conn.new) → IfOk result (λ lists. (tables : _) → Rests (state S.Store conn.old) tables → ListsTables lists tables) }
-    ensures failed { OnErr result (FailsToRead moo_schema (state S.Store conn.old) (state S.Store conn.new)) }
+    ensures read { OnOk result (Reads (schema_of version) (state S.Store conn.old) (state S.Store conn.new)) }
+    ensures version { IfOk result (λ lists. lists.version ≡ version) }
+    ensures listed { HasCleanDisk (state S.Store conn.new) → IfOk result (λ lists. (tables : _) → tables.version ≡ version → Rests (state S.Store conn.old) tables → ListsTables lists tables) }
+    ensures failed { OnErr result (FailsToRead (schema_of version) (state S.Store conn.old) (state S.Store conn.new)) }
 {
     let head = head_cells_of(conn)?;
     let object = object_cells_of(conn)?;
     let prop = prop_cells_of(conn)?;
-    let slot = slot_cells_of(conn)?;
+    let slot = slot_cells_of(conn, version)?;
     let verb = verb_cells_of(conn)?;
     Ok(CellLists {
+        version,
         head,
         object,
         prop,

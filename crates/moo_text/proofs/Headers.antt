@@ -8,7 +8,7 @@ use Rattle.std.proofs.lemmas.List.{append-nil}
 use Rattle.moo_value.specs.declared.value.ObjNo.{ObjNo}
 use Rattle.moo_value.specs.declared.value.Value.{Value}
 use Rattle.moo_value.specs.declared.value.Value.TheVariants.{Int, Obj, Str, Error, List as a_list}
-use Rattle.moo_value.specs.Literal.{is_blank, is_digit, AreDigits, value_after, SpellsObject, Spells, InRange}
+use Rattle.moo_value.specs.Literal.{is_blank, is_digit, AreDigits, value_after, SpellsObject, Spells, InRange, an_object}
 use Rattle.moo_value.proofs.Results.{chosen}
 use Rattle.moo_world.specs.Objects.{same_text, same_text-Decides}
 use Rattle.moo_text.specs.Line.{is_short, words}
@@ -63,7 +63,7 @@ nothing_left (c ∷ cs) e = absurd (grind (arith, e))
 object_whole : Value × List ℕ → Option ObjNo
 object_whole x = cond (length x.1 == 0) (object_value x.0) None
 
-pub object_taken : (w : List ℕ) (o : ObjNo) → object_of w ≡ Some o → SpellsObject o.0 w × InRange o.0
+pub object_taken : (w : List ℕ) (o : ObjNo) → object_of w ≡ Some o → SpellsObject o.0 w × InRange an_object o.0
 object_taken w o e = elim (chosen (begins_with 35 w) (option_and_then (λ x. cond (length x.1 == 0) (object_value x.0) None) (front_of w)) None (Some o) e) [
   | inl here ↦
       let hash = begun w here.0 in
@@ -81,7 +81,7 @@ object_taken w o e = elim (chosen (begins_with 35 w) (option_and_then (λ x. con
   | inr other ↦ absurd (let h : None ≡ Some o = other.1 in cc)
 ]
 
-pub object_again : (w : List ℕ) (o : ObjNo) → SpellsObject o.0 w → InRange o.0 → object_of w ≡ Some o
+pub object_again : (w : List ℕ) (o : ObjNo) → SpellsObject o.0 w → InRange an_object o.0 → object_of w ≡ Some o
 object_again w o s range =
     let front : front_of w ≡ Some (Obj o, []) = ap front_of (sym (append-nil w)) ∙ front_again_of (Obj o) w [] ([], w, tt, s, refl) (range, omega arith) tt in
     let hash : begins_with 35 w ≡ true = ap (begins_with 35) s.1 in

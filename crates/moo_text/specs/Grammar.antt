@@ -2,7 +2,7 @@
 use Rattle.std.specs.Prelude.{◌≡◌, ℕ, ◌<◌, ◌≤◌, Bool, true, false, List, [], ◌∷◌, ◌++◌, length, Option, Some, None, IsTrue, codes}
 use Rattle.std.specs.List.{AllByRecursion}
 use Rattle.moo_value.specs.declared.value.Value.{Value}
-use Rattle.moo_value.specs.Literal.{is_word, AreBlanks, AreDigits, value_after, SpellsObject, Spaced, Item, SpellsToken, Fits, InRange}
+use Rattle.moo_value.specs.Literal.{is_word, AreBlanks, AreDigits, value_after, SpellsObject, Spaced, Item, SpellsToken, Fits, InRange, an_object}
 use Rattle.moo_world.specs.Objects.{folded}
 use Rattle.moo_world.specs.Names.{spelling}
 use Rattle.moo_world.specs.declared.name.CallName.{CallName}
@@ -30,7 +30,7 @@ pub record SpellsHeader (header : Header) (line : List ℕ) : Type 0 where
   pub more : List (List ℕ)
   pub words_are : words line ≡ codes "batch" ∷ codes "as" ∷ object ∷ more
   pub programmer : SpellsObject header.programmer.0 object
-  pub in_range : InRange header.programmer.0
+  pub in_range : InRange an_object header.programmer.0
   pub place : SpellsAt header.at more
 
 -- letters, digits and underscores that name a call, in any case

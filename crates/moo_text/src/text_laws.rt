@@ -3,7 +3,7 @@
 ghost use Rattle.std.specs.Prelude.{◌≡◌, ◌≢◌, ◌↔◌, ◌++◌, ◌∷◌, [], ℕ, true, List, Option, Some};
 ghost use Rattle.std.specs.Str.Lines.{lines};
 ghost use Rattle.moo_value.specs.declared.value.ObjNo.{ObjNo};
-ghost use Rattle.moo_value.specs.Literal.{SpellsObject, InRange};
+ghost use Rattle.moo_value.specs.Literal.{SpellsObject, InRange, an_object};
 ghost use Rattle.moo_world.specs.declared.call.Call.{Call};
 ghost use Rattle.moo_text.specs.Grammar.{SpellsHeader, SpellsCall};
 ghost use Rattle.moo_text.specs.LineReading.{header_of, object_of, call_of};
@@ -23,7 +23,7 @@ pub fn headers_are_spelled()
 
 /// A word is read as the object that it spells, and as no other.
 pub fn objects_are_spelled()
-    ensures { (word : List ℕ) (object : ObjNo) → (object_of word ≡ Some object) ↔ (SpellsObject object.0 word × InRange object.0) }
+    ensures { (word : List ℕ) (object : ObjNo) → (object_of word ≡ Some object) ↔ (SpellsObject object.0 word × InRange an_object object.0) }
 {}
 
 /// A line is read as the call that it spells, and as no other.

@@ -10,7 +10,7 @@ use Rattle.moo_value.specs.declared.value.Value.TheVariants.{Int, Obj, Str, Erro
 use Rattle.moo_value.specs.Text.{IsText}
 use Rattle.moo_value.specs.Values.{Values, no_values, int, object, string, error, list, levels}
 use Rattle.moo_value.specs.Value.{prepend, nesting}
-use Rattle.moo_value.specs.Literal.{is_blank, is_digit, is_word, AreBlanks, Comma, SpellsItems, SpellsToken, Spells, HoldInside, HoldIn, InRange, BeginsNo, Ends}
+use Rattle.moo_value.specs.Literal.{is_blank, is_digit, is_word, AreBlanks, Comma, SpellsItems, SpellsToken, Spells, HoldInside, HoldIn, NumberKind, an_integer, an_object, InRange, BeginsNo, Ends}
 use Rattle.moo_value.specs.Fault.{NumberBut, TextBut, DepthBut, MayBreak}
 use Rattle.moo_value.specs.Reading.{Read, ◌>>=◌, after_blanks, token_at, opened_at, items_at, value_at}
 use Rattle.moo_value.proofs.Results.{chosen, is_err, no_err, bind_err, bind_which}
@@ -46,13 +46,13 @@ item_deep BadByte v vs l d ds = item_levels v vs l d ds
 item_deep TooLong v vs l d ds = item_levels v vs l d ds
 item_deep OutOfMemory v vs l d ds = item_levels v vs l d ds
 
-pub all_number : (f : LiteralFault) (z : ℤ) → InRange z → NumberBut f z
-all_number OutOfRange z h = tt
-all_number NotALiteral z h = h
-all_number BadByte z h = h
-all_number TooDeep z h = h
-all_number TooLong z h = h
-all_number OutOfMemory z h = h
+pub all_number : (f : LiteralFault) (kind : NumberKind) (z : ℤ) → InRange kind z → NumberBut f kind z
+all_number OutOfRange kind z h = tt
+all_number NotALiteral kind z h = h
+all_number BadByte kind z h = h
+all_number TooDeep kind z h = h
+all_number TooLong kind z h = h
+all_number OutOfMemory kind z h = h
 
 pub all_text : (f : LiteralFault) (s : List ℕ) → IsText s → TextBut f s
 all_text BadByte s h = tt
@@ -72,15 +72,15 @@ all_deep OutOfMemory l d h = h
 
 all_inside : (f : LiteralFault) (vs : Values) → HoldInside InRange IsText vs → HoldInside (NumberBut f) (TextBut f) vs
 all_inside f no_values h = tt
-all_inside f (int n vs) h = (all_number f n h.0, all_inside f vs h.1)
-all_inside f (object n vs) h = (all_number f n h.0, all_inside f vs h.1)
+all_inside f (int n vs) h = (all_number f an_integer n h.0, all_inside f vs h.1)
+all_inside f (object n vs) h = (all_number f an_object n h.0, all_inside f vs h.1)
 all_inside f (string s vs) h = (all_text f s h.0, all_inside f vs h.1)
 all_inside f (error e vs) h = all_inside f vs h
 all_inside f (list us vs) h = (all_inside f us h.0, all_inside f vs h.1)
 
 all_in : (f : LiteralFault) (v : Value) → HoldIn InRange IsText v → HoldIn (NumberBut f) (TextBut f) v
-all_in f (Int n) h = all_number f n h
-all_in f (Obj o) h = all_number f o.0 h
+all_in f (Int n) h = all_number f an_integer n h
+all_in f (Obj o) h = all_number f an_object o.0 h
 all_in f (Str s) h = all_text f s h
 all_in f (Error e) h = tt
 all_in f (a_list vs) h = all_inside f vs h

@@ -1,7 +1,6 @@
 -- A spelling of a value that keeps every limit but one is read, or refused by that limit's fault.
 use Rattle.std.proofs.Common.{◌≡◌, ◌≢◌, ℕ, ℤ, zero, suc, ◌+◌, ◌<◌, ◌≤◌, max, Bool, true, false, cond, ◌⊎◌, inl, inr, List, [], ◌∷◌, ◌++◌, length, Result, Ok, Err, refl, sym, ap, subst, ◌∙◌, append_assoc, arith}
-use Rattle.std.specs.Prelude.{nat_le, ◌==◌, FitsSigned}
-use Rattle.std.specs.Int.{w32}
+use Rattle.std.specs.Prelude.{nat_le, ◌==◌}
 use Rattle.std.proofs.lemmas.Bool.{cases_lt}
 use Rattle.std.proofs.lemmas.List.{length-append, append-nil}
 use Rattle.moo_value.specs.declared.fault.LiteralFault.{LiteralFault}
@@ -11,12 +10,12 @@ use Rattle.moo_value.specs.declared.value.Value.TheVariants.{Int, Obj, Str, Erro
 use Rattle.moo_value.specs.Text.{is_allowed}
 use Rattle.moo_value.specs.Values.{Values, no_values, int, object, string, error, list, levels}
 use Rattle.moo_value.specs.Value.{prepend}
-use Rattle.moo_value.specs.Literal.{is_digit, AreDigits, value_after, signed, Item, SpellsNumber, SpellsBytes, SpellsItems, SpellsToken, Spells, HoldInside, HoldIn, InRange, BeginsNo, Ends}
+use Rattle.moo_value.specs.Literal.{is_digit, AreDigits, value_after, signed, Item, SpellsNumber, SpellsBytes, SpellsItems, SpellsToken, Spells, HoldInside, HoldIn, NumberKind, an_integer, an_object, InRange, BeginsNo, Ends}
 use Rattle.moo_value.specs.Fault.{NumberBut, TextBut, DepthBut, KeepsBut}
 use Rattle.moo_value.specs.Reading.{Read, ◌>>=◌, limit, after_blanks, some_digits_at, number_at, string_at, token_at, opened_at, items_at, value_at}
-use Rattle.moo_value.proofs.Numbers.{digits_over}
+use Rattle.moo_value.proofs.Numbers.{digits_over, unlimited}
 use Rattle.moo_value.proofs.Texts.{AreAllowed, each_allowed}
-use Rattle.moo_value.proofs.Tokens.{fits_signed, number_again, no_minus, first_of_number, IsNoList, token_starts, token_again}
+use Rattle.moo_value.proofs.Tokens.{number_again, no_minus, first_of_number, IsNoList, token_starts, token_again}
 use Rattle.moo_value.proofs.Items.{spaced_is}
 use Rattle.moo_value.proofs.Literals.{and_others, item_front, items_end, value_spaced}
 
@@ -34,26 +33,26 @@ Either Gives r x = (r ≡ Ok x) ⊎ ((f : LiteralFault) × Gives f × (r ≡ Err
 
 -- ---- numbers
 
-some_over : (negative : Bool) (ds rest : List ℕ) → 0 < length ds → AreDigits ds → limit negative < value_after 0 ds → some_digits_at negative (ds ++ rest) ≡ Err OutOfRange
-some_over negative [] rest some each lt = absurd (omega arith)
-some_over negative (d ∷ ds) rest some each lt =
+some_over : (kind : NumberKind) (negative : Bool) (ds rest : List ℕ) → 0 < length ds → AreDigits ds → limit kind negative < value_after 0 ds → some_digits_at kind negative (ds ++ rest) ≡ Err OutOfRange
+some_over kind negative [] rest some each lt = absurd (omega arith)
+some_over kind negative (d ∷ ds) rest some each lt =
     let digit : is_digit d ≡ true = each.0 in
-    let over = digits_over negative 0 (d ∷ ds) rest each (omega arith) lt in
+    let over = digits_over kind negative 0 (d ∷ ds) rest each (omega arith) lt in
     rw digit (rw digit at over)
 
-plain_number : (ds rest : List ℕ) → 0 < length ds → AreDigits ds → number_at (ds ++ rest) ≡ some_digits_at false (ds ++ rest)
-plain_number [] rest some each = absurd (omega arith)
-plain_number (d ∷ ds) rest some each = rw (no_minus d each.0) refl
+plain_number : (kind : NumberKind) (ds rest : List ℕ) → 0 < length ds → AreDigits ds → number_at kind (ds ++ rest) ≡ some_digits_at kind false (ds ++ rest)
+plain_number kind [] rest some each = absurd (omega arith)
+plain_number kind (d ∷ ds) rest some each = rw (no_minus d each.0) refl
 
-number_either : (z : ℤ) (t rest : List ℕ) → SpellsNumber z t → BeginsNo is_digit rest → (InRange z × (number_at (t ++ rest) ≡ Ok (z, rest))) ⊎ (number_at (t ++ rest) ≡ Err OutOfRange)
-number_either z t rest s ends = by_sign s.negative s.whole s.value (cases_lt (limit s.negative) (value_after 0 s.digits))
+pub number_either : (kind : NumberKind) (z : ℤ) (t rest : List ℕ) → SpellsNumber z t → BeginsNo is_digit rest → (InRange kind z × (number_at kind (t ++ rest) ≡ Ok (z, rest))) ⊎ (number_at kind (t ++ rest) ≡ Err OutOfRange)
+number_either kind z t rest s ends = by_sign s.negative s.whole s.value (cases_lt (limit kind s.negative) (value_after 0 s.digits))
   where
-    by_sign : (negative : Bool) → t ≡ cond negative (45 ∷ s.digits) s.digits → z ≡ signed negative (value_after 0 s.digits) → (limit negative < value_after 0 s.digits) ⊎ (value_after 0 s.digits ≤ limit negative) → (InRange z × (number_at (t ++ rest) ≡ Ok (z, rest))) ⊎ (number_at (t ++ rest) ≡ Err OutOfRange)
+    by_sign : (negative : Bool) → t ≡ cond negative (45 ∷ s.digits) s.digits → z ≡ signed negative (value_after 0 s.digits) → (limit kind negative < value_after 0 s.digits) ⊎ (value_after 0 s.digits ≤ limit kind negative) → (InRange kind z × (number_at kind (t ++ rest) ≡ Ok (z, rest))) ⊎ (number_at kind (t ++ rest) ≡ Err OutOfRange)
     by_sign negative whole value (inr small) =
-        let fits : InRange z = subst (FitsSigned w32) (sym value) (fits_signed negative (value_after 0 s.digits) small) in
-        inl (fits, number_again z t rest s fits ends)
-    by_sign true whole value (inl over) = inr (ap (λ (u : List ℕ). number_at (u ++ rest)) whole ∙ some_over true s.digits rest s.some s.each over)
-    by_sign false whole value (inl over) = inr (ap (λ (u : List ℕ). number_at (u ++ rest)) whole ∙ plain_number s.digits rest s.some s.each ∙ some_over false s.digits rest s.some s.each over)
+        let fits : InRange kind z = subst (InRange kind) (sym value) (unlimited kind negative (value_after 0 s.digits) small) in
+        inl (fits, number_again kind z t rest s fits ends)
+    by_sign true whole value (inl over) = inr (ap (λ (u : List ℕ). number_at kind (u ++ rest)) whole ∙ some_over kind true s.digits rest s.some s.each over)
+    by_sign false whole value (inl over) = inr (ap (λ (u : List ℕ). number_at kind (u ++ rest)) whole ∙ plain_number kind s.digits rest s.some s.each ∙ some_over kind false s.digits rest s.some s.each over)
 
 -- ---- strings
 
@@ -100,13 +99,13 @@ string_either s (c ∷ u) body rest spelled = by_form (string_either (s ++ c ∷
 
 -- ---- tokens
 
-range_gave : (g : LiteralFault) (z : ℤ) → NumberBut g z → (g ≡ OutOfRange) ⊎ InRange z
-range_gave OutOfRange z n = inl refl
-range_gave NotALiteral z n = inr n
-range_gave BadByte z n = inr n
-range_gave TooDeep z n = inr n
-range_gave TooLong z n = inr n
-range_gave OutOfMemory z n = inr n
+range_gave : (g : LiteralFault) (kind : NumberKind) (z : ℤ) → NumberBut g kind z → (g ≡ OutOfRange) ⊎ InRange kind z
+range_gave OutOfRange kind z n = inl refl
+range_gave NotALiteral kind z n = inr n
+range_gave BadByte kind z n = inr n
+range_gave TooDeep kind z n = inr n
+range_gave TooLong kind z n = inr n
+range_gave OutOfMemory kind z n = inr n
 
 text_gave : (g : LiteralFault) (u rest : List ℕ) (r : Read (List ℕ)) → TextBut g u → StringOr [] u rest r → Either (Gave g) r (u, rest)
 text_gave g u rest r t (inl ok) = inl ok
@@ -127,11 +126,11 @@ bind_either : {A B : Type 0} (P : LiteralFault → Type 0) (r : Result A Literal
 bind_either P r x f y (inl ok) e = inl (ap (λ q. q >>= f) ok ∙ e)
 bind_either P r x f y (inr bad) e = inr (bad.0, bad.1, ap (λ q. q >>= f) bad.2)
 
-number_gave : (g : LiteralFault) (z : ℤ) (t rest : List ℕ) → SpellsNumber z t → NumberBut g z → BeginsNo is_digit rest → Either (Gave g) (number_at (t ++ rest)) (z, rest)
-number_gave g z t rest s n ends = go (range_gave g z n) (number_either z t rest s ends)
+number_gave : (g : LiteralFault) (kind : NumberKind) (z : ℤ) (t rest : List ℕ) → SpellsNumber z t → NumberBut g kind z → BeginsNo is_digit rest → Either (Gave g) (number_at kind (t ++ rest)) (z, rest)
+number_gave g kind z t rest s n ends = go (range_gave g kind z n) (number_either kind z t rest s ends)
   where
-    go : (g ≡ OutOfRange) ⊎ InRange z → (InRange z × (number_at (t ++ rest) ≡ Ok (z, rest))) ⊎ (number_at (t ++ rest) ≡ Err OutOfRange) → Either (Gave g) (number_at (t ++ rest)) (z, rest)
-    go (inr fits) _ = inl (number_again z t rest s fits ends)
+    go : (g ≡ OutOfRange) ⊎ InRange kind z → (InRange kind z × (number_at kind (t ++ rest) ≡ Ok (z, rest))) ⊎ (number_at kind (t ++ rest) ≡ Err OutOfRange) → Either (Gave g) (number_at kind (t ++ rest)) (z, rest)
+    go (inr fits) _ = inl (number_again kind z t rest s fits ends)
     go (inl is) (inl ok) = inl ok.1
     go (inl is) (inr over) = inr (OutOfRange, subst (λ (h : LiteralFault). Gave h OutOfRange) (sym is) refl, over)
 
@@ -139,12 +138,12 @@ token_either : (g : LiteralFault) (v : Value) (t rest : List ℕ) → IsNoList v
 token_either g (Int z) t rest flat s n ends =
     let f = first_of_number z t s in
     let whole : t ++ rest ≡ f.0 ∷ (f.1 ++ rest) = ap (λ (u : List ℕ). u ++ rest) f.2 in
-    let at : token_at (f.0 ∷ (f.1 ++ rest)) ≡ (number_at (f.0 ∷ (f.1 ++ rest)) >>= λ n. Ok (Int n.0, n.1)) = rw (f.3, f.4, f.5) refl in
-    let same : token_at (t ++ rest) ≡ (number_at (t ++ rest) >>= λ n. Ok (Int n.0, n.1)) = ap token_at whole ∙ at ∙ ap (λ (u : List ℕ). number_at u >>= λ n. Ok (Int n.0, n.1)) (sym whole) in
-    subst (λ (r : Read Value). Either (Gave g) r (Int z, rest)) (sym same) (bind_either (Gave g) (number_at (t ++ rest)) (z, rest) (λ n. Ok (Int n.0, n.1)) (Int z, rest) (number_gave g z t rest s n ends) refl)
+    let at : token_at (f.0 ∷ (f.1 ++ rest)) ≡ (number_at an_integer (f.0 ∷ (f.1 ++ rest)) >>= λ n. Ok (Int n.0, n.1)) = rw (f.3, f.4, f.5) refl in
+    let same : token_at (t ++ rest) ≡ (number_at an_integer (t ++ rest) >>= λ n. Ok (Int n.0, n.1)) = ap token_at whole ∙ at ∙ ap (λ (u : List ℕ). number_at an_integer u >>= λ n. Ok (Int n.0, n.1)) (sym whole) in
+    subst (λ (r : Read Value). Either (Gave g) r (Int z, rest)) (sym same) (bind_either (Gave g) (number_at an_integer (t ++ rest)) (z, rest) (λ n. Ok (Int n.0, n.1)) (Int z, rest) (number_gave g an_integer z t rest s n ends) refl)
 token_either g (Obj o) t rest flat s n ends =
-    let same : token_at (t ++ rest) ≡ (number_at (s.0 ++ rest) >>= λ n. Ok (Obj (record { 0 = n.0 }), n.1)) = ap (λ (u : List ℕ). token_at (u ++ rest)) s.1 in
-    subst (λ (r : Read Value). Either (Gave g) r (Obj o, rest)) (sym same) (bind_either (Gave g) (number_at (s.0 ++ rest)) (o.0, rest) (λ n. Ok (Obj (record { 0 = n.0 }), n.1)) (Obj o, rest) (number_gave g o.0 s.0 rest s.2 n ends) refl)
+    let same : token_at (t ++ rest) ≡ (number_at an_object (s.0 ++ rest) >>= λ n. Ok (Obj (record { 0 = n.0 }), n.1)) = ap (λ (u : List ℕ). token_at (u ++ rest)) s.1 in
+    subst (λ (r : Read Value). Either (Gave g) r (Obj o, rest)) (sym same) (bind_either (Gave g) (number_at an_object (s.0 ++ rest)) (o.0, rest) (λ n. Ok (Obj (record { 0 = n.0 }), n.1)) (Obj o, rest) (number_gave g an_object o.0 s.0 rest s.2 n ends) refl)
 token_either g (Str u) t rest flat s n ends =
     let same : token_at (t ++ rest) ≡ (string_at false [] (s.0 ++ 34 ∷ rest) >>= λ s. Ok (Str s.0, s.1)) = ap (λ (w : List ℕ). token_at (w ++ rest)) s.1 ∙ ap (λ (w : List ℕ). string_at false [] w >>= λ s. Ok (Str s.0, s.1)) (append_assoc s.0 (34 ∷ []) rest) in
     subst (λ (r : Read Value). Either (Gave g) r (Str u, rest)) (sym same) (bind_either (Gave g) (string_at false [] (s.0 ++ 34 ∷ rest)) (u, rest) (λ s. Ok (Str s.0, s.1)) (Str u, rest) (text_gave g u rest (string_at false [] (s.0 ++ 34 ∷ rest)) n (string_either [] u s.0 rest s.2)) refl)

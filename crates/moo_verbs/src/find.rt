@@ -15,7 +15,7 @@ use moo_value::{MooStr, ObjNo};
 use moo_world::Desc;
 
 /// The place of a number from 1 on.
-fn place_numbered(number: &i32) -> Option<usize>
+fn place_numbered(number: &i64) -> Option<usize>
     ensures { result ≡ place_numbered number.now }
 {
     if *number < 1 {

@@ -31,6 +31,8 @@ Exit status: 0 done, whatever the batches are answered but `fault` and `closed`;
 port failed, or a batch is answered so; 2 the words are wrong; 3 the world in the file is damaged, or of a
 newer version; 4 memory ran out. A file too broken to be read, or no database of moo, is a store fault, 1.
 
+A file of version 1 is taken over to version 2 when it is opened, by ask, dump and check too.
+
 A failure is a line on standard output; why the store, the batches or the port failed is said on standard
 error. Where standard output failed, batches may be committed all the same: `moo check FILE` says S.";
 
@@ -63,10 +65,11 @@ Standard output, for each batch:
   full K         its call K found no number left for what it makes
   stale S        it names another number than S, which the world has
   malformed L    its line L can't be read (the header is line 1, and blank lines count). It is no header as
-                 above, or no call as below; or a value in it is none: a number over 32 bits, a text of over
-                 65,535 bytes, without its end, or with other bytes than tabs, spaces and printing ASCII, a
-                 list over 32 deep; or it is over 262,144 bytes, or the 1,001st call. All is skipped up to
-                 the next `end`: where that is missing, the batch behind goes with it.
+                 above, or no call as below; or a value in it is none: an integer over 64 bits, the number of
+                 an object over 32, a text of over 65,535 bytes, without its end, or with other bytes than
+                 tabs, spaces and printing ASCII, a list over 32 deep; or it is over 262,144 bytes, or the
+                 1,001st call. All is skipped up to the next `end`: where that is missing, the batch behind
+                 goes with it.
   truncated      the text ended inside it
   nomemory       memory ran out in it
   fault          the store failed in it; `closed` is the answer to each behind that

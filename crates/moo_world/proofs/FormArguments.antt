@@ -15,7 +15,7 @@ use Rattle.moo_value.specs.Values.{Values, no_values as no_more, int, object, st
 use Rattle.moo_world.specs.declared.built_in.BuiltIn.{BuiltIn}
 use Rattle.moo_world.specs.declared.built_in.BuiltIn.TheVariants as field
 use Rattle.moo_world.specs.declared.change.Change.{Change}
-use Rattle.moo_world.specs.Arguments.{Info, in_range, is_number, is_text, all_within_limits, is_within_limits, fits, with_object, object_text_and_value, info_in, new_property, objects_among, object_and_accept, both, desc_of, verb_info_in, texts_in, new_verb, new_verb_info}
+use Rattle.moo_world.specs.Arguments.{Info, is_integer, in_range, is_number, is_text, all_within_limits, is_within_limits, fits, with_object, object_text_and_value, info_in, new_property, objects_among, object_and_accept, both, desc_of, verb_info_in, texts_in, new_verb, new_verb_info}
 use Rattle.moo_world.specs.declared.descriptor.Desc.{Desc}
 use Rattle.moo_world.specs.Fields.{is_allowed}
 use Rattle.moo_world.specs.Objects.{Name}
@@ -79,7 +79,7 @@ new_value_fits args a e h = sym (ap new_value e) ∙ new_fits args h
 
 within_spread : (l : Values) → all_within_limits l ≡ list_all is_within_limits (spread l)
 within_spread no_more = refl
-within_spread (int n rest) = ap (λ b. in_range n && b) (within_spread rest)
+within_spread (int n rest) = ap (λ b. is_integer n && b) (within_spread rest)
 within_spread (object n rest) = ap (λ b. in_range n && b) (within_spread rest)
 within_spread (string s rest) = ap (λ b. is_text s && b) (within_spread rest)
 within_spread (error e rest) = within_spread rest

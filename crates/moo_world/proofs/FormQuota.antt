@@ -1,5 +1,5 @@
--- Quotas are moved within 32 bits, so that the world stays well formed.
-use Rattle.std.proofs.Common.{◌≡◌, Bool, true, false, ◌||◌, List, [], ◌∷◌, refl, sym, ◌∙◌, ap, subst, inl, inr, Option, Some, None, ℤ, pos, negsuc, FitsSigned, w32, arith}
+-- Quotas are moved within 64 bits, so that the world stays well formed.
+use Rattle.std.proofs.Common.{◌≡◌, Bool, true, false, ◌||◌, List, [], ◌∷◌, refl, sym, ◌∙◌, ap, subst, inl, inr, Option, Some, None, ℤ, pos, negsuc, FitsSigned, w64, arith}
 use Rattle.std.specs.Prelude.{◌+ℤ◌, int_lt, nat_le, unwrap_or, if◌then◌else◌}
 use Rattle.std.specs.Option.{option_map}
 use Rattle.std.proofs.lemmas.Bool.{both_ways, or_cases, and_parts}
@@ -11,7 +11,7 @@ use Rattle.moo_value.specs.declared.value.Value.TheVariants.{Int, Obj, Str, Erro
 use Rattle.moo_value.specs.Value.{nesting}
 use Rattle.moo_rows.specs.declared.row.SlotState.{SlotState}
 use Rattle.moo_rows.specs.declared.row.SlotState.TheVariants.{Clear, Set}
-use Rattle.moo_world.specs.Arguments.{fits, in_range, is_number}
+use Rattle.moo_world.specs.Arguments.{fits, is_integer, is_number}
 use Rattle.moo_world.specs.Creation.{next_object, owner_or_self, created}
 use Rattle.moo_world.specs.Objects.{Name, nothing, same_object, folded}
 use Rattle.moo_world.specs.Quota.{quota_name, quota_in, quota_of, quota_moved, may_afford, has_quota_left, charged, quota_returned, set_slot}
@@ -19,7 +19,7 @@ use Rattle.moo_world.specs.World.{World, Slot, IsWellFormed, is_object, slot_of,
 use Rattle.moo_world.proofs.FormChanged.{set_formed}
 use Rattle.moo_world.proofs.Limits.{known_numbered}
 use Rattle.moo_world.proofs.OwnershipCreated.{formed, new_numbered, read_old}
-use Rattle.moo_world.proofs.Ranges.{range_of, fits_signed}
+use Rattle.moo_world.proofs.Ranges.{integer_of, integer_fits}
 
 -- ---- what is read
 
@@ -36,12 +36,12 @@ read_fits w wf n (x ∷ l) v e = by (slot_of w x n) refl e (read_fits w wf n l v
     by None h f rest = absurd (none-some v f)
     by (Some s) h f rest = at s h s.state refl f rest
 
--- a quota has 32 bits
-quota_fits : (w : World) → IsWellFormed w → (o : ObjNo) (k : ℤ) → quota_of w o ≡ Some k → in_range k ≡ true
+-- a quota has 64 bits
+quota_fits : (w : World) → IsWellFormed w → (o : ObjNo) (k : ℤ) → quota_of w o ≡ Some k → is_integer k ≡ true
 quota_fits w wf o k e = by (read_of w o quota_name) refl e
   where
-    by : (r : Option Value) → read_of w o quota_name ≡ r → quota_in r ≡ Some k → in_range k ≡ true
-    by (Some (Int n)) h f = ap in_range (sym (same_Some n k f)) ∙ (and_parts (nat_le (nesting (Int n)) 32) (in_range n) (read_fits w wf quota_name (chain w o) (Int n) h)).1
+    by : (r : Option Value) → read_of w o quota_name ≡ r → quota_in r ≡ Some k → is_integer k ≡ true
+    by (Some (Int n)) h f = ap is_integer (sym (same_Some n k f)) ∙ (and_parts (nat_le (nesting (Int n)) 32) (is_integer n) (read_fits w wf quota_name (chain w o) (Int n) h)).1
     by (Some (Obj x)) h f = absurd (none-some k f)
     by (Some (Str s)) h f = absurd (none-some k f)
     by (Some (Error c)) h f = absurd (none-some k f)
@@ -54,23 +54,23 @@ quota_spelled : folded quota_name ≡ quota_name
 unfolding folded
 quota_spelled = refl
 
-moved : (w : World) (o : ObjNo) (more : ℤ) → ((had : ℤ) → quota_of w o ≡ Some had → in_range (had +ℤ more) ≡ true) → IsWellFormed w → IsWellFormed (quota_moved w o more)
+moved : (w : World) (o : ObjNo) (more : ℤ) → ((had : ℤ) → quota_of w o ≡ Some had → is_integer (had +ℤ more) ≡ true) → IsWellFormed w → IsWellFormed (quota_moved w o more)
 moved w o more room wf = by (quota_of w o) refl
   where
     by : (q : Option ℤ) → quota_of w o ≡ q → IsWellFormed (elim q [ None ↦ w | Some had ↦ with_record w o (set_slot quota_name (Set (Int (had +ℤ more)))) ])
     by None e = wf
     by (Some had) e = subst IsWellFormed (ap (λ n. with_record w o (set_slot n (Set (Int (had +ℤ more))))) quota_spelled) (set_formed w o quota_name (Int (had +ℤ more)) (room had e) wf)
 
-less_in_range : (k : ℤ) → in_range k ≡ true → int_lt (pos 0) k ≡ true → in_range (k +ℤ negsuc 0) ≡ true
-less_in_range k f h = range_of (k +ℤ negsuc 0) (less k (fits_signed k f) h)
+less_fits : (k : ℤ) → is_integer k ≡ true → int_lt (pos 0) k ≡ true → is_integer (k +ℤ negsuc 0) ≡ true
+less_fits k f h = integer_of (k +ℤ negsuc 0) (less k (integer_fits k f) h)
   where
-    less : (k : ℤ) → FitsSigned w32 k → int_lt (pos 0) k ≡ true → FitsSigned w32 (k +ℤ negsuc 0)
+    less : (k : ℤ) → FitsSigned w64 k → int_lt (pos 0) k ≡ true → FitsSigned w64 (k +ℤ negsuc 0)
     less k f h = grind (arith, ints)
 
-more_in_range : (k : ℤ) → in_range k ≡ true → int_lt k (pos 2147483647) ≡ true → in_range (k +ℤ pos 1) ≡ true
-more_in_range k f h = range_of (k +ℤ pos 1) (more k (fits_signed k f) h)
+more_fits : (k : ℤ) → is_integer k ≡ true → int_lt k (pos 9223372036854775807) ≡ true → is_integer (k +ℤ pos 1) ≡ true
+more_fits k f h = integer_of (k +ℤ pos 1) (more k (integer_fits k f) h)
   where
-    more : (k : ℤ) → FitsSigned w32 k → int_lt k (pos 2147483647) ≡ true → FitsSigned w32 (k +ℤ pos 1)
+    more : (k : ℤ) → FitsSigned w64 k → int_lt k (pos 9223372036854775807) ≡ true → FitsSigned w64 (k +ℤ pos 1)
     more k f h = grind (arith, ints)
 
 -- a new object is paid for
@@ -87,12 +87,12 @@ charged_formed w wf x q owner is_next parent known can = by (same_object nothing
     made : IsWellFormed (created w x q (owner_or_self x owner))
     made = formed w x q (owner_or_self x owner) wf is_next parent owner_numbered
 
-    room : same_object nothing owner ≡ false → (had : ℤ) → quota_of (created w x q (owner_or_self x owner)) owner ≡ Some had → in_range (had +ℤ negsuc 0) ≡ true
+    room : same_object nothing owner ≡ false → (had : ℤ) → quota_of (created w x q (owner_or_self x owner)) owner ≡ Some had → is_integer (had +ℤ negsuc 0) ≡ true
     room e had h =
         let there : is_object w owner ≡ true = elim (or_cases _ _ known) [ inl f ↦ f | inr f ↦ absurd (both_ways (same_object nothing owner) e f) ] in
         let before : quota_of w owner ≡ Some had = sym (ap quota_in (read_old w x q (owner_or_self x owner) wf is_next parent owner quota_name there)) ∙ h in
         let left : has_quota_left w owner ≡ true = elim (or_cases _ _ can) [ inl f ↦ absurd (both_ways (same_object nothing owner) e f) | inr f ↦ f ] in
-        less_in_range had (quota_fits w wf owner had before) (sym (ap (λ k. unwrap_or (option_map (λ n. int_lt (pos 0) n) k) true) before) ∙ left)
+        less_fits had (quota_fits w wf owner had before) (sym (ap (λ k. unwrap_or (option_map (λ n. int_lt (pos 0) n) k) true) before) ∙ left)
 
     by : (b : Bool) → same_object nothing owner ≡ b → IsWellFormed (if b then created w x q (owner_or_self x owner) else quota_moved (created w x q (owner_or_self x owner)) owner (negsuc 0))
     by true e = made
@@ -100,8 +100,8 @@ charged_formed w wf x q owner is_next parent known can = by (same_object nothing
 
 -- one is given back where it has room
 pub returned_formed : (w : World) (o : ObjNo) → IsWellFormed w → IsWellFormed (quota_returned w o)
-returned_formed w o wf = by (unwrap_or (option_map (λ k. int_lt k (pos 2147483647)) (quota_of w o)) false) refl
+returned_formed w o wf = by (unwrap_or (option_map (λ k. int_lt k (pos 9223372036854775807)) (quota_of w o)) false) refl
   where
-    by : (b : Bool) → unwrap_or (option_map (λ k. int_lt k (pos 2147483647)) (quota_of w o)) false ≡ b → IsWellFormed (if b then quota_moved w o (pos 1) else w)
+    by : (b : Bool) → unwrap_or (option_map (λ k. int_lt k (pos 9223372036854775807)) (quota_of w o)) false ≡ b → IsWellFormed (if b then quota_moved w o (pos 1) else w)
     by false e = wf
-    by true e = moved w o (pos 1) (λ had h. more_in_range had (quota_fits w wf o had h) (sym (ap (λ k. unwrap_or (option_map (λ n. int_lt n (pos 2147483647)) k) false) h) ∙ e)) wf
+    by true e = moved w o (pos 1) (λ had h. more_fits had (quota_fits w wf o had h) (sym (ap (λ k. unwrap_or (option_map (λ n. int_lt n (pos 9223372036854775807)) k) false) h) ∙ e)) wf

@@ -88,6 +88,6 @@ pub recycle_gives_one : RecycleGivesOne
 recycle_gives_one w next p x v k wf h had small =
     of_done (λ _ left. quota_of left (owner_of w x) ≡ Some (k +ℤ pos 1)) (recycle w p x) v next
     (on_recycle w p x (λ _ left. quota_of left (owner_of w x) ≡ Some (k +ℤ pos 1)) (λ xo.
-    ap (λ b. quota_of (if b then quota_moved (recycled w x) (owner_of w x) (pos 1) else recycled w x) (owner_of w x)) (ap (λ o. unwrap_or (option_map (λ n. int_lt n (pos 2147483647)) o) false) had ∙ small)
+    ap (λ b. quota_of (if b then quota_moved (recycled w x) (owner_of w x) (pos 1) else recycled w x) (owner_of w x)) (ap (λ o. unwrap_or (option_map (λ n. int_lt n (pos 9223372036854775807)) o) false) had ∙ small)
     ∙ quota_read (recycled w x) (IsWellFormed-recycled w x wf xo).tree (owner_of w x) k (pos 1) had))
     h

@@ -1,5 +1,5 @@
 -- The limits that the types of values keep, and the tests of them.
-use Rattle.std.proofs.Common.{◌≡◌, ◌≤◌, ◌<◌, Bool, true, false, ◌&&◌, ◌↔◌, refl, sym, ℤ, pos, negsuc, FitsSigned, w32, arith}
+use Rattle.std.proofs.Common.{◌≡◌, ◌≤◌, ◌<◌, Bool, true, false, ◌&&◌, ◌↔◌, refl, sym, ℤ, pos, negsuc, FitsSigned, w32, w64, arith}
 use Rattle.std.specs.Prelude.{ℕ, List, length, IsTrue, nat_le}
 use Rattle.std.specs.List.{list_all}
 use Rattle.std.proofs.lemmas.Bool.{false≢true, and_parts, le-leb, leb-true, lt-ltb, ltb-true}
@@ -10,7 +10,7 @@ use Rattle.moo_value.specs.Literal.{HoldInside, HoldIn, InRange, Fits}
 use Rattle.moo_value.specs.Text.{IsText, is_allowed}
 use Rattle.moo_value.specs.Value.{nesting}
 use Rattle.moo_value.specs.Values.{Values, no_values, int, object, string, error, list}
-use Rattle.moo_world.specs.Arguments.{in_range, is_text, all_within_limits, is_within_limits, fits}
+use Rattle.moo_world.specs.Arguments.{is_integer, in_range, is_text, all_within_limits, is_within_limits, fits}
 use Rattle.moo_world.specs.KeptForm.{TextIsTested, FitsIsTested}
 
 both : {a b : Bool} → a ≡ true → b ≡ true → (a && b) ≡ true
@@ -24,19 +24,27 @@ pub fits_signed : (n : ℤ) → in_range n ≡ true → FitsSigned w32 n
 fits_signed (pos n) e = let h : n < 2147483648 = ltb-true n 2147483648 e in grind (arith, ints)
 fits_signed (negsuc n) e = let h : n < 2147483648 = ltb-true n 2147483648 e in grind (arith, ints)
 
+pub integer_of : (n : ℤ) → FitsSigned w64 n → is_integer n ≡ true
+integer_of (pos n) f = lt-ltb n 9223372036854775808 (omega (arith, ints))
+integer_of (negsuc n) f = lt-ltb n 9223372036854775808 (omega (arith, ints))
+
+pub integer_fits : (n : ℤ) → is_integer n ≡ true → FitsSigned w64 n
+integer_fits (pos n) e = let h : n < 9223372036854775808 = ltb-true n 9223372036854775808 e in grind (arith, ints)
+integer_fits (negsuc n) e = let h : n < 9223372036854775808 = ltb-true n 9223372036854775808 e in grind (arith, ints)
+
 pub text_of : (s : List ℕ) → IsText s → is_text s ≡ true
 text_of s t = both (le-leb (length s) 65535 t.short) t.allowed
 
 inside : (vs : Values) → HoldInside InRange IsText vs → all_within_limits vs ≡ true
 inside no_values h = refl
-inside (int n vs) h = both (range_of n h.0) (inside vs h.1)
+inside (int n vs) h = both (integer_of n h.0) (inside vs h.1)
 inside (object n vs) h = both (range_of n h.0) (inside vs h.1)
 inside (string s vs) h = both (text_of s h.0) (inside vs h.1)
 inside (error e vs) h = inside vs h
 inside (list us vs) h = both (inside us h.0) (inside vs h.1)
 
 in_value : (v : Value) → HoldIn InRange IsText v → is_within_limits v ≡ true
-in_value (Int n) h = range_of n h
+in_value (Int n) h = integer_of n h
 in_value (Obj o) h = range_of o.0 h
 in_value (Str s) h = text_of s h
 in_value (Error e) h = refl
@@ -47,14 +55,14 @@ is_text_of s e = let parts = and_parts (nat_le (length s) 65535) (list_all is_al
 
 hold_inside : (vs : Values) → all_within_limits vs ≡ true → HoldInside InRange IsText vs
 hold_inside no_values e = tt
-hold_inside (int n vs) e = let parts = and_parts (in_range n) (all_within_limits vs) e in (fits_signed n parts.0, hold_inside vs parts.1)
+hold_inside (int n vs) e = let parts = and_parts (is_integer n) (all_within_limits vs) e in (integer_fits n parts.0, hold_inside vs parts.1)
 hold_inside (object n vs) e = let parts = and_parts (in_range n) (all_within_limits vs) e in (fits_signed n parts.0, hold_inside vs parts.1)
 hold_inside (string s vs) e = let parts = and_parts (is_text s) (all_within_limits vs) e in (is_text_of s parts.0, hold_inside vs parts.1)
 hold_inside (error c vs) e = hold_inside vs e
 hold_inside (list us vs) e = let parts = and_parts (all_within_limits us) (all_within_limits vs) e in (hold_inside us parts.0, hold_inside vs parts.1)
 
 hold_in : (v : Value) → is_within_limits v ≡ true → HoldIn InRange IsText v
-hold_in (Int n) e = fits_signed n e
+hold_in (Int n) e = integer_fits n e
 hold_in (Obj o) e = fits_signed o.0 e
 hold_in (Str s) e = is_text_of s e
 hold_in (Error c) e = tt

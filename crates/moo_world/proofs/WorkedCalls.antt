@@ -95,11 +95,7 @@ place_loop : run_calls opening (no 3) (call Move (o 2 ∷ o 3 ∷ []) ∷ []) �
 unfolding world_shown chain places same_object same_text same_pair folded rebuilt step
 place_loop = refl
 
--- acceptance is tested before the loop, and a list of its own counts before one higher up
-accepted_first : and_as_4 (call Create (o 1 ∷ []) ∷ call Move (o 5 ∷ o 5 ∷ []) ∷ []) ≡ FailedAt 2 NotAccepted
-unfolding world_shown chain places same_object same_text same_pair folded rebuilt step
-accepted_first = refl
-
+-- a list of its own counts before one higher up
 taken_in : answers (and_as_4 (call Create (o 1 ∷ []) ∷ call Create (o 1 ∷ []) ∷ call SetAccept (o 6 ∷ object_list (no 1 ∷ []) ∷ []) ∷ call Move (o 5 ∷ o 6 ∷ []) ∷ call Get (o 6 ∷ text (codes "contents") ∷ []) ∷ [])) ≡ Some (o 5 ∷ o 6 ∷ zero ∷ zero ∷ object_list (no 5 ∷ []) ∷ [])
 unfolding world_shown chain places same_object same_text same_pair folded rebuilt step
 taken_in = refl
@@ -162,10 +158,17 @@ one_back = refl
 
 -- a quota at the greatest integer stays, and none is asked where the owner is the new object itself
 greatest_stays : answers (with_quota (
-    call Create (o 1 ∷ o 4 ∷ []) ∷ call Set (o 4 ∷ text (codes "ownership_quota") ∷ i 2147483647 ∷ []) ∷ call Recycle (o 5 ∷ []) ∷ call Get (o 4 ∷ text (codes "ownership_quota") ∷ []) ∷ call Create (o 1 ∷ Obj nothing ∷ []) ∷ call Get (o 4 ∷ text (codes "ownership_quota") ∷ []) ∷ []))
-    ≡ Some (zero ∷ o 4 ∷ o 5 ∷ zero ∷ zero ∷ i 2147483647 ∷ o 6 ∷ i 2147483647 ∷ [])
+    call Create (o 1 ∷ o 4 ∷ []) ∷ call Set (o 4 ∷ text (codes "ownership_quota") ∷ i 9223372036854775807 ∷ []) ∷ call Recycle (o 5 ∷ []) ∷ call Get (o 4 ∷ text (codes "ownership_quota") ∷ []) ∷ call Create (o 1 ∷ Obj nothing ∷ []) ∷ call Get (o 4 ∷ text (codes "ownership_quota") ∷ []) ∷ []))
+    ≡ Some (zero ∷ o 4 ∷ o 5 ∷ zero ∷ zero ∷ i 9223372036854775807 ∷ o 6 ∷ i 9223372036854775807 ∷ [])
 unfolding world_shown chain places same_object same_text same_pair folded rebuilt step
 greatest_stays = refl
+
+-- one at the greatest number of 32 bits does not
+greater_than_32_bits : answers (with_quota (
+    call Create (o 1 ∷ o 4 ∷ []) ∷ call Set (o 4 ∷ text (codes "ownership_quota") ∷ i 2147483647 ∷ []) ∷ call Recycle (o 5 ∷ []) ∷ call Get (o 4 ∷ text (codes "ownership_quota") ∷ []) ∷ call Create (o 1 ∷ Obj nothing ∷ []) ∷ call Get (o 4 ∷ text (codes "ownership_quota") ∷ []) ∷ []))
+    ≡ Some (zero ∷ o 4 ∷ o 5 ∷ zero ∷ zero ∷ i 2147483648 ∷ o 6 ∷ i 2147483648 ∷ [])
+unfolding world_shown chain places same_object same_text same_pair folded rebuilt step
+greater_than_32_bits = refl
 
 -- the owner's quota is read when the object is gone: #5 was under it
 read_when_gone : answers (run_calls opening (no 3) (

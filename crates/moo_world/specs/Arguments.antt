@@ -16,6 +16,11 @@ use Rattle.moo_world.specs.declared.descriptor.Desc.{Desc}
 use Rattle.moo_world.specs.declared.descriptor.Desc.TheVariants.{Index, Name as a_word}
 use Rattle.moo_world.specs.Objects.{Name}
 
+-- an integer has 64 bits
+abbrev pub is_integer : ℤ → Bool
+is_integer (pos n) = nat_lt n 9223372036854775808
+is_integer (negsuc n) = nat_lt n 9223372036854775808
+
 -- a number of 32 bits
 abbrev pub in_range : ℤ → Bool
 in_range (pos n) = nat_lt n 2147483648
@@ -29,10 +34,10 @@ is_number x = in_range x.0
 abbrev pub is_text : List ℕ → Bool
 is_text s = nat_le (length s) 65535 && list_all is_allowed s
 
--- the integers and objects in the values of a list are numbers of 32 bits, and the strings are texts
+-- the integers in the values of a list have 64 bits and the numbers of objects 32, and the strings are texts
 abbrev pub all_within_limits : Values → Bool
 all_within_limits none_left = true
-all_within_limits (int n rest) = in_range n && all_within_limits rest
+all_within_limits (int n rest) = is_integer n && all_within_limits rest
 all_within_limits (object n rest) = in_range n && all_within_limits rest
 all_within_limits (string s rest) = is_text s && all_within_limits rest
 all_within_limits (error e rest) = all_within_limits rest
@@ -40,13 +45,13 @@ all_within_limits (list values rest) = all_within_limits values && all_within_li
 
 -- so are those in a value
 abbrev pub is_within_limits : Value → Bool
-is_within_limits (Int n) = in_range n
+is_within_limits (Int n) = is_integer n
 is_within_limits (Obj o) = in_range o.0
 is_within_limits (Str s) = is_text s
 is_within_limits (Error e) = true
 is_within_limits (a_list values) = all_within_limits values
 
--- lists nest at most 32 deep in the value, its numbers have 32 bits, and its strings are texts
+-- lists nest at most 32 deep in the value, its integers have 64 bits, the numbers of its objects 32, and its strings are texts
 abbrev pub fits : Value → Bool
 fits v = nat_le (nesting v) 32 && is_within_limits v
 

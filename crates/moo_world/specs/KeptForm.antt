@@ -14,7 +14,7 @@ use Rattle.moo_world.specs.Outcomes.{Done}
 use Rattle.moo_world.specs.Step.{step}
 use Rattle.moo_world.specs.World.{World, IsWellFormed}
 
--- in each value that the call is given lists nest at most 32 deep, numbers have 32 bits, and strings are texts
+-- in each value that the call is given lists nest at most 32 deep, integers have 64 bits, the numbers of objects 32, and strings are texts
 abbrev pub arguments_fit : Call → Bool
 arguments_fit call = list_all fits call.args
 

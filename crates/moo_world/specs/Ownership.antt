@@ -61,5 +61,5 @@ CreateTakesOne =
 abbrev pub RecycleGivesOne : Type 0
 RecycleGivesOne =
     (w next : World) (p x : ObjNo) (v : Value) (k : ℤ) → IsWellFormed w → recycle w p x ≡ Done v next →
-    quota_of (recycled w x) (owner_of w x) ≡ Some k → int_lt k (pos 2147483647) ≡ true →
+    quota_of (recycled w x) (owner_of w x) ≡ Some k → int_lt k (pos 9223372036854775807) ≡ true →
     quota_of next (owner_of w x) ≡ Some (k +ℤ pos 1)

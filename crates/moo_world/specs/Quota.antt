@@ -42,4 +42,4 @@ charged w owner = if same_object nothing owner then w else quota_moved w owner (
 
 -- a quota at the greatest integer stays
 abbrev pub quota_returned : World → ObjNo → World
-quota_returned w o = if unwrap_or (option_map (λ k. int_lt k (pos 2147483647)) (quota_of w o)) false then quota_moved w o (pos 1) else w
+quota_returned w o = if unwrap_or (option_map (λ k. int_lt k (pos 9223372036854775807)) (quota_of w o)) false then quota_moved w o (pos 1) else w

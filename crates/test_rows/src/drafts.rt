@@ -2,13 +2,14 @@
 
 use moo_draft::{Changes, Draft, apply_changes};
 use moo_rows::{
-    Bits, Flat, Link, PropId, Rows, SlotRow, SlotState, each_slot, each_slot_of, opening_world,
+    Bits, Flat, Link, ObjRow, PropId, Rows, SlotRow, SlotState, each_slot, each_slot_of,
+    opening_world,
 };
 use moo_value::{ObjNo, Value};
 use std::alloc::{AllocError, Global};
 use std::test::Fail;
 
-fn slot(object: ObjNo, value: i32) -> SlotRow {
+fn slot(object: ObjNo, value: i64) -> SlotRow {
     SlotRow {
         owner: object,
         bits: Bits {
@@ -39,7 +40,7 @@ fn keys_met<R: Rows>(
         let object = ObjNo((i * 37 % 23) as i32);
         let key = (object, PropId(i * 11 % 17 + 1));
         match i % 4 {
-            0 => rows.put_slot(key, slot(object, i as i32))?,
+            0 => rows.put_slot(key, slot(object, i64::from(i)))?,
             1 => rows.put_slot((object, PropId(3)), slot(object, 0))?,
             2 => rows.remove_slot(key)?,
             _ => met.push(rows.next_slot(Some(key)))?,
@@ -145,5 +146,32 @@ fn a_removed_object_is_not_next(rt: HostRuntime) -> Result<(), Fail> {
     assert!(rt; draft.next_linked(child, ObjNo(0)) == Some(ObjNo(3)));
     assert!(rt; draft.next_linked(child, ObjNo(3)).is_none());
     assert!(rt; flat.next_linked(child, ObjNo(0)) == Some(ObjNo(2)));
+    Ok(())
+}
+
+/// Puts `#4` under `#1`, nowhere, and `#5` under `#0`, in `#2`.
+fn put_two(alloc: Global, draft: &mut Draft<'_, Flat>) -> Result<(), AllocError> {
+    let first = ObjRow::plain(alloc, b"", ObjNo(3), ObjNo(1))?;
+    draft.put_object(ObjNo(4), first)?;
+    let mut second = ObjRow::plain(alloc, b"", ObjNo(3), ObjNo(0))?;
+    second.location = ObjNo(2);
+    draft.put_object(ObjNo(5), second)
+}
+
+#[test]
+fn changed_objects_are_found_by_their_links(rt: HostRuntime) -> Result<(), Fail> {
+    let flat = opening_world(rt.alloc())?;
+    let mut draft = Draft::new(rt.alloc(), &flat);
+    put_two(rt.alloc(), &mut draft)?;
+    for (link, after, next) in [
+        (Link::ChildOf(ObjNo(1)), 3, Some(ObjNo(4))),
+        (Link::ChildOf(ObjNo(1)), 4, None),
+        (Link::ChildOf(ObjNo(0)), -1, Some(ObjNo(5))),
+        (Link::Within(ObjNo(2)), 3, Some(ObjNo(5))),
+        (Link::Within(ObjNo(-1)), 2, Some(ObjNo(4))),
+        (Link::Within(ObjNo(-1)), 4, None),
+    ] {
+        assert!(rt; draft.next_linked(link, ObjNo(after)) == next);
+    }
     Ok(())
 }

@@ -89,6 +89,23 @@ fn the_opening_world_is_the_four_objects(rt: HostRuntime) -> Result<(), Fail> {
 }
 
 #[test]
+fn links_to_nothing_are_found(rt: HostRuntime) -> Result<(), Fail> {
+    let rows = opening_world(rt.alloc())?;
+    let (root, nowhere) = (Link::ChildOf(ObjNo(-1)), Link::Within(ObjNo(-1)));
+    for (link, after, next) in [
+        (root, -1, Some(ObjNo(1))),
+        (root, 1, None),
+        (nowhere, -1, Some(ObjNo(0))),
+        (nowhere, 0, Some(ObjNo(1))),
+        (nowhere, 1, Some(ObjNo(2))),
+        (nowhere, 2, None),
+    ] {
+        assert!(rt; rows.next_linked(link, ObjNo(after)) == next);
+    }
+    Ok(())
+}
+
+#[test]
 fn letters_in_any_order_and_case_are_rights(rt: HostRuntime) -> Result<(), Fail> {
     // What a text of letters says for a property and for a verb, `-` where it says nothing.
     for (letters, property, verb) in [

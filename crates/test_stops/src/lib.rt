@@ -4,6 +4,8 @@
 #[cfg(test)]
 mod files;
 #[cfg(test)]
+mod migration;
+#[cfg(test)]
 mod rounds;
 #[cfg(test)]
 mod stops;

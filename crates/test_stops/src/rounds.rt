@@ -17,13 +17,23 @@ pub(crate) struct Run<'a> {
 }
 
 /// Does a task on files that don't stop, and answers what is written, and the files.
-fn done(alloc: Global, files: &Kept, task: Task<'_>) -> Result<(Vec<u8>, Kept), Fail> {
+pub(crate) fn done(alloc: Global, files: &Kept, task: Task<'_>) -> Result<(Vec<u8>, Kept), Fail> {
     let mut seen = Seen::new(alloc);
     let behind = visit_fused(alloc, whole(alloc, files)?, task, &mut seen);
     if !seen.is_done || !seen.is_closed {
         return Err(Fail::from("a task without a stop failed"));
     }
     Ok((seen.written, bytes_of(alloc, &behind)?))
+}
+
+/// Files in which statements were run, and nothing else.
+pub(crate) fn tables_of(alloc: Global, statements: &str) -> Result<Kept, Fail> {
+    let none = Kept {
+        log: Vec::new(alloc),
+        db: Vec::new(alloc),
+    };
+    let (_, behind) = done(alloc, &none, Task::Statements(statements))?;
+    Ok(behind)
 }
 
 /// The files of a new world on which a text was run.

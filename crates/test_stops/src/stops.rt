@@ -7,7 +7,7 @@ use std::test::Fail;
 use test_visits::Task;
 
 /// `#4` defines a, `#5` under it defines b, which `#6` under that one sets; `#7` defines c.
-const TREE: &str = r#"batch as #3
+pub(crate) const TREE: &str = r#"batch as #3
 create(#1)
 add_property(#4, "a", 10, {#3, "r"})
 create(#4)

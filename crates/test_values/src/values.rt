@@ -34,7 +34,9 @@ fn repeated(alloc: Global, parts: [&str; 3], count: usize) -> Result<String, Fai
 
 #[test]
 fn literals_are_read_and_printed(rt: HostRuntime) -> Result<(), Fail> {
-    for text in "-2147483648|2147483647|#-2147483648|#2147483647".split('|') {
+    let limits = "-9223372036854775808|9223372036854775807|2147483648|-2147483649|\
+        #-2147483648|#2147483647";
+    for text in limits.split('|') {
         read(rt.alloc(), text, text.len(), text)?;
     }
     let spaced = " { \t1 ,\t#-1 , \"a b\"\t,E_Args, { \t}\t} x";
@@ -46,6 +48,9 @@ fn literals_are_read_and_printed(rt: HostRuntime) -> Result<(), Fail> {
         ("-00000000000000000000007", 24, "-7"),
         ("#-007", 5, "#-7"),
         ("\t 5 ", 3, "5"),
+        ("9223372036854775807", 19, "9223372036854775807"),
+        ("-9223372036854775808", 20, "-9223372036854775808"),
+        ("2147483648", 10, "2147483648"),
         (spaced, 35, "{1, #-1, \"a b\", E_ARGS, {}}"),
         ("1,2", 1, "1"),
         ("12#3", 2, "12"),
@@ -62,9 +67,10 @@ fn literals_are_read_and_printed(rt: HostRuntime) -> Result<(), Fail> {
 fn the_first_fault_is_named(rt: HostRuntime) {
     let no_literals = "| \t|}|{1|{1,}|{,1}|{1 2}|{1,,2}|-|--1|+1|- 1|#|# 1|\n1|E_PERMX|E_PERM1|\
         E_ PERM|E_NONEXISTENT|\"open|\"open\\\"";
-    let out_of_range = "2147483648|-2147483649|#2147483648|#-2147483649|\
-        00000000000099999999999999999999|{2147483648, \"\n\"}";
-    let bad_bytes = "\"a\nb\"|\"a\0b\"|\"a\x7fb\"|\"a\\\x7fb\"|{\"\n\", 2147483648}";
+    let out_of_range = "9223372036854775808|-9223372036854775809|#2147483648|#-2147483649|\
+        #9223372036854775808|00000000000099999999999999999999|{9223372036854775808, \"\n\"}|\
+        {#2147483648, \"\n\"}";
+    let bad_bytes = "\"a\nb\"|\"a\0b\"|\"a\x7fb\"|\"a\\\x7fb\"|{\"\n\", 9223372036854775808}";
     for (fault, texts) in [
         (NotALiteral, no_literals),
         (OutOfRange, out_of_range),

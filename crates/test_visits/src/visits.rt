@@ -13,6 +13,10 @@ pub type Fused = Fuse<Memory>;
 pub enum Task<'a> {
     /// A new world is made.
     Init,
+    /// Statements are run on the tables themselves.
+    Statements(&'a str),
+    /// The number of tables is written, a digit. They stay as they are.
+    Tables,
     /// A text is run.
     Apply(&'a [u8]),
     /// The tables are checked.
@@ -57,7 +61,7 @@ fn do_task<S: Alter + Drop>(
     written: &mut Vec<u8>,
 ) -> bool {
     match task {
-        Task::Init => true,
+        Task::Init | Task::Statements(_) | Task::Tables => true,
         Task::Apply(text) => {
             apply_text(alloc, text, written, world).is_ok_and(|tally| tally.lost == 0)
         }
@@ -67,7 +71,7 @@ fn do_task<S: Alter + Drop>(
 }
 
 /// Does the task on the world of a connection, which is made or opened, and hands the connection back.
-fn visit<S: Alter + Drop>(
+fn visit_world<S: Alter + Drop>(
     alloc: Global,
     conn: Connection<S>,
     task: Task<'_>,
@@ -86,6 +90,35 @@ fn visit<S: Alter + Drop>(
             world.into_connection()
         }
         Err((_fault, conn)) => conn,
+    }
+}
+
+/// The number of tables of a connection, as a digit.
+fn tables_of<S: Alter + Drop>(conn: &Connection<S>) -> u8 {
+    match conn.schema().tables.len() {
+        5 => b'5',
+        8 => b'8',
+        _ => b'?',
+    }
+}
+
+/// Does the task on the tables of a connection, or on the world in them, and hands the connection back.
+fn visit<S: Alter + Drop>(
+    alloc: Global,
+    mut conn: Connection<S>,
+    task: Task<'_>,
+    seen: &mut Seen,
+) -> Connection<S> {
+    match task {
+        Task::Statements(text) => {
+            seen.is_done = conn.execute_batch(text).is_ok();
+            conn
+        }
+        Task::Tables => {
+            seen.is_done = seen.written.push(tables_of(&conn)).is_ok();
+            conn
+        }
+        _ => visit_world(alloc, conn, task, seen),
     }
 }
 

@@ -14,6 +14,7 @@ use crate::object::read_object;
 use crate::table_row::TableRow;
 use moo_damage::{Key, Kind};
 use moo_rows::{Flat, ObjRow, Rows};
+use moo_tables::Version;
 use moo_value::ObjNo;
 use sqlite::Row;
 use std::alloc::Global;
@@ -21,9 +22,9 @@ use std::alloc::Global;
 impl TableRow for ObjRow {
     type Key = ObjNo;
 
-    ghost reads = { ReadsObject };
+    ghost reads = { λ _. ReadsObject };
 
-    fn read(alloc: Global, cells: &Row) -> Result<(ObjNo, ObjRow), RowFault> {
+    fn read(alloc: Global, _version: Version, cells: &Row) -> Result<(ObjNo, ObjRow), RowFault> {
         read_object(alloc, cells)
     }
 }

@@ -14,15 +14,16 @@ use crate::prop::read_prop;
 use crate::table_row::TableRow;
 use moo_damage::{Key, Kind};
 use moo_rows::{Flat, PropId, PropRow, Rows};
+use moo_tables::Version;
 use sqlite::Row;
 use std::alloc::Global;
 
 impl TableRow for PropRow {
     type Key = PropId;
 
-    ghost reads = { ReadsProp };
+    ghost reads = { λ _. ReadsProp };
 
-    fn read(alloc: Global, cells: &Row) -> Result<(PropId, PropRow), RowFault> {
+    fn read(alloc: Global, _version: Version, cells: &Row) -> Result<(PropId, PropRow), RowFault> {
         read_prop(alloc, cells)
     }
 }

@@ -13,6 +13,7 @@ use crate::slot::read_slot;
 use crate::table_row::TableRow;
 use moo_damage::{Key, Kind};
 use moo_rows::{Flat, PropId, Rows, SlotRow};
+use moo_tables::Version;
 use moo_value::ObjNo;
 use sqlite::Row;
 use std::alloc::Global;
@@ -22,32 +23,41 @@ impl TableRow for SlotRow {
 
     ghost reads = { ReadsSlot };
 
-    fn read(alloc: Global, cells: &Row) -> Result<((ObjNo, PropId), SlotRow), RowFault> {
-        read_slot(alloc, cells)
+    fn read(
+        alloc: Global,
+        version: Version,
+        cells: &Row,
+    ) -> Result<((ObjNo, PropId), SlotRow), RowFault> {
+        read_slot(alloc, version, cells)
     }
 }
 
 /// Puts the slot that these cells show.
-fn take_slot(alloc: Global, cells: &Row, rows: &mut Flat) -> Result<(), RowFault>
-    ensures ok { OnOk result (Takes ReadsSlot cells.now rows.old.maps.slots rows.new.maps.slots) }
+fn take_slot(alloc: Global, version: Version, cells: &Row, rows: &mut Flat) -> Result<(), RowFault>
+    ensures ok { OnOk result (Takes (ReadsSlot version) cells.now rows.old.maps.slots rows.new.maps.slots) }
     ensures kept { OnOk result (rows.new.maps ≡ record rows.old.maps { slots = rows.new.maps.slots }) }
-    ensures err { IfErr result (λ fault. fault ≡ Unreadable → ¬ (IsRead ReadsSlot cells.now)) }
+    ensures err { IfErr result (λ fault. fault ≡ Unreadable → ¬ (IsRead (ReadsSlot version) cells.now)) }
 {
-    let (key, row) = read_slot(alloc, cells)?;
+    let (key, row) = read_slot(alloc, version, cells)?;
     rows.put_slot(key, row)?;
     Ok(())
 }
 
 /// Puts what each row of the table shows, where no row is so far.
-pub(crate) fn read_slots(alloc: Global, cells: &[Row], rows: &mut Flat) -> Result<(), CellFault>
+pub(crate) fn read_slots(
+    alloc: Global,
+    version: Version,
+    cells: &[Row],
+    rows: &mut Flat,
+) -> Result<(), CellFault>
     requires listed { ArePaired cells.now }
     requires none { rows.old.maps.slots ≡ empty }
-    ensures holds { OnOk result (HoldsTable begins_with slot_number ReadsSlot cells.now rows.new.maps.slots) }
+    ensures holds { OnOk result (HoldsTable begins_with slot_number (ReadsSlot version) cells.now rows.new.maps.slots) }
     ensures kept { OnOk result (rows.new.maps ≡ record rows.old.maps { slots = rows.new.maps.slots }) }
-    ensures fault { IfErr result (SaysUnread begins_with ReadsSlot IsPairLess slot_key cells.now) }
+    ensures fault { IfErr result (SaysUnread begins_with (ReadsSlot version) IsPairLess slot_key cells.now) }
 {
     for row in cells {
-        match take_slot(alloc, row, rows) {
+        match take_slot(alloc, version, row, rows) {
             Ok(()) => {}
             Err(RowFault::Unreadable) => {
                 return Err(CellFault::Damaged(

@@ -13,6 +13,7 @@ use crate::table_row::TableRow;
 use crate::verb::read_verb;
 use moo_damage::{Key, Kind};
 use moo_rows::{Flat, Rows, VerbId, VerbRow};
+use moo_tables::Version;
 use moo_value::ObjNo;
 use sqlite::Row;
 use std::alloc::Global;
@@ -20,9 +21,13 @@ use std::alloc::Global;
 impl TableRow for VerbRow {
     type Key = (ObjNo, VerbId);
 
-    ghost reads = { ReadsVerb };
+    ghost reads = { λ _. ReadsVerb };
 
-    fn read(alloc: Global, cells: &Row) -> Result<((ObjNo, VerbId), VerbRow), RowFault> {
+    fn read(
+        alloc: Global,
+        _version: Version,
+        cells: &Row,
+    ) -> Result<((ObjNo, VerbId), VerbRow), RowFault> {
         read_verb(alloc, cells)
     }
 }

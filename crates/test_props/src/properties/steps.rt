@@ -64,7 +64,7 @@ pub(super) fn added<R: Rows>(
     rows: &mut R,
     x: i32,
     name: &[u8],
-    value: i32,
+    value: i64,
     bits: Bits,
 ) -> Result<PropId, Fail>
     requires good { IsGood (R.held rows.old).maps }
@@ -99,7 +99,7 @@ pub(super) fn integer<R: Rows>(
     rows: &R,
     x: i32,
     name: &[u8],
-) -> Result<Option<i32>, Fail>
+) -> Result<Option<i64>, Fail>
     requires { IsGood (R.held rows.now).maps }
 {
     let name = MooStr::from_bytes(alloc, name)?;
@@ -141,7 +141,7 @@ pub(super) fn set<R: Rows>(
     rows: &mut R,
     x: i32,
     name: &[u8],
-    value: i32,
+    value: i64,
 ) -> Result<(), Fail>
     requires { IsGood (R.held rows.old).maps }
     ensures { OnOk result (IsGood (R.held rows.new).maps) }

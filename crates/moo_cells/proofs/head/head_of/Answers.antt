@@ -1,6 +1,11 @@
-use Rattle.std.proofs.Common.{refl}
-use Rattle.moo_cells.proofs.HeadLemmas.{no_numbers}
+use Rattle.std.proofs.Common.{refl, arith}
+use Rattle.std.proofs.lemmas.Int.{ints}
+use Rattle.moo_tables.specs.Version.{version_number}
+use Rattle.moo_cells.proofs.HeadLemmas.{no_numbers, newer}
 use Rattle.moo_cells.proofs.head.head_of.Goals as goal
 
 pub returns-in_default-clause-err : goal.returns-in_default-clause-err
-returns-in_default-clause-err c = let none = no_numbers c.args.cells.now c.in_default.ensures.err in (refl, refl, none.0, none.1)
+returns-in_default-clause-err c = let none = no_numbers (version_number c.args.version) c.args.cells.now c.in_default.ensures.err in (refl, refl, none.0, none.1)
+
+pub returns-then-numbers-gt-VERSION-clause-err : goal.returns-then-numbers-gt-VERSION-clause-err
+returns-then-numbers-gt-VERSION-clause-err c = newer c.args.cells.now c.in-Ok.numbers c.in-Ok.ensures.ok (omega (arith, ints)) (omega (arith, ints))

@@ -1,6 +1,8 @@
-use Rattle.std.proofs.Common.{◌≡◌, length, [], ◌∷◌, ap, sym, ◌∙◌}
+use Rattle.std.proofs.Common.{◌≡◌, length, [], ◌∷◌, ap, sym, subst, ◌∙◌}
 use Rattle.std.proofs.lemmas.Result.{err_from_is_err_and}
+use Rattle.sqlite.specs.declared.types.Value.{Value}
 use Rattle.sqlite.specs.Order.{Row, column}
+use Rattle.moo_cells.specs.Shows.{ShowsBits}
 use Rattle.moo_cells.proofs.Columns.{five}
 use Rattle.moo_cells.proofs.slot.read_slot.Goals as goal
 
@@ -22,7 +24,7 @@ returns-in_err-owner-clause-err c =
 pub returns-in_err-bits-clause-err : goal.returns-in_err-bits-clause-err
 returns-in_err-bits-clause-err c =
     let p = err_from_is_err_and c.from_residual-in_err-bits.result c.from_residual-in_err-bits.ensures.1 in
-    rw p.1 (λ fault read. c.in_err-bits.ensures.err read.2.0.0 read.1.bits read.2.0.2 (ap (λ (r : Row). column r 3) read.2.0.4))
+    rw p.1 (λ fault read. c.in_err-bits.ensures.err read.1.bits (subst (λ (v : Value). ShowsBits c.args.version v read.1.bits) (sym (ap (λ (r : Row). column r 3) read.2.0.4)) read.2.0.2))
 
 pub returns-in_err-state-clause-err : goal.returns-in_err-state-clause-err
 returns-in_err-state-clause-err c =
@@ -32,14 +34,13 @@ returns-in_err-state-clause-err c =
 pub returns-clause-ok : goal.returns-clause-ok
 returns-clause-ok c =
     let long : length c.args.cells.now ≡ 5 = sym c.column_count.ensures ∙ c.if-column_count-ne-COLUMNS.false in
-    let bits = c.in_ok-bits.ensures.ok in
     let state = c.in_ok-state.ensures.ok in (
       (
-        bits.0,
+        column c.args.cells.now 3,
         state.0,
-        bits.1,
+        c.in_ok-bits.ensures.ok,
         state.1,
-        five c.args.cells.now long ∙ (λ i. c.in_ok-object.ensures.ok i ∷ c.in_ok-prop.ensures.ok i ∷ c.in_ok-owner.ensures.ok i ∷ bits.2 i ∷ state.2 i ∷ []),
+        five c.args.cells.now long ∙ (λ i. c.in_ok-object.ensures.ok i ∷ c.in_ok-prop.ensures.ok i ∷ c.in_ok-owner.ensures.ok i ∷ column c.args.cells.now 3 ∷ state.2 i ∷ []),
       ),
       record {
         object = c.in_ok-object.ensures.fits;

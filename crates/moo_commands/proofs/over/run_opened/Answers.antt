@@ -19,6 +19,6 @@ returns-in-Ok g c =
 pub returns-in-Err : goal.returns-in-Err
 returns-in-Err g c = record {
   kept = λ s keeps clean.
-      inl ((c.from.result, of_opening c.in-Err.fault c.from.result c.from.ensures (c.in-Err.ensures.whole s keeps clean), c.report.ensures), as_before (state g.S.Store c.args.conn) (state g.S.Store c.in-Err.conn) c.in-Err.ensures.crash_refused clean);
+      inl ((c.from.result, of_opening c.in-Err.fault c.from.result c.from.ensures (c.in-Err.ensures.whole s keeps clean), c.report.ensures), as_before (state g.S.Store c.args.conn) (state g.S.Store c.in-Err.conn) s keeps c.in-Err.ensures.crash_refused clean);
   opened = inl (c.from.result, of_refusal c.in-Err.fault c.from.result c.from.ensures, c.report.ensures);
 }

@@ -1,4 +1,4 @@
-use Rattle.std.proofs.Common.{FitsSigned, w32, rules, Some, sym, ap, ◌∙◌}
+use Rattle.std.proofs.Common.{FitsSigned, w64, rules, Some, sym, ap, ◌∙◌}
 use Rattle.std.proofs.lemmas.Int.{to_z-of_z}
 use Rattle.moo_world.specs.Objects.{folded}
 use Rattle.moo_world.specs.Quota.{quota_in}
@@ -14,9 +14,9 @@ returns-in-None-clause-quota g c = let m = (g.R.Rows.held c.args.rows.now).maps 
 pub returns-in-Int-clause-quota : goal.returns-in-Int-clause-quota
 unfolding folded
 returns-in-Int-clause-quota g c =
-    let f : FitsSigned w32 c.in-Int.quota = search rules in
+    let f : FitsSigned w64 c.in-Int.quota = search rules in
     let w = world_of (g.R.Rows.held c.args.rows.now).maps in
-    ap Some (to_z-of_z w32 c.in-Int.quota f) ∙ sym (quota_is w c.args.o (name_of (g.R.Rows.held c.args.rows.now).maps c.in-Some.id) c.value_of.result.now c.in-Some.ensures.named c.value_of.ensures ∙ ap (λ v. quota_in (Some v)) c.in-Int.is)
+    ap Some (to_z-of_z w64 c.in-Int.quota f) ∙ sym (quota_is w c.args.o (name_of (g.R.Rows.held c.args.rows.now).maps c.in-Some.id) c.value_of.result.now c.in-Some.ensures.named c.value_of.ensures ∙ ap (λ v. quota_in (Some v)) c.in-Int.is)
 
 pub returns-in-Int-clause-named : goal.returns-in-Int-clause-named
 unfolding folded

@@ -1,15 +1,18 @@
-use Rattle.std.proofs.Common.{◌≡◌, true, false, sym, subst}
+use Rattle.std.proofs.Common.{◌≡◌, true, false, sym, ap, ◌∙◌, subst}
+use Rattle.sqlite.specs.State.{HasCleanDisk}
+use Rattle.sqlite.specs.Held.{state}
 use Rattle.moo_world.specs.Rows.{IsGood}
 use Rattle.moo_world.specs.Judge.{state_of}
-use Rattle.moo_store.specs.World.{StandsFor}
 use Rattle.moo_cells.specs.Shows.{ShowsRows}
-use Rattle.moo_store.proofs.AdoptLemmas.{stands, clean_at}
+use Rattle.moo_tables.specs.Tables.{Tables, schema_of, second_schema}
+use Rattle.moo_tables.specs.Inside.{Rests, HasTables}
+use Rattle.moo_store.specs.World.{store_of, StandsFor}
+use Rattle.moo_store.proofs.AdoptLemmas.{stands, clean_at, survives_at, left_still}
 use Rattle.moo_store.proofs.adopting.adopt.Goals as goal
 
 pub returns-in-Ok-clause-stands : goal.returns-in-Ok-clause-stands
 returns-in-Ok-clause-stands g c s it clean =
-    stands g.S.Store c.args.conn c.read_rows.new.conn c.over.result c.in-Ok.rows.maps c.over.ensures.connection c.over.ensures.rows c.over.ensures.works c.in-Ok.ensures.read.0 c.in-Ok.ensures.read.1
-    c.in-Ok.ensures.good c.in-Ok.ensures.rows c.in-Ok.ensures.one s it clean
+    stands g.S.Store c.args.conn c.open_rows.new.conn c.over.result c.in-Ok.rows.maps c.over.ensures.connection c.over.ensures.rows c.over.ensures.works c.in-Ok.ensures.good c.in-Ok.ensures.one c.in-Ok.ensures.keeps s it clean
 
 pub returns-in-Ok-clause-rows : goal.returns-in-Ok-clause-rows
 returns-in-Ok-clause-rows g c =
@@ -18,5 +21,22 @@ returns-in-Ok-clause-rows g c =
 
 pub returns-in-Ok-clause-shown : goal.returns-in-Ok-clause-shown
 returns-in-Ok-clause-shown g c clean tables rests =
-    let late = clean_at g.S.Store c.args.conn c.read_rows.new.conn c.over.result c.in-Ok.rows.maps c.over.ensures.connection c.over.ensures.rows c.over.ensures.works c.in-Ok.ensures.read.0 c.in-Ok.ensures.read.1 clean in
-    subst (λ m. ShowsRows tables m × IsGood m) (sym c.over.ensures.rows) (c.in-Ok.ensures.rows late tables rests, c.in-Ok.ensures.good)
+    let late = clean_at g.S.Store c.args.conn c.open_rows.new.conn c.over.result c.in-Ok.rows.maps c.over.ensures.connection c.over.ensures.rows c.over.ensures.works clean in
+    subst (λ m. ShowsRows tables m × IsGood m) (sym c.over.ensures.rows) (c.in-Ok.ensures.shown late tables rests, c.in-Ok.ensures.good)
+
+pub returns-in-Ok-clause-current : goal.returns-in-Ok-clause-current
+returns-in-Ok-clause-current g c =
+    subst (λ h. HasCleanDisk (state g.S.Store h) → (tables : Tables) → Rests (state g.S.Store c.args.conn) tables → HasTables second_schema (state g.S.Store h)) (sym c.over.ensures.connection)
+    (λ clean tables rests. let kept = c.in-Ok.ensures.keeps clean tables rests in kept.rests.holds.schema ∙ ap schema_of kept.current)
+
+pub returns-in-Ok-clause-crash : goal.returns-in-Ok-clause-crash
+returns-in-Ok-clause-crash g c =
+    survives_at g.S.Store c.args.conn c.open_rows.new.conn c.over.result c.in-Ok.rows.maps c.over.ensures.connection c.over.ensures.rows c.over.ensures.works c.open_rows.ensures.crash
+
+pub returns-in-Ok-clause-left : goal.returns-in-Ok-clause-left
+returns-in-Ok-clause-left g c s shown left clean =
+    let survives = survives_at g.S.Store c.args.conn c.open_rows.new.conn c.over.result c.in-Ok.rows.maps c.over.ensures.connection c.over.ensures.rows c.over.ensures.works c.open_rows.ensures.crash in
+    left_still (state g.S.Store c.args.conn) (store_of g.S.Store c.over.result) s survives shown left clean
+
+pub returns-in-Err-clause-left_refused : goal.returns-in-Err-clause-left_refused
+returns-in-Err-clause-left_refused g c s shown left clean = left_still (state g.S.Store c.args.conn) (state g.S.Store c.open_rows.new.conn) s c.open_rows.ensures.crash shown left clean

@@ -11,11 +11,11 @@ returns-clause-reopened g c s it may =
     let new = added c.args.replies.now.items c.run-stopped.new.replies.items in
     let left = leaves_one g.S.Store c.run-stopped.new.self c.run-stopped.result _ _ (c.run-stopped.ensures.world true s it.is_at) (c.run-stopped.ensures.left s it.is_at) may.was_clean in
     let f = found (store_of g.S.Store c.run-stopped.new.self) (state g.T.Store c.args.found) s c.args.batches.now new left may in
-    on_each_ok _ _ c.adopt.result (λ again stands clean. holds g.T.Store (state g.T.Store c.args.found) again s c.args.batches.now new f (stands clean)) (c.adopt.ensures.stands _ f.keeps)
+    on_each_ok _ _ c.adopt.result (λ again stands clean. holds g.T.Store (state g.T.Store c.args.found) again s c.args.batches.now new f (stands clean)) (c.adopt.ensures.stands _ f.shows)
 
 pub returns-clause-refused : goal.returns-clause-refused
 returns-clause-refused g c s it may =
     let new = added c.args.replies.now.items c.run-stopped.new.replies.items in
     let left = leaves_one g.S.Store c.run-stopped.new.self c.run-stopped.result _ _ (c.run-stopped.ensures.world true s it.is_at) (c.run-stopped.ensures.left s it.is_at) may.was_clean in
     let f = found (store_of g.S.Store c.run-stopped.new.self) (state g.T.Store c.args.found) s c.args.batches.now new left may in
-    c.adopt.ensures.whole _ f.keeps
+    c.adopt.ensures.whole _ f.shows

@@ -6,6 +6,6 @@ use Rattle.moo_cells.proofs.tables.slots.read_slots.Given as goal
 
 abbrev pub invariant-loop-row : goal.invariant-loop-row
 invariant-loop-row l = record {
-  holds : HoldsTable begins_with slot_number ReadsSlot (take l.row-index l.cells) l.rows.maps.slots;
+  holds : HoldsTable begins_with slot_number (ReadsSlot l.version) (take l.row-index l.cells) l.rows.maps.slots;
   kept : l.rows.maps ≡ record (l.initial.rows.maps) { slots = l.rows.maps.slots };
 }

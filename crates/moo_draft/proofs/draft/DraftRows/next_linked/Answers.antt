@@ -1,13 +1,14 @@
-use Rattle.std.proofs.Common.{◌≡◌, true, false, ◌||◌, Some, None, sym, ap, ◌∙◌, rules}
+use Rattle.std.proofs.Common.{◌≡◌, true, false, Some, None, sym, ap, ◌∙◌, rules}
 use Rattle.std.specs.FinMap.{get}
 use Rattle.moo_value.specs.declared.value.ObjNo.{ObjNo}
 use Rattle.moo_rows.specs.Ordered.{contents}
 use Rattle.moo_rows.specs.Maps.{object_cmp}
 use Rattle.moo_rows.specs.Exact.{object_exact}
-use Rattle.moo_rows.specs.Links.{may_have, row_has}
+use Rattle.moo_rows.specs.Links.{row_has}
 use Rattle.moo_rows.proofs.Orders.{object_total}
 use Rattle.moo_rows.proofs.Firsts.{first-none, first-found, first-skipped}
 use Rattle.moo_draft.specs.Overlay.{overlaid}
+use Rattle.moo_draft.specs.Either.{is_candidate_of_either}
 use Rattle.moo_draft.proofs.Overlays.{get-overlaid}
 use Rattle.moo_draft.proofs.Drafts.{draft-covers}
 use Rattle.moo_draft.proofs.draft.DraftRows.next_linked.Goals as goal
@@ -17,7 +18,7 @@ returns-in-None g c =
     let d = c.self.inside in
     let below = (g.R.Rows.held d.base.now).maps.objects in
     let changes = contents object_cmp d.objects in
-    let may = λ (q : ObjNo). row_has c.args.link (get below q) || may_have d.links c.args.link q in
+    let may = is_candidate_of_either (get below) changes d.links c.args.link in
     let passes = λ (q : ObjNo). row_has c.args.link (get (overlaid below changes) q) in
     let covers = draft-covers below changes d.links c.self.invariant.0 c.args.link in
     rw (← c.self.view_is) (c.loop-key.invariant None (first-none object_total object_exact may passes covers c.loop-key.last c.in-None.ensures))
@@ -27,7 +28,7 @@ returns-then-row_has g c =
     let d = c.self.inside in
     let below = (g.R.Rows.held d.base.now).maps.objects in
     let changes = contents object_cmp d.objects in
-    let may = λ (q : ObjNo). row_has c.args.link (get below q) || may_have d.links c.args.link q in
+    let may = is_candidate_of_either (get below) changes d.links c.args.link in
     let passes = λ (q : ObjNo). row_has c.args.link (get (overlaid below changes) q) in
     let covers = draft-covers below changes d.links c.self.invariant.0 c.args.link in
     let here : passes c.in-Some.key ≡ true = ap (row_has c.args.link) (get-overlaid object_total below changes c.in-Some.key ∙ sym c.get.ensures) ∙ search rules in
@@ -38,7 +39,7 @@ loop-key-preserved g c =
     let d = c.self.inside in
     let below = (g.R.Rows.held d.base.now).maps.objects in
     let changes = contents object_cmp d.objects in
-    let may = λ (q : ObjNo). row_has c.args.link (get below q) || may_have d.links c.args.link q in
+    let may = is_candidate_of_either (get below) changes d.links c.args.link in
     let passes = λ (q : ObjNo). row_has c.args.link (get (overlaid below changes) q) in
     let covers = draft-covers below changes d.links c.self.invariant.0 c.args.link in
     let fails : passes c.in-Some.key ≡ false = ap (row_has c.args.link) (get-overlaid object_total below changes c.in-Some.key ∙ sym c.get.ensures) ∙ search rules in

@@ -1,15 +1,14 @@
 use Rattle.std.proofs.Common.{◌≡◌, Some, ap, ◌∙◌, rules}
-use Rattle.std.specs.Option.{option_map}
 use Rattle.std.specs.FinMap as map
 use Rattle.moo_rows.specs.Ordered.{contents}
 use Rattle.moo_rows.specs.Maps.{object_cmp}
-use Rattle.moo_rows.specs.Links.{may_have, has_link, ties_of, ties_have}
+use Rattle.moo_rows.specs.Links.{has_link}
 use Rattle.moo_rows.specs.Exact.{object_exact}
 use Rattle.moo_rows.proofs.Orders.{object_total}
 use Rattle.moo_draft.specs.Overlay.{overlaid}
-use Rattle.moo_draft.specs.Either.{of_changes}
+use Rattle.moo_draft.specs.Either.{of_changes, may_own}
 use Rattle.moo_draft.proofs.Overlays.{overlaid-insert}
-use Rattle.moo_draft.proofs.Drafts.{either-change, either-more, put-there, ties_have-row}
+use Rattle.moo_draft.proofs.Drafts.{either-change, either-more, put-there}
 use Rattle.moo_draft.proofs.draft.DraftRows.put_object.Goals as goal
 
 pub returns-clause-ok : goal.returns-clause-ok
@@ -24,12 +23,10 @@ pub invariant_of-self-2 : goal.invariant_of-self-2
 invariant_of-self-2 g c =
     let d = c.self.inside in
     let below = map.get (g.R.Rows.held d.base.now).maps.objects in
-    let ties = c.ties-ties.ensures in
-    let was : c.ties_of-below.result ≡ option_map ties_of (below c.args.key) = search rules in (
-      either-change below (contents object_cmp d.objects) (contents object_cmp c.put.new.rows) c.add_over.new.links c.args.key (Some c.args.row)
-          (either-more below (of_changes (contents object_cmp d.objects)) d.links c.add_over.new.links c.self.invariant.0 c.in_ok-add_over.ensures.others)
-          (λ l e f. put-there l c.args.row (may_have c.add_over.new.links l c.args.key)
-          (λ h. c.in_ok-add_over.ensures.there l (ap (has_link l) ties ∙ h) (ap (ties_have l) was ∙ ties_have-row l (below c.args.key) ∙ f)) e)
+    let ties = c.ties.ensures in (
+      either-change below (contents object_cmp d.objects) (contents object_cmp c.put.new.rows) c.add.new.self c.args.key (Some c.args.row)
+          (either-more below (of_changes (contents object_cmp d.objects)) d.links c.add.new.self c.self.invariant.0 c.in_ok-add.ensures.others)
+          (λ l e f. put-there l c.args.row (may_own c.add.new.self l c.args.key) (λ h. c.in_ok-add.ensures.there l (ap (has_link l) ties ∙ h) f) e)
           c.in_ok-put.ensures.ok,
       c.self.invariant.1,
     )

@@ -70,7 +70,7 @@ returns-clause-rows g c next exact =
     ]
 
 pub returns-clause-cells : goal.returns-clause-cells
-returns-clause-cells g c next tables exact clean rests shown =
+returns-clause-cells g c next tables exact clean rests current shown =
     let rows = c.self.inside.rows.maps in
     let here : AreChanges rows next c.args.changes = subst (λ (w : World _). AreChanges w.rows.maps next c.args.changes) (sym c.self.view_is) exact in
     let rest : Rests (state g.S.Store c.self.inside.connection) tables = subst (λ w. Rests (store_of g.S.Store w) tables) (sym c.self.view_is) rests in
@@ -78,7 +78,7 @@ returns-clause-cells g c next tables exact clean rests shown =
     let old_rows = c.args.self.now.rows.maps in
     let shows : ShowsRows tables rows = subst (λ (w : World _). ShowsRows tables w.rows.maps) (sym c.self.view_is) shown in
     let wrote : HasCleanDisk new → (after : Tables) × Rests new after × KeepsCells old_rows next tables after = λ clean.
-    let it = c.in_default.ensures.cells clean c.args.changes rows next tables c.requires.printed here rest shows in
+    let it = c.in_default.ensures.cells clean c.args.changes rows next tables c.requires.printed here rest current shows in
     (it.0, it.1, subst (λ (w : World _). KeepsCells w.rows.maps next tables it.0) c.self.view_is it.2) in
     elim c.if-is_err.branch [
       | then-is_err w ↦ subst (λ v. HasCleanDisk (store_of g.S.Store v) → (after : Tables) × Rests (store_of g.S.Store v) after × KeepsCells old_rows next tables after) (sym w.self-is) wrote clean
@@ -86,4 +86,4 @@ returns-clause-cells g c next tables exact clean rests shown =
     ]
 
 pub returns-in-Err-clause-undone : goal.returns-in-Err-clause-undone
-returns-in-Err-clause-undone g c clean opened tables rests = c.in-Err.ensures.undone clean opened tables (subst (λ w. Rests (store_of g.S.Store w) tables) (sym c.self.view_is) rests)
+returns-in-Err-clause-undone g c clean opened tables rests current = c.in-Err.ensures.undone clean opened tables (subst (λ w. Rests (store_of g.S.Store w) tables) (sym c.self.view_is) rests) current

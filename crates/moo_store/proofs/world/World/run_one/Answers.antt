@@ -77,7 +77,7 @@ returns-in-Ok-clause-cells g c =
     let leads = subst (λ (w : World _). BatchLeads c.args.batch.now w.rows.maps next) c.self.view_is found.4 in
     accepted_writes g.S.Store c.args.self.now c.commit.new.self c.args.batch.now answers c.in-Accepted.changes.head.seq next c.commit.result works found.2 leads judged c.commit.ensures.reply
     (at_changed c.commit.result (λ rows. rows next exact) c.commit.ensures.rows)
-    (at_changed c.commit.result (λ cells tables clean rests shown. cells next tables exact clean rests shown) c.commit.ensures.cells) c.commit.ensures.undone c.commit.ensures.clean c.commit.ensures.fault c.commit.ensures.failed
+    (at_changed c.commit.result (λ cells tables clean rests current shown. cells next tables exact clean rests current shown) c.commit.ensures.cells) c.commit.ensures.undone c.commit.ensures.clean c.commit.ensures.fault c.commit.ensures.failed
 
 pub returns-then-self-clause-cells : goal.returns-then-self-clause-cells
 returns-then-self-clause-cells g c = nothing_written g.S.Store c.args.self.now c.args.batch.now _ refl

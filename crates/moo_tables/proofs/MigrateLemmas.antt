@@ -1,0 +1,75 @@
+-- What the migration does.
+use Rattle.std.proofs.Common.{◌≡◌, ℕ, List, [], ◌∷◌, filter, not, true, false, Option, Ok, Err, Result, OnOk, IsTrue, refl, ◌∙◌}
+use Rattle.sqlite.specs.declared.types.Value.TheVariants.{Null}
+use Rattle.sqlite.specs.declared.error.Error.{Error}
+use Rattle.sqlite.specs.Order.{Row}
+use Rattle.sqlite.specs.Term.{col}
+use Rattle.sqlite.specs.Program.{overlay}
+use Rattle.sqlite.specs.Listing.{understood}
+use Rattle.sqlite.specs.State.{State, HasCleanDisk, Shows, KeepsCounts}
+use Rattle.sqlite.proofs.Callers.{statement_of, runs_as}
+use Rattle.moo_value.specs.declared.value.ObjNo.{ObjNo}
+use Rattle.moo_rows.specs.declared.row.Head.{Head}
+use Rattle.moo_rows.specs.declared.row.PropId.{PropId}
+use Rattle.moo_tables.specs.declared.cells.SlotCells.{SlotCells}
+use Rattle.moo_tables.specs.declared.version.Version.TheVariants.{First}
+use Rattle.moo_tables.specs.Tables.{Tables, second_schema}
+use Rattle.moo_tables.specs.Cells.{with_each, with_head, with_slot, migrated}
+use Rattle.moo_tables.specs.Inside.{AreKeyed, Holds, Sees, Rests, HasTables, StaysInside, Changes, Ran}
+use Rattle.moo_tables.proofs.TextLemmas.{empty_slots_text, empty_slots_is, empty_slots_plain, rowids_where}
+use Rattle.moo_tables.proofs.InsideLemmas.{clean_before, commits}
+use Rattle.moo_tables.proofs.ChangeLemmas.{slots_in_turn}
+use Rattle.moo_tables.proofs.GrowLemmas.{Becomes}
+use Rattle.moo_tables.proofs.QueryLemmas.{shows_all}
+use Rattle.moo_tables.proofs.RowLemmas.{moo_quiet, went_out}
+use Rattle.moo_tables.proofs.SeenLemmas.{SetsTree, schema_seen, sees_same}
+use Rattle.moo_tables.proofs.StepLemmas.{deletes}
+
+-- ---- a table that is emptied
+
+pub empties_beside : (old new : State) (r : Result ℕ Error) → Ran empty_slots_text [] old new r → OnOk r (Changes (λ tables. tables) old new)
+empties_beside old new (Err e) ran = tt
+empties_beside old new (Ok count) ran = λ clean tables seen.
+    let it = ran clean in
+    let has = schema_seen seen in
+    let w = runs_as empty_slots_text [] old new second_schema has _ empty_slots_is empty_slots_plain count it.1 in
+    let step = deletes second_schema moo_quiet 3 _ _ _ _ _ _ _ refl old new has (statement_of empty_slots_text (understood second_schema empty_slots_text)) [] count (rowids_where 3 []) w in
+    let sets : SetsTree old new 3 (new.now.trees 3) = record { schema_is = step.2.schema_is; sound = w.sound; is_open = w.shown.is_open; inside = it.0; rows_are = refl; others = step.2.applies.others } in
+    sees_same sets tables seen (λ e. cc) (λ e. cc) (λ e. cc) (λ e. cc) (λ e. cc)
+
+none_left : (rows : List Row) → filter (λ r. not true) rows ≡ []
+none_left [] = refl
+none_left (r ∷ rows) = none_left rows
+
+pub empties : (old new : State) (r : Result ℕ Error) → Ran empty_slots_text [] old new r → OnOk r (HasCleanDisk new → HasTables second_schema old → AreKeyed (old.now.trees 3) → new.now.trees 3 ≡ [])
+empties old new (Err e) ran = tt
+empties old new (Ok count) ran = λ clean has keyed.
+    let it = ran clean in
+    let rows = old.now.trees 3 in
+    let w = runs_as empty_slots_text [] old new second_schema has _ empty_slots_is empty_slots_plain count it.1 in
+    let step = deletes second_schema moo_quiet 3 _ _ _ _ _ _ _ refl old new has (statement_of empty_slots_text (understood second_schema empty_slots_text)) [] count (rowids_where 3 []) w in
+    let shown = shows_all 3 [] (col 1 0 ∷ []) [] (overlay old.now.trees []) [] step.0 (step.1.answer Null) in
+    step.2.applies.rows ∙ went_out (λ (key : Unit {0}) r. true) tt rows keyed [] [] [] step.0 shown (λ r. refl) ∙ none_left rows
+
+pub goes_on : (old new : State) (text : List ℕ) (params : Row) (r : Result ℕ Error) → Ran text params old new r → HasCleanDisk new → OnOk r (IsTrue new.in_transaction)
+goes_on old new text params (Err e) ran clean = tt
+goes_on old new text params (Ok count) ran clean = (ran clean).0
+
+-- ---- the statements of the migration, one after another
+
+pub all_migrated : (a b d e z : State) (head : Head) (slots : List ((ObjNo × PropId) × Option SlotCells)) (r : Result ℕ Error) → StaysInside b d → StaysInside d e → StaysInside e z
+    → Becomes a b → Changes (with_head head) b d → Changes (with_each with_slot slots) d e → OnOk r (Changes (λ tables. tables) e z)
+    → OnOk r (HasCleanDisk z → (tables : Tables) → Holds a.now tables → tables.version ≡ First → Sees z (migrated head slots tables))
+all_migrated a b d e z head slots (Err error) quiet-two quiet-three quiet-four one two three four = tt
+all_migrated a b d e z head slots (Ok count) quiet-two quiet-three quiet-four one two three four = λ clean tables holds first.
+    let late = clean_before e z _ quiet-four.survives clean in
+    let mid = clean_before d e _ quiet-three.survives late in
+    let early = clean_before b d _ quiet-two.survives mid in
+    four clean _ (slots_in_turn slots d e three late _ (two mid _ (one early tables holds first)))
+
+-- ---- the whole transaction
+
+pub rests_then : (old last end : State) (next : Tables → Tables) (r : Result (Unit {0}) Error) → OnOk r (IsTrue last.in_transaction × Shows last end last.now last.now false × KeepsCounts last end × (end.marks ≡ []))
+    → ((tables : Tables) → Holds old.now tables → tables.version ≡ First → Sees last (next tables)) → OnOk r ((tables : Tables) → Rests old tables → tables.version ≡ First → Rests end (next tables))
+rests_then old last end next (Err e) ok seen = tt
+rests_then old last end next (Ok _) ok seen = λ tables was first. commits last end (next tables) ok.1 (seen tables was.holds first)

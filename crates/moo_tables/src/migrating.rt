@@ -1,0 +1,72 @@
+//! The tables of the first layout made those of the second.
+
+ghost use Rattle.std.specs.Prelude.{◌≡◌, ◌<◌, ◌^◌, IsTrue, OnOk, OnErr, [], false};
+ghost use Rattle.sqlite.specs.State.{HasCleanDisk, Survives};
+ghost use Rattle.sqlite.specs.Held.{state};
+ghost use Rattle.moo_tables.specs.declared.version.Version.TheVariants.{First};
+ghost use Rattle.moo_tables.specs.Cells.{migrated};
+ghost use Rattle.moo_tables.specs.Inside.{AreKeyed, StaysInside, Holds, Sees, Changes, Rests, RestsAt, HasTables, Leaves};
+ghost use Rattle.moo_tables.specs.Tables.{first_schema, second_schema};
+
+use crate::adding::add_tables;
+use crate::cells::SlotCells;
+use crate::head::put_head;
+use crate::statement::run;
+use crate::writing::write_rows;
+use moo_rows::{Head, PropId};
+use moo_value::ObjNo;
+use sqlite::{Alter, Connection, Error, Transaction};
+
+/// Deletes every row of the table `slot`, which the second layout doesn't read.
+fn empty_slot<S: Alter>(tx: &mut Transaction<'_, S>) -> Result<usize, Error>
+    ensures same_reference { tx.new.conn.ghost_name ≡ tx.old.conn.ghost_name }
+    ensures inside { StaysInside (state S.Store tx.old.conn.now) (state S.Store tx.new.conn.now) }
+    ensures goes_on { HasCleanDisk (state S.Store tx.new.conn.now) → OnOk result (IsTrue (state S.Store tx.new.conn.now).in_transaction) }
+    ensures same { OnOk result (Changes (λ tables. tables) (state S.Store tx.old.conn.now) (state S.Store tx.new.conn.now)) }
+    ensures emptied { OnOk result (HasCleanDisk (state S.Store tx.new.conn.now) → HasTables second_schema (state S.Store tx.old.conn.now) → AreKeyed ((state S.Store tx.old.conn.now).now.trees 3) → (state S.Store tx.new.conn.now).now.trees 3 ≡ []) }
+{
+    run(tx, "DELETE FROM slot", &[])
+}
+
+/// Makes the tables of the second layout with this head and these slots, within a transaction.
+fn write_second<S: Alter>(
+    tx: &mut Transaction<'_, S>,
+    head: &Head,
+    slots: &[((ObjNo, PropId), Option<SlotCells>)],
+) -> Result<usize, Error>
+    requires { head.now.seq < 2 ^ 63 }
+    ensures same_reference { tx.new.conn.ghost_name ≡ tx.old.conn.ghost_name }
+    ensures inside { StaysInside (state S.Store tx.old.conn.now) (state S.Store tx.new.conn.now) }
+    ensures goes_on { HasCleanDisk (state S.Store tx.new.conn.now) → OnOk result (IsTrue (state S.Store tx.new.conn.now).in_transaction) }
+    ensures migrated { OnOk result (HasCleanDisk (state S.Store tx.new.conn.now) → (tables : _) → Holds (state S.Store tx.old.conn.now).now tables → tables.version ≡ First → Sees (state S.Store tx.new.conn.now) (migrated head.now slots.now tables)) }
+{
+    add_tables(tx)?;
+    put_head(tx, head)?;
+    write_rows(tx, slots)?;
+    empty_slot(tx)
+}
+
+/// Makes tables of the first layout those of the second, all or nothing.
+///
+/// The row of `head` is put anew, with the version 2. `slots` are the slots that the second layout has from then on: of a
+/// key that comes more than once the last counts. The table `slot` is emptied, and the rows of the other tables stay as
+/// they are. The number of the last batch, `head.seq`, has to be below 2^63, and the connection in no transaction. After a
+/// fault of the store the database is as it was, unless the fault shut the connection; what a crash leaves is the tables
+/// before or those after, at every exit.
+pub fn migrate<S: Alter>(
+    conn: &mut Connection<S>,
+    head: &Head,
+    slots: &[((ObjNo, PropId), Option<SlotCells>)],
+) -> Result<(), Error>
+    requires limit { head.now.seq < 2 ^ 63 }
+    requires outside { (state S.Store conn.old).in_transaction ≡ false }
+    ensures outside { (state S.Store conn.new).in_transaction ≡ false }
+    ensures migrated { HasCleanDisk (state S.Store conn.new) → OnOk result ((tables : _) → Rests (state S.Store conn.old) tables → tables.version ≡ First → Rests (state S.Store conn.new) (migrated head.now slots.now tables)) }
+    ensures restored { HasCleanDisk (state S.Store conn.new) → OnErr result (IsTrue (state S.Store conn.new).is_open → RestsAt (state S.Store conn.new) (state S.Store conn.old).committed) }
+    ensures undone { HasCleanDisk (state S.Store conn.new) → OnErr result (IsTrue (state S.Store conn.new).is_open → (tables : _) → Rests (state S.Store conn.old) tables → Rests (state S.Store conn.new) tables) }
+    ensures crash { (HasCleanDisk (state S.Store conn.old) → HasTables first_schema (state S.Store conn.old)) → Survives (state S.Store conn.old) (state S.Store conn.new) (λ trees. (tables : _) → Rests (state S.Store conn.old) tables → Leaves trees (migrated head.now slots.now tables)) }
+{
+    let mut tx = conn.transaction();
+    write_second(&mut tx, head, slots)?;
+    tx.commit()
+}

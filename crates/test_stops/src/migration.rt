@@ -1,0 +1,119 @@
+//! A file of the first version that is opened, with a stop at each call of one file and then of the other.
+
+use crate::files::{Kept, Loss, Which, left, stopping};
+use crate::rounds::{done, tables_of, world_of};
+use crate::stops::TREE;
+use std::alloc::Global;
+use std::test::Fail;
+use test_visits::{Seen, Task, visit_fused};
+
+/// The tables of the first version, and in them the rows of the tree.
+const FIRST: &str = r#"
+CREATE TABLE head (id INTEGER NOT NULL PRIMARY KEY, version INTEGER NOT NULL, seq INTEGER NOT NULL, top INTEGER NOT NULL, next_prop INTEGER NOT NULL, next_verb INTEGER NOT NULL) STRICT;
+CREATE TABLE object (n INTEGER NOT NULL PRIMARY KEY, name TEXT NOT NULL, owner INTEGER NOT NULL, parent INTEGER NOT NULL, location INTEGER NOT NULL, player INTEGER NOT NULL, programmer INTEGER NOT NULL, wizard INTEGER NOT NULL, r INTEGER NOT NULL, w INTEGER NOT NULL, f INTEGER NOT NULL, accept TEXT NOT NULL) STRICT;
+CREATE TABLE prop (id INTEGER NOT NULL PRIMARY KEY, definer INTEGER NOT NULL, name TEXT NOT NULL) STRICT;
+CREATE TABLE slot (object INTEGER NOT NULL, prop INTEGER NOT NULL, owner INTEGER NOT NULL, bits TEXT NOT NULL, value TEXT NOT NULL, PRIMARY KEY (object, prop)) STRICT;
+CREATE TABLE verb (object INTEGER NOT NULL, id INTEGER NOT NULL, names TEXT NOT NULL, owner INTEGER NOT NULL, bits TEXT NOT NULL, dobj TEXT NOT NULL, prep TEXT NOT NULL, iobj TEXT NOT NULL, PRIMARY KEY (object, id)) STRICT;
+INSERT INTO head VALUES (1, 1, 1, 7, 4, 1);
+INSERT INTO object VALUES (0, 'System Object', 3, 1, -1, 0, 0, 0, 0, 0, 0, '');
+INSERT INTO object VALUES (1, 'Root Class', 3, -1, -1, 0, 0, 0, 0, 0, 1, '');
+INSERT INTO object VALUES (2, 'The First Room', 3, 1, -1, 0, 0, 0, 0, 0, 0, '{#1}');
+INSERT INTO object VALUES (3, 'Wizard', 3, 1, 2, 1, 1, 1, 0, 0, 0, '');
+INSERT INTO object VALUES (4, '', 3, 1, -1, 0, 0, 0, 0, 0, 0, '');
+INSERT INTO object VALUES (5, '', 3, 4, -1, 0, 0, 0, 0, 0, 0, '');
+INSERT INTO object VALUES (6, '', 3, 5, -1, 0, 0, 0, 0, 0, 0, '');
+INSERT INTO object VALUES (7, '', 3, 1, -1, 0, 0, 0, 0, 0, 0, '');
+INSERT INTO prop VALUES (1, 4, 'a');
+INSERT INTO prop VALUES (2, 5, 'b');
+INSERT INTO prop VALUES (3, 7, 'c');
+INSERT INTO slot VALUES (4, 1, 3, 'r', '10');
+INSERT INTO slot VALUES (5, 1, 3, 'r', '');
+INSERT INTO slot VALUES (5, 2, 3, 'r', '20');
+INSERT INTO slot VALUES (6, 1, 3, 'r', '');
+INSERT INTO slot VALUES (6, 2, 3, 'r', '21');
+INSERT INTO slot VALUES (7, 3, 3, 'r', '30');
+"#;
+
+/// What stops left.
+#[derive(Clone, Copy, Debug, PartialEq, Eq, Drop)]
+struct Found {
+    /// The tables of the first version, and the world.
+    first: u32,
+    /// Those of the second, and the world.
+    second: u32,
+    /// Anything else.
+    wrong: u32,
+}
+
+impl Found {
+    /// Notes how many tables were there, and whether the world in them was the one.
+    fn note(&mut self, tables: &[u8], is_same: bool) {
+        let count = match tables {
+            b"5" if is_same => &mut self.first,
+            b"8" if is_same => &mut self.second,
+            _ => &mut self.wrong,
+        };
+        *count = count.saturating_add(1);
+    }
+}
+
+/// One round: one of the files stops behind so many calls. Whether it ended without a stop.
+fn one_round(
+    alloc: Global,
+    (kept, dump): (&Kept, &[u8]),
+    (which, loss): (Which, Loss),
+    calls: u64,
+    found: &mut Found,
+) -> Result<bool, Fail> {
+    let mut seen = Seen::new(alloc);
+    let files = stopping(alloc, kept, which, calls)?;
+    let files = left(
+        alloc,
+        visit_fused(alloc, files, Task::Check, &mut seen),
+        loss,
+    )?;
+    let mut tables = Seen::new(alloc);
+    let files = visit_fused(alloc, files, Task::Tables, &mut tables);
+    let mut look = Seen::new(alloc);
+    let _files = visit_fused(alloc, files, Task::Look, &mut look);
+    found.note(&tables.written, look.is_done && look.written.as_slice() == dump);
+    Ok(seen.is_done && seen.is_closed)
+}
+
+/// The rounds of one file and one loss, until one ends without a stop.
+fn each_round(
+    alloc: Global,
+    world: (&Kept, &[u8]),
+    how: (Which, Loss),
+    found: &mut Found,
+) -> Result<(), Fail> {
+    for calls in 0..2000 {
+        if one_round(alloc, world, how, calls, found)? {
+            return Ok(());
+        }
+    }
+    Err(Fail::from("no round ended without a stop"))
+}
+
+/// The stops of an opening that takes a file over: behind each the world is there, in the tables of the first version or of the second.
+#[test]
+fn a_migration_that_stops_left_the_world(rt: HostRuntime) -> Result<(), Fail> {
+    let alloc = rt.alloc();
+    let kept = tables_of(alloc, FIRST)?;
+    let (dump, _) = done(alloc, &world_of(alloc, TREE.as_bytes())?, Task::Look)?;
+    let mut found = Found {
+        first: 0,
+        second: 0,
+        wrong: 0,
+    };
+    for which in [Which::Log, Which::Db] {
+        for loss in [Loss::Unsynced, Loss::Nothing] {
+            each_round(alloc, (&kept, &dump), (which, loss), &mut found)?;
+        }
+    }
+    assert!(rt;
+        found.wrong == 0 && found.first > 0 && found.second > 4,
+        "{found:?}"
+    );
+    Ok(())
+}
