@@ -6,7 +6,7 @@ use Rattle.moo_rows.specs.declared.row.ObjRow.{ObjRow}
 use Rattle.moo_world.specs.World.{IsTree, row_of, chain}
 use Rattle.moo_world.specs.Rows.{LookUps, world_shown, record_of}
 use Rattle.moo_world.specs.Rights.{accept_along}
-use Rattle.moo_world.proofs.Seen.{chain_of_row, chain_of_no_row}
+use Rattle.moo_world.proofs.Shown.Seen.{chain_of_row, chain_of_no_row}
 
 module _ (m : LookUps) where
   list_of_row : (at : ObjNo) (row : ObjRow) → Some row ≡ m.object at → option_and_then (λ r. r.accept) (row_of (world_shown m) at) ≡ row.accept

@@ -9,11 +9,11 @@ use Rattle.moo_world.specs.Objects.{same_object}
 use Rattle.moo_world.specs.Rows.{LookUps, world_shown, look_ups, with_row as with_row_put, AreSound, IsSound}
 use Rattle.moo_world.specs.World.{IsWellFormed}
 use Rattle.moo_world.specs.Fields.{with_row}
-use Rattle.moo_world.proofs.RowLaws.{world_shown-with_row}
-use Rattle.moo_world.proofs.MapLaws.{look_ups-put_object}
+use Rattle.moo_world.proofs.Shown.RowLaws.{world_shown-with_row}
+use Rattle.moo_world.proofs.Shown.MapLaws.{look_ups-put_object}
 use Rattle.moo_call_parts.specs.Outcomes.{world_in}
 use Rattle.moo_world.specs.Keeps.{Keeps}
-use Rattle.moo_world.proofs.NumbersKept.{numbers_same}
+use Rattle.moo_world.proofs.Shown.NumbersKept.{numbers_same}
 
 AreSound-with_row : (m : LookUps) (x : ObjNo) (row : ObjRow) → AreSound m → AreSound (with_row_put m x row)
 AreSound-with_row m x row s = record {

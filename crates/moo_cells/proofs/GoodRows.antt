@@ -22,8 +22,8 @@ use Rattle.moo_world.specs.Arguments.{in_range, is_number}
 use Rattle.moo_world.specs.Objects.{same_object, same_object-Decides}
 use Rattle.moo_world.specs.Rows.{IsGood, look_ups, world_of, world_shown, record_of, numbers_below, name_on, slot_seen}
 use Rattle.moo_world.specs.World.{Record, KeepsLimits, Climbs, is_object, row_fits, is_property_name, state_fits, verb_fits, without_slots}
-use Rattle.moo_world.proofs.PairLists.{some_of}
-use Rattle.moo_world.proofs.Seen.{is_object_seen}
+use Rattle.moo_world.proofs.Shown.PairLists.{some_of}
+use Rattle.moo_world.proofs.Shown.Seen.{is_object_seen}
 use Rattle.moo_props.proofs.Walked.{slot_here}
 use Rattle.moo_props.specs.Names.{name_of}
 use Rattle.moo_damage.specs.declared.trees.Link.{Link}

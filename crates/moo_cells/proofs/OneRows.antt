@@ -38,7 +38,7 @@ use Rattle.moo_rows.proofs.BitsNumber.{bits_number-injective}
 use Rattle.moo_rows.proofs.Orders.{object_total, prop_total, slot_total, verb_total}
 use Rattle.moo_world.specs.Prepositions.{all_sets, prep_text, place_text}
 use Rattle.moo_world.specs.World.{accept_fits, row_fits, state_fits}
-use Rattle.moo_world.proofs.Ranges.{fits_tested}
+use Rattle.moo_world.proofs.Form.Ranges.{fits_tested}
 use Rattle.moo_tables.specs.declared.version.Version.{Version}
 use Rattle.moo_tables.specs.declared.version.Version.TheVariants.{First, Second}
 use Rattle.moo_tables.specs.Tables.{Tables}

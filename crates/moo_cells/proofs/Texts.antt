@@ -23,7 +23,7 @@ use Rattle.moo_rows.specs.declared.row.SlotState.{SlotState}
 use Rattle.moo_rows.specs.declared.row.SlotState.TheVariants.{Clear, Set}
 use Rattle.moo_world.specs.Arguments.{is_text, is_number}
 use Rattle.moo_world.specs.World.{has_word, state_fits, accept_fits}
-use Rattle.moo_world.proofs.Ranges.{text_tested, fits_tested, range_of, fits_signed}
+use Rattle.moo_world.proofs.Form.Ranges.{text_tested, fits_tested, range_of, fits_signed}
 use Rattle.moo_verbs.specs.declared.fault.VerbFault.{VerbFault}
 use Rattle.moo_verbs.specs.declared.fault.VerbFault.TheVariants.{BadNames}
 use Rattle.moo_cells.specs.Shows.{ShowsState, object_list}

@@ -18,11 +18,11 @@ use Rattle.moo_rows.specs.Maps.{Maps}
 use Rattle.moo_world.specs.Objects.{Pair, same_object, same_text, folded, is_among, same_object-Decides, same_text-Decides}
 use Rattle.moo_world.specs.Rows.{IsGood, look_ups, world_of, world_shown, prop_id, slot_seen}
 use Rattle.moo_world.specs.World.{World, Slot, Climbs, Chain, is_object, chain, owed_by, pair_named}
-use Rattle.moo_world.proofs.Owed.{named_owed, definer_among}
-use Rattle.moo_world.proofs.PairLists.{some_of}
-use Rattle.moo_world.proofs.RowLaws.{slot_shown}
-use Rattle.moo_world.proofs.Seen.{is_object_seen}
-use Rattle.moo_world.proofs.Trees.{Chain-chain, chain_of_none, nothing_is_no_object}
+use Rattle.moo_world.proofs.Inheritance.Owed.{named_owed, definer_among}
+use Rattle.moo_world.proofs.Shown.PairLists.{some_of}
+use Rattle.moo_world.proofs.Shown.RowLaws.{slot_shown}
+use Rattle.moo_world.proofs.Shown.Seen.{is_object_seen}
+use Rattle.moo_world.proofs.Ancestry.Trees.{Chain-chain, chain_of_none, nothing_is_no_object}
 use Rattle.moo_props.proofs.Gains.{slot_on_heir}
 use Rattle.moo_props.proofs.Owing.{entries_held}
 use Rattle.moo_damage.specs.Damage.{share_name, is_double, is_owed, is_clear, IsClean}

@@ -17,8 +17,8 @@ use Rattle.moo_rows.specs.Exact.{object_exact}
 use Rattle.moo_rows.proofs.Orders.{object_total}
 use Rattle.moo_world.specs.Objects.{nothing, same_object, is_among, same_object-Decides}
 use Rattle.moo_world.specs.World.{Climbs}
-use Rattle.moo_world.proofs.Chains.{Climbs-once}
-use Rattle.moo_world.proofs.MapLaws.{decided_alike, key-Decides}
+use Rattle.moo_world.proofs.Ancestry.Chains.{Climbs-once}
+use Rattle.moo_world.proofs.Shown.MapLaws.{decided_alike, key-Decides}
 use Rattle.moo_damage.specs.declared.trees.Link.{Link}
 use Rattle.moo_damage.specs.Damage.{link_of, next_of, Ends, LinksHold}
 use Rattle.moo_damage.specs.Noted.{AreEnding}

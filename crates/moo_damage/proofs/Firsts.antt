@@ -8,8 +8,8 @@ use Rattle.std.specs.FinMap.Entries.{below_all}
 use Rattle.std.proofs.lemmas.Map.Lookups.{CmpEqualImpliesEq}
 use Rattle.std.proofs.lemmas.Option.{none-some, same_Some}
 use Rattle.moo_rows.proofs.Walking.{first_of, second_of, less_of, elsewhere, here}
-use Rattle.moo_world.proofs.EntriesInOrder.{own_entries}
-use Rattle.moo_world.proofs.MapLaws.{key-Decides}
+use Rattle.moo_world.proofs.Shown.EntriesInOrder.{own_entries}
+use Rattle.moo_world.proofs.Shown.MapLaws.{key-Decides}
 use Rattle.moo_damage.specs.First.{IsFirst}
 
 module _ {K X : Type 0} (right bad : K → X → Type 0) where

@@ -19,15 +19,15 @@ use Rattle.moo_rows.proofs.Orders.{prop_total}
 use Rattle.moo_world.specs.Objects.{Name, Pair, nothing, same_object, same_text, folded, is_among, same_object-Decides, same_text-Decides}
 use Rattle.moo_world.specs.Rows.{LookUps, AreSound, IsGood, look_ups, world_of, world_shown, record_of, numbers_below, name_on, prop_id, verb_id}
 use Rattle.moo_world.specs.World.{World, Record, Slot, Climbs, IsTree, KeepsLimits, Chain, NamesDiffer, is_object, parent_of, location_of, chain, names_of, defined_by, owed_by, pair_named, slot_of, slot_fits, row_fits, verb_fits, is_property_name, without_slots}
-use Rattle.moo_world.proofs.Chains.{Climbs-once}
-use Rattle.moo_world.proofs.Keeping.{named_is}
-use Rattle.moo_world.proofs.Owed.{named_so, found_among}
-use Rattle.moo_world.proofs.PairLists.{some_of}
-use Rattle.moo_world.proofs.RowLaws.{names_shown}
-use Rattle.moo_world.proofs.Seen.{is_object_seen}
-use Rattle.moo_world.proofs.Shown.{SlotHere, slot_from, no_slot_from}
-use Rattle.moo_world.proofs.Subtrees.{owed_listed}
-use Rattle.moo_world.proofs.Trees.{chain_is, Chain-chain, chain_of_none, no_parent}
+use Rattle.moo_world.proofs.Ancestry.Chains.{Climbs-once}
+use Rattle.moo_world.proofs.Inheritance.Keeping.{named_is}
+use Rattle.moo_world.proofs.Inheritance.Owed.{named_so, found_among}
+use Rattle.moo_world.proofs.Shown.PairLists.{some_of}
+use Rattle.moo_world.proofs.Shown.RowLaws.{names_shown}
+use Rattle.moo_world.proofs.Shown.Seen.{is_object_seen}
+use Rattle.moo_world.proofs.Shown.Slots.{SlotHere, slot_from, no_slot_from}
+use Rattle.moo_world.proofs.Ancestry.Subtrees.{owed_listed}
+use Rattle.moo_world.proofs.Ancestry.Trees.{chain_is, Chain-chain, chain_of_none, no_parent}
 use Rattle.moo_props.proofs.Gains.{defines_pair}
 use Rattle.moo_props.proofs.Owing.{any_owed, entries_held}
 use Rattle.moo_props.proofs.Walked.{any_held}

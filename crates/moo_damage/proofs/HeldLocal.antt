@@ -16,9 +16,9 @@ use Rattle.moo_rows.proofs.Orders.{prop_total}
 use Rattle.moo_world.specs.Objects.{same_object, folded, is_among, same_object-Decides, same_text-Decides}
 use Rattle.moo_world.specs.Rows.{look_ups, world_of}
 use Rattle.moo_world.specs.World.{World, IsTree, Chain, is_object, parent_of, chain}
-use Rattle.moo_world.proofs.PairLists.{some_of}
-use Rattle.moo_world.proofs.Seen.{is_object_seen}
-use Rattle.moo_world.proofs.Trees.{Chain-chain, chain_is, chain_of_none, no_parent}
+use Rattle.moo_world.proofs.Shown.PairLists.{some_of}
+use Rattle.moo_world.proofs.Shown.Seen.{is_object_seen}
+use Rattle.moo_world.proofs.Ancestry.Trees.{Chain-chain, chain_is, chain_of_none, no_parent}
 use Rattle.moo_props.specs.Names.{defines}
 use Rattle.moo_props.proofs.Walked.{any_held}
 use Rattle.moo_damage.specs.declared.trees.Link.TheVariants.{Parent}

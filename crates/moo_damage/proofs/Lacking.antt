@@ -12,7 +12,7 @@ use Rattle.moo_rows.specs.Maps.{Maps}
 use Rattle.moo_world.specs.Objects.{is_among}
 use Rattle.moo_world.specs.Rows.{world_of}
 use Rattle.moo_world.specs.World.{chain}
-use Rattle.moo_world.proofs.PairLists.{some_of}
+use Rattle.moo_world.proofs.Shown.PairLists.{some_of}
 use Rattle.moo_damage.specs.declared.kind.Key.TheVariants.{Slot}
 use Rattle.moo_damage.specs.declared.kind.Kind.TheVariants.{MissingSlot}
 use Rattle.moo_damage.specs.Damage.{is_owed, is_missing}

@@ -16,7 +16,7 @@ use Rattle.moo_rows.specs.Exact.{object_exact, prop_exact, slot_exact}
 use Rattle.moo_rows.specs.Maps.{Maps, prop_cmp, slot_cmp}
 use Rattle.moo_rows.specs.Walk.{slots_of_left, is_past}
 use Rattle.moo_rows.proofs.Orders.{object_total, prop_total, slot_total}
-use Rattle.moo_world.proofs.PairLists.{some_of}
+use Rattle.moo_world.proofs.Shown.PairLists.{some_of}
 use Rattle.moo_props.proofs.Walked.{any_held}
 use Rattle.moo_damage.specs.Apart.{NamesApart}
 use Rattle.moo_damage.specs.Local.{has_slot, comes_down, lacks_one_of, AreLocal}

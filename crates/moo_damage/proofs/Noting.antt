@@ -22,8 +22,8 @@ use Rattle.moo_rows.specs.Maps.{Maps, object_cmp}
 use Rattle.moo_rows.proofs.Orders.{object_total}
 use Rattle.moo_world.specs.Objects.{Name, same_text, folded, same_text-Decides}
 use Rattle.moo_world.specs.Rows.{IsSound}
-use Rattle.moo_world.proofs.MapLaws.{key-Decides}
-use Rattle.moo_world.proofs.PairLists.{some_of}
+use Rattle.moo_world.proofs.Shown.MapLaws.{key-Decides}
+use Rattle.moo_world.proofs.Shown.PairLists.{some_of}
 use Rattle.moo_props.proofs.Walked.{walk, walk_held}
 use Rattle.moo_damage.specs.Local.{has_slot}
 use Rattle.moo_damage.specs.Apart.{AreApart, NamesApart, Noted, noted_as, is_alone, NotesProp}

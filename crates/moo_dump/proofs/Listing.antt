@@ -9,8 +9,8 @@ use Rattle.moo_value.specs.declared.value.ObjNo.{ObjNo}
 use Rattle.moo_rows.specs.declared.row.PropId.{PropId}
 use Rattle.moo_rows.specs.Maps.{object_cmp}
 use Rattle.moo_world.specs.Objects.{same_object, same_object-Decides}
-use Rattle.moo_world.proofs.MapLaws.{object_key}
-use Rattle.moo_world.proofs.ObjectEntries.{same_object-symm}
+use Rattle.moo_world.proofs.Shown.MapLaws.{object_key}
+use Rattle.moo_world.proofs.Shown.ObjectEntries.{same_object-symm}
 use Rattle.moo_dump.specs.Lines.{ids_listed}
 
 module _ (m n : BTreeMap ObjNo (Vec PropId)) (k : ObjNo) (v : Vec PropId) (id : PropId) where

@@ -15,10 +15,10 @@ use Rattle.moo_rows.proofs.Orders.{prop_total}
 use Rattle.moo_world.specs.Objects.{Name, same_object, folded, is_among, same_object-Decides}
 use Rattle.moo_world.specs.World.{World, Record, Slot, is_object, chain, names_of, defined_by, owed_by, verbs_of, slot_of}
 use Rattle.moo_world.specs.Rows.{IsSound, IsGood, look_ups, world_of, world_shown, record_of, slot_seen}
-use Rattle.moo_world.proofs.EntriesInOrder.{own_entries, all_weaker}
-use Rattle.moo_world.proofs.ObjectEntries.{objects_listed}
-use Rattle.moo_world.proofs.PairLists.{some_of}
-use Rattle.moo_world.proofs.Seen.{object_seen}
+use Rattle.moo_world.proofs.Shown.EntriesInOrder.{own_entries, all_weaker}
+use Rattle.moo_world.proofs.Shown.ObjectEntries.{objects_listed}
+use Rattle.moo_world.proofs.Shown.PairLists.{some_of}
+use Rattle.moo_world.proofs.Shown.Seen.{object_seen}
 use Rattle.moo_props.proofs.DefinedNames.{names_listed}
 use Rattle.moo_props.proofs.Gains.{slot_on_heir}
 use Rattle.moo_props.proofs.Walked.{here_seen}

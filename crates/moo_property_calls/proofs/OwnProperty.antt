@@ -8,10 +8,10 @@ use Rattle.moo_value.specs.declared.value.ObjNo.{ObjNo}
 use Rattle.moo_world.specs.Objects.{Name, Pair, same_object, same_text, same_pair, folded, is_among, same_object-Decides, same_pair-self}
 use Rattle.moo_world.specs.World.{World, Record, Slot, IsWellFormed, Chain, chain, parent_of, names_of, defined_by, owed_by, pair_named, slot_of}
 use Rattle.moo_world.specs.PropertyCalls.{defines}
-use Rattle.moo_world.proofs.Chains.{Climbs-once}
-use Rattle.moo_world.proofs.Owed.{find-append, found_among, own_pair, definer_among, named_owed}
-use Rattle.moo_world.proofs.Trees.{Chain-chain, chain-step, no_parent}
-use Rattle.moo_world.proofs.PairLists.{any_map}
+use Rattle.moo_world.proofs.Ancestry.Chains.{Climbs-once}
+use Rattle.moo_world.proofs.Inheritance.Owed.{find-append, found_among, own_pair, definer_among, named_owed}
+use Rattle.moo_world.proofs.Ancestry.Trees.{Chain-chain, chain-step, no_parent}
+use Rattle.moo_world.proofs.Shown.PairLists.{any_map}
 
 -- whether x is the definer of a slot
 abbrev pub owns_slot : ObjNo → Option Slot → Bool

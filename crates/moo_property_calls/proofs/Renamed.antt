@@ -12,8 +12,8 @@ use Rattle.moo_world.specs.PropertyCalls.{defines, may_rename}
 use Rattle.moo_world.specs.Rows.{IsGood, world_of}
 use Rattle.moo_world.specs.World.{World, Slot, slot_of, is_property_name}
 use Rattle.moo_props.specs.Names.{spelling_of, defines as defines_property}
-use Rattle.moo_world.proofs.FormChanged.{clashes_same}
-use Rattle.moo_world.proofs.Formed.{same_links}
+use Rattle.moo_world.proofs.Form.Values.{clashes_same}
+use Rattle.moo_world.proofs.Form.Slots.{same_links}
 use Rattle.moo_props.proofs.FoundSlots.{definer_found}
 use Rattle.moo_props.proofs.Quotas.{folded_spelling}
 use Rattle.moo_property_calls.proofs.OwnProperty.{owns_slot, owns_by_slot}

@@ -16,19 +16,19 @@ use Rattle.moo_world.specs.World.{World, Record, Slot, IsWellFormed, NamesDiffer
 use Rattle.moo_world.specs.Rows.{LookUps, IsSound, look_ups, world_of, prop_id, record_of, slot_seen, world_shown}
 use Rattle.moo_world.specs.Laws.{MayReparent}
 use Rattle.moo_world.specs.Manual.{lost, gained, kept_from, manual_slot}
-use Rattle.moo_world.proofs.ManualLaw.{below as below_of, no_new, definer_of_slot, new_split, lost_is, gained_is, manual_law}
-use Rattle.moo_world.proofs.Owed.{definer_among, named_owed, named_so, named_once, some_named, owed_by-append, named-append}
-use Rattle.moo_world.proofs.Rebuilding.{no_slot, objects_same, SameButSlots-rebuilt, same_world}
-use Rattle.moo_world.proofs.RowLaws.{slot_shown}
-use Rattle.moo_world.proofs.Seen.{is_object_seen}
-use Rattle.moo_world.proofs.Subtrees.{owed_listed}
-use Rattle.moo_world.proofs.Trees.{Chain-chain, chain_of_none}
+use Rattle.moo_world.proofs.Inheritance.ManualLaw.{below as below_of, no_new, definer_of_slot, new_split, lost_is, gained_is, manual_law}
+use Rattle.moo_world.proofs.Inheritance.Owed.{definer_among, named_owed, named_so, named_once, some_named, owed_by-append, named-append}
+use Rattle.moo_world.proofs.Inheritance.Rebuilding.{no_slot, objects_same, SameButSlots-rebuilt, same_world}
+use Rattle.moo_world.proofs.Shown.RowLaws.{slot_shown}
+use Rattle.moo_world.proofs.Shown.Seen.{is_object_seen}
+use Rattle.moo_world.proofs.Ancestry.Subtrees.{owed_listed}
+use Rattle.moo_world.proofs.Ancestry.Trees.{Chain-chain, chain_of_none}
 use Rattle.moo_props.specs.Touched.{is_defined_among, slot_after, row_after}
 use Rattle.moo_props.specs.Slots.{fresh_row}
 use Rattle.moo_props.proofs.Definers.{new_is, no_clash, leaving, arriving, staying}
-use Rattle.moo_world.proofs.PairLists.{some_of}
+use Rattle.moo_world.proofs.Shown.PairLists.{some_of}
 use Rattle.moo_props.proofs.Gains.{object_row, defines_pair, new_object, slot_of_owed}
-use Rattle.moo_world.proofs.Shown.{SlotHere, slot_from, no_slot_from}
+use Rattle.moo_world.proofs.Shown.Slots.{SlotHere, slot_from, no_slot_from}
 
 module _ (t : Maps) (sound : IsSound t) (x q : ObjNo) (may : MayReparent (world_of t) x q) where
   abbrev m : LookUps

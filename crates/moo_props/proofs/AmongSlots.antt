@@ -14,9 +14,9 @@ use Rattle.moo_rows.proofs.Orders.{prop_total}
 use Rattle.moo_world.specs.Objects.{is_among}
 use Rattle.moo_world.specs.Rows.{IsGood, world_of}
 use Rattle.moo_world.specs.World.{World, chain}
-use Rattle.moo_world.proofs.Listed.{listed}
-use Rattle.moo_world.proofs.MapLaws.{decided_alike}
-use Rattle.moo_world.proofs.PairLists.{some_of, any_map}
+use Rattle.moo_world.proofs.Shown.Listed.{listed}
+use Rattle.moo_world.proofs.Shown.MapLaws.{decided_alike}
+use Rattle.moo_world.proofs.Shown.PairLists.{some_of, any_map}
 use Rattle.moo_props.specs.Dropping.{ids_among}
 use Rattle.moo_props.specs.Reparent.{is_only_of, is_defined_only, props_only_of}
 use Rattle.moo_props.proofs.Ascending.{rises_made, ascend}

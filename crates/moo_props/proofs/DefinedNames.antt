@@ -19,8 +19,8 @@ use Rattle.moo_rows.proofs.Orders.{prop_total}
 use Rattle.moo_world.specs.Objects.{Name, same_object, same_object-Decides}
 use Rattle.moo_world.specs.World.{Record, names_of}
 use Rattle.moo_world.specs.Rows.{IsSound, look_ups, world_of, world_shown, record_of, numbers_below, name_on, prop_id}
-use Rattle.moo_world.proofs.EntriesInOrder.{all_then, sorted_then, past_each}
-use Rattle.moo_world.proofs.MapLaws.{key-Decides}
+use Rattle.moo_world.proofs.Shown.EntriesInOrder.{all_then, sorted_then, past_each}
+use Rattle.moo_world.proofs.Shown.MapLaws.{key-Decides}
 
 -- the names of those of these entries that x defines
 abbrev pub names_among : ObjNo → List (PropId × PropRow) → List Name

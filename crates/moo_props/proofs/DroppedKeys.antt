@@ -17,9 +17,9 @@ use Rattle.moo_rows.proofs.Orders.{slot_total}
 use Rattle.moo_world.specs.Objects.{same_object, is_among, same_object-Decides}
 use Rattle.moo_world.specs.World.{chain}
 use Rattle.moo_world.specs.Rows.{IsGood, LookUps, look_ups, world_of}
-use Rattle.moo_world.proofs.MapLaws.{decided_alike}
-use Rattle.moo_world.proofs.Owed.{any-append}
-use Rattle.moo_world.proofs.Seen.{chain_of_row}
+use Rattle.moo_world.proofs.Shown.MapLaws.{decided_alike}
+use Rattle.moo_world.proofs.Inheritance.Owed.{any-append}
+use Rattle.moo_world.proofs.Shown.Seen.{chain_of_row}
 use Rattle.moo_props.specs.Dropped.{goes_with, dropped_keys}
 use Rattle.moo_props.specs.Dropping.{ids_for, ids_among, dropped_over}
 use Rattle.moo_props.specs.Names.{defines}
@@ -29,10 +29,10 @@ use Rattle.moo_props.specs.Touched.{props_of}
 use Rattle.moo_props.specs.Slots.{keys_on}
 use Rattle.moo_props.proofs.Ascending.{Rises, rises_made, keys_by, keys_rise, props_rise, under_rise, ascend}
 use Rattle.moo_props.proofs.Folding.{has_id, is_id, key_parts, is_id-Decides}
-use Rattle.moo_world.proofs.PairLists.{some_of}
+use Rattle.moo_world.proofs.Shown.PairLists.{some_of}
 use Rattle.moo_props.proofs.Gains.{object_of_chain, slot_on_heir}
 use Rattle.moo_props.proofs.LessRows.{is_own_id}
-use Rattle.moo_world.proofs.Listed.{listed, own_entries, all_made}
+use Rattle.moo_world.proofs.Shown.Listed.{listed, own_entries, all_made}
 use Rattle.moo_props.proofs.Moved.{under_is}
 use Rattle.moo_props.proofs.NewSlots.{has_all}
 use Rattle.moo_props.proofs.SameKeys.{holds, unique}

@@ -15,7 +15,7 @@ use Rattle.moo_rows.specs.Maps.{Held, prop_cmp, slot_cmp}
 use Rattle.moo_rows.specs.Exact.{prop_exact, slot_exact}
 use Rattle.moo_rows.proofs.Orders.{prop_total, slot_total}
 use Rattle.moo_world.specs.Objects.{same_object, same_object-Decides}
-use Rattle.moo_world.proofs.MapLaws.{key-Decides, decided_alike}
+use Rattle.moo_world.proofs.Shown.MapLaws.{key-Decides, decided_alike}
 use Rattle.moo_props.specs.declared.slots.Origin.{Origin}
 use Rattle.moo_props.specs.Reparent.{slots_moved}
 use Rattle.moo_props.specs.Slots.{origin_of, origins, fresh_of, slot_removed, slot_put, without_on, with_fresh, fresh_row}

@@ -13,7 +13,7 @@ use Rattle.moo_world.specs.Objects.{Name, same_object}
 use Rattle.moo_world.specs.World.{Slot, slot_of}
 use Rattle.moo_world.specs.Rows.{IsSound, world_of, slot_seen}
 use Rattle.moo_props.specs.Names.{name_of, defines}
-use Rattle.moo_world.proofs.PairLists.{some_of}
+use Rattle.moo_world.proofs.Shown.PairLists.{some_of}
 use Rattle.moo_props.proofs.Walked.{slot_here}
 
 -- x defines the property of its slot just where the slot has it as definer

@@ -14,15 +14,15 @@ use Rattle.moo_world.specs.World.{World, Slot, IsWellFormed, NamesDiffer, is_obj
 use Rattle.moo_world.specs.Rows.{LookUps, IsSound, look_ups, world_of, numbers_below, name_on, record_of}
 use Rattle.moo_world.specs.Laws.{MayReparent}
 use Rattle.moo_world.specs.Manual.{gained}
-use Rattle.moo_world.proofs.Keeping.{named_is}
-use Rattle.moo_world.proofs.RowLaws.{names_shown}
-use Rattle.moo_world.proofs.Seen.{is_object_seen, object_seen}
-use Rattle.moo_world.proofs.Subtrees.{owed_listed}
-use Rattle.moo_world.proofs.Trees.{Chain-chain, chain_of_none, chain-step}
-use Rattle.moo_world.proofs.PairLists.{some_of, any_map, distinct_map, pairs_left}
+use Rattle.moo_world.proofs.Inheritance.Keeping.{named_is}
+use Rattle.moo_world.proofs.Shown.RowLaws.{names_shown}
+use Rattle.moo_world.proofs.Shown.Seen.{is_object_seen, object_seen}
+use Rattle.moo_world.proofs.Ancestry.Subtrees.{owed_listed}
+use Rattle.moo_world.proofs.Ancestry.Trees.{Chain-chain, chain_of_none, chain-step}
+use Rattle.moo_world.proofs.Shown.PairLists.{some_of, any_map, distinct_map, pairs_left}
 use Rattle.moo_props.proofs.Definers.{only_gained}
-use Rattle.moo_world.proofs.Numbered.{any_from, no_later}
-use Rattle.moo_world.proofs.Shown.{SlotHere, slot_from}
+use Rattle.moo_world.proofs.Shown.Numbered.{any_from, no_later}
+use Rattle.moo_world.proofs.Shown.Slots.{SlotHere, slot_from}
 
 -- what has a chain with objects in it is an object
 pub object_of_chain : (w : World) (d z : ObjNo) → is_among d (chain w z) ≡ true → is_object w z ≡ true

@@ -18,9 +18,9 @@ use Rattle.moo_world.specs.Numbers.{not_of}
 use Rattle.moo_world.specs.Objects.{nothing, same_object, is_among, same_object-Decides}
 use Rattle.moo_world.specs.World.{Record, Climbs, chain, is_object, parent_of, location_of}
 use Rattle.moo_world.specs.Rows.{IsGood, look_ups, world_of, record_of}
-use Rattle.moo_world.proofs.Chains.{Climbs-unique}
-use Rattle.moo_world.proofs.Seen.{object_seen}
-use Rattle.moo_world.proofs.Trees.{no_parent, nothing_is_no_object}
+use Rattle.moo_world.proofs.Ancestry.Chains.{Climbs-unique}
+use Rattle.moo_world.proofs.Shown.Seen.{object_seen}
+use Rattle.moo_world.proofs.Ancestry.Trees.{no_parent, nothing_is_no_object}
 use Rattle.moo_props.specs.Dropped.{goes_with, dropped_keys, slot_left, prop_left, verb_left, heir, row_left}
 use Rattle.moo_props.specs.Dropping.{is_linked, released_row, ids_for, ids_among, verbs_among, linked_among, dropped_over, slots_dropped, props_removed, verbs_removed, with_released, row_released, rows_released}
 use Rattle.moo_props.specs.Names.{defines}
@@ -29,7 +29,7 @@ use Rattle.moo_tree.specs.Under.{owners_under}
 use Rattle.moo_props.specs.Touched.{props_of}
 use Rattle.moo_props.specs.Slots.{keys_on, without_on}
 use Rattle.moo_props.proofs.LessRows.{held1, held2, held3, held5, only5, slots5, props5, verbs5, objects5, own_under}
-use Rattle.moo_world.proofs.Listed.{own_entries, all_made}
+use Rattle.moo_world.proofs.Shown.Listed.{own_entries, all_made}
 use Rattle.moo_props.proofs.Moved.{writes-without, length-made}
 use Rattle.moo_props.proofs.Walked.{walk}
 

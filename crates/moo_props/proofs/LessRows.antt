@@ -20,19 +20,19 @@ use Rattle.moo_rows.proofs.Orders.{object_total, prop_total, verb_total}
 use Rattle.moo_world.specs.Objects.{Pair, nothing, same_object, is_among, same_object-Decides, same_object-eq}
 use Rattle.moo_world.specs.World.{Slot, is_object, chain, owed_by, pair_named}
 use Rattle.moo_world.specs.Rows.{IsGood, LookUps, look_ups, world_of, prop_id, verb_id}
-use Rattle.moo_world.proofs.MapLaws.{object_key}
-use Rattle.moo_world.proofs.Owed.{definer_among, named_owed}
-use Rattle.moo_world.proofs.Seen.{is_object_seen, chain_of_row}
-use Rattle.moo_world.proofs.Trees.{Chain-chain}
+use Rattle.moo_world.proofs.Shown.MapLaws.{object_key}
+use Rattle.moo_world.proofs.Inheritance.Owed.{definer_among, named_owed}
+use Rattle.moo_world.proofs.Shown.Seen.{is_object_seen, chain_of_row}
+use Rattle.moo_world.proofs.Ancestry.Trees.{Chain-chain}
 use Rattle.moo_props.specs.Dropping.{is_linked, released_row, ids_for, ids_among, verbs_among, linked_among, slots_dropped, props_removed, verbs_removed, with_released, row_released, rows_released}
 use Rattle.moo_props.specs.Names.{name_of}
 use Rattle.moo_tree.specs.Under.{owners_under}
 use Rattle.moo_props.specs.Touched.{props_of}
 use Rattle.moo_props.specs.Slots.{without_on}
 use Rattle.moo_props.proofs.Folding.{has_id, is_id, slot_at-without}
-use Rattle.moo_world.proofs.PairLists.{some_of}
+use Rattle.moo_world.proofs.Shown.PairLists.{some_of}
 use Rattle.moo_props.proofs.Lessened.{is_own, less_object}
-use Rattle.moo_world.proofs.Listed.{listed}
+use Rattle.moo_world.proofs.Shown.Listed.{listed}
 use Rattle.moo_props.proofs.Moved.{IsSlotsOnly, onward, only-without, base-without, under_is, has}
 use Rattle.moo_props.proofs.NewSlots.{has_all}
 use Rattle.moo_props.proofs.Walked.{walk, slot_here}

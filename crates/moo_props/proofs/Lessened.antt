@@ -13,13 +13,13 @@ use Rattle.moo_world.specs.Objects.{Name, nothing, same_object, same_object-Deci
 use Rattle.moo_world.specs.Recycling.{released, without_object, recycled}
 use Rattle.moo_world.specs.World.{World, Record, Slot, IsWellFormed, is_object, parent_of, slot_of, with_slots, without_slots}
 use Rattle.moo_world.specs.Rows.{LookUps, AreSound, numbers_below, name_on, slot_seen, record_of, world_shown}
-use Rattle.moo_world.proofs.Rebuilding.{SameButSlots-rebuilt, same_world, no_slot, objects_same}
-use Rattle.moo_world.proofs.Recycling.{IsWellFormed-recycled, recycle_law}
-use Rattle.moo_world.proofs.RowLaws.{slot_shown}
-use Rattle.moo_world.proofs.Seen.{is_object_seen, object_seen}
+use Rattle.moo_world.proofs.Inheritance.Rebuilding.{SameButSlots-rebuilt, same_world, no_slot, objects_same}
+use Rattle.moo_world.proofs.Inheritance.Recycling.{IsWellFormed-recycled, recycle_law}
+use Rattle.moo_world.proofs.Shown.RowLaws.{slot_shown}
+use Rattle.moo_world.proofs.Shown.Seen.{is_object_seen, object_seen}
 use Rattle.moo_props.specs.Dropping.{released_row}
-use Rattle.moo_world.proofs.PairLists.{some_of}
-use Rattle.moo_world.proofs.Shown.{SlotHere, slot_from}
+use Rattle.moo_world.proofs.Shown.PairLists.{some_of}
+use Rattle.moo_world.proofs.Shown.Slots.{SlotHere, slot_from}
 
 -- x defines the property under a number
 abbrev pub is_own : LookUps → ObjNo → ℕ → Bool

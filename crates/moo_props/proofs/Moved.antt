@@ -19,14 +19,14 @@ use Rattle.moo_world.specs.World.{World, Record, chain, owner_of, reparented}
 use Rattle.moo_world.specs.Rows.{IsSound, look_ups, world_of}
 use Rattle.moo_world.specs.Laws.{MayReparent}
 use Rattle.moo_world.specs.Manual.{ancestors, lost, gained}
-use Rattle.moo_world.proofs.Seen.{chain_of_row, chain_of_no_row, object_seen}
-use Rattle.moo_world.proofs.MapLaws.{object_key}
+use Rattle.moo_world.proofs.Shown.Seen.{chain_of_row, chain_of_no_row, object_seen}
+use Rattle.moo_world.proofs.Shown.MapLaws.{object_key}
 use Rattle.moo_props.specs.declared.slots.Origin.{Origin}
 use Rattle.moo_tree.specs.Under.{owners_under}
 use Rattle.moo_props.specs.Reparent.{props_only_of, slots_moved, relinked, relinked_list}
 use Rattle.moo_props.specs.Touched.{props_of, is_defined_among, slot_after, row_after, IsSameButSlotsAndObjects}
 use Rattle.moo_props.specs.Slots.{id_of, origin_of, origins, fresh_of, slot_removed, slot_put, without_on, with_fresh, keys_on, keys_over, fresh_row}
-use Rattle.moo_world.proofs.Listed.{listed, own_entries, all_made}
+use Rattle.moo_world.proofs.Shown.Listed.{listed, own_entries, all_made}
 use Rattle.moo_props.proofs.Folding.{has_id, is_id, all_moved}
 use Rattle.moo_props.proofs.Definers.{only_lost, only_gained}
 use Rattle.moo_props.proofs.Gains.{slot_on_new}

@@ -17,9 +17,9 @@ use Rattle.moo_world.specs.Objects.{Name, Pair, same_object, same_text, folded}
 use Rattle.moo_world.specs.PropertyCalls.{defines}
 use Rattle.moo_world.specs.World.{World, IsWellFormed, chain, names_of, defined_by, owed_by, pair_named, slot_of}
 use Rattle.moo_world.specs.Rows.{IsSound, world_of, prop_id}
-use Rattle.moo_world.proofs.EntriesInOrder.{all_weaker}
-use Rattle.moo_world.proofs.Owed.{any-append}
-use Rattle.moo_world.proofs.PairLists.{any_map}
+use Rattle.moo_world.proofs.Shown.EntriesInOrder.{all_weaker}
+use Rattle.moo_world.proofs.Inheritance.Owed.{any-append}
+use Rattle.moo_world.proofs.Shown.PairLists.{any_map}
 use Rattle.moo_props.specs.Clashes.{meets_on}
 use Rattle.moo_props.proofs.DefinedNames.{names_listed}
 use Rattle.moo_props.proofs.Owing.{entries_held, has_owed}

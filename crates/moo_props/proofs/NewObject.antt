@@ -15,16 +15,16 @@ use Rattle.moo_world.specs.Objects.{Name, Pair, nothing, same_object, same_text,
 use Rattle.moo_world.specs.Arguments.{is_number}
 use Rattle.moo_world.specs.World.{World, Record, Slot, IsWellFormed, Chain, is_object, chain, owed_by, owner_of, owes, pair_named, slot_of, fresh, slot_for, with_slots, without_slots, SameButSlots, climb, numbers_to, read_in, read_along, read_of}
 use Rattle.moo_world.specs.Rows.{LookUps, AreSound, numbers_below, name_on, slot_on, slot_seen, record_of, world_shown}
-use Rattle.moo_world.proofs.Creating.{IsWellFormed-created, chain_x, chain_other, owed_still, owed_x}
-use Rattle.moo_world.proofs.Owed.{named_owed}
-use Rattle.moo_world.proofs.Rebuilding.{SameButSlots-rebuilt, slot_of-rebuilt, same_world, no_slot, objects_same, parents_same}
-use Rattle.moo_world.proofs.Seen.{is_object_seen}
-use Rattle.moo_world.proofs.Trees.{Chain-chain, chain_of_none, linked}
+use Rattle.moo_world.proofs.Inheritance.Creating.{IsWellFormed-created, chain_x, chain_other, owed_still, owed_x}
+use Rattle.moo_world.proofs.Inheritance.Owed.{named_owed}
+use Rattle.moo_world.proofs.Inheritance.Rebuilding.{SameButSlots-rebuilt, slot_of-rebuilt, same_world, no_slot, objects_same, parents_same}
+use Rattle.moo_world.proofs.Shown.Seen.{is_object_seen}
+use Rattle.moo_world.proofs.Ancestry.Trees.{Chain-chain, chain_of_none, linked}
 use Rattle.moo_props.specs.Birth.{new_row}
 use Rattle.moo_props.specs.Slots.{fresh_row}
 use Rattle.moo_props.proofs.NewSlots.{with_new}
-use Rattle.moo_world.proofs.Numbered.{first_from, no_first}
-use Rattle.moo_world.proofs.Shown.{here-slot_on, slots_shown}
+use Rattle.moo_world.proofs.Shown.Numbered.{first_from, no_first}
+use Rattle.moo_world.proofs.Shown.Slots.{here-slot_on, slots_shown}
 
 -- ---- lists
 

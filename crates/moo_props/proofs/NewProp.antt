@@ -17,14 +17,14 @@ use Rattle.moo_world.specs.Changes.{clashes, defined}
 use Rattle.moo_world.specs.Objects.{Name, nothing, same_object, same_text, folded, is_among, same_object-Decides, same_text-Decides}
 use Rattle.moo_world.specs.World.{World, Record, Slot, IsWellFormed, is_object, is_property_name, chain, owner_of, slot_of, names_of, fresh, slot_fits}
 use Rattle.moo_world.specs.Rows.{LookUps, AreSound, numbers_below, name_on, slot_on, slot_seen, record_of, world_shown}
-use Rattle.moo_world.proofs.RowLaws.{with_prop, names_shown, names_with_prop, other_names_with_prop, slot_shown}
-use Rattle.moo_world.proofs.Seen.{is_object_seen, object_seen}
-use Rattle.moo_world.proofs.Trees.{Chain-chain, chain_of_none}
+use Rattle.moo_world.proofs.Shown.RowLaws.{with_prop, names_shown, names_with_prop, other_names_with_prop, slot_shown}
+use Rattle.moo_world.proofs.Shown.Seen.{is_object_seen, object_seen}
+use Rattle.moo_world.proofs.Ancestry.Trees.{Chain-chain, chain_of_none}
 use Rattle.moo_props.specs.Slots.{fresh_of}
-use Rattle.moo_world.proofs.PairLists.{some_of}
-use Rattle.moo_world.proofs.Insertion.{IsWellFormed-defined, none_owed}
+use Rattle.moo_world.proofs.Shown.PairLists.{some_of}
+use Rattle.moo_world.proofs.Inheritance.Insertion.{IsWellFormed-defined, none_owed}
 use Rattle.moo_props.proofs.Owing.{has_owed}
-use Rattle.moo_world.proofs.Shown.{slots_shown}
+use Rattle.moo_world.proofs.Shown.Slots.{slots_shown}
 
 -- the look-ups with a property of the next number: on x its slot, on each descendant a fresh one
 abbrev pub with_property : LookUps → ObjNo → Name → SlotRow → LookUps

@@ -13,13 +13,13 @@ use Rattle.moo_rows.proofs.Orders.{prop_total, slot_total}
 use Rattle.moo_world.specs.Objects.{Name, same_object, is_among, same_object-Decides}
 use Rattle.moo_world.specs.World.{IsTree, is_object, chain, owner_of}
 use Rattle.moo_world.specs.Rows.{LookUps, look_ups, world_of, prop_id}
-use Rattle.moo_world.proofs.Seen.{is_object_seen, chain_of_row}
+use Rattle.moo_world.proofs.Shown.Seen.{is_object_seen, chain_of_row}
 use Rattle.moo_props.specs.declared.slots.Origin.{Origin}
 use Rattle.moo_props.specs.Defining.{fresh_over, with_definition}
 use Rattle.moo_tree.specs.Under.{owners_under}
 use Rattle.moo_props.specs.Slots.{fresh_of, slot_put}
 use Rattle.moo_props.proofs.Folding.{is_id, key_parts}
-use Rattle.moo_world.proofs.PairLists.{some_of}
+use Rattle.moo_world.proofs.Shown.PairLists.{some_of}
 use Rattle.moo_props.proofs.Moved.{IsSlotsOnly, onward, under_is, owners_are}
 use Rattle.moo_props.proofs.NewProp.{with_property}
 

@@ -14,12 +14,12 @@ use Rattle.moo_rows.specs.Maps.{Maps, Held}
 use Rattle.moo_rows.proofs.Orders.{object_total}
 use Rattle.moo_world.specs.Objects.{same_object, same_object-Decides}
 use Rattle.moo_world.specs.Rows.{LookUps, IsSound, look_ups, prop_id}
-use Rattle.moo_world.proofs.MapLaws.{object_key}
+use Rattle.moo_world.proofs.Shown.MapLaws.{object_key}
 use Rattle.moo_props.specs.declared.slots.Origin.{Origin}
 use Rattle.moo_props.specs.Birth.{new_row, objects_with}
 use Rattle.moo_props.specs.Slots.{origins_among, origin_of, origins, fresh_of, slot_put, with_fresh, fresh_row}
 use Rattle.moo_props.proofs.Folding.{is_id, has_id, is_id-Decides, slot_at-fresh, fresh_in, fresh_in-origins}
-use Rattle.moo_world.proofs.PairLists.{any_map}
+use Rattle.moo_world.proofs.Shown.PairLists.{any_map}
 use Rattle.moo_props.proofs.Moved.{only-fresh}
 use Rattle.moo_props.proofs.Walked.{Entry, walk, walk_held, walk_meets}
 

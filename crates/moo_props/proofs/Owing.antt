@@ -17,17 +17,17 @@ use Rattle.moo_rows.proofs.Orders.{prop_total}
 use Rattle.moo_world.specs.Objects.{Name, Pair, same_object, same_pair, is_among, same_object-Decides}
 use Rattle.moo_world.specs.World.{World, Record, Slot, IsWellFormed, is_object, chain, names_of, defined_by, owed_by, pair_named, slot_of}
 use Rattle.moo_world.specs.Rows.{LookUps, IsSound, look_ups, world_of, numbers_below, name_on, prop_id}
-use Rattle.moo_world.proofs.Keeping.{same_pair-is}
-use Rattle.moo_world.proofs.MapLaws.{decided_alike}
-use Rattle.moo_world.proofs.Owed.{any-append}
-use Rattle.moo_world.proofs.Rebuilding.{no_slot}
-use Rattle.moo_world.proofs.RowLaws.{names_shown}
-use Rattle.moo_world.proofs.Seen.{is_object_seen}
-use Rattle.moo_world.proofs.Subtrees.{owed_listed}
-use Rattle.moo_world.proofs.Trees.{Chain-chain, chain_of_none}
-use Rattle.moo_world.proofs.PairLists.{any_map}
+use Rattle.moo_world.proofs.Inheritance.Keeping.{same_pair-is}
+use Rattle.moo_world.proofs.Shown.MapLaws.{decided_alike}
+use Rattle.moo_world.proofs.Inheritance.Owed.{any-append}
+use Rattle.moo_world.proofs.Inheritance.Rebuilding.{no_slot}
+use Rattle.moo_world.proofs.Shown.RowLaws.{names_shown}
+use Rattle.moo_world.proofs.Shown.Seen.{is_object_seen}
+use Rattle.moo_world.proofs.Ancestry.Subtrees.{owed_listed}
+use Rattle.moo_world.proofs.Ancestry.Trees.{Chain-chain, chain_of_none}
+use Rattle.moo_world.proofs.Shown.PairLists.{any_map}
 use Rattle.moo_props.proofs.Gains.{defines_pair}
-use Rattle.moo_world.proofs.Listed.{own_entries}
+use Rattle.moo_world.proofs.Shown.Listed.{own_entries}
 use Rattle.moo_props.proofs.Walked.{any_held}
 
 -- ---- lists

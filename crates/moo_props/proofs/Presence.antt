@@ -17,14 +17,14 @@ use Rattle.moo_world.specs.World.{World, Slot, is_object, chain, owner_of}
 use Rattle.moo_world.specs.Rows.{IsSound, world_of}
 use Rattle.moo_world.specs.Laws.{MayReparent}
 use Rattle.moo_world.specs.Manual.{ancestors, lost, gained}
-use Rattle.moo_world.proofs.ManualLaw.{chain_y}
-use Rattle.moo_world.proofs.Owed.{is_among-right}
-use Rattle.moo_world.proofs.Trees.{chain_of_none}
+use Rattle.moo_world.proofs.Inheritance.ManualLaw.{chain_y}
+use Rattle.moo_world.proofs.Inheritance.Owed.{is_among-right}
+use Rattle.moo_world.proofs.Ancestry.Trees.{chain_of_none}
 use Rattle.moo_tree.specs.Under.{owners_under}
 use Rattle.moo_props.specs.Touched.{props_of, is_defined_among, slot_after, removed_keys, added_keys}
 use Rattle.moo_props.specs.Present.{ArePresent, AreAbsent}
 use Rattle.moo_props.specs.Slots.{keys_on, keys_over, fresh_row}
-use Rattle.moo_world.proofs.Listed.{own_entries, all_made}
+use Rattle.moo_world.proofs.Shown.Listed.{own_entries, all_made}
 use Rattle.moo_props.proofs.Definers.{new_is, no_clash, only_lost, only_gained}
 use Rattle.moo_props.proofs.Gains.{object_row, slot_on_heir, slot_on_new}
 use Rattle.moo_props.proofs.After.{slot_is, tests, gained_named, no_both}

@@ -16,7 +16,7 @@ use Rattle.moo_world.specs.Changes.{with_slot_of}
 use Rattle.moo_world.specs.Objects.{Name, folded}
 use Rattle.moo_world.specs.Quota.{quota_name, quota_in, quota_of, quota_moved, set_slot}
 use Rattle.moo_world.specs.World.{World, Record, IsTree, with_record, read_in, read_along, read_of, slot_of}
-use Rattle.moo_world.proofs.Trees.{chain-step, chain_of_none}
+use Rattle.moo_world.proofs.Ancestry.Trees.{chain-step, chain_of_none}
 use Rattle.moo_props.specs.Names.{name_of, spelling_of}
 use Rattle.moo_props.specs.Quotas.{HasRoom}
 

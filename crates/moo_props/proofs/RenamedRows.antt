@@ -17,16 +17,16 @@ use Rattle.moo_world.specs.Changes.{clashes, renamed}
 use Rattle.moo_world.specs.Objects.{Name, same_object, same_text, same_pair, folded, is_among, same_object-Decides, same_text-Decides}
 use Rattle.moo_world.specs.World.{World, Record, Slot, IsWellFormed, is_object, is_property_name, chain, defined_by, slot_of}
 use Rattle.moo_world.specs.Rows.{LookUps, AreSound, IsGood, look_ups, world_of, world_shown, numbers_below, name_on, slot_on, slot_seen, record_of, prop_id}
-use Rattle.moo_world.proofs.RowLaws.{slot_shown}
-use Rattle.moo_world.proofs.Seen.{is_object_seen}
-use Rattle.moo_world.proofs.Trees.{Chain-chain}
-use Rattle.moo_world.proofs.PairLists.{some_of}
+use Rattle.moo_world.proofs.Shown.RowLaws.{slot_shown}
+use Rattle.moo_world.proofs.Shown.Seen.{is_object_seen}
+use Rattle.moo_world.proofs.Ancestry.Trees.{Chain-chain}
+use Rattle.moo_world.proofs.Shown.PairLists.{some_of}
 use Rattle.moo_props.proofs.Gains.{one_prop, defines_pair, slot_on_heir}
 use Rattle.moo_props.proofs.LessRows.{own_under}
 use Rattle.moo_props.proofs.NewProp.{same_below}
 use Rattle.moo_props.proofs.Owing.{has_owed}
-use Rattle.moo_world.proofs.Replacement.{renames, none_of_name, IsWellFormed-renamed}
-use Rattle.moo_world.proofs.Shown.{SlotHere, slots_shown, slot_from}
+use Rattle.moo_world.proofs.Inheritance.Replacement.{renames, none_of_name, IsWellFormed-renamed}
+use Rattle.moo_world.proofs.Shown.Slots.{SlotHere, slots_shown, slot_from}
 
 -- the look-ups with a property of x under another name
 abbrev pub with_new_name : LookUps → ObjNo → ℕ → Name → LookUps

@@ -18,21 +18,21 @@ use Rattle.moo_world.specs.Changes.{undefined}
 use Rattle.moo_world.specs.Objects.{Name, nothing, same_object, same_text, folded, is_among, same_object-Decides, same_text-Decides}
 use Rattle.moo_world.specs.World.{World, Record, Slot, IsWellFormed, is_object, chain, slot_of, with_slots, without_slots}
 use Rattle.moo_world.specs.Rows.{LookUps, AreSound, IsGood, look_ups, world_of, world_shown, numbers_below, name_on, slot_seen, record_of, prop_id}
-use Rattle.moo_world.proofs.Rebuilding.{SameButSlots-rebuilt, same_world, no_slot, objects_same}
-use Rattle.moo_world.proofs.RowLaws.{slot_shown}
-use Rattle.moo_world.proofs.Seen.{is_object_seen}
+use Rattle.moo_world.proofs.Inheritance.Rebuilding.{SameButSlots-rebuilt, same_world, no_slot, objects_same}
+use Rattle.moo_world.proofs.Shown.RowLaws.{slot_shown}
+use Rattle.moo_world.proofs.Shown.Seen.{is_object_seen}
 use Rattle.moo_props.specs.Names.{defines, spelling_of}
 use Rattle.moo_tree.specs.Under.{owners_under}
 use Rattle.moo_props.specs.Undefining.{less_over}
 use Rattle.moo_props.specs.Slots.{slot_removed}
 use Rattle.moo_props.proofs.Folding.{is_id, key_parts}
-use Rattle.moo_world.proofs.PairLists.{some_of}
+use Rattle.moo_world.proofs.Shown.PairLists.{some_of}
 use Rattle.moo_props.proofs.Gains.{one_prop}
 use Rattle.moo_props.proofs.Lessened.{is_own}
 use Rattle.moo_props.proofs.LessRows.{own_under}
 use Rattle.moo_props.proofs.Moved.{IsSlotsOnly, onward, under_is}
-use Rattle.moo_world.proofs.Shorter.{s, kept_slot, objects, undefined_law, IsWellFormed-undefined}
-use Rattle.moo_world.proofs.Shown.{SlotHere, slot_from}
+use Rattle.moo_world.proofs.Inheritance.Shorter.{s, kept_slot, objects, undefined_law, IsWellFormed-undefined}
+use Rattle.moo_world.proofs.Shown.Slots.{SlotHere, slot_from}
 
 -- the look-ups without a property and its slots
 abbrev pub less_property : LookUps → ℕ → LookUps

@@ -16,11 +16,11 @@ use Rattle.moo_world.specs.Changes.{with_slot_of}
 use Rattle.moo_world.specs.Objects.{Name, same_object, same_text, folded, same_object-Decides, same_text-Decides}
 use Rattle.moo_world.specs.World.{World, Record, IsWellFormed, Slot, slot_of, with_record, slot_fits}
 use Rattle.moo_world.specs.Rows.{LookUps, IsSound, IsGood, look_ups, world_of, world_shown, slot_seen, prop_id}
-use Rattle.moo_world.proofs.RowLaws.{slot_shown, world_shown-with_slot}
-use Rattle.moo_world.proofs.MapLaws.{look_ups-put_slot}
+use Rattle.moo_world.proofs.Shown.RowLaws.{slot_shown, world_shown-with_slot}
+use Rattle.moo_world.proofs.Shown.MapLaws.{look_ups-put_slot}
 use Rattle.moo_props.specs.Names.{name_of, spelling_of, defines}
-use Rattle.moo_world.proofs.Formed.{IsWellFormed-with_slot_of}
-use Rattle.moo_world.proofs.PairLists.{some_of}
+use Rattle.moo_world.proofs.Form.Slots.{IsWellFormed-with_slot_of}
+use Rattle.moo_world.proofs.Shown.PairLists.{some_of}
 use Rattle.moo_props.proofs.Walked.{slot_here}
 
 module _ (t : Maps) (sound : IsSound t) (x : ObjNo) (id : PropId) (k : SlotRow) (held : get t.slots (x, id) ≡ Some k) (next : SlotRow) (change : Slot → Slot) (agrees : (d : ObjNo) → change (slot_seen d k) ≡ slot_seen d next) where

@@ -16,13 +16,13 @@ use Rattle.moo_rows.specs.Maps.{Maps}
 use Rattle.moo_world.specs.Objects.{Pair, same_object, folded, is_among, same_object-Decides}
 use Rattle.moo_world.specs.World.{World, Slot, IsWellFormed, is_object, chain, owed_by, pair_named, slot_of, read_of}
 use Rattle.moo_world.specs.Rows.{LookUps, IsSound, look_ups, world_of, slot_seen}
-use Rattle.moo_world.proofs.Owed.{definer_among, named_owed}
-use Rattle.moo_world.proofs.Reading.{read_step}
-use Rattle.moo_world.proofs.RowLaws.{slot_shown}
-use Rattle.moo_world.proofs.Seen.{is_object_seen, chain_of_row, object_seen}
-use Rattle.moo_world.proofs.Trees.{Chain-chain, chain_of_none}
+use Rattle.moo_world.proofs.Inheritance.Owed.{definer_among, named_owed}
+use Rattle.moo_world.proofs.Shown.Reading.{read_step}
+use Rattle.moo_world.proofs.Shown.RowLaws.{slot_shown}
+use Rattle.moo_world.proofs.Shown.Seen.{is_object_seen, chain_of_row, object_seen}
+use Rattle.moo_world.proofs.Ancestry.Trees.{Chain-chain, chain_of_none}
 use Rattle.moo_props.specs.Names.{name_of}
-use Rattle.moo_world.proofs.PairLists.{some_of}
+use Rattle.moo_world.proofs.Shown.PairLists.{some_of}
 use Rattle.moo_props.proofs.Gains.{slot_on_heir}
 
 module _ (t : Maps) (sound : IsSound t) (wf : IsWellFormed (world_of t)) (x : ObjNo) (id : PropId) (k : SlotRow) (held : get t.slots (x, id) ≡ Some k) where

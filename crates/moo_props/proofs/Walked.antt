@@ -22,14 +22,14 @@ use Rattle.moo_rows.proofs.Orders.{object_total, slot_total}
 use Rattle.moo_world.specs.Objects.{Name, same_text, folded, same_text-Decides}
 use Rattle.moo_world.specs.World.{Record, Slot, slot_of}
 use Rattle.moo_world.specs.Rows.{IsSound, look_ups, world_of, slot_seen}
-use Rattle.moo_world.proofs.MapLaws.{key-Decides}
-use Rattle.moo_world.proofs.Owed.{find_passes}
-use Rattle.moo_world.proofs.RowLaws.{slot_shown}
-use Rattle.moo_world.proofs.Seen.{is_object_seen}
+use Rattle.moo_world.proofs.Shown.MapLaws.{key-Decides}
+use Rattle.moo_world.proofs.Inheritance.Owed.{find_passes}
+use Rattle.moo_world.proofs.Shown.RowLaws.{slot_shown}
+use Rattle.moo_world.proofs.Shown.Seen.{is_object_seen}
 use Rattle.moo_props.specs.Names.{name_of, is_called}
-use Rattle.moo_world.proofs.PairLists.{some_of}
-use Rattle.moo_world.proofs.Listed.{own_entries}
-use Rattle.moo_world.proofs.Shown.{SlotHere, slot_from}
+use Rattle.moo_world.proofs.Shown.PairLists.{some_of}
+use Rattle.moo_world.proofs.Shown.Listed.{own_entries}
+use Rattle.moo_world.proofs.Shown.Slots.{SlotHere, slot_from}
 
 abbrev pub Entry : Type 0
 Entry = (ObjNo × PropId) × SlotRow

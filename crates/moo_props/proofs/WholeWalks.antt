@@ -26,8 +26,8 @@ use Rattle.moo_rows.proofs.Orders.{object_total, prop_total}
 use Rattle.moo_rows.proofs.Walking.{first_of, here, keeps, past_test, all_past}
 use Rattle.moo_world.specs.Objects.{nothing, same_object, same_object-eq}
 use Rattle.moo_world.specs.Rows.{IsGood, look_ups, prop_id, verb_id}
-use Rattle.moo_world.proofs.ObjectEntries.{same_object-symm}
-use Rattle.moo_world.proofs.Seen.{is_object_seen}
+use Rattle.moo_world.proofs.Shown.ObjectEntries.{same_object-symm}
+use Rattle.moo_world.proofs.Shown.Seen.{is_object_seen}
 use Rattle.moo_props.specs.Dropping.{is_linked, row_linked, linked_among, verbs_among}
 use Rattle.moo_props.specs.Touched.{props_of}
 

@@ -14,7 +14,7 @@ use Rattle.moo_world.specs.ObjectLists.{objects_of}
 use Rattle.moo_world.specs.Rows.{IsGood, world_of, numbers_below}
 use Rattle.moo_world.specs.World.{is_object, numbers_to}
 use Rattle.moo_world.specs.Judge.{State}
-use Rattle.moo_world.proofs.ObjectEntries.{objects_listed}
+use Rattle.moo_world.proofs.Shown.ObjectEntries.{objects_listed}
 use Rattle.moo_tables.specs.Tables.{Tables}
 use Rattle.moo_tables.specs.Inside.{Rests}
 use Rattle.moo_damage.specs.declared.kind.Key.{Key}

@@ -4,7 +4,7 @@ use Rattle.moo_rows.specs.Maps.{Maps}
 use Rattle.moo_tables.specs.Tables.{Tables}
 use Rattle.moo_world.specs.declared.call.Batch.{Batch}
 use Rattle.moo_world.specs.Numbers.{NumbersStay}
-use Rattle.moo_world.proofs.NumbersKept.{stay_itself, stay_joined, batches_keep_numbers}
+use Rattle.moo_world.proofs.Shown.NumbersKept.{stay_itself, stay_joined, batches_keep_numbers}
 use Rattle.moo_store.specs.Untouched.{Writes}
 
 pub writes_stay : (rows : Maps) (tables : Tables) (batches : List Batch) (end : Maps) (after : Tables) → Writes rows tables batches end after → NumbersStay rows end

@@ -12,7 +12,7 @@ use Rattle.moo_rows.specs.declared.row.VerbId.{VerbId}
 use Rattle.moo_rows.specs.Maps.{Maps, object_cmp, prop_cmp, slot_cmp, verb_cmp}
 use Rattle.moo_rows.specs.Exact.{object_exact, prop_exact, slot_exact, verb_exact}
 use Rattle.moo_rows.proofs.Orders.{prop_total, slot_total, verb_total}
-use Rattle.moo_world.proofs.MapLaws.{decided_alike, key-Decides}
+use Rattle.moo_world.proofs.Shown.MapLaws.{decided_alike, key-Decides}
 use Rattle.moo_tables.specs.declared.version.Version.{Version}
 use Rattle.moo_tables.specs.declared.version.Version.TheVariants.{Second}
 use Rattle.moo_tables.specs.Tables.{Tables, same_number, same_pair}

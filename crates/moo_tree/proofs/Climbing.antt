@@ -6,8 +6,8 @@ use Rattle.moo_rows.specs.declared.row.ObjRow.{ObjRow}
 use Rattle.moo_world.specs.Objects.{is_among, same_object-eq}
 use Rattle.moo_world.specs.Rows.{LookUps, world_shown}
 use Rattle.moo_world.specs.World.{World, IsTree, chain}
-use Rattle.moo_world.proofs.Chains.{is_among_here}
-use Rattle.moo_world.proofs.Seen.{chain_of_row}
+use Rattle.moo_world.proofs.Ancestry.Chains.{is_among_here}
+use Rattle.moo_world.proofs.Shown.Seen.{chain_of_row}
 
 module _ (m : LookUps) (t : IsTree (world_shown m)) (x : ObjNo) (row : ObjRow) (there : Some row ≡ m.object x) where
   abbrev w : World

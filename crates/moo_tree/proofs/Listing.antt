@@ -17,9 +17,9 @@ use Rattle.moo_world.specs.ObjectLists.{children_of, contents_of, objects_of, pl
 use Rattle.moo_world.specs.Objects.{nothing, same_object, is_among, same_object-eq}
 use Rattle.moo_world.specs.Rows.{look_ups, world_of}
 use Rattle.moo_world.specs.World.{IsTree, is_object, row_passes, chain}
-use Rattle.moo_world.proofs.EntriesInOrder.{all_weaker, filter_alike, own_entries}
-use Rattle.moo_world.proofs.ObjectEntries.{objects_passing, rows_passing}
-use Rattle.moo_world.proofs.Seen.{is_object_seen}
+use Rattle.moo_world.proofs.Shown.EntriesInOrder.{all_weaker, filter_alike, own_entries}
+use Rattle.moo_world.proofs.Shown.ObjectEntries.{objects_passing, rows_passing}
+use Rattle.moo_world.proofs.Shown.Seen.{is_object_seen}
 
 all_pass : {A : Type 0} (l : List A) → filter (λ a. true) l ≡ l
 all_pass [] = refl

@@ -16,11 +16,11 @@ use Rattle.moo_world.specs.Objects.{same_object, is_among, same_object-Decides}
 use Rattle.moo_world.specs.ObjectLists.{children_of, objects_of, has_parent}
 use Rattle.moo_world.specs.Rows.{look_ups, world_of}
 use Rattle.moo_world.specs.World.{World, IsTree, is_object, parent_of, chain, climb, numbers_to}
-use Rattle.moo_world.proofs.Trees.{chain_of_none}
-use Rattle.moo_world.proofs.Seen.{chain_of_row, chain_of_no_row, is_object_seen, passes_seen, none_passes}
-use Rattle.moo_world.proofs.Owed.{is_among-append}
-use Rattle.moo_world.proofs.Subtrees.{among_filter, object_listed}
-use Rattle.moo_world.proofs.Upward.{filter_passes}
+use Rattle.moo_world.proofs.Ancestry.Trees.{chain_of_none}
+use Rattle.moo_world.proofs.Shown.Seen.{chain_of_row, chain_of_no_row, is_object_seen, passes_seen, none_passes}
+use Rattle.moo_world.proofs.Inheritance.Owed.{is_among-append}
+use Rattle.moo_world.proofs.Ancestry.Subtrees.{among_filter, object_listed}
+use Rattle.moo_world.proofs.Ancestry.Upward.{filter_passes}
 use Rattle.moo_tree.proofs.Sharing.{among_drop}
 use Rattle.moo_tree.specs.Under.{IsFound}
 

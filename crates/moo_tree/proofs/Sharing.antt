@@ -9,8 +9,8 @@ use Rattle.moo_value.specs.declared.value.ObjNo.{ObjNo}
 use Rattle.moo_world.specs.Manual.{ancestors, common}
 use Rattle.moo_world.specs.Objects.{nothing, same_object, is_among, same_object-eq, same_object-Decides}
 use Rattle.moo_world.specs.World.{World, IsTree, Chain, is_object, parent_of, chain}
-use Rattle.moo_world.proofs.Chains.{front_of, Climbs-unique, Climbs-among, Climbs-split}
-use Rattle.moo_world.proofs.Trees.{no_parent, Chain-chain, chain_of_none}
+use Rattle.moo_world.proofs.Ancestry.Chains.{front_of, Climbs-unique, Climbs-among, Climbs-split}
+use Rattle.moo_world.proofs.Ancestry.Trees.{no_parent, Chain-chain, chain_of_none}
 
 -- ---- lists
 

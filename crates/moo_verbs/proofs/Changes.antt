@@ -10,11 +10,11 @@ use Rattle.moo_rows.specs.declared.row.VerbRow.{VerbRow}
 use Rattle.moo_rows.specs.Maps.{Maps}
 use Rattle.moo_world.specs.Rows.{IsGood, look_ups, world_of, world_shown}
 use Rattle.moo_world.specs.World.{IsWellFormed, is_object, verb_fits}
-use Rattle.moo_world.proofs.Seen.{is_object_seen}
+use Rattle.moo_world.proofs.Shown.Seen.{is_object_seen}
 use Rattle.moo_world.specs.Directories.{verb_added, verb_removed, verb_changed, changed_at}
 use Rattle.moo_verbs.specs.Places.{has_verb, verb_place}
 use Rattle.moo_verbs.proofs.Directories.{put_last, put_changed, removed}
-use Rattle.moo_world.proofs.DirectoryForm.{stays_formed, added_fit, removed_fit, changed_fit}
+use Rattle.moo_world.proofs.Form.Directories.{stays_formed, added_fit, removed_fit, changed_fit}
 use Rattle.moo_verbs.proofs.Soundness.{put_sound, rest_sound}
 
 some_of : {A : Type 0} (o : Option A) → is_some o ≡ true → (v : A) × (o ≡ Some v)

@@ -16,8 +16,8 @@ use Rattle.moo_rows.proofs.Orders.{verb_total}
 use Rattle.moo_world.specs.Objects.{same_object, same_object-Decides}
 use Rattle.moo_world.specs.World.{World, Record}
 use Rattle.moo_world.specs.Rows.{LookUps, IsSound, look_ups, world_of, world_shown, record_of, verb_id}
-use Rattle.moo_world.proofs.DirectoryForm.{with_directory}
-use Rattle.moo_world.proofs.MapLaws.{decided_alike, key-Decides}
+use Rattle.moo_world.proofs.Form.Directories.{with_directory}
+use Rattle.moo_world.proofs.Shown.MapLaws.{decided_alike, key-Decides}
 use Rattle.moo_world.specs.Directories.{verb_added, verb_removed, verb_changed, verb_at, changed_at}
 use Rattle.moo_verbs.specs.Places.{verb_place}
 use Rattle.moo_verbs.proofs.Numbering.{below, one_more, none_more, get_at, removed_at, changed_below}

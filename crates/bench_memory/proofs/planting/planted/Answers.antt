@@ -4,7 +4,7 @@ use Rattle.std.specs.FinMap.{get-empty}
 use Rattle.moo_rows.specs.Maps.{object_cmp, no_maps}
 use Rattle.moo_world.specs.Rows.{world_of}
 use Rattle.moo_world.specs.World.{IsTree}
-use Rattle.moo_world.proofs.Leaves.{IsTree-none}
+use Rattle.moo_world.proofs.Ancestry.Leaves.{IsTree-none}
 use Rattle.bench_memory.proofs.planting.planted.Goals as goal
 
 pub loop-others-init : goal.loop-others-init

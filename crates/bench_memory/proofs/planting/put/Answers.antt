@@ -11,7 +11,7 @@ use Rattle.moo_rows.specs.Maps.{wrote}
 use Rattle.moo_world.specs.Objects.{nothing, same_object-Decides}
 use Rattle.moo_world.specs.Rows.{world_of}
 use Rattle.moo_world.specs.World.{IsTree, is_object}
-use Rattle.moo_world.proofs.Leaves.{may_link, IsTree-put}
+use Rattle.moo_world.proofs.Ancestry.Leaves.{may_link, IsTree-put}
 use Rattle.bench_memory.proofs.planting.put.Goals as goal
 
 -- a number that is stored and read again is itself

@@ -3,7 +3,7 @@ use Rattle.std.specs.Option.{option_or}
 use Rattle.moo_world.specs.World.{chain}
 use Rattle.moo_world.specs.Rows.{look_ups}
 use Rattle.moo_world.specs.Rights.{accept_along}
-use Rattle.moo_world.proofs.Seen.{chain_of_row}
+use Rattle.moo_world.proofs.Shown.Seen.{chain_of_row}
 use Rattle.moo_call_parts.specs.Outcomes.{world_in}
 use Rattle.moo_call_parts.proofs.AcceptLaws.{accept_of_row, accept_of_no_row}
 use Rattle.moo_call_parts.proofs.accepting.list_that_counts.Goals as goal

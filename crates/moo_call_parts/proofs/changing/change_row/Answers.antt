@@ -1,7 +1,7 @@
 use Rattle.std.proofs.Common.{sym, ap, ◌∙◌}
 use Rattle.moo_world.specs.Fields.{changed}
 use Rattle.moo_call_parts.specs.Outcomes.{world_in}
-use Rattle.moo_world.proofs.FieldForm.{IsWellFormed-field_changed}
+use Rattle.moo_world.proofs.Form.Fields.{IsWellFormed-field_changed}
 use Rattle.moo_call_parts.proofs.Changed.{world_in-changed, Keeps-changed}
 use Rattle.moo_call_parts.proofs.changing.change_row.Goals as goal
 

@@ -1,5 +1,5 @@
 use Rattle.std.proofs.Common.{sym, ◌∙◌}
-use Rattle.moo_world.proofs.NumbersKept.{then_slots}
+use Rattle.moo_world.proofs.Shown.NumbersKept.{then_slots}
 use Rattle.moo_call_parts.specs.Outcomes.{world_in}
 use Rattle.moo_calls.proofs.Created.{afford_still}
 use Rattle.moo_calls.proofs.creating.create.Goals as goal

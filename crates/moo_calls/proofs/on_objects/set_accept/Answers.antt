@@ -1,4 +1,4 @@
-use Rattle.moo_world.proofs.FormArguments.{accept_list_numbered}
+use Rattle.moo_world.proofs.Form.Arguments.{accept_list_numbered}
 use Rattle.moo_calls.proofs.on_objects.set_accept.Goals as goal
 
 pub set_accept-requires-clause-numbers : goal.set_accept-requires-clause-numbers

@@ -1,5 +1,5 @@
 use Rattle.std.proofs.Common.{◌∙◌}
-use Rattle.moo_world.proofs.NumbersKept.{then_slots}
+use Rattle.moo_world.proofs.Shown.NumbersKept.{then_slots}
 use Rattle.moo_calls.proofs.recycling.recycle.Goals as goal
 
 pub returns-clause-kept : goal.returns-clause-kept

@@ -1,5 +1,5 @@
 use Rattle.moo_call_parts.specs.Outcomes.{world_in}
-use Rattle.moo_world.proofs.FormArguments.{change_allowed}
+use Rattle.moo_world.proofs.Form.Arguments.{change_allowed}
 use Rattle.moo_calls.proofs.setting.set_built_in.Goals as goal
 
 pub change_row-requires-clause-allowed : goal.change_row-requires-clause-allowed

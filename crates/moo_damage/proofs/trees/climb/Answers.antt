@@ -4,7 +4,7 @@ use Rattle.std.specs.List.{AllByRecursion}
 use Rattle.std.specs.FinMap.{get}
 use Rattle.moo_world.specs.Objects.{nothing}
 use Rattle.moo_world.specs.World.{Climbs}
-use Rattle.moo_world.proofs.EntriesInOrder.{all_then}
+use Rattle.moo_world.proofs.Shown.EntriesInOrder.{all_then}
 use Rattle.moo_damage.specs.Damage.{next_of, Ends}
 use Rattle.moo_damage.proofs.Ending.{ends_here, step_up, step_down, bound}
 use Rattle.moo_damage.proofs.trees.climb.Goals as goal

@@ -7,7 +7,7 @@ use Rattle.moo_rows.specs.Maps.{Maps}
 use Rattle.moo_world.specs.Changes.{clashes}
 use Rattle.moo_world.specs.Objects.{same_object}
 use Rattle.moo_world.specs.Rows.{world_of}
-use Rattle.moo_world.proofs.NumbersKept.{slots_then}
+use Rattle.moo_world.proofs.Shown.NumbersKept.{slots_then}
 use Rattle.moo_props.specs.Names.{spelling_of}
 use Rattle.moo_property_calls.proofs.Renamed.{may_parts, own_of_name, clashes_still}
 use Rattle.moo_property_calls.proofs.info.change_info.Goals as goal

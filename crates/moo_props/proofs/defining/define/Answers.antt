@@ -7,7 +7,7 @@ use Rattle.moo_rows.specs.declared.row.SlotState.TheVariants.{Set}
 use Rattle.moo_world.specs.Changes.{defined}
 use Rattle.moo_world.specs.Rows.{AreSound, look_ups, world_of, world_shown, prop_id}
 use Rattle.moo_world.specs.World.{IsWellFormed}
-use Rattle.moo_world.proofs.Limits.{number_within, slot_within}
+use Rattle.moo_world.proofs.Form.Limits.{number_within, slot_within}
 use Rattle.std.specs.FinMap.{insert}
 use Rattle.moo_props.specs.declared.slots.Origin.{Origin}
 use Rattle.moo_props.specs.Defining.{fresh_over, with_definition}
@@ -15,7 +15,7 @@ use Rattle.moo_tree.specs.Under.{owners_under}
 use Rattle.moo_props.proofs.NewProp.{sound_with, world_with, formed_with, with_property}
 use Rattle.moo_props.proofs.NewPropRows.{base-over, head-over, look_ups-with, held2, only2}
 use Rattle.moo_world.specs.Numbers.{prop_added, verbs_stay}
-use Rattle.moo_world.proofs.NumbersKept.{as_high, one_higher}
+use Rattle.moo_world.proofs.Shown.NumbersKept.{as_high, one_higher}
 use Rattle.moo_props.proofs.defining.define.Goals as goal
 
 abbrev t : (g : _) → goal.After-drop-under-2 g → Maps

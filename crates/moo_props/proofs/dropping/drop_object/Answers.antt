@@ -6,7 +6,7 @@ use Rattle.moo_rows.specs.Maps.{Maps, Held, wrote, object_cmp, prop_cmp, slot_cm
 use Rattle.moo_world.specs.Recycling.{recycled}
 use Rattle.moo_world.specs.Rows.{AreSound, look_ups, world_of, world_shown}
 use Rattle.moo_world.specs.World.{IsWellFormed}
-use Rattle.moo_world.proofs.Seen.{is_object_seen}
+use Rattle.moo_world.proofs.Shown.Seen.{is_object_seen}
 use Rattle.moo_props.specs.Dropped.{dropped_keys}
 use Rattle.moo_props.specs.Dropping.{linked_among, dropped_over, slots_dropped, props_removed, verbs_removed, rows_released}
 use Rattle.moo_props.specs.Present.{ArePresent, AreAbsent, AreAscending}
@@ -18,7 +18,7 @@ use Rattle.moo_props.proofs.DroppedKeys.{dropped_list, dropped_ascend, dropped_h
 use Rattle.moo_props.proofs.LeftRows.{writes5, slots_left, props_left, verbs_left, objects_left, head5, left_is, dropped_gone, relinked_there}
 use Rattle.moo_rows.specs.declared.row.Head.{Head}
 use Rattle.moo_world.specs.Numbers.{props_dropped, verbs_dropped}
-use Rattle.moo_world.proofs.NumbersKept.{as_high}
+use Rattle.moo_world.proofs.Shown.NumbersKept.{as_high}
 use Rattle.moo_props.proofs.dropping.drop_object.Goals as goal
 
 abbrev before : (g : _) → goal.After-drop-under-2 g → Held

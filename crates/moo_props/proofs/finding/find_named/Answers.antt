@@ -3,7 +3,7 @@ use Rattle.std.specs.Prelude.{is_some}
 use Rattle.moo_rows.specs.Walk.{slots_of_left}
 use Rattle.moo_world.specs.Objects.{folded}
 use Rattle.moo_props.proofs.Walked.{walk, first_called, found_here, none_here, here_seen, here_name}
-use Rattle.moo_world.proofs.Shown.{SlotHere}
+use Rattle.moo_world.proofs.Shown.Slots.{SlotHere}
 use Rattle.moo_world.specs.Rows.{look_ups}
 use Rattle.moo_props.proofs.finding.find_named.Goals as goal
 

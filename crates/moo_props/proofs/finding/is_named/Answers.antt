@@ -1,7 +1,7 @@
 use Rattle.std.proofs.Common.{◌≡◌, map, sym, subst}
 use Rattle.std.specs.Bool.{Decides}
 use Rattle.std.specs.Char.{to_ascii_lowercase}
-use Rattle.moo_world.proofs.MapLaws.{decided_alike}
+use Rattle.moo_world.proofs.Shown.MapLaws.{decided_alike}
 use Rattle.moo_world.specs.Objects.{same_text, folded, same_text-Decides}
 use Rattle.moo_props.proofs.finding.is_named.Goals as goal
 

@@ -8,7 +8,7 @@ use Rattle.moo_world.specs.World.{IsWellFormed}
 use Rattle.moo_props.proofs.RenamedRows.{with_new_name, look_ups-renamed, world_renamed, sound_renamed, formed_renamed}
 use Rattle.moo_props.proofs.ShorterRows.{own_row, spelled}
 use Rattle.moo_world.specs.Numbers.{prop_renamed, verbs_stay}
-use Rattle.moo_world.proofs.NumbersKept.{as_high}
+use Rattle.moo_world.proofs.Shown.NumbersKept.{as_high}
 use Rattle.moo_props.proofs.renaming.rename.Goals as goal
 
 abbrev t : (g : _) → goal.In_ok-put_prop g → Maps

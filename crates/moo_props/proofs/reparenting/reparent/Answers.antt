@@ -10,8 +10,8 @@ use Rattle.moo_world.specs.Manual.{lost, gained}
 use Rattle.moo_world.specs.Objects.{same_object, is_among}
 use Rattle.moo_world.specs.World.{IsWellFormed, chain}
 use Rattle.moo_world.specs.Rows.{look_ups, world_of, IsSound}
-use Rattle.moo_world.proofs.Reparenting.{IsWellFormed-reparented}
-use Rattle.moo_world.proofs.Seen.{chain_of_row, is_object_seen}
+use Rattle.moo_world.proofs.Inheritance.Reparenting.{IsWellFormed-reparented}
+use Rattle.moo_world.proofs.Shown.Seen.{chain_of_row, is_object_seen}
 use Rattle.moo_tree.specs.Under.{owners_under}
 use Rattle.moo_props.specs.Reparent.{props_only_of, slots_moved, relinked, relinked_list}
 use Rattle.moo_props.specs.Touched.{props_of, removed_keys, added_keys, slot_after, IsSameButSlotsAndObjects}
@@ -21,7 +21,7 @@ use Rattle.moo_props.specs.Present.{AreAscending}
 use Rattle.moo_props.specs.Slots.{id_of, origins, keys_over}
 use Rattle.moo_props.proofs.Ascending.{removed_ascend, added_ascend}
 use Rattle.moo_props.proofs.Presence.{removed_had, added_had, removed_gone, added_there}
-use Rattle.moo_world.proofs.NumbersKept.{numbers_same}
+use Rattle.moo_world.proofs.Shown.NumbersKept.{numbers_same}
 use Rattle.moo_props.proofs.reparenting.reparent.Goals as goal
 
 abbrev before : (g : _) → goal.After-drop-above-2 g → Held

@@ -7,11 +7,11 @@ use Rattle.moo_world.specs.Changes.{undefined}
 use Rattle.moo_world.specs.Rows.{AreSound, look_ups, world_of, world_shown}
 use Rattle.moo_world.specs.World.{IsWellFormed}
 use Rattle.moo_props.specs.Undefining.{less_over}
-use Rattle.moo_world.proofs.PairLists.{some_of}
+use Rattle.moo_world.proofs.Shown.PairLists.{some_of}
 use Rattle.moo_props.proofs.ShorterRows.{own_row, spelled, world_shorter, sound_shorter, formed_shorter, less_property, look_ups-shorter, only2, held1, held2, base-over}
 use Rattle.moo_tree.specs.Under.{owners_under}
 use Rattle.moo_world.specs.Numbers.{prop_removed, verbs_stay}
-use Rattle.moo_world.proofs.NumbersKept.{as_high}
+use Rattle.moo_world.proofs.Shown.NumbersKept.{as_high}
 use Rattle.moo_props.proofs.undefining.undefine.Goals as goal
 
 abbrev t : (g : _) → goal.After-drop-under-2 g → Maps

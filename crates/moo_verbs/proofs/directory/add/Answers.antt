@@ -8,7 +8,7 @@ use Rattle.moo_rows.specs.Maps.{Held, wrote}
 use Rattle.moo_world.specs.Rows.{world_of}
 use Rattle.moo_world.specs.Keeps.{Keeps}
 use Rattle.moo_world.specs.Numbers.{props_stay, verb_added}
-use Rattle.moo_world.proofs.Limits.{verb_within}
+use Rattle.moo_world.proofs.Form.Limits.{verb_within}
 use Rattle.moo_verbs.proofs.Changes.{added_world, added_good}
 use Rattle.moo_verbs.proofs.directory.add.Goals as goal
 

@@ -4,7 +4,7 @@ use Rattle.moo_rows.specs.Maps.{Held}
 use Rattle.moo_world.specs.Rows.{world_of}
 use Rattle.moo_world.specs.Keeps.{Keeps}
 use Rattle.moo_world.specs.Numbers.{props_stay, verb_changed}
-use Rattle.moo_world.proofs.Limits.{verb_within}
+use Rattle.moo_world.proofs.Form.Limits.{verb_within}
 use Rattle.moo_verbs.proofs.Changes.{changed_world, changed_good}
 use Rattle.moo_verbs.proofs.directory.set_info.Goals as goal
 

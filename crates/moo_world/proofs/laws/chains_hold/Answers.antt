@@ -1,8 +1,8 @@
 use Rattle.std.proofs.Common.{[], ◌∷◌, subst}
 use Rattle.moo_world.specs.World.{Chain, parent_of}
 use Rattle.moo_world.specs.TreeLaws.{OneChain, NoneTwice, ChainSplits}
-use Rattle.moo_world.proofs.Chains.{Climbs-once}
-use Rattle.moo_world.proofs.Trees.{Chain-unique, no_parent}
+use Rattle.moo_world.proofs.Ancestry.Chains.{Climbs-once}
+use Rattle.moo_world.proofs.Ancestry.Trees.{Chain-unique, no_parent}
 use Rattle.moo_world.proofs.laws.chains_hold.Goals as goal
 
 splits : ChainSplits

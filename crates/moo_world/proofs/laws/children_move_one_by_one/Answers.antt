@@ -1,4 +1,4 @@
-use Rattle.moo_world.proofs.OneByOne.{manually_moved-is, children_move, children_move_ascending}
+use Rattle.moo_world.proofs.Inheritance.OneByOne.{manually_moved-is, children_move, children_move_ascending}
 use Rattle.moo_world.proofs.laws.children_move_one_by_one.Goals as goal
 
 pub returns-clause-moved : goal.returns-clause-moved

@@ -1,5 +1,5 @@
-use Rattle.moo_world.proofs.CallsKeep.{calls_keep_form}
-use Rattle.moo_world.proofs.FormRuns.{runs_keep_form}
+use Rattle.moo_world.proofs.Form.Calls.{calls_keep_form}
+use Rattle.moo_world.proofs.Form.Runs.{runs_keep_form}
 use Rattle.moo_world.proofs.laws.forms_hold.Goals as goal
 
 pub returns-clause-calls : goal.returns-clause-calls

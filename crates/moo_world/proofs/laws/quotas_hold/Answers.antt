@@ -1,4 +1,4 @@
-use Rattle.moo_world.proofs.OwnershipCounted.{create_takes_one, recycle_gives_one}
+use Rattle.moo_world.proofs.Ownership.Counted.{create_takes_one, recycle_gives_one}
 use Rattle.moo_world.proofs.laws.quotas_hold.Goals as goal
 
 pub returns-clause-create : goal.returns-clause-create

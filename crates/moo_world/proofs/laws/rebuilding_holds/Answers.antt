@@ -1,5 +1,5 @@
 use Rattle.moo_world.specs.TreeLaws.{RebuiltExists, RebuiltIsOne}
-use Rattle.moo_world.proofs.Rebuilding.{SameButSlots-rebuilt, Rebuilt-rebuilt, Rebuilt-unique}
+use Rattle.moo_world.proofs.Inheritance.Rebuilding.{SameButSlots-rebuilt, Rebuilt-rebuilt, Rebuilt-unique}
 use Rattle.moo_world.proofs.laws.rebuilding_holds.Goals as goal
 
 exists : RebuiltExists

@@ -3,12 +3,12 @@ use Rattle.std.proofs.lemmas.Option.{none-some}
 use Rattle.moo_world.specs.Objects.{is_among}
 use Rattle.moo_world.specs.World.{Chain, Places, Reads, is_object, read_along, read_of}
 use Rattle.moo_world.specs.TreeLaws.{ChainIsFound, PlacesAreFound, UnderIsTested, OwesIsTested, ReadsIsFound, WithinIsTested}
-use Rattle.moo_world.proofs.Trees.{chain_is, Chain-chain, chain_of_none, under_from_among, among_from_under}
-use Rattle.moo_world.proofs.Places.{places_is, Places-places}
-use Rattle.moo_world.proofs.Rebuilding.{Owes-Decides}
-use Rattle.moo_world.proofs.Reading.{Reads-from_along, along_from_Reads}
-use Rattle.moo_world.proofs.Accepting.{accepted}
-use Rattle.moo_world.proofs.Ranges.{text_tested, fits_tested}
+use Rattle.moo_world.proofs.Ancestry.Trees.{chain_is, Chain-chain, chain_of_none, under_from_among, among_from_under}
+use Rattle.moo_world.proofs.Ancestry.Places.{places_is, Places-places}
+use Rattle.moo_world.proofs.Inheritance.Rebuilding.{Owes-Decides}
+use Rattle.moo_world.proofs.Shown.Reading.{Reads-from_along, along_from_Reads}
+use Rattle.moo_world.proofs.Shown.Accepting.{accepted}
+use Rattle.moo_world.proofs.Form.Ranges.{text_tested, fits_tested}
 use Rattle.moo_world.proofs.laws.tests_hold.Goals as goal
 
 chains : ChainIsFound

@@ -1,0 +1,107 @@
+-- What a change of one parent does to chains.
+use Rattle.std.proofs.Common.{◌≡◌, Bool, true, false, cond, ◌||◌, List, [], ◌∷◌, ◌++◌, map, refl, sym, ◌∙◌, ap, subst, ◌⊎◌, inl, inr, Option, Some, None}
+use Rattle.std.specs.Prelude.{is_some, unwrap_or, if◌then◌else◌}
+use Rattle.std.specs.Option.{option_map}
+use Rattle.std.specs.List.{flat_map}
+use Rattle.std.proofs.lemmas.Bool.{false≢true, or_parts}
+use Rattle.moo_value.specs.declared.value.ObjNo.{ObjNo}
+use Rattle.moo_world.specs.Objects.{Name, nothing, same_object, is_among, same_object-Decides}
+use Rattle.moo_world.specs.World.{World, Record, IsTree, Climbs, Chain, is_object, parent_of, location_of, names_of, owner_of, owed_by, chain, with_parent}
+use Rattle.moo_world.proofs.Ancestry.Chains.{front_of}
+use Rattle.moo_world.proofs.Ancestry.Trees.{chain_is, Chain-chain, chain-nothing}
+
+module _ (w : World) (x q : ObjNo) where
+  abbrev pub moved : World
+  moved = with_parent w x q
+
+  abbrev change : Record → Record
+  change r = record r { row = record r.row { parent = q } }
+
+  abbrev at : ObjNo → Record → Record
+  at y r = if same_object x y then change r else r
+
+  at_other : (y : ObjNo) (b : Bool) (o : Option Record) → same_object x y ≡ b → b ≡ false → option_map (λ r. r.row.parent) (option_map (λ r. if same_object x y then change r else r) o) ≡ option_map (λ r. r.row.parent) o
+  at_other y b None e f = refl
+  at_other y b (Some r) e f = ap (λ v. Some (cond v (change r) r).row.parent) (e ∙ f)
+
+  other_parent : (y : ObjNo) → same_object x y ≡ false → parent_of moved y ≡ parent_of w y
+  other_parent y e = at_other y false (w.object y) e refl
+
+  at_itself : (y : ObjNo) (o : Option Record) → same_object x y ≡ true → is_some o ≡ true → option_map (λ r. r.row.parent) (option_map (λ r. if same_object x y then change r else r) o) ≡ Some q
+  at_itself y None e h = absurd (false≢true h)
+  at_itself y (Some r) e h = ap (λ v. Some (cond v (change r) r).row.parent) e
+
+  same_field : {A : Type 0} (f : Record → A) → ((r : Record) → f (change r) ≡ f r) → (y : ObjNo) (o : Option Record) → option_map f (option_map (λ r. if same_object x y then change r else r) o) ≡ option_map f o
+  same_field f h y None = refl
+  same_field f h y (Some r) = by (same_object x y)
+    where
+      by : (b : Bool) → Some (f (cond b (change r) r)) ≡ Some (f r)
+      by true = ap Some (h r)
+      by false = refl
+
+  pub names_moved : names_of moved ≡ names_of w
+  names_moved = λ i y. unwrap_or (same_field (λ r. r.defines) (λ r. refl) y (w.object y) i) []
+
+  pub owner_moved : owner_of moved ≡ owner_of w
+  owner_moved = λ i y. unwrap_or (same_field (λ r. r.row.owner) (λ r. refl) y (w.object y) i) nothing
+
+  pub location_moved : location_of moved ≡ location_of w
+  location_moved = λ i y. same_field (λ r. r.row.location) (λ r. refl) y (w.object y) i
+
+  pub object_moved : (y : ObjNo) → is_object moved y ≡ is_object w y
+  object_moved y = by (w.object y)
+    where
+      by : (o : Option Record) → is_some (option_map (λ r. if same_object x y then change r else r) o) ≡ is_some o
+      by None = refl
+      by (Some r) = refl
+
+  pub owed_moved : (l : List ObjNo) → owed_by moved l ≡ owed_by w l
+  owed_moved l = ap (λ (names : ObjNo → List Name). flat_map (λ d. map (λ n. (d, n)) (names d)) l) names_moved
+
+  -- a chain that x isn't in stays
+  pub Climbs-unmoved : (l : List ObjNo) (z : ObjNo) → Chain w z l → is_among x l ≡ false → Chain moved z l
+  Climbs-unmoved [] z p h = p
+  Climbs-unmoved (y ∷ l) z p h =
+      let parts = or_parts (same_object x y) (is_among x l) h in
+      (p.0, p.1, subst (λ k. parent_of moved k ≡ parent_of w k) (sym p.0) (other_parent y parts.0) ∙ p.2, Climbs-unmoved l p.1 p.3 parts.1)
+
+  module _ (t : IsTree w) (xo : is_object w x ≡ true) (qo : (is_object w q ≡ true) ⊎ (q ≡ nothing)) (outside : is_among x (chain w q) ≡ false) where
+    pub Chain-new : Chain w q (chain w q)
+    Chain-new = by qo
+      where
+        by : (is_object w q ≡ true) ⊎ (q ≡ nothing) → Chain w q (chain w q)
+        by (inl h) = Chain-chain w t q h
+        by (inr h) = subst (λ k. Chain w k (chain w k)) (sym h) (subst (Chain w nothing) (sym (chain-nothing w t)) refl)
+
+    Climbs-x : Chain moved x (x ∷ chain w q)
+    Climbs-x = (refl, q, at_itself x (w.object x) ((same_object-Decides x x).1 refl) xo, Climbs-unmoved (chain w q) q Chain-new outside)
+
+    -- one that x is in goes on from x to q's
+    pub Climbs-moved : (l : List ObjNo) (z : ObjNo) → Chain w z l → is_among x l ≡ true → Chain moved z (front_of x l ++ x ∷ chain w q)
+    Climbs-moved [] z p h = absurd (false≢true h)
+    Climbs-moved (y ∷ l) z p h = by (same_object x y) refl (Climbs-moved l p.1 p.3)
+      where
+        by : (b : Bool) → same_object x y ≡ b → (is_among x l ≡ true → Chain moved p.1 (front_of x l ++ x ∷ chain w q)) → Chain moved z (cond b [] (y ∷ front_of x l) ++ x ∷ chain w q)
+        by true e r = subst (λ k. Chain moved k (x ∷ chain w q)) ((same_object-Decides x y).0 e ∙ sym p.0) Climbs-x
+        by false e r = (p.0, p.1, subst (λ k. parent_of moved k ≡ parent_of w k) (sym p.0) (other_parent y e) ∙ p.2, r (sym (ap (λ b. b || is_among x l) e) ∙ h))
+
+    -- the moved tree is a tree
+    pub IsTree-moved : IsTree moved
+    IsTree-moved = record {
+      numbers = λ y o. t.numbers y (sym (object_moved y) ∙ o);
+      chains = λ y o. chained y (sym (object_moved y) ∙ o);
+      places = λ y o. let c = t.places y (sym (object_moved y) ∙ o) in (c.0, subst (λ link. Climbs link y c.0) (sym location_moved) c.1);
+    }
+      where
+        chained : (y : ObjNo) → is_object w y ≡ true → (l : List ObjNo) × Chain moved y l
+        chained y o = by (is_among x (chain w y)) refl
+          where
+            by : (b : Bool) → is_among x (chain w y) ≡ b → (l : List ObjNo) × Chain moved y l
+            by true e = (front_of x (chain w y) ++ x ∷ chain w q, Climbs-moved (chain w y) y (Chain-chain w t y o) e)
+            by false e = (chain w y, Climbs-unmoved (chain w y) y (Chain-chain w t y o) e)
+
+    pub chain_unmoved : (y : ObjNo) → is_object w y ≡ true → is_among x (chain w y) ≡ false → chain moved y ≡ chain w y
+    chain_unmoved y o e = chain_is moved IsTree-moved y (chain w y) (Climbs-unmoved (chain w y) y (Chain-chain w t y o) e)
+
+    pub chain_moved : (y : ObjNo) → is_object w y ≡ true → is_among x (chain w y) ≡ true → chain moved y ≡ front_of x (chain w y) ++ x ∷ chain w q
+    chain_moved y o e = chain_is moved IsTree-moved y _ (Climbs-moved (chain w y) y (Chain-chain w t y o) e)

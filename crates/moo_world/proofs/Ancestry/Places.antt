@@ -1,0 +1,62 @@
+-- The laws of places in a world: what an object lies in, at any depth.
+use Rattle.std.proofs.Common.{◌≡◌, zero, suc, false, true, ℕ, List, [], ◌∷◌, refl, sym, ◌∙◌, ap, subst, Option, Some, None}
+use Rattle.std.specs.Prelude.{is_some}
+use Rattle.std.specs.Option.{option_map}
+use Rattle.std.proofs.lemmas.Option.{none-some, same_Some}
+use Rattle.moo_value.specs.declared.value.ObjNo.{ObjNo}
+use Rattle.moo_rows.specs.declared.row.ObjRow.{ObjRow}
+use Rattle.moo_world.specs.Objects.{nothing}
+use Rattle.moo_world.specs.World.{World, Record, IsTree, Places, is_object, location_of, climb, places, numbers_to}
+use Rattle.moo_world.specs.Rows.{LookUps, world_shown, record_of}
+use Rattle.moo_world.proofs.Ancestry.Chains.{Climbs-bound, climb_is, NumbersBelow}
+use Rattle.moo_world.proofs.Shown.Seen.{object_seen, no_object_seen}
+use Rattle.moo_world.proofs.Ancestry.Trees.{assigned, linked, no_link, nothing_is_no_object}
+
+module _ (w : World) (t : IsTree w) where
+  pub no_location : location_of w nothing ≡ None
+  no_location = no_link (w.object nothing) (λ r. r.row.location) (nothing_is_no_object w t)
+
+  locations_below : NumbersBelow (location_of w) (numbers_to w.top)
+  locations_below x next e =
+      let range = t.numbers x (linked (w.object x) (λ r. r.row.location) next e) in
+      assigned x.0 w.top range.0 range.1
+
+  -- the places are the list that `places` computes
+  pub places_is : (x : ObjNo) (l : List ObjNo) → Places w x l → places w x ≡ l
+  unfolding places
+  places_is x l p = climb_is (location_of w) no_location (numbers_to w.top) l x p (Climbs-bound (location_of w) (numbers_to w.top) no_location locations_below l x p)
+
+  pub Places-places : (x : ObjNo) → is_object w x ≡ true → Places w x (places w x)
+  Places-places x e = let c = t.places x e in subst (Places w x) (sym (places_is x c.0 c.1)) c.1
+
+  -- one step out
+  pub places-step : (x : ObjNo) (r : Record) → w.object x ≡ Some r → places w x ≡ x ∷ places w r.row.location
+  places-step x r e = first (places w x) (Places-places x (ap is_some e))
+    where
+      out : location_of w x ≡ Some r.row.location
+      out = ap (λ o. option_map (λ (k : Record). k.row.location) o) e
+
+      first : (l : List ObjNo) → Places w x l → l ≡ x ∷ places w r.row.location
+      first [] p = absurd (none-some r.row.location (sym no_location ∙ sym (ap (location_of w) p) ∙ out))
+      first (y ∷ l) p =
+          let same : p.1 ≡ r.row.location = same_Some p.1 r.row.location (sym p.2 ∙ out) in
+          let rest : l ≡ places w r.row.location = sym (places_is r.row.location l (subst (λ n. Places w n l) same p.3)) in
+          λ i. sym p.0 i ∷ rest i
+
+-- what is no object has no places
+pub places_of_none : (w : World) (x : ObjNo) → is_object w x ≡ false → places w x ≡ []
+unfolding places
+places_of_none w x e = cut (numbers_to w.top)
+  where
+    cut : (n : ℕ) → climb n (location_of w) x ≡ []
+    cut zero = refl
+    cut (suc n) = subst (λ (o : Option ObjNo). elim o [ None ↦ [] | Some next ↦ x ∷ climb n (location_of w) next ] ≡ []) (sym (no_link (w.object x) (λ r. r.row.location) e)) refl
+
+-- ---- by the rows
+
+-- one step out, by the row
+pub places_of_row : (m : LookUps) → IsTree (world_shown m) → (x : ObjNo) (row : ObjRow) → Some row ≡ m.object x → places (world_shown m) x ≡ x ∷ places (world_shown m) row.location
+places_of_row m t x row e = places-step (world_shown m) t x (record_of m x row) (object_seen m x row (sym e))
+
+pub places_of_no_row : (m : LookUps) (x : ObjNo) → None ≡ m.object x → places (world_shown m) x ≡ []
+places_of_no_row m x e = places_of_none (world_shown m) x (no_object_seen m x (sym e))

@@ -1,0 +1,87 @@
+-- The ascending lists of objects, and names that don't clash.
+use Rattle.std.proofs.Common.{◌≡◌, ℕ, zero, suc, ◌<◌, Bool, true, false, cond, ◌||◌, List, [], ◌∷◌, ◌++◌, map, refl, sym, ◌∙◌, ap, subst, ◌⊎◌, inl, inr, Option, Some, None, arith, pos}
+use Rattle.std.specs.Prelude.{is_some}
+use Rattle.std.specs.List.{list_any, filter}
+use Rattle.std.proofs.lemmas.Bool.{false≢true, or_parts, or_right, or_cases, cases_eq}
+use Rattle.moo_value.specs.declared.value.ObjNo.{ObjNo}
+use Rattle.moo_world.specs.Objects.{Pair, object_at, same_object, same_pair, folded, is_among, same_object-Decides}
+use Rattle.moo_world.specs.World.{World, IsTree, is_object, chain, defined_by, owed_by, pair_named, numbers_to}
+use Rattle.moo_world.specs.Rows.{numbers_below}
+use Rattle.moo_world.specs.ObjectLists.{objects_of, subtree_of, meets}
+use Rattle.moo_world.proofs.Ancestry.Trees.{assigned, chain_of_none}
+use Rattle.moo_world.proofs.Inheritance.Owed.{any-append, is_among-append}
+use Rattle.moo_world.proofs.Inheritance.Keeping.{same_pair-is}
+use Rattle.moo_world.proofs.Inheritance.ManualLaw.{NoClash}
+
+pub among_filter : (t : ObjNo → Bool) (l : List ObjNo) (d : ObjNo) → is_among d l ≡ true → t d ≡ true → is_among d (filter t l) ≡ true
+among_filter t [] d h k = h
+among_filter t (y ∷ l) d h k = by (same_object d y) refl h (among_filter t l d)
+  where
+    skip : (b : Bool) → is_among d (filter t l) ≡ true → is_among d (cond b (y ∷ filter t l) (filter t l)) ≡ true
+    skip true g = or_right (same_object d y) (is_among d (filter t l)) g
+    skip false g = g
+
+    by : (b : Bool) → same_object d y ≡ b → (b || is_among d l) ≡ true → (is_among d l ≡ true → t d ≡ true → is_among d (filter t l) ≡ true) → is_among d (cond (t y) (y ∷ filter t l) (filter t l)) ≡ true
+    by true e g r =
+        subst (λ b. is_among d (cond b (y ∷ filter t l) (filter t l)) ≡ true) (sym (ap t (sym ((same_object-Decides d y).0 e)) ∙ k)) (ap (λ b. b || is_among d (filter t l)) e)
+    by false e g r = skip (t y) (r g k)
+
+pub numbered : (n k : ℕ) (d : ObjNo) → k < n → d.0 ≡ pos k → is_among d (map object_at (numbers_below n)) ≡ true
+numbered zero k d l e = absurd (omega arith)
+numbered (suc n) k d l e =
+    ap (is_among d) (mapped (numbers_below n) n) ∙ is_among-append d (map object_at (numbers_below n)) (object_at n ∷ []) ∙ by (cases_eq k n) (numbered n k d)
+  where
+    mapped : (l : List ℕ) (j : ℕ) → map object_at (l ++ j ∷ []) ≡ map object_at l ++ object_at j ∷ []
+    mapped [] j = refl
+    mapped (i ∷ l) j = ap (λ r. object_at i ∷ r) (mapped l j)
+
+    left : (a b : Bool) → a ≡ true → (a || b) ≡ true
+    left true b h = refl
+    left false b h = absurd (false≢true h)
+
+    self : k ≡ n → d ≡ object_at n
+    self g = λ i. record { 0 = (e ∙ ap pos g) i }
+
+    by : (k ≡ n) ⊎ (k ≡ n → ⊥) → (k < n → d.0 ≡ pos k → is_among d (map object_at (numbers_below n)) ≡ true) → (is_among d (map object_at (numbers_below n)) || (same_object d (object_at n) || false)) ≡ true
+    by (inl g) r = or_right _ _ (left (same_object d (object_at n)) false ((same_object-Decides d (object_at n)).1 (self g)))
+    by (inr g) r = left _ _ (r (omega arith) e)
+
+-- every object is in the list of objects
+pub object_listed : (w : World) (t : IsTree w) (d : ObjNo) → is_object w d ≡ true → is_among d (objects_of w) ≡ true
+object_listed w t d o =
+    let range = t.numbers d o in
+    let n = assigned d.0 w.top range.0 range.1 in
+    among_filter (is_object w) _ d (numbered (numbers_to w.top) n.0 d n.2 n.1) o
+
+pub owed_listed : (w : World) (l : List ObjNo) (d : ObjNo) (p : Pair) → is_among d l ≡ true → list_any (same_pair p) (defined_by w d) ≡ true → list_any (same_pair p) (owed_by w l) ≡ true
+owed_listed w [] d p h k = absurd (false≢true h)
+owed_listed w (y ∷ l) d p h k = any-append (same_pair p) (defined_by w y) (owed_by w l) ∙ by (or_cases _ _ h) (owed_listed w l d p)
+  where
+    left : (a b : Bool) → a ≡ true → (a || b) ≡ true
+    left true b e = refl
+    left false b e = absurd (false≢true e)
+
+    by : (same_object d y ≡ true) ⊎ (is_among d l ≡ true) → (is_among d l ≡ true → list_any (same_pair p) (defined_by w d) ≡ true → list_any (same_pair p) (owed_by w l) ≡ true) → (list_any (same_pair p) (defined_by w y) || list_any (same_pair p) (owed_by w l)) ≡ true
+    by (inl g) r = left _ _ (subst (λ z. list_any (same_pair p) (defined_by w z) ≡ true) ((same_object-Decides d y).0 g) k)
+    by (inr g) r = or_right _ _ (r g k)
+
+none_passes : (t : Pair → Bool) (l : List Pair) (p : Pair) → list_any t l ≡ false → list_any (same_pair p) l ≡ true → t p ≡ false
+none_passes t [] p h k = absurd (false≢true k)
+none_passes t (y ∷ l) p h k =
+    let parts = or_parts (t y) (list_any t l) h in
+    elim (or_cases _ _ k) [ inl g ↦ ap t (same_pair-is p y g) ∙ parts.0 | inr g ↦ none_passes t l p parts.1 g ]
+
+is_none : (o : Option Pair) → is_some o ≡ false → o ≡ None
+is_none None e = refl
+is_none (Some p) e = absurd (false≢true (sym e))
+
+-- the test of the call is the absence of clashes
+pub NoClash-from_meets : (w : World) (t : IsTree w) (x q : ObjNo) → meets w x q ≡ false → NoClash w x q
+NoClash-from_meets w t x q h d p u k = by (is_object w d) refl
+  where
+    listed : is_object w d ≡ true → is_among d (subtree_of w x) ≡ true
+    listed o = among_filter (λ y. is_among x (chain w y)) (objects_of w) d (object_listed w t d o) u
+
+    by : (b : Bool) → is_object w d ≡ b → pair_named (owed_by w (chain w q)) (folded p.1) ≡ None
+    by true o = is_none _ (none_passes (λ (m : Pair). is_some (pair_named (owed_by w (chain w q)) (folded m.1))) (owed_by w (subtree_of w x)) p h (owed_listed w (subtree_of w x) d p (listed o) k))
+    by false o = absurd (false≢true (sym (ap (is_among x) (chain_of_none w d o)) ∙ u))

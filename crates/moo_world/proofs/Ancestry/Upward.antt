@@ -1,0 +1,123 @@
+-- A move of an object up its own chain: the checks let it through, and what lay between goes.
+use Rattle.std.proofs.Common.{◌≡◌, Bool, true, false, cond, ◌||◌, List, [], ◌∷◌, ◌++◌, drop, refl, sym, ◌∙◌, ap, subst, ◌⊎◌, inl, inr, Option, Some, None, append_assoc}
+use Rattle.std.specs.Prelude.{unwrap_or, is_some, if◌then◌else◌}
+use Rattle.std.specs.Option.{option_map}
+use Rattle.std.specs.List.{list_any, find, filter}
+use Rattle.std.proofs.lemmas.Bool.{false≢true, both_ways, or_parts, or_right, or_cases}
+use Rattle.moo_value.specs.declared.value.ObjNo.{ObjNo}
+use Rattle.moo_world.specs.Objects.{Name, Pair, nothing, same_object, same_pair, folded, is_among, same_object-Decides, same_pair-self}
+use Rattle.moo_world.specs.World.{World, IsWellFormed, Chain, NamesDiffer, is_object, parent_of, names_of, owner_of, slot_of, defined_by, owed_by, pair_named, chain, fresh}
+use Rattle.moo_world.specs.Laws.{MayReparent}
+use Rattle.moo_world.specs.Manual.{common, except, lost, gained, kept_from, manual_slot}
+use Rattle.moo_world.specs.ObjectLists.{objects_of, subtree_of, meets}
+use Rattle.moo_world.proofs.Ancestry.Chains.{front_of, Climbs-split, Climbs-once}
+use Rattle.moo_world.proofs.Ancestry.Trees.{chain-nothing, Chain-chain, chain_of_none, no_parent}
+use Rattle.moo_world.proofs.Inheritance.Owed.{is_among-append, is_among-right, owed_by-append, own_pair, in_owed, in_owed-append, definer_among, named_once, some_named}
+use Rattle.moo_world.proofs.Ancestry.Ancestors.{same_object-self, apart_in_chain, except_end}
+use Rattle.moo_world.proofs.Inheritance.ManualLaw.{NoClash}
+use Rattle.moo_world.proofs.Inheritance.Recycling.{own_owed}
+
+pub filter_passes : (t : ObjNo → Bool) (l : List ObjNo) (d : ObjNo) → is_among d (filter t l) ≡ true → t d ≡ true
+filter_passes t [] d h = absurd (false≢true h)
+filter_passes t (y ∷ l) d h = by (t y) refl h (filter_passes t l d)
+  where
+    by : (b : Bool) → t y ≡ b → is_among d (cond b (y ∷ filter t l) (filter t l)) ≡ true → (is_among d (filter t l) ≡ true → t d ≡ true) → t d ≡ true
+    by true e k r = elim (or_cases _ _ k) [ inl g ↦ ap t ((same_object-Decides d y).0 g) ∙ e | inr g ↦ r g ]
+    by false e k r = r k
+
+none_any : (t : Pair → Bool) (l : List Pair) → ((p : Pair) → list_any (same_pair p) l ≡ true → t p ≡ false) → list_any t l ≡ false
+none_any t [] h = refl
+none_any t (p ∷ l) h =
+    ap (λ b. b || list_any t l) (h p (ap (λ b. b || list_any (same_pair p) l) (same_pair-self p)))
+    ∙ none_any t l (λ k g. h k (or_right (same_pair k p) (list_any (same_pair k) l) g))
+
+-- where no name clashes the test of the call passes
+pub meets-from_NoClash : (w : World) (x q : ObjNo) → NoClash w x q → meets w x q ≡ false
+meets-from_NoClash w x q apart = none_any (λ (p : Pair). is_some (pair_named (owed_by w (chain w q)) (folded p.1))) (owed_by w (subtree_of w x)) (λ p h.
+    let d = definer_among w p (subtree_of w x) h in
+    ap is_some (apart p.0 p (filter_passes (λ y. is_among x (chain w y)) (objects_of w) p.0 d.0) d.1))
+
+module _ (w : World) (c q : ObjNo) (between : List ObjNo) (wf : IsWellFormed w) (co : is_object w c ≡ true) (qo : (is_object w q ≡ true) ⊎ (q ≡ nothing)) (split : chain w c ≡ c ∷ between ++ chain w q) where
+  Chain-q : Chain w q (chain w q)
+  Chain-q = by qo
+    where
+      by : (is_object w q ≡ true) ⊎ (q ≡ nothing) → Chain w q (chain w q)
+      by (inl h) = Chain-chain w wf.tree q h
+      by (inr h) = subst (λ k. Chain w k (chain w k)) (sym h) (subst (Chain w nothing) (sym (chain-nothing w wf.tree)) refl)
+
+  Chain-c : Chain w c (c ∷ between ++ chain w q)
+  Chain-c = subst (Chain w c) split (Chain-chain w wf.tree c co)
+
+  pub climbs_outside : is_among c (chain w q) ≡ false
+  climbs_outside = (or_parts (is_among c between) (is_among c (chain w q)) (sym (is_among-append c between (chain w q)) ∙ Climbs-once (parent_of w) (no_parent w wf.tree) (between ++ chain w q) c c Chain-c)).1
+
+  -- ---- no name clashes
+
+  module _ (d : ObjNo) (p : Pair) (dobj : is_object w d ≡ true) (under : is_among c (chain w d) ≡ true) (own : list_any (same_pair p) (defined_by w d) ≡ true) where
+    abbrev below : List ObjNo
+    below = front_of c (chain w d) ++ c ∷ between
+
+    whole : chain w d ≡ below ++ chain w q
+    whole =
+        Climbs-split (parent_of w) (no_parent w wf.tree) (chain w d) (chain w c) d c (Chain-chain w wf.tree d dobj) (Chain-chain w wf.tree c co) (inl under)
+        ∙ ap (λ l. front_of c (chain w d) ++ l) split ∙ sym (append_assoc (front_of c (chain w d)) (c ∷ between) (chain w q))
+
+    differ : NamesDiffer (owed_by w below ++ owed_by w (chain w q))
+    differ = subst NamesDiffer (ap (owed_by w) whole ∙ owed_by-append w below (chain w q)) (wf.names d (chain w d) (Chain-chain w wf.tree d dobj))
+
+    -- d stands below q, so that what it defines is no property of q
+    not_above : in_owed w p (chain w q) ≡ true → ⊥
+    not_above h =
+        let there : is_among d (chain w q) ≡ true = subst (λ k. is_among k (chain w q) ≡ true) ((same_object-Decides p.0 d).0 (own_pair d (names_of w d) p own)) (definer_among w p (chain w q) h).0 in
+        let again = Climbs-split (parent_of w) (no_parent w wf.tree) (chain w q) (chain w d) q d Chain-q (Chain-chain w wf.tree d dobj) (inl there) in
+        both_ways (is_among c (chain w q)) climbs_outside (ap (is_among c) again ∙ is_among-right c (front_of d (chain w q)) (chain w d) under)
+
+    owed_below : in_owed w p below ≡ true
+    owed_below = elim (or_cases _ _ (sym (in_owed-append w p below (chain w q)) ∙ sym (ap (in_owed w p) whole) ∙ own_owed w wf.tree d p dobj own)) [ inl g ↦ g | inr g ↦ absurd (not_above g) ]
+
+    no_name : (o : Option Pair) → pair_named (owed_by w below) (folded p.1) ≡ o → pair_named (owed_by w (chain w q)) (folded p.1) ≡ None
+    no_name None e = absurd (some_named (owed_by w below) p owed_below e)
+    no_name (Some k) e = named_once (owed_by w below) (owed_by w (chain w q)) (folded p.1) k differ e
+
+  climbs_apart : NoClash w c q
+  climbs_apart d p u k = by (is_object w d) refl
+    where
+      by : (b : Bool) → is_object w d ≡ b → pair_named (owed_by w (chain w q)) (folded p.1) ≡ None
+      by true o = no_name d p o u k _ refl
+      by false o = absurd (false≢true (sym (ap (is_among c) (chain_of_none w d o)) ∙ u))
+
+  pub may_climb : MayReparent w c q
+  may_climb = record { well_formed = wf; object = co; new = new; outside = climbs_outside; apart = meets-from_NoClash w c q climbs_apart }
+    where
+      new : (is_object w q || same_object nothing q) ≡ true
+      new = elim qo [ inl h ↦ ap (λ b. b || same_object nothing q) h | inr h ↦ or_right (is_object w q) (same_object nothing q) ((same_object-Decides nothing q).1 (sym h)) ]
+
+  -- ---- what goes
+
+  -- q is the nearest common ancestor
+  first : (l : List ObjNo) (z : ObjNo) → Chain w z l → unwrap_or (find (λ d. is_among d (between ++ l)) l) nothing ≡ z
+  first [] z p = sym p
+  first (y ∷ l) z p =
+      ap (λ b. unwrap_or (cond b (Some y) (find (λ d. is_among d (between ++ y ∷ l)) l)) nothing) (is_among-right y between (y ∷ l) (ap (λ b. b || is_among y l) (same_object-self y)))
+      ∙ sym p.0
+
+  common_is : common w c q ≡ q
+  common_is = ap (λ l. unwrap_or (find (λ d. is_among d (drop 1 l)) (chain w q)) nothing) split ∙ first (chain w q) q Chain-q
+
+  lost_is : lost w c q ≡ between
+  lost_is =
+      (λ i. except (drop 1 (split i)) (chain w (common_is i)))
+      ∙ except_end between (chain w q) (λ d h. apart_in_chain (parent_of w) (no_parent w wf.tree) between (chain w q) Chain-c.1 d Chain-c.3 h)
+
+  gained_is : gained w c q ≡ []
+  gained_is = ap (λ k. except (chain w q) (chain w k)) common_is ∙ except_end [] (chain w q) (λ d h. absurd (false≢true h))
+
+  -- the objects under c lose what is defined in between, and nothing comes
+  pub climbed_slot : (y : ObjNo) (n : Name) → manual_slot w c q y n ≡ (if is_among c (chain w y) then kept_from between (slot_of w y n) else slot_of w y n)
+  climbed_slot y n = λ i.
+      if is_among c (chain w y)
+      then elim (pair_named (owed_by w (gained_is i)) n) [
+        | Some p ↦ option_map (fresh (owner_of w y)) (slot_of w q n)
+        | None ↦ kept_from (lost_is i) (slot_of w y n)
+      ]
+      else slot_of w y n

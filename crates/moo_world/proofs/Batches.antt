@@ -1,0 +1,6 @@
+-- Runs of batches, names of calls, and worked rows.
+pub mod Naming
+pub mod Judging
+pub mod TreeT
+pub mod OneByOneT
+pub mod WorkedCalls

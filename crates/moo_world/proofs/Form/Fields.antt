@@ -1,0 +1,97 @@
+-- An allowed change of one field of an object keeps the world well formed.
+use Rattle.std.proofs.Common.{◌≡◌, ◌≤◌, Bool, true, false, cond, refl, sym, ◌∙◌, ap, subst, ◌⊎◌, inl, inr, List, [], length, Option, Some, None}
+use Rattle.std.specs.Prelude.{not, ◌&&◌, ◌||◌, is_some, unwrap_or, if◌then◌else◌}
+use Rattle.std.specs.Option.{option_map}
+use Rattle.std.proofs.lemmas.Bool.{false≢true, and_parts, or_cases, leb-true}
+use Rattle.moo_value.specs.declared.value.ObjNo.{ObjNo}
+use Rattle.moo_rows.specs.declared.row.ObjRow.{ObjRow}
+use Rattle.moo_world.specs.declared.change.Change.{Change}
+use Rattle.moo_world.specs.declared.change.Change.TheVariants.{Owner, Location, Player, Programmer, Wizard, Readable, Writable, Fertile, Accept}
+use Rattle.moo_world.specs.declared.change.Change.TheVariants as to
+use Rattle.moo_world.specs.Arguments.{is_number, is_text}
+use Rattle.moo_world.specs.Objects.{Name, nothing, same_object, same_object-Decides}
+use Rattle.moo_world.specs.World.{World, Record, IsTree, IsWellFormed, Places, is_object, location_of, places, accept_fits, row_fits}
+use Rattle.moo_world.specs.Rights.{is_within}
+use Rattle.moo_world.specs.Fields.{changed, with_row, field_changed, is_allowed}
+use Rattle.moo_world.proofs.Ancestry.Places.{places_is, Places-places}
+use Rattle.moo_world.proofs.Form.Shapes.{IsWellFormed-same_shape}
+use Rattle.moo_world.proofs.Form.Rows.{same_objects, SameShape-with_row, same_places, fitting_rows}
+use Rattle.moo_world.proofs.Ancestry.Redirected.{redirected}
+
+both : {a b : Bool} → a ≡ true → b ≡ true → (a && b) ≡ true
+both e h = λ i. e i && h i
+
+-- a change that keeps an object's parent and its place
+plain : (w : World) (x : ObjNo) (change : ObjRow → ObjRow) → ((r : ObjRow) → (change r).parent ≡ r.parent) → ((r : ObjRow) → (change r).location ≡ r.location) → ((r : ObjRow) → row_fits r ≡ true → row_fits (change r) ≡ true) → IsWellFormed w → IsWellFormed (with_row w x change)
+plain w x change parent location fits wf =
+    IsWellFormed-same_shape w (with_row w x change) (SameShape-with_row w x change parent) wf (same_places w x change location wf)
+    (fitting_rows w x change fits wf)
+
+-- ---- a name, an owner and an accept list
+
+named : (name : Name) (r : ObjRow) → is_text name ≡ true → row_fits r ≡ true → row_fits (changed (to.Name name) r) ≡ true
+named name r text e = both text (and_parts (is_text r.name) (is_number r.owner && accept_fits r.accept) e).1
+
+owned : (owner : ObjNo) (r : ObjRow) → is_number owner ≡ true → row_fits r ≡ true → row_fits (changed (Owner owner) r) ≡ true
+owned owner r number e =
+    let parts = and_parts (is_text r.name) (is_number r.owner && accept_fits r.accept) e in
+    both parts.0 (both number (and_parts (is_number r.owner) (accept_fits r.accept) parts.1).1)
+
+listed : (list : Option (List ObjNo)) (r : ObjRow) → accept_fits list ≡ true → row_fits r ≡ true → row_fits (changed (Accept list) r) ≡ true
+listed list r fits e =
+    let parts = and_parts (is_text r.name) (is_number r.owner && accept_fits r.accept) e in
+    both parts.0 (both (and_parts (is_number r.owner) (accept_fits r.accept) parts.1).0 fits)
+
+-- ---- a place
+
+-- an object, or nothing, has its list of places
+has_places : (w : World) → IsTree w → (q : ObjNo) → (is_object w q || same_object nothing q) ≡ true → Places w q (places w q)
+has_places w t q e = by (or_cases (is_object w q) (same_object nothing q) e)
+  where
+    by : (is_object w q ≡ true) ⊎ (same_object nothing q ≡ true) → Places w q (places w q)
+    by (inl h) = Places-places w t q h
+    by (inr h) = subst (λ k. Places w k (places w k)) ((same_object-Decides nothing q).0 h) (subst (Places w nothing) (sym (places_is w t nothing [] refl)) refl)
+
+module _ (w : World) (x to : ObjNo) (there : is_object w x ≡ true) (valid_to : (is_object w to || same_object nothing to) ≡ true) (outside : is_within w to x ≡ false) (wf : IsWellFormed w) where
+  abbrev v : World
+  v = field_changed w x (Location to)
+
+  other : (y : ObjNo) → same_object x y ≡ false → location_of v y ≡ location_of w y
+  other y e = by (w.object y)
+    where
+      by : (o : Option Record) → option_map (λ r. r.row.location) (option_map (λ r. if same_object x y then (record r { row = changed (Location to) r.row }) else r) o) ≡ option_map (λ r. r.row.location) o
+      by None = refl
+      by (Some r) = ap (λ b. Some (cond b (record r { row = changed (Location to) r.row }) r).row.location) e
+
+  here : location_of v x ≡ Some to
+  here = by (w.object x) there
+    where
+      by : (o : Option Record) → is_some o ≡ true → option_map (λ r. r.row.location) (option_map (λ r. if same_object x x then (record r { row = changed (Location to) r.row }) else r) o) ≡ Some to
+      by None e = absurd (false≢true e)
+      by (Some r) e = ap (λ b. Some (cond b (record r { row = changed (Location to) r.row }) r).row.location) ((same_object-Decides x x).1 refl)
+
+  placed : IsWellFormed v
+  placed =
+      IsWellFormed-same_shape w v (SameShape-with_row w x (changed (Location to)) (λ r. refl)) wf
+      (λ y e. let p = wf.tree.places y (sym (same_objects w x (changed (Location to)) y) ∙ e) in redirected (location_of w) (location_of v) x to other here (places w to) (has_places w wf.tree to valid_to) outside p.0 y p.1)
+      (fitting_rows w x (changed (Location to)) (λ r e. e) wf)
+
+-- ---- any field
+
+not_true : (b : Bool) → not b ≡ true → b ≡ false
+not_true false e = refl
+not_true true e = absurd (false≢true e)
+
+pub IsWellFormed-field_changed : (w : World) (x : ObjNo) (change : Change) → is_object w x ≡ true → is_allowed w x change ≡ true → IsWellFormed w → IsWellFormed (field_changed w x change)
+IsWellFormed-field_changed w x (Location to) there allowed wf =
+    let parts = and_parts (is_object w to || same_object nothing to) (not (is_within w to x)) allowed in
+    placed w x to there parts.0 (not_true (is_within w to x) parts.1) wf
+IsWellFormed-field_changed w x (Accept list) there allowed wf = plain w x (changed (Accept list)) (λ r. refl) (λ r. refl) (λ r e. listed list r allowed e) wf
+IsWellFormed-field_changed w x (to.Name name) there allowed wf = plain w x (changed (to.Name name)) (λ r. refl) (λ r. refl) (λ r e. named name r allowed e) wf
+IsWellFormed-field_changed w x (Owner owner) there allowed wf = plain w x (changed (Owner owner)) (λ r. refl) (λ r. refl) (λ r e. owned owner r allowed e) wf
+IsWellFormed-field_changed w x (Player on) there allowed wf = plain w x (changed (Player on)) (λ r. refl) (λ r. refl) (λ r e. e) wf
+IsWellFormed-field_changed w x (Programmer on) there allowed wf = plain w x (changed (Programmer on)) (λ r. refl) (λ r. refl) (λ r e. e) wf
+IsWellFormed-field_changed w x (Wizard on) there allowed wf = plain w x (changed (Wizard on)) (λ r. refl) (λ r. refl) (λ r e. e) wf
+IsWellFormed-field_changed w x (Readable on) there allowed wf = plain w x (changed (Readable on)) (λ r. refl) (λ r. refl) (λ r e. e) wf
+IsWellFormed-field_changed w x (Writable on) there allowed wf = plain w x (changed (Writable on)) (λ r. refl) (λ r. refl) (λ r e. e) wf
+IsWellFormed-field_changed w x (Fertile on) there allowed wf = plain w x (changed (Fertile on)) (λ r. refl) (λ r. refl) (λ r e. e) wf

@@ -1,0 +1,107 @@
+-- A changed slot keeps the world well formed.
+use Rattle.std.proofs.Common.{◌≡◌, ◌≢◌, Bool, true, false, refl, sym, ◌∙◌, ap, subst, Option, Some, None}
+use Rattle.std.specs.Prelude.{◌&&◌, ◌≤ℤ◌, if◌then◌else◌}
+use Rattle.std.specs.Option.{option_map, option_and_then}
+use Rattle.std.proofs.lemmas.Bool.{and_parts}
+use Rattle.std.proofs.lemmas.Option.{none-some, same_Some}
+use Rattle.moo_value.specs.declared.value.ObjNo.{ObjNo}
+use Rattle.moo_rows.specs.declared.row.SlotState.TheVariants.{Clear}
+use Rattle.moo_world.specs.Objects.{Name, Pair, same_object, same_text, folded, same_object-Decides, same_text-Decides}
+use Rattle.moo_world.specs.World.{World, Record, Slot, IsTree, IsWellFormed, Climbs, NamesDiffer, is_object, location_of, slot_of, pair_named, with_slots, KeepsLimits, SameButSlots, slot_fits}
+use Rattle.moo_world.specs.Changes.{with_slot_of}
+use Rattle.moo_world.proofs.Inheritance.Rebuilding.{parents_same, objects_same, owed_same, Chain-same}
+
+-- worlds that differ in slots alone are well formed alike, where the slots have the same definers and those on them are set
+module _ (v w : World) (same : SameButSlots v w) (wf : IsWellFormed w) (definers : (y : ObjNo) (n : Name) → option_map (λ s. s.definer) (slot_of v y n) ≡ option_map (λ s. s.definer) (slot_of w y n)) (set : (y : ObjNo) (n : Name) (s : Slot) → slot_of v y n ≡ Some s → s.definer ≡ y → s.state ≢ Clear) (fit : (y : ObjNo) (n : Name) (s : Slot) → slot_of v y n ≡ Some s → slot_fits s ≡ true) where
+  location_same : location_of v ≡ location_of w
+  location_same = (λ i x. sym (bare (v.object x)) i) ∙ ap location_of same ∙ (λ i x. bare (w.object x) i)
+    where
+      bare : (o : Option Record) → option_map (λ k. k.row.location) (option_map (with_slots (λ n. None)) o) ≡ option_map (λ k. k.row.location) o
+      bare None = refl
+      bare (Some k) = refl
+
+  back : (x : ObjNo) → is_object v x ≡ true → is_object w x ≡ true
+  back x o = sym (objects_same v w same x) ∙ o
+
+  IsTree-alike : IsTree v
+  IsTree-alike = record {
+    numbers = λ x o. let h = wf.tree.numbers x (back x o) in (h.0, subst (λ t. x.0 ≤ℤ t) (sym (ap (λ (k : World). k.top) same)) h.1);
+    chains = λ x o. let c = wf.tree.chains x (back x o) in (c.0, subst (λ link. Climbs link x c.0) (sym (parents_same v w same)) c.1);
+    places = λ x o. let c = wf.tree.places x (back x o) in (c.0, subst (λ link. Climbs link x c.0) (sym location_same) c.1);
+  }
+
+  pub formed_alike : IsWellFormed v
+  formed_alike = record {
+    tree = IsTree-alike;
+    names = λ x l c. subst NamesDiffer (sym (owed_same v w same l)) (wf.names x l (Chain-same v w same x l c));
+    slots = λ x l n o c. definers x n ∙ wf.slots x l n (back x o) (Chain-same v w same x l c) ∙ ap (λ k. option_map (λ (p : Pair). p.0) (pair_named k n)) (sym (owed_same v w same l));
+    set = set;
+    fit = fit;
+    limits = subst KeepsLimits (sym same) wf.limits;
+  }
+
+module _ (w : World) (x : ObjNo) (n : Name) (change : Slot → Slot) where
+  abbrev v : World
+  v = with_slot_of w x n change
+
+  pub same_links : SameButSlots v w
+  same_links = λ i. record w { object = λ y. bare (same_object x y) (w.object y) i }
+    where
+      bare : (b : Bool) (o : Option Record) → option_map (with_slots (λ n. None)) (option_map (λ (r : Record). if b then record r { slot = λ m. if same_text (folded n) m then option_map change (r.slot m) else r.slot m } else r) o) ≡ option_map (with_slots (λ n. None)) o
+      bare b None = refl
+      bare true (Some r) = refl
+      bare false (Some r) = refl
+
+  abbrev here : ObjNo → Name → Bool
+  here y m = same_object x y && same_text (folded n) m
+
+  -- the slot of x is the changed one, and every other slot is as it was
+  pub slot_changed : (y : ObjNo) (m : Name) → slot_of v y m ≡ (if same_object x y && same_text (folded n) m then option_map change (slot_of w y m) else slot_of w y m)
+  slot_changed y m = by (same_object x y) (w.object y)
+    where
+      inner : (r : Record) (b : Bool) → (if b then option_map change (r.slot m) else r.slot m) ≡ (if b then option_map change (option_and_then (λ (k : Record). k.slot m) (Some r)) else option_and_then (λ (k : Record). k.slot m) (Some r))
+      inner r true = refl
+      inner r false = refl
+
+      none : (b : Bool) → ◌≡◌ {A = Option Slot} None (if b then None else None)
+      none true = refl
+      none false = refl
+
+      by : (a : Bool) (o : Option Record) → option_and_then (λ (r : Record). r.slot m) (option_map (λ (r : Record). if a then record r { slot = λ k. if same_text (folded n) k then option_map change (r.slot k) else r.slot k } else r) o) ≡ (if a && same_text (folded n) m then option_map change (option_and_then (λ (r : Record). r.slot m) o) else option_and_then (λ (r : Record). r.slot m) o)
+      by true None = none (same_text (folded n) m)
+      by false None = refl
+      by true (Some r) = inner r (same_text (folded n) m)
+      by false (Some r) = refl
+
+  module _ (wf : IsWellFormed w) (keeps : (s : Slot) → (change s).definer ≡ s.definer) (set : (s : Slot) → slot_of w x (folded n) ≡ Some s → s.definer ≡ x → (change s).state ≢ Clear) (fits_still : (s : Slot) → slot_fits s ≡ true → slot_fits (change s) ≡ true) where
+    definers : (y : ObjNo) (m : Name) → option_map (λ s. s.definer) (slot_of v y m) ≡ option_map (λ s. s.definer) (slot_of w y m)
+    definers y m = ap (option_map (λ (s : Slot). s.definer)) (slot_changed y m) ∙ by (here y m) (slot_of w y m)
+      where
+        by : (b : Bool) (o : Option Slot) → option_map (λ s. s.definer) (if b then option_map change o else o) ≡ option_map (λ s. s.definer) o
+        by false o = refl
+        by true None = refl
+        by true (Some s) = ap Some (keeps s)
+
+    set_still : (y : ObjNo) (m : Name) (s : Slot) → slot_of v y m ≡ Some s → s.definer ≡ y → s.state ≢ Clear
+    set_still y m s e d = by (here y m) refl (slot_of w y m) refl (sym (slot_changed y m) ∙ e)
+      where
+        by : (b : Bool) → here y m ≡ b → (o : Option Slot) → slot_of w y m ≡ o → (if b then option_map change o else o) ≡ Some s → s.state ≢ Clear
+        by false h o g k = wf.set y m s (g ∙ k) d
+        by true h None g k = absurd (none-some s k)
+        by true h (Some t) g k =
+            let parts = and_parts (same_object x y) (same_text (folded n) m) h in
+            let own : x ≡ y = (same_object-Decides x y).0 parts.0 in
+            let named : folded n ≡ m = (same_text-Decides (folded n) m).0 parts.1 in
+            let is : change t ≡ s = same_Some (change t) s k in
+            λ c. set t ((λ i. slot_of w (own i) (named i)) ∙ g) (sym (keeps t) ∙ ap (λ (z : Slot). z.definer) is ∙ d ∙ sym own) (ap (λ (z : Slot). z.state) is ∙ c)
+
+    fit_still : (y : ObjNo) (m : Name) (s : Slot) → slot_of v y m ≡ Some s → slot_fits s ≡ true
+    fit_still y m s e = by (here y m) (slot_of w y m) refl (sym (slot_changed y m) ∙ e)
+      where
+        by : (b : Bool) (o : Option Slot) → slot_of w y m ≡ o → (if b then option_map change o else o) ≡ Some s → slot_fits s ≡ true
+        by false o g k = wf.fit y m s (g ∙ k)
+        by true None g k = absurd (none-some s k)
+        by true (Some t) g k = ap slot_fits (sym (same_Some (change t) s k)) ∙ fits_still t (wf.fit y m t g)
+
+    pub IsWellFormed-with_slot_of : IsWellFormed v
+    IsWellFormed-with_slot_of = formed_alike v w same_links wf definers set_still fit_still

@@ -1,0 +1,168 @@
+-- A new object keeps the world well formed.
+use Rattle.std.proofs.Common.{◌≡◌, ◌≤◌, arith, length, Bool, true, false, List, [], ◌∷◌, ◌++◌, map, refl, sym, ◌∙◌, ap, subst, ◌⊎◌, inl, inr, Option, Some, None, ℤ, pos}
+use Rattle.std.specs.Prelude.{◌&&◌, is_some, unwrap_or, ◌≤ℤ◌, ◌<ℤ◌, ◌+ℤ◌, if◌then◌else◌}
+use Rattle.std.specs.Option.{option_map, option_and_then}
+use Rattle.std.specs.List.{list_any, list_all, flat_map, IsDistinct}
+use Rattle.std.proofs.lemmas.Bool.{false≢true, both_ways}
+use Rattle.std.proofs.lemmas.Int.{ints}
+use Rattle.std.proofs.lemmas.Option.{none-some}
+use Rattle.moo_value.specs.declared.value.ObjNo.{ObjNo}
+use Rattle.moo_world.specs.Objects.{Name, Pair, nothing, same_object, same_pair, same_object-Decides}
+use Rattle.moo_world.specs.Arguments.{is_number}
+use Rattle.moo_world.specs.World.{World, Record, IsTree, IsWellFormed, Climbs, Chain, Places, NamesDiffer, is_object, chain, names_of, slot_of, defined_by, owed_by, pair_named, owes, with_slots, is_property_name, verb_fits, row_fits}
+use Rattle.moo_world.specs.Creation.{born, with_object, created}
+use Rattle.moo_world.proofs.Ancestry.Trees.{chain_is, Chain-chain, chain-nothing, chain_of_none, linked}
+use Rattle.moo_world.proofs.Inheritance.Owed.{named_owed}
+use Rattle.moo_world.proofs.Inheritance.Keeping.{MayBeRebuilt, IsWellFormed-rebuilt}
+use Rattle.moo_world.proofs.Inheritance.Recycling.{own_owed}
+
+module _ (w : World) (x q owner : ObjNo) (wf : IsWellFormed w) (free : is_object w x ≡ false) (next : x.0 ≡ w.top +ℤ pos 1) (room : w.top <ℤ pos 2147483647) (qo : (is_object w q ≡ true) ⊎ (q ≡ nothing)) where
+  abbrev pub s : World
+  s = with_object w x (born q owner)
+
+  same_link : (f : Record → ObjNo) (y k : ObjNo) → option_map f (w.object y) ≡ Some k → option_map f (s.object y) ≡ Some k
+  same_link f y k e = by (same_object x y) refl
+    where
+      by : (b : Bool) → same_object x y ≡ b → option_map f (if b then Some (born q owner) else w.object y) ≡ Some k
+      by true h = absurd (both_ways (is_object w y) (ap (is_object w) (sym ((same_object-Decides x y).0 h)) ∙ free) (linked (w.object y) f k e))
+      by false h = e
+
+  Climbs-still : (f : Record → ObjNo) (l : List ObjNo) (z : ObjNo) → Climbs (λ y. option_map f (w.object y)) z l → Climbs (λ y. option_map f (s.object y)) z l
+  Climbs-still f [] z p = p
+  Climbs-still f (y ∷ l) z p = (p.0, p.1, same_link f z p.1 p.2, Climbs-still f l p.1 p.3)
+
+  Chain-q : Chain w q (chain w q)
+  Chain-q = by qo
+    where
+      by : (is_object w q ≡ true) ⊎ (q ≡ nothing) → Chain w q (chain w q)
+      by (inl h) = Chain-chain w wf.tree q h
+      by (inr h) = subst (λ k. Chain w k (chain w k)) (sym h) (subst (Chain w nothing) (sym (chain-nothing w wf.tree)) refl)
+
+  at_x : {A : Type 0} (f : Record → A) → option_map f (s.object x) ≡ Some (f (born q owner))
+  at_x f = ap (λ b. option_map f (if b then Some (born q owner) else w.object x)) ((same_object-Decides x x).1 refl)
+
+  Chain-x : Chain s x (x ∷ chain w q)
+  Chain-x = (refl, q, at_x (λ r. r.row.parent), Climbs-still (λ r. r.row.parent) (chain w q) q Chain-q)
+
+  -- an object of s is x or one of w
+  which : (y : ObjNo) → is_object s y ≡ true → (y ≡ x) ⊎ (is_object w y ≡ true)
+  which y h = by (same_object x y) refl h
+    where
+      by : (b : Bool) → same_object x y ≡ b → is_some (if b then Some (born q owner) else w.object y) ≡ true → (y ≡ x) ⊎ (is_object w y ≡ true)
+      by true e k = inl (sym ((same_object-Decides x y).0 e))
+      by false e k = inr k
+
+  x_number : (pos 0 ≤ℤ x.0) × (x.0 ≤ℤ x.0)
+  x_number = let low = wf.limits.top.0 in (omega (arith, ints), omega (arith, ints))
+
+  more : (z : ℤ) → (pos 0 ≤ℤ z) × (z ≤ℤ w.top) → (pos 0 ≤ℤ z) × (z ≤ℤ x.0)
+  more z h = (h.0, omega (arith, ints, h.1, next))
+
+  pub IsTree-with : IsTree s
+  IsTree-with = record {
+    numbers = λ y o. elim (which y o) [ inl e ↦ subst (λ k. (pos 0 ≤ℤ k.0) × (k.0 ≤ℤ x.0)) (sym e) x_number | inr h ↦ more y.0 (wf.tree.numbers y h) ];
+    chains = λ y o. elim (which y o) [
+      | inl e ↦ (x ∷ chain w q, subst (λ k. Chain s k (x ∷ chain w q)) (sym e) Chain-x)
+      | inr h ↦ let c = wf.tree.chains y h in (c.0, Climbs-still (λ r. r.row.parent) c.0 y c.1)
+    ];
+    places = λ y o. elim (which y o) [
+      | inl e ↦ (x ∷ [], subst (λ k. Places s k (x ∷ [])) (sym e) (refl, nothing, at_x (λ r. r.row.location), refl))
+      | inr h ↦ let c = wf.tree.places y h in (c.0, Climbs-still (λ r. r.row.location) c.0 y c.1)
+    ];
+  }
+
+  -- what is read of a record where none is and of a new one
+  unread : {A : Type 0} (g : Option Record → A) → g (Some (born q owner)) ≡ g None → (y : ObjNo) → g (s.object y) ≡ g (w.object y)
+  unread g e y = by (same_object x y) refl
+    where
+      gone : (o : Option Record) → is_some o ≡ false → g None ≡ g o
+      gone None h = refl
+      gone (Some r) h = absurd (false≢true (sym h))
+
+      by : (b : Bool) → same_object x y ≡ b → g (if b then Some (born q owner) else w.object y) ≡ g (w.object y)
+      by true h = e ∙ gone (w.object y) (ap (is_object w) (sym ((same_object-Decides x y).0 h)) ∙ free)
+      by false h = refl
+
+  names_still : names_of s ≡ names_of w
+  names_still = λ i y. unread (λ o. unwrap_or (option_map (λ r. r.defines) o) []) refl y i
+
+  pub owed_still : (l : List ObjNo) → owed_by s l ≡ owed_by w l
+  owed_still l = ap (λ (names : ObjNo → List Name). flat_map (λ d. map (λ n. (d, n)) (names d)) l) names_still
+
+  no_names : names_of w x ≡ []
+  no_names = by (w.object x) free
+    where
+      by : (o : Option Record) → is_some o ≡ false → unwrap_or (option_map (λ r. r.defines) o) [] ≡ []
+      by None h = refl
+      by (Some r) h = absurd (false≢true (sym h))
+
+  -- x owes what q owes
+  pub owed_x : owed_by w (x ∷ chain w q) ≡ owed_by w (chain w q)
+  owed_x = ap (λ names. map (λ n. (x, n)) names ++ owed_by w (chain w q)) no_names
+
+  pub chain_x : chain s x ≡ x ∷ chain w q
+  chain_x = chain_is s IsTree-with x (x ∷ chain w q) Chain-x
+
+  pub chain_other : (y : ObjNo) → is_object w y ≡ true → chain s y ≡ chain w y
+  chain_other y h = chain_is s IsTree-with y (chain w y) (Climbs-still (λ r. r.row.parent) (chain w y) y (Chain-chain w wf.tree y h))
+
+  differ_at : (y : ObjNo) → is_object s y ≡ true → NamesDiffer (owed_by w (chain s y))
+  differ_at y o = elim (which y o) [
+    | inl e ↦ subst (λ k. NamesDiffer (owed_by w (chain s k))) (sym e) (subst NamesDiffer (sym (ap (owed_by w) chain_x ∙ owed_x)) (wf.names q (chain w q) Chain-q))
+    | inr h ↦ subst (λ l. NamesDiffer (owed_by w l)) (sym (chain_other y h)) (wf.names y (chain w y) (Chain-chain w wf.tree y h))
+  ]
+
+  differ : (y : ObjNo) (l : List ObjNo) → Chain s y l → NamesDiffer (owed_by s l)
+  unfolding IsDistinct
+  differ y [] c = tt
+  differ y (z ∷ l) c =
+      let o : is_object s y ≡ true = linked (s.object y) (λ r. r.row.parent) c.1 c.2 in
+      subst NamesDiffer (sym (owed_still (z ∷ l))) (subst (λ m. NamesDiffer (owed_by w m)) (chain_is s IsTree-with y (z ∷ l) c) (differ_at y o))
+
+  q_is_object : (n : Name) (p : Pair) → pair_named (owed_by w (chain w q)) n ≡ Some p → is_object w q ≡ true
+  q_is_object n p e = decide (is_object w q) refl
+    where
+      decide : (b : Bool) → is_object w q ≡ b → b ≡ true
+      decide true v = refl
+      decide false v = absurd (none-some p (sym (ap (λ l. pair_named (owed_by w l) n) (chain_of_none w q v)) ∙ e))
+
+  new_slot : (y : ObjNo) (n : Name) (p : Pair) → is_object s y ≡ true → pair_named (owed_by s (chain s y)) n ≡ Some p → owes w y p ≡ false → option_map (λ k. k.definer) (slot_of w q n) ≡ Some p.0
+  new_slot y n p o e h = by (which y o)
+    where
+      here : pair_named (owed_by w (chain s y)) n ≡ Some p
+      here = sym (ap (λ k. pair_named k n) (owed_still (chain s y))) ∙ e
+
+      by : (y ≡ x) ⊎ (is_object w y ≡ true) → option_map (λ k. k.definer) (slot_of w q n) ≡ Some p.0
+      by (inl k) =
+          let there : pair_named (owed_by w (chain w q)) n ≡ Some p = sym (ap (λ m. pair_named m n) (ap (λ z. owed_by w (chain s z)) k ∙ ap (owed_by w) chain_x ∙ owed_x)) ∙ here in
+          wf.slots q (chain w q) n (q_is_object n p there) Chain-q ∙ ap (option_map (λ m. m.0)) there
+      by (inr k) = absurd (both_ways (owes w y p) h (named_owed w (chain w y) n p (sym (ap (λ l. pair_named (owed_by w l) n) (chain_other y k)) ∙ here)))
+
+  own_slot : (y : ObjNo) (p : Pair) → is_object s y ≡ true → list_any (same_pair p) (defined_by s y) ≡ true → owes w y p ≡ true
+  own_slot y p o h = by (which y o)
+    where
+      mine : list_any (same_pair p) (defined_by w y) ≡ true
+      mine = subst (λ (names : ObjNo → List Name). list_any (same_pair p) (map (λ n. (y, n)) (names y)) ≡ true) names_still h
+
+      by : (y ≡ x) ⊎ (is_object w y ≡ true) → owes w y p ≡ true
+      by (inl k) = absurd (false≢true (sym (ap (λ names. list_any (same_pair p) (map (λ n. (y, n)) names)) (ap (names_of w) k ∙ no_names)) ∙ mine))
+      by (inr k) = own_owed w wf.tree y p k mine
+
+  MayBeRebuilt-with : is_number owner ≡ true → MayBeRebuilt w s q
+  MayBeRebuilt-with numbered = record {
+    tree = IsTree-with;
+    names = differ;
+    new = new_slot;
+    own = own_slot;
+    limits = record {
+      top = let low = wf.limits.top.0 in (omega (arith, ints), omega (arith, ints));
+      props = wf.limits.props;
+      verbs = wf.limits.verbs;
+      names = λ y. unread (λ o. list_all is_property_name (unwrap_or (option_map (λ r. r.defines) (option_map (with_slots (λ n. None)) o)) [])) refl y ∙ wf.limits.names y;
+      directories = λ y. unread (λ o. list_all verb_fits (unwrap_or (option_map (λ r. r.verbs) (option_map (with_slots (λ n. None)) o)) [])) refl y ∙ wf.limits.directories y;
+      rows = λ y. unread (λ o. unwrap_or (option_map row_fits (option_map (λ r. r.row) (option_map (with_slots (λ n. None)) o))) true) (ap (λ b. b && true) numbered) y ∙ wf.limits.rows y;
+    };
+  }
+
+  pub IsWellFormed-created : is_number owner ≡ true → IsWellFormed (created w x q owner)
+  IsWellFormed-created numbered = IsWellFormed-rebuilt w s q wf (MayBeRebuilt-with numbered)

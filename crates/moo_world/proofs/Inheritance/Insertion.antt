@@ -1,0 +1,367 @@
+-- A property added to a well formed world.
+use Rattle.std.proofs.Common.{◌≡◌, ◌≢◌, ◌<◌, ◌≤◌, Bool, true, false, cond, ◌||◌, Option, None, Some, List, [], ◌∷◌, ◌++◌, map, length, refl, sym, ap, ◌∙◌, subst, ◌⊎◌, inl, inr, append_assoc, arith}
+use Rattle.std.specs.Prelude.{◌&&◌, is_some, unwrap_or, if◌then◌else◌}
+use Rattle.std.specs.Option.{option_map, option_and_then}
+use Rattle.std.specs.List.{list_any, list_all, IsDistinct, AllByRecursion}
+use Rattle.std.proofs.lemmas.Bool.{false≢true, both_ways, or_parts}
+use Rattle.std.proofs.lemmas.List.Folds.{list_all-append}
+use Rattle.std.proofs.lemmas.Option.{none-some, same_Some}
+use Rattle.moo_value.specs.declared.value.ObjNo.{ObjNo}
+use Rattle.moo_rows.specs.declared.row.SlotState.TheVariants.{Clear}
+use Rattle.moo_world.specs.Changes.{clashes, defined}
+use Rattle.moo_world.specs.ObjectLists.{subtree_of, objects_of}
+use Rattle.moo_world.specs.Objects.{Name, Pair, same_object, same_text, same_pair, folded, is_among, same_object-Decides, same_text-Decides}
+use Rattle.moo_world.specs.World.{World, Record, Slot, IsTree, IsWellFormed, Climbs, Chain, NamesDiffer, is_object, parent_of, location_of, chain, names_of, defined_by, owed_by, pair_named, slot_of, fresh, without_slots, with_slots, is_property_name, verb_fits, row_fits, slot_fits}
+use Rattle.moo_world.proofs.Ancestry.Chains.{Climbs-once}
+use Rattle.moo_world.proofs.Form.Limits.{row_fitting, row_owner, fresh_fits}
+use Rattle.moo_world.proofs.Inheritance.Owed.{named_owed, named_so, definer_among, some_named}
+use Rattle.moo_world.proofs.Ancestry.Subtrees.{among_filter, object_listed, owed_listed}
+use Rattle.moo_world.proofs.Ancestry.Trees.{chain_is, chain_of_none, no_parent}
+
+-- ---- lists of pairs
+
+-- b is a with p put in somewhere
+pub record Inserted (p : Pair) (a b : List Pair) : Type 0 where
+  pub before : List Pair
+  pub after : List Pair
+  pub less : a ≡ before ++ after
+  pub more : b ≡ before ++ (p ∷ after)
+
+apart : (p : Pair) (xs ys : List Pair) → pair_named (xs ++ ys) (folded p.1) ≡ None → NamesDiffer (xs ++ ys) → NamesDiffer (xs ++ (p ∷ ys))
+unfolding IsDistinct
+apart p [] ys none d = (first ys none, d)
+  where
+    first : (ys : List Pair) → pair_named ys (folded p.1) ≡ None → AllByRecursion (λ y. same_text (folded p.1) (folded y.1) ≡ false) ys
+    first [] e = tt
+    first (y ∷ ys) e = by (same_text (folded y.1) (folded p.1)) refl e (first ys)
+      where
+        turned : (b : Bool) → same_text (folded p.1) (folded y.1) ≡ b → same_text (folded y.1) (folded p.1) ≡ false → b ≡ false
+        turned true k h = absurd (both_ways (same_text (folded y.1) (folded p.1)) h ((same_text-Decides (folded y.1) (folded p.1)).1 (sym ((same_text-Decides (folded p.1) (folded y.1)).0 k))))
+        turned false k h = refl
+
+        by : (b : Bool) → same_text (folded y.1) (folded p.1) ≡ b → cond b (Some y) (pair_named ys (folded p.1)) ≡ None → (pair_named ys (folded p.1) ≡ None → AllByRecursion (λ y. same_text (folded p.1) (folded y.1) ≡ false) ys) → AllByRecursion (λ y. same_text (folded p.1) (folded y.1) ≡ false) (y ∷ ys)
+        by true h k r = absurd (none-some y (sym k))
+        by false h k r = (turned (same_text (folded p.1) (folded y.1)) refl h, r k)
+apart p (x ∷ xs) ys none d = by (same_text (folded x.1) (folded p.1)) refl none (λ k. apart p xs ys k d.1)
+  where
+    also : (l : List Pair) → same_text (folded x.1) (folded p.1) ≡ false → AllByRecursion (λ y. same_text (folded x.1) (folded y.1) ≡ false) (l ++ ys) → AllByRecursion (λ y. same_text (folded x.1) (folded y.1) ≡ false) (l ++ (p ∷ ys))
+    also [] e a = (e, a)
+    also (y ∷ l) e a = (a.0, also l e a.1)
+
+    by : (b : Bool) → same_text (folded x.1) (folded p.1) ≡ b → cond b (Some x) (pair_named (xs ++ ys) (folded p.1)) ≡ None → (pair_named (xs ++ ys) (folded p.1) ≡ None → NamesDiffer (xs ++ (p ∷ ys))) → NamesDiffer ((x ∷ xs) ++ (p ∷ ys))
+    by true e k r = absurd (none-some x (sym k))
+    by false e k r = (also xs e d.0, r k)
+
+named : (p : Pair) (n : Name) (xs ys : List Pair) → pair_named (xs ++ ys) (folded p.1) ≡ None → pair_named (xs ++ (p ∷ ys)) n ≡ (if same_text (folded p.1) n then Some p else pair_named (xs ++ ys) n)
+named p n [] ys none = by (same_text (folded p.1) n)
+  where
+    by : (b : Bool) → cond b (Some p) (pair_named ys n) ≡ (if b then Some p else pair_named ys n)
+    by true = refl
+    by false = refl
+named p n (x ∷ xs) ys none = by (same_text (folded x.1) n) refl (same_text (folded x.1) (folded p.1)) refl none (named p n xs ys)
+  where
+    by : (b : Bool) → same_text (folded x.1) n ≡ b → (c : Bool) → same_text (folded x.1) (folded p.1) ≡ c → cond c (Some x) (pair_named (xs ++ ys) (folded p.1)) ≡ None
+        → (pair_named (xs ++ ys) (folded p.1) ≡ None → pair_named (xs ++ (p ∷ ys)) n ≡ (if same_text (folded p.1) n then Some p else pair_named (xs ++ ys) n))
+        → cond b (Some x) (pair_named (xs ++ (p ∷ ys)) n) ≡ (if same_text (folded p.1) n then Some p else cond b (Some x) (pair_named (xs ++ ys) n))
+    by b e true f k r = absurd (none-some x (sym k))
+    by false e false f k r = r k
+    by true e false f k r = other (same_text (folded p.1) n) refl
+      where
+        other : (d : Bool) → same_text (folded p.1) n ≡ d → Some x ≡ (if d then Some p else Some x)
+        other false g = refl
+        other true g = absurd (both_ways (same_text (folded x.1) (folded p.1)) f ((same_text-Decides (folded x.1) (folded p.1)).1 ((same_text-Decides (folded x.1) n).0 e ∙ sym ((same_text-Decides (folded p.1) n).0 g))))
+
+pub still_apart : (p : Pair) (a b : List Pair) → Inserted p a b → pair_named a (folded p.1) ≡ None → NamesDiffer a → NamesDiffer b
+still_apart p a b i none d = subst NamesDiffer (sym i.more) (apart p i.before i.after (sym (ap (λ l. pair_named l (folded p.1)) i.less) ∙ none) (subst NamesDiffer i.less d))
+
+pub named_after : (p : Pair) (n : Name) (a b : List Pair) → Inserted p a b → pair_named a (folded p.1) ≡ None → pair_named b n ≡ (if same_text (folded p.1) n then Some p else pair_named a n)
+named_after p n a b i none =
+    ap (λ l. pair_named l n) i.more ∙ named p n i.before i.after (sym (ap (λ l. pair_named l (folded p.1)) i.less) ∙ none)
+    ∙ ap (λ l. if same_text (folded p.1) n then Some p else pair_named l n) (sym i.less)
+
+pub further : (p : Pair) (l a b : List Pair) → Inserted p a b → Inserted p (l ++ a) (l ++ b)
+further p l a b i = record {
+  before = l ++ i.before;
+  after = i.after;
+  less = ap (λ k. l ++ k) i.less ∙ sym (append_assoc l i.before i.after);
+  more = ap (λ k. l ++ k) i.more ∙ sym (append_assoc l i.before (p ∷ i.after));
+}
+
+at_end : (p : Pair) (l m : List Pair) → Inserted p (l ++ m) ((l ++ p ∷ []) ++ m)
+at_end p l m = record { before = l; after = m; less = refl; more = append_assoc l (p ∷ []) m }
+
+-- ---- chains
+
+-- of two objects in one chain, one stands in the chain of the other
+pub comparable : (w : World) → IsTree w → (l : List ObjNo) (y d x : ObjNo) → Chain w y l → is_among d l ≡ true → is_among x l ≡ true → (is_among d (chain w x) ≡ true) ⊎ (is_among x (chain w d) ≡ true)
+comparable w t [] y d x c h k = absurd (false≢true h)
+comparable w t (z ∷ l) y d x c h k = by (same_object d z) refl (same_object x z) refl h k (comparable w t l c.1 d x c.3)
+  where
+    whole : (u : ObjNo) → same_object u z ≡ true → chain w u ≡ z ∷ l
+    whole u e = ap (chain w) ((same_object-Decides u z).0 e ∙ sym c.0) ∙ chain_is w t y (z ∷ l) c
+
+    by : (a : Bool) → same_object d z ≡ a → (b : Bool) → same_object x z ≡ b → (a || is_among d l) ≡ true → (b || is_among x l) ≡ true → (is_among d l ≡ true → is_among x l ≡ true → (is_among d (chain w x) ≡ true) ⊎ (is_among x (chain w d) ≡ true))
+        → (is_among d (chain w x) ≡ true) ⊎ (is_among x (chain w d) ≡ true)
+    by true e b f u v r = inr (ap (is_among x) (whole d e) ∙ k)
+    by false e true f u v r = inl (ap (is_among d) (whole x f) ∙ h)
+    by false e false f u v r = r u v
+
+module _ (w : World) (wf : IsWellFormed w) (x : ObjNo) (name : Name) (s : Slot) (xo : is_object w x ≡ true) (free : clashes w x name ≡ false) where
+  abbrev pub v : World
+  v = defined w x name s
+
+  -- no property of that name is owed to what has x in its chain
+  pub none_owed : (y : ObjNo) (l : List ObjNo) → Chain w y l → is_among x l ≡ true → pair_named (owed_by w l) (folded name) ≡ None
+  none_owed y l c u = by (pair_named (owed_by w l) (folded name)) refl
+    where
+      apart_both : (is_some (pair_named (owed_by w (chain w x)) (folded name)) ≡ false) × (is_some (pair_named (owed_by w (subtree_of w x)) (folded name)) ≡ false)
+      apart_both = or_parts _ _ free
+
+      none : (o : Option Pair) → is_some o ≡ false → o ≡ None
+      none None e = refl
+      none (Some p) e = absurd (false≢true (sym e))
+
+      by : (o : Option Pair) → pair_named (owed_by w l) (folded name) ≡ o → o ≡ None
+      by None e = refl
+      by (Some p) e = absurd (clash (comparable w wf.tree l y p.0 x c own.0 u))
+        where
+          own : (is_among p.0 l ≡ true) × (list_any (same_pair p) (defined_by w p.0) ≡ true)
+          own = definer_among w p l (named_owed w l (folded name) p e)
+
+          called : folded p.1 ≡ folded name
+          called = named_so (owed_by w l) (folded name) p e
+
+          hit : (k : List ObjNo) → is_among p.0 k ≡ true → is_some (pair_named (owed_by w k) (folded name)) ≡ false → ⊥
+          hit k h g = some_named (owed_by w k) p (owed_listed w k p.0 p h own.1) (ap (pair_named (owed_by w k)) called ∙ none _ g)
+
+          there : is_among x (chain w p.0) ≡ true → is_object w p.0 ≡ true
+          there h = decide (is_object w p.0) refl
+            where
+              decide : (b : Bool) → is_object w p.0 ≡ b → b ≡ true
+              decide true g = refl
+              decide false g = absurd (false≢true (sym (ap (is_among x) (chain_of_none w p.0 g)) ∙ h))
+
+          clash : (is_among p.0 (chain w x) ≡ true) ⊎ (is_among x (chain w p.0) ≡ true) → ⊥
+          clash (inl h) = hit (chain w x) h apart_both.0
+          clash (inr h) = hit (subtree_of w x) (among_filter (λ y. is_among x (chain w y)) (objects_of w) p.0 (object_listed w wf.tree p.0 (there h)) h) apart_both.1
+
+  abbrev under : ObjNo → Bool
+  under y = is_among x (chain w y)
+
+  abbrev new_record : ObjNo → Record → Record
+  new_record y r = record r {
+    defines = if same_object x y then r.defines ++ name ∷ [] else r.defines;
+    slot = λ n. if is_among x (chain w y) then (if same_text (folded name) n then Some (if same_object x y then s else fresh r.row.owner s) else r.slot n) else r.slot n;
+  }
+
+  -- ---- what is as it was
+
+  kept : {A : Type 0} (g : Record → A) → ((y : ObjNo) (r : Record) → g (new_record y r) ≡ g r) → (y : ObjNo) → option_map g (v.object y) ≡ option_map g (w.object y)
+  kept g e y = by (w.object y)
+    where
+      by : (o : Option Record) → option_map g (option_map (new_record y) o) ≡ option_map g o
+      by None = refl
+      by (Some r) = ap Some (e y r)
+
+  parents : parent_of v ≡ parent_of w
+  parents = λ i y. kept (λ r. r.row.parent) (λ y r. refl) y i
+
+  locations : location_of v ≡ location_of w
+  locations = λ i y. kept (λ r. r.row.location) (λ y r. refl) y i
+
+  objects : (y : ObjNo) → is_object v y ≡ is_object w y
+  objects y = by (w.object y)
+    where
+      by : (o : Option Record) → is_some (option_map (new_record y) o) ≡ is_some o
+      by None = refl
+      by (Some r) = refl
+
+  back : (y : ObjNo) (l : List ObjNo) → Chain v y l → Chain w y l
+  back y l c = subst (λ link. Climbs link y l) parents c
+
+  tree : IsTree v
+  tree = record {
+    numbers = λ y o. wf.tree.numbers y (sym (objects y) ∙ o);
+    chains = λ y o. let c = wf.tree.chains y (sym (objects y) ∙ o) in (c.0, subst (λ link. Climbs link y c.0) (sym parents) c.1);
+    places = λ y o. let c = wf.tree.places y (sym (objects y) ∙ o) in (c.0, subst (λ link. Climbs link y c.0) (sym locations) c.1);
+  }
+
+  -- ---- what is owed
+
+  names_now : (y : ObjNo) → names_of v y ≡ (if same_object x y then names_of w y ++ name ∷ [] else names_of w y)
+  names_now y = by (w.object y) refl
+    where
+      alone : (b : Bool) → same_object x y ≡ b → is_object w y ≡ false → [] ≡ (if b then [] ++ name ∷ [] else [])
+      alone false e f = refl
+      alone true e f = absurd (both_ways (is_object w x) (ap (is_object w) ((same_object-Decides x y).0 e) ∙ f) xo)
+
+      by : (o : Option Record) → w.object y ≡ o → unwrap_or (option_map (λ r. r.defines) (option_map (new_record y) o)) [] ≡ (if same_object x y then unwrap_or (option_map (λ r. r.defines) o) [] ++ name ∷ [] else unwrap_or (option_map (λ r. r.defines) o) [])
+      by None e = alone (same_object x y) refl (ap is_some e)
+      by (Some r) e = refl
+
+  defined_other : (y : ObjNo) → same_object x y ≡ false → defined_by v y ≡ defined_by w y
+  defined_other y e = ap (map {B = Pair} (λ n. (y, n))) (names_now y ∙ ap (λ b. if b then names_of w y ++ name ∷ [] else names_of w y) e)
+
+  defined_here : defined_by v x ≡ defined_by w x ++ (x, name) ∷ []
+  defined_here = ap (map {B = Pair} (λ n. (x, n))) (names_now x ∙ ap (λ b. if b then names_of w x ++ name ∷ [] else names_of w x) ((same_object-Decides x x).1 refl)) ∙ mapped (names_of w x)
+    where
+      mapped : (l : List Name) → map {B = Pair} (λ n. (x, n)) (l ++ name ∷ []) ≡ map (λ n. (x, n)) l ++ (x, name) ∷ []
+      mapped [] = refl
+      mapped (n ∷ l) = ap (λ k. (x, n) ∷ k) (mapped l)
+
+  turned : (y z : ObjNo) → same_object y z ≡ false → same_object z y ≡ false
+  turned y z e = by (same_object z y) refl
+    where
+      by : (b : Bool) → same_object z y ≡ b → b ≡ false
+      by false f = refl
+      by true f = absurd (both_ways (same_object y z) e ((same_object-Decides y z).1 (sym ((same_object-Decides z y).0 f))))
+
+  owed_beside : (l : List ObjNo) → is_among x l ≡ false → owed_by v l ≡ owed_by w l
+  owed_beside [] h = refl
+  owed_beside (z ∷ l) h =
+      let parts = or_parts (same_object x z) (is_among x l) h in
+      λ i. defined_other z parts.0 i ++ owed_beside l parts.1 i
+
+  inserted : (y : ObjNo) (l : List ObjNo) → Chain w y l → is_among x l ≡ true → Inserted (x, name) (owed_by w l) (owed_by v l)
+  inserted y [] c h = absurd (false≢true h)
+  inserted y (z ∷ l) c h = by (same_object x z) refl h (inserted c.1 l c.3)
+    where
+      by : (b : Bool) → same_object x z ≡ b → (b || is_among x l) ≡ true → (is_among x l ≡ true → Inserted (x, name) (owed_by w l) (owed_by v l)) → Inserted (x, name) (owed_by w (z ∷ l)) (owed_by v (z ∷ l))
+      by false e k r = subst (λ d. Inserted (x, name) (owed_by w (z ∷ l)) (d ++ owed_by v l)) (sym (defined_other z e)) (further (x, name) (defined_by w z) (owed_by w l) (owed_by v l) (r k))
+      by true e k r =
+          let own : x ≡ z = (same_object-Decides x z).0 e in
+          let once : is_among x l ≡ false = subst (λ u. is_among u l ≡ false) (c.0 ∙ sym own) (Climbs-once (parent_of w) (no_parent w wf.tree) l y z c) in
+          subst (λ u. Inserted (x, name) (defined_by w u ++ owed_by w l) (defined_by v u ++ owed_by v l)) own
+          (subst (λ d. Inserted (x, name) (defined_by w x ++ owed_by w l) (d ++ owed_by v l)) (sym defined_here)
+          (subst (λ d. Inserted (x, name) (defined_by w x ++ owed_by w l) ((defined_by w x ++ (x, name) ∷ []) ++ d)) (sym (owed_beside l once)) (at_end (x, name) (defined_by w x) (owed_by w l))))
+
+  names : (y : ObjNo) (l : List ObjNo) → Chain v y l → NamesDiffer (owed_by v l)
+  names y l c = by (is_among x l) refl
+    where
+      by : (b : Bool) → is_among x l ≡ b → NamesDiffer (owed_by v l)
+      by false e = subst NamesDiffer (sym (owed_beside l e)) (wf.names y l (back y l c))
+      by true e = still_apart (x, name) (owed_by w l) (owed_by v l) (inserted y l (back y l c) e) (none_owed y l (back y l c) e) (wf.names y l (back y l c))
+
+  -- ---- the slots
+
+  pub slot_now : (y : ObjNo) (n : Name) (r : Record) → w.object y ≡ Some r → slot_of v y n ≡ (new_record y r).slot n
+  slot_now y n r e = ap (λ o. option_and_then (λ (k : Record). k.slot n) (option_map (new_record y) o)) e
+
+  some_record : (o : Option Record) → is_some o ≡ true → (r : Record) × (o ≡ Some r)
+  some_record None e = absurd (false≢true e)
+  some_record (Some r) e = (r, refl)
+
+  module _ (mine : s.definer ≡ x) (set_here : s.state ≢ Clear) where
+    definer_new : (y : ObjNo) (owner : ObjNo) → (if same_object x y then s else fresh owner s).definer ≡ x
+    definer_new y owner = by (same_object x y)
+      where
+        by : (b : Bool) → (if b then s else fresh owner s).definer ≡ x
+        by true = mine
+        by false = mine
+
+    slots : (y : ObjNo) (l : List ObjNo) (n : Name) → is_object v y ≡ true → Chain v y l → option_map (λ k. k.definer) (slot_of v y n) ≡ option_map (λ p. p.0) (pair_named (owed_by v l) n)
+    slots y l n o c =
+        let yo : is_object w y ≡ true = sym (objects y) ∙ o in
+        let r = some_record (w.object y) yo in
+        let d : Chain w y l = back y l c in
+        let old : option_map (λ (k : Slot). k.definer) (r.0.slot n) ≡ option_map (λ (p : Pair). p.0) (pair_named (owed_by w l) n) = ap (λ o. option_map (λ (k : Slot). k.definer) (option_and_then (λ (k : Record). k.slot n) o)) (sym r.1) ∙ wf.slots y l n yo d in
+        ap (option_map (λ (k : Slot). k.definer)) (slot_now y n r.0 r.1) ∙ by r.0 d old (is_among x l) refl
+      where
+        inner : (r : Record) (b : Bool) → option_map (λ (k : Slot). k.definer) (r.slot n) ≡ option_map (λ (p : Pair). p.0) (pair_named (owed_by w l) n)
+            → option_map (λ k. k.definer) (if b then Some (if same_object x y then s else fresh r.row.owner s) else r.slot n) ≡ option_map (λ p. p.0) (if b then Some (x, name) else pair_named (owed_by w l) n)
+        inner r true old = ap Some (definer_new y r.row.owner)
+        inner r false old = old
+
+        by : (r : Record) (d : Chain w y l) → option_map (λ (k : Slot). k.definer) (r.slot n) ≡ option_map (λ (p : Pair). p.0) (pair_named (owed_by w l) n) → (b : Bool) → is_among x l ≡ b
+            → option_map (λ k. k.definer) ((new_record y r).slot n) ≡ option_map (λ p. p.0) (pair_named (owed_by v l) n)
+        by r d old false e =
+            ap (λ b. option_map (λ (k : Slot). k.definer) (if b then (if same_text (folded name) n then Some (if same_object x y then s else fresh r.row.owner s) else r.slot n) else r.slot n)) (ap (is_among x) (chain_is w wf.tree y l d) ∙ e)
+            ∙ old ∙ ap (λ k. option_map (λ (p : Pair). p.0) (pair_named k n)) (sym (owed_beside l e))
+        by r d old true e =
+            ap (λ b. option_map (λ (k : Slot). k.definer) (if b then (if same_text (folded name) n then Some (if same_object x y then s else fresh r.row.owner s) else r.slot n) else r.slot n)) (ap (is_among x) (chain_is w wf.tree y l d) ∙ e)
+            ∙ inner r (same_text (folded name) n) old
+            ∙ sym (ap (option_map (λ (p : Pair). p.0)) (named_after (x, name) n (owed_by w l) (owed_by v l) (inserted y l d e) (none_owed y l d e)))
+
+    set : (y : ObjNo) (n : Name) (k : Slot) → slot_of v y n ≡ Some k → k.definer ≡ y → k.state ≢ Clear
+    set y n k e d = by (w.object y) refl e
+      where
+        old : (r : Record) → w.object y ≡ Some r → r.slot n ≡ Some k → k.state ≢ Clear
+        old r g h = wf.set y n k (ap (option_and_then (λ (z : Record). z.slot n)) g ∙ h) d
+
+        here : (r : Record) (b : Bool) → same_object x y ≡ b → Some (if b then s else fresh r.row.owner s) ≡ Some k → k.state ≢ Clear
+        here r true g h = λ c. set_here (ap (λ (z : Slot). z.state) (same_Some s k h) ∙ c)
+        here r false g h = absurd (both_ways (same_object x y) g ((same_object-Decides x y).1 (sym mine ∙ ap (λ (z : Slot). z.definer) (same_Some (fresh r.row.owner s) k h) ∙ d)))
+
+        test : (r : Record) → w.object y ≡ Some r → (a b : Bool) → (if a then (if b then Some (if same_object x y then s else fresh r.row.owner s) else r.slot n) else r.slot n) ≡ Some k → k.state ≢ Clear
+        test r g false b h = old r g h
+        test r g true false h = old r g h
+        test r g true true h = here r (same_object x y) refl h
+
+        by : (o : Option Record) → w.object y ≡ o → option_and_then (λ (z : Record). z.slot n) (option_map (new_record y) o) ≡ Some k → k.state ≢ Clear
+        by None g h = absurd (none-some k h)
+        by (Some r) g h = test r g (under y) (same_text (folded name) n) h
+
+    module _ (good_name : is_property_name name ≡ true) (left : w.next_prop < 4294967295) (fits_here : slot_fits s ≡ true) where
+      fit : (y : ObjNo) (n : Name) (k : Slot) → slot_of v y n ≡ Some k → slot_fits k ≡ true
+      fit y n k e = by (w.object y) refl e
+        where
+          old : (r : Record) → w.object y ≡ Some r → r.slot n ≡ Some k → slot_fits k ≡ true
+          old r g h = wf.fit y n k (ap (option_and_then (λ (z : Record). z.slot n)) g ∙ h)
+
+          new : (r : Record) → w.object y ≡ Some r → (b : Bool) → Some (if b then s else fresh r.row.owner s) ≡ Some k → slot_fits k ≡ true
+          new r g true h = ap slot_fits (sym (same_Some s k h)) ∙ fits_here
+          new r g false h = ap slot_fits (sym (same_Some (fresh r.row.owner s) k h)) ∙ fresh_fits r.row.owner s (row_owner r (row_fitting w wf.limits y r g)) fits_here
+
+          test : (r : Record) → w.object y ≡ Some r → (a b : Bool) → (if a then (if b then Some (if same_object x y then s else fresh r.row.owner s) else r.slot n) else r.slot n) ≡ Some k → slot_fits k ≡ true
+          test r g false b h = old r g h
+          test r g true false h = old r g h
+          test r g true true h = new r g (same_object x y) h
+
+          by : (o : Option Record) → w.object y ≡ o → option_and_then (λ (z : Record). z.slot n) (option_map (new_record y) o) ≡ Some k → slot_fits k ≡ true
+          by None g h = absurd (none-some k h)
+          by (Some r) g h = test r g (under y) (same_text (folded name) n) h
+
+      bare : (o : Option Record) (y : ObjNo) → unwrap_or (option_map (λ r. r.defines) (option_map (with_slots (λ n. None)) o)) [] ≡ unwrap_or (option_map (λ r. r.defines) o) []
+      bare None y = refl
+      bare (Some r) y = refl
+
+      all_names : (y : ObjNo) → list_all is_property_name (names_of (without_slots v) y) ≡ true
+      all_names y = ap (list_all is_property_name) (bare (v.object y) y ∙ names_now y) ∙ by (same_object x y)
+        where
+          old : list_all is_property_name (names_of w y) ≡ true
+          old = ap (list_all is_property_name) (sym (bare (w.object y) y)) ∙ wf.limits.names y
+
+          by : (b : Bool) → list_all is_property_name (if b then names_of w y ++ name ∷ [] else names_of w y) ≡ true
+          by false = old
+          by true = list_all-append is_property_name (names_of w y) (name ∷ []) ∙ (λ i. old i && (good_name i && true))
+
+      same_verbs : (y : ObjNo) → unwrap_or (option_map (λ r. r.verbs) (option_map (with_slots (λ n. None)) (v.object y))) [] ≡ unwrap_or (option_map (λ r. r.verbs) (option_map (with_slots (λ n. None)) (w.object y))) []
+      same_verbs y = by (w.object y)
+        where
+          by : (o : Option Record) → unwrap_or (option_map (λ r. r.verbs) (option_map (with_slots (λ n. None)) (option_map (new_record y) o))) [] ≡ unwrap_or (option_map (λ r. r.verbs) (option_map (with_slots (λ n. None)) o)) []
+          by None = refl
+          by (Some r) = refl
+
+      same_rows : (y : ObjNo) → option_map (λ r. r.row) (option_map (with_slots (λ n. None)) (v.object y)) ≡ option_map (λ r. r.row) (option_map (with_slots (λ n. None)) (w.object y))
+      same_rows y = by (w.object y)
+        where
+          by : (o : Option Record) → option_map (λ r. r.row) (option_map (with_slots (λ n. None)) (option_map (new_record y) o)) ≡ option_map (λ r. r.row) (option_map (with_slots (λ n. None)) o)
+          by None = refl
+          by (Some r) = refl
+
+      pub IsWellFormed-defined : IsWellFormed v
+      IsWellFormed-defined = record {
+        tree = tree;
+        names = names;
+        slots = slots;
+        set = set;
+        fit = fit;
+        limits = record {
+          top = wf.limits.top;
+          props = let low = wf.limits.props.0 in (omega arith, omega arith);
+          verbs = wf.limits.verbs;
+          names = all_names;
+          directories = λ y. ap (list_all verb_fits) (same_verbs y) ∙ wf.limits.directories y;
+          rows = λ y. ap (λ o. unwrap_or (option_map row_fits o) true) (same_rows y) ∙ wf.limits.rows y;
+        };
+      }

@@ -1,0 +1,237 @@
+-- The manual's wording of a change of parent gives the rebuilt world.
+use Rattle.std.proofs.Common.{◌≡◌, Bool, true, false, cond, ◌||◌, List, [], ◌∷◌, ◌++◌, drop, refl, sym, ◌∙◌, ap, subst, ◌⊎◌, inl, inr, Option, Some, None, append_assoc}
+use Rattle.std.specs.Prelude.{unwrap_or, if◌then◌else◌}
+use Rattle.std.specs.Option.{option_map, option_or}
+use Rattle.std.specs.List.{list_any, find}
+use Rattle.std.proofs.lemmas.Bool.{false≢true, both_ways, or_parts, or_right, or_cases, false_from_ne_true}
+use Rattle.std.proofs.lemmas.Option.{none-some, same_Some}
+use Rattle.moo_value.specs.declared.value.ObjNo.{ObjNo}
+use Rattle.moo_world.specs.Objects.{Name, Pair, nothing, same_object, same_pair, folded, is_among, same_object-Decides}
+use Rattle.moo_world.specs.World.{World, Slot, IsWellFormed, Chain, NamesDiffer, is_object, parent_of, owner_of, slot_of, defined_by, owed_by, pair_named, owes, chain, fresh, slot_for, reparented, with_parent}
+use Rattle.moo_world.specs.Manual.{ancestors, common, except, lost, gained, kept_from, manual_slot}
+use Rattle.moo_world.proofs.Ancestry.Chains.{front_of, Climbs-split, Climbs-among}
+use Rattle.moo_world.proofs.Ancestry.Trees.{chain_is, Chain-chain, chain-nothing, no_parent}
+use Rattle.moo_world.proofs.Inheritance.Owed.{is_among-append, owed_by-append, named-append, find_passes, found_among, in_owed, in_owed-append, definer_among, named_owed, named_so, named_once}
+use Rattle.moo_world.proofs.Ancestry.Ancestors.{same_object-self, apart_in_chain, except_end, front_fails, all_fail, front_within}
+use Rattle.moo_world.proofs.Ancestry.Moving.{moved, owner_moved, owed_moved, Chain-new, chain_unmoved, chain_moved}
+use Rattle.moo_world.proofs.Inheritance.Rebuilding.{slot_of-rebuilt}
+
+-- ---- a slot and the ones that are lost
+
+pub slot_kept : (gone : List ObjNo) (o : Option Slot) (d : ObjNo) → option_map (λ s. s.definer) o ≡ Some d → is_among d gone ≡ false → kept_from gone o ≡ o
+slot_kept gone None d e h = refl
+slot_kept gone (Some s) d e h = ap (λ b. if b then None else Some s) (ap (λ k. is_among k gone) (same_Some s.definer d e) ∙ h)
+
+pub slot_lost : (gone : List ObjNo) (o : Option Slot) (d : ObjNo) → option_map (λ s. s.definer) o ≡ Some d → is_among d gone ≡ true → kept_from gone o ≡ None
+slot_lost gone None d e h = absurd (none-some d e)
+slot_lost gone (Some s) d e h = ap (λ b. if b then None else Some s) (ap (λ k. is_among k gone) (same_Some s.definer d e) ∙ h)
+
+pub slot_absent : (o : Option Slot) → option_map (λ s. s.definer) o ≡ None → o ≡ None
+slot_absent None e = refl
+slot_absent (Some s) e = absurd (none-some s.definer (sym e))
+
+-- no object under x defines a name that q or an ancestor of q defines
+abbrev pub NoClash : World → ObjNo → ObjNo → Type 0
+NoClash w x q = (d : ObjNo) (p : Pair) → is_among x (chain w d) ≡ true → list_any (same_pair p) (defined_by w d) ≡ true → pair_named (owed_by w (chain w q)) (folded p.1) ≡ None
+
+module _ (w : World) (x q : ObjNo) (wf : IsWellFormed w) (xo : is_object w x ≡ true) (qo : (is_object w q ≡ true) ⊎ (q ≡ nothing)) (outside : is_among x (chain w q) ≡ false) (apart : NoClash w x q) where
+  abbrev pub above : List ObjNo
+  above = ancestors w x
+
+  abbrev pub c : ObjNo
+  c = common w x q
+
+  abbrev pub shared : List ObjNo
+  shared = chain w c
+
+  starts : (l : List ObjNo) → Chain w x l → l ≡ x ∷ drop 1 l
+  starts [] p = absurd (false≢true (sym (sym xo ∙ ap (is_object w) p ∙ nothing_is_none)))
+    where
+      nothing_is_none : is_object w nothing ≡ false
+      nothing_is_none = Rattle.moo_world.proofs.Ancestry.Trees.nothing_is_no_object w wf.tree
+  starts (y ∷ l) p = λ i. sym p.0 i ∷ l
+
+  pub chain_starts : chain w x ≡ x ∷ above
+  chain_starts = starts (chain w x) (Chain-chain w wf.tree x xo)
+
+  pub Chain-x : Chain w x (x ∷ above)
+  Chain-x = subst (Chain w x) chain_starts (Chain-chain w wf.tree x xo)
+
+  -- ---- the split at the common ancestor
+
+  chain_of_common : (f : Option ObjNo) → find (λ d. is_among d above) (chain w q) ≡ f → Chain w (unwrap_or f nothing) (chain w (unwrap_or f nothing))
+  chain_of_common None e = subst (Chain w nothing) (sym (chain-nothing w wf.tree)) refl
+  chain_of_common (Some d) e =
+      let r = Climbs-among (parent_of w) (no_parent w wf.tree) (chain w q) q d (Chain-new w x q wf.tree xo qo outside) (found_among (λ k. is_among k above) (same_object d) (chain w q) d (same_object-self d) e) in
+      subst (Chain w d) (sym (chain_is w wf.tree d r.0 r.1)) r.1
+
+  Chain-common : Chain w c shared
+  Chain-common = chain_of_common _ refl
+
+  in_both : (f : Option ObjNo) → find (λ d. is_among d above) (chain w q) ≡ f → ((is_among (unwrap_or f nothing) above ≡ true) × (is_among (unwrap_or f nothing) (chain w q) ≡ true)) ⊎ (unwrap_or f nothing ≡ nothing)
+  in_both None e = inr refl
+  in_both (Some d) e = inl (find_passes (λ k. is_among k above) (chain w q) d e, found_among (λ k. is_among k above) (same_object d) (chain w q) d (same_object-self d) e)
+
+  -- x's proper ancestors are those below common, and then common's chain
+  pub above_split : above ≡ front_of c above ++ shared
+  above_split = Climbs-split (parent_of w) (no_parent w wf.tree) above shared Chain-x.1 c Chain-x.3 Chain-common (elim (in_both _ refl) [ inl h ↦ inl h.0 | inr h ↦ inr h ])
+
+  -- and so is q's chain
+  pub new_split : chain w q ≡ front_of c (chain w q) ++ shared
+  new_split = Climbs-split (parent_of w) (no_parent w wf.tree) (chain w q) shared q c (Chain-new w x q wf.tree xo qo outside) Chain-common (elim (in_both _ refl) [ inl h ↦ inl h.1 | inr h ↦ inr h ])
+
+  abbrev pub going : List ObjNo
+  going = front_of c above
+
+  abbrev pub coming : List ObjNo
+  coming = front_of c (chain w q)
+
+  pub apart_above : (d : ObjNo) → is_among d going ≡ true → is_among d shared ≡ false
+  apart_above d = apart_in_chain (parent_of w) (no_parent w wf.tree) going shared Chain-x.1 d (subst (Chain w Chain-x.1) above_split Chain-x.3)
+
+  pub apart_new : (d : ObjNo) → is_among d coming ≡ true → is_among d shared ≡ false
+  apart_new d = apart_in_chain (parent_of w) (no_parent w wf.tree) coming shared q d (subst (Chain w q) new_split (Chain-new w x q wf.tree xo qo outside))
+
+  pub lost_is : lost w x q ≡ going
+  lost_is = ap (λ l. except l shared) above_split ∙ except_end going shared apart_above
+
+  pub gained_is : gained w x q ≡ coming
+  gained_is = ap (λ l. except l shared) new_split ∙ except_end coming shared apart_new
+
+  -- what comes is no ancestor of x
+  pub coming_fails : (f : Option ObjNo) (d : ObjNo) → find (λ k. is_among k above) (chain w q) ≡ f → is_among d (front_of (unwrap_or f nothing) (chain w q)) ≡ true → is_among d above ≡ false
+  coming_fails None d e h = all_fail (λ k. is_among k above) (chain w q) d e (front_within (chain w q) nothing d h)
+  coming_fails (Some k) d e h = front_fails (λ m. is_among m above) (chain w q) k d e h
+
+  -- ---- an object under x
+
+  -- what stands below x in a chain, x included, is under x
+  pub under_x : (l : List ObjNo) (z d : ObjNo) → Chain w z l → is_among x l ≡ true → is_among d (front_of x l ++ x ∷ []) ≡ true → is_among x (chain w d) ≡ true
+  under_x [] z d p h k = absurd (false≢true h)
+  under_x (y ∷ l) z d p h k = by (same_object x y) refl k (under_x l p.1 d p.3)
+    where
+      self : is_among x (chain w x) ≡ true
+      self = ap (is_among x) chain_starts ∙ ap (λ b. b || is_among x above) (same_object-self x)
+
+      by : (b : Bool) → same_object x y ≡ b → is_among d (cond b [] (y ∷ front_of x l) ++ x ∷ []) ≡ true → (is_among x l ≡ true → is_among d (front_of x l ++ x ∷ []) ≡ true → is_among x (chain w d) ≡ true) → is_among x (chain w d) ≡ true
+      by true e k r = elim (or_cases _ _ k) [ inl g ↦ subst (λ m. is_among x (chain w m) ≡ true) (sym ((same_object-Decides d x).0 g)) self | inr g ↦ absurd (false≢true g) ]
+      by false e k r = elim (or_cases _ _ k) [
+        | inl g ↦ subst (λ m. is_among x (chain w m) ≡ true) (p.0 ∙ sym ((same_object-Decides d y).0 g)) (ap (is_among x) (chain_is w wf.tree z (y ∷ l) p) ∙ h)
+        | inr g ↦ r (sym (ap (λ b. b || is_among x l) e) ∙ h) g
+      ]
+
+  module _ (y : ObjNo) (n : Name) (yo : is_object w y ≡ true) (under : is_among x (chain w y) ≡ true) where
+    abbrev pub below : List ObjNo
+    below = front_of x (chain w y) ++ x ∷ []
+
+    pub chain_y : chain w y ≡ below ++ above
+    chain_y =
+        Climbs-split (parent_of w) (no_parent w wf.tree) (chain w y) (chain w x) y x (Chain-chain w wf.tree y yo) (Chain-chain w wf.tree x xo) (inl under)
+        ∙ ap (λ l. front_of x (chain w y) ++ l) chain_starts ∙ sym (append_assoc (front_of x (chain w y)) (x ∷ []) above)
+
+    chain_y_moved : chain (moved w x q) y ≡ below ++ chain w q
+    chain_y_moved = chain_moved w x q wf.tree xo qo outside y yo under ∙ sym (append_assoc (front_of x (chain w y)) (x ∷ []) (chain w q))
+
+    abbrev named : List ObjNo → Option Pair
+    named l = pair_named (owed_by w l) n
+
+    pub named_y : named (chain w y) ≡ option_or (named below) (option_or (named going) (named shared))
+    named_y = ap named chain_y ∙ named-append w below above n ∙ ap (option_or (named below)) (ap named above_split ∙ named-append w going shared n)
+
+    pub named_new : named (chain w q) ≡ option_or (named coming) (named shared)
+    named_new = ap named new_split ∙ named-append w coming shared n
+
+    named_y_moved : pair_named (owed_by (moved w x q) (chain (moved w x q) y)) n ≡ option_or (named below) (option_or (named coming) (named shared))
+    named_y_moved = ap (λ k. pair_named k n) (owed_moved w x q (chain (moved w x q) y)) ∙ ap named chain_y_moved ∙ named-append w below (chain w q) n ∙ ap (option_or (named below)) named_new
+
+    pub definer_of_slot : option_map (λ s. s.definer) (slot_of w y n) ≡ option_map (λ p. p.0) (option_or (named below) (option_or (named going) (named shared)))
+    definer_of_slot = wf.slots y (chain w y) n yo (Chain-chain w wf.tree y yo) ∙ ap (option_map (λ p. p.0)) named_y
+
+    owes_below : (p : Pair) → named below ≡ Some p → owes w y p ≡ true
+    owes_below p e = ap (in_owed w p) chain_y ∙ in_owed-append w p below above ∙ ap (λ b. b || in_owed w p above) (named_owed w below n p e)
+
+    owes_shared : (p : Pair) → named shared ≡ Some p → owes w y p ≡ true
+    owes_shared p e =
+        ap (in_owed w p) (chain_y ∙ ap (λ l. below ++ l) above_split) ∙ in_owed-append w p below (going ++ shared)
+        ∙ or_right (in_owed w p below) _ (in_owed-append w p going shared ∙ or_right (in_owed w p going) _ (named_owed w shared n p e))
+
+    -- a name that an object below x or x defines is no name of q's chain
+    pub no_new : (p : Pair) → in_owed w p below ≡ true → folded p.1 ≡ n → named (chain w q) ≡ None
+    no_new p o e =
+        let d = definer_among w p below o in
+        subst (λ m. pair_named (owed_by w (chain w q)) m ≡ None) e (apart p.0 p (under_x (chain w y) y p.0 (Chain-chain w wf.tree y yo) under d.0) d.1)
+
+    not_owed_yet : (p : Pair) → named coming ≡ Some p → owes w y p ≡ false
+    not_owed_yet p e = false_from_ne_true (owes w y p) (λ o.
+        elim (or_cases _ _ (sym (in_owed-append w p below above) ∙ sym (ap (in_owed w p) chain_y) ∙ o)) [
+          | inl h ↦ none-some p (sym (no_new p h (named_so (owed_by w coming) n p e)) ∙ named_new ∙ ap (λ g. option_or g (named shared)) e)
+          | inr h ↦ both_ways (is_among p.0 above) (coming_fails _ p.0 refl (definer_among w p coming (named_owed w coming n p e)).0) (definer_among w p above h).0
+        ])
+
+    below_stays : (p : Pair) → named below ≡ Some p → is_among p.0 going ≡ false
+    below_stays p e =
+        let once : is_among p.0 above ≡ false = apart_in_chain (parent_of w) (no_parent w wf.tree) below above y p.0 (subst (Chain w y) chain_y (Chain-chain w wf.tree y yo)) (definer_among w p below (named_owed w below n p e)).0 in
+        (or_parts (is_among p.0 going) (is_among p.0 shared) (sym (is_among-append p.0 going shared) ∙ sym (ap (is_among p.0) above_split) ∙ once)).0
+
+    shared_stays : (p : Pair) → named shared ≡ Some p → is_among p.0 going ≡ false
+    shared_stays p e = false_from_ne_true (is_among p.0 going) (λ h. both_ways (is_among p.0 shared) (apart_above p.0 h) (definer_among w p shared (named_owed w shared n p e)).0)
+
+    one_of : (k p : Pair) → named going ≡ Some k → named shared ≡ Some p → ⊥
+    one_of k p e f =
+        let differ : NamesDiffer (owed_by w going ++ owed_by w shared) = subst NamesDiffer (ap (owed_by w) above_split ∙ owed_by-append w going shared) (wf.names Chain-x.1 above Chain-x.3) in
+        none-some p (sym (named_once (owed_by w going) (owed_by w shared) n k differ e) ∙ f)
+
+    abbrev s : World
+    s = with_parent w x q
+
+    abbrev wording : Option Pair → Option Slot
+    wording g = elim g [ Some p ↦ option_map (fresh (owner_of w y)) (slot_of w q n) | None ↦ kept_from going (slot_of w y n) ]
+
+    by_case : (b g h l : Option Pair) → named below ≡ b → named coming ≡ g → named shared ≡ h → named going ≡ l → slot_for w s q y n (option_or b (option_or g h)) ≡ wording g
+    by_case (Some p) (Some k) h l eb eg eh el =
+        absurd (none-some k (sym (no_new p (named_owed w below n p eb) (named_so (owed_by w below) n p eb)) ∙ named_new ∙ ap (λ m. option_or m (named shared)) eg))
+    by_case (Some p) None h l eb eg eh el =
+        ap (λ v. if v then slot_of w y n else option_map (fresh (owner_of s y)) (slot_of w q n)) (owes_below p eb)
+        ∙ sym (slot_kept going (slot_of w y n) p.0 (definer_of_slot ∙ ap (λ m. option_map (λ k. k.0) (option_or m (option_or (named going) (named shared)))) eb) (below_stays p eb))
+    by_case None (Some p) h l eb eg eh el =
+        ap (λ v. if v then slot_of w y n else option_map (fresh (owner_of s y)) (slot_of w q n)) (not_owed_yet p eg)
+        ∙ ap (λ (owner : ObjNo → ObjNo). option_map (fresh (owner y)) (slot_of w q n)) (owner_moved w x q)
+    by_case None None (Some p) (Some k) eb eg eh el = absurd (one_of k p el eh)
+    by_case None None (Some p) None eb eg eh el =
+        ap (λ v. if v then slot_of w y n else option_map (fresh (owner_of s y)) (slot_of w q n)) (owes_shared p eh)
+        ∙ sym (slot_kept going (slot_of w y n) p.0 (definer_of_slot ∙ (λ i. option_map (λ k. k.0) (option_or (eb i) (option_or (el i) (eh i))))) (shared_stays p eh))
+    by_case None None None (Some k) eb eg eh el =
+        sym (slot_lost going (slot_of w y n) k.0 (definer_of_slot ∙ (λ i. option_map (λ m. m.0) (option_or (eb i) (option_or (el i) (eh i))))) (definer_among w k going (named_owed w going n k el)).0)
+    by_case None None None None eb eg eh el =
+        sym (ap (kept_from going) (slot_absent (slot_of w y n) (definer_of_slot ∙ (λ i. option_map (λ m. m.0) (option_or (eb i) (option_or (el i) (eh i)))))))
+
+    under_slot : slot_of (reparented w x q) y n ≡ wording (named coming)
+    under_slot = slot_of-rebuilt w s q y n ∙ ap (slot_for w s q y n) named_y_moved ∙ by_case _ _ _ _ refl refl refl refl
+
+    pub under_law : slot_of (reparented w x q) y n ≡ manual_slot w x q y n
+    under_law =
+        under_slot
+        ∙ (λ i. elim (pair_named (owed_by w (sym gained_is i)) n) [ Some p ↦ option_map (fresh (owner_of w y)) (slot_of w q n) | None ↦ kept_from (sym lost_is i) (slot_of w y n) ])
+        ∙ sym (ap (λ b. if b then elim (pair_named (owed_by w (gained w x q)) n) [ Some p ↦ option_map (fresh (owner_of w y)) (slot_of w q n) | None ↦ kept_from (lost w x q) (slot_of w y n) ] else slot_of w y n) under)
+
+  -- ---- another object
+
+  module _ (y : ObjNo) (n : Name) (yo : is_object w y ≡ true) (beside : is_among x (chain w y) ≡ false) where
+    beside_case : (o : Option Pair) → pair_named (owed_by w (chain w y)) n ≡ o → slot_for w (with_parent w x q) q y n o ≡ slot_of w y n
+    beside_case None e = sym (slot_absent (slot_of w y n) (wf.slots y (chain w y) n yo (Chain-chain w wf.tree y yo) ∙ ap (option_map (λ p. p.0)) e))
+    beside_case (Some p) e = ap (λ v. if v then slot_of w y n else option_map (fresh (owner_of (with_parent w x q) y)) (slot_of w q n)) (named_owed w (chain w y) n p e)
+
+    pub beside_law : slot_of (reparented w x q) y n ≡ manual_slot w x q y n
+    beside_law =
+        slot_of-rebuilt w (with_parent w x q) q y n
+        ∙ ap (slot_for w (with_parent w x q) q y n) (ap (λ k. pair_named k n) (owed_moved w x q (chain (moved w x q) y)) ∙ ap (λ l. pair_named (owed_by w l) n) (chain_unmoved w x q wf.tree xo qo outside y yo beside))
+        ∙ beside_case _ refl
+        ∙ sym (ap (λ b. if b then elim (pair_named (owed_by w (gained w x q)) n) [ Some p ↦ option_map (fresh (owner_of w y)) (slot_of w q n) | None ↦ kept_from (lost w x q) (slot_of w y n) ] else slot_of w y n) beside)
+
+  -- the manual's wording gives the slots of the rebuilt world
+  pub manual_law : (y : ObjNo) (n : Name) → is_object w y ≡ true → slot_of (reparented w x q) y n ≡ manual_slot w x q y n
+  manual_law y n yo = by (is_among x (chain w y)) refl
+    where
+      by : (b : Bool) → is_among x (chain w y) ≡ b → slot_of (reparented w x q) y n ≡ manual_slot w x q y n
+      by true e = under_law y n yo e
+      by false e = beside_law y n yo e

@@ -1,0 +1,322 @@
+-- The children of a recycled object, moved one by one in the manual's words, leave the world that recycling leaves.
+use Rattle.std.proofs.Common.{◌≡◌, Bool, true, false, cond, ◌||◌, List, [], ◌∷◌, ◌++◌, refl, sym, ◌∙◌, ap, subst, ◌⊎◌, inl, inr, Option, Some, None}
+use Rattle.std.specs.Prelude.{is_some, unwrap_or, if◌then◌else◌}
+use Rattle.std.specs.Option.{option_map, option_and_then}
+use Rattle.std.proofs.lemmas.Bool.{false≢true, both_ways, or_right, false_from_ne_true}
+use Rattle.std.proofs.lemmas.Option.{none-some, same_Some}
+use Rattle.moo_value.specs.declared.value.ObjNo.{ObjNo}
+use Rattle.moo_world.specs.Objects.{Name, Pair, nothing, same_object, same_object-Decides, is_among}
+use Rattle.moo_world.specs.World.{World, Record, Slot, IsTree, IsWellFormed, Chain, is_object, parent_of, slot_of, owed_by, pair_named, chain, with_slots, without_slots, with_parent, reparented, SameButSlots}
+use Rattle.moo_world.specs.Laws.{MayReparent}
+use Rattle.moo_world.specs.Manual.{kept_from, manual_slot}
+use Rattle.moo_world.specs.ObjectLists.{has_parent, children_of, objects_of}
+use Rattle.moo_world.specs.OneByOne.{manually_moved, moved_one_by_one, MayMoveOneByOne, emptied, taken_out, ChildrenMoveOneByOne, ChildrenMoveAscending}
+use Rattle.moo_world.specs.Recycling.{released, without_object, recycled}
+use Rattle.moo_world.proofs.Ancestry.Chains.{Climbs-once}
+use Rattle.moo_world.proofs.Ancestry.Trees.{Chain-chain, chain-step, linked, no_parent}
+use Rattle.moo_world.proofs.Inheritance.Owed.{definer_among, named_owed}
+use Rattle.moo_world.proofs.Ancestry.Ancestors.{same_object-self}
+use Rattle.moo_world.proofs.Inheritance.ManualLaw.{manual_law, slot_kept, slot_absent}
+use Rattle.moo_world.proofs.Inheritance.Rebuilding.{no_slot, objects_same, same_world, SameButSlots-rebuilt}
+use Rattle.moo_world.proofs.Inheritance.Recycling.{stays, recycle_law}
+use Rattle.moo_world.proofs.Inheritance.Reparenting.{IsWellFormed-reparented}
+use Rattle.moo_world.proofs.Ancestry.Subtrees.{NoClash-from_meets, among_filter, object_listed}
+use Rattle.moo_world.proofs.Ancestry.Upward.{filter_passes, may_climb, climbed_slot}
+
+-- worlds that are the same but for slots, and whose objects have the same slots, are one
+one_world : (a b : World) → SameButSlots a b → ((y : ObjNo) (n : Name) → is_object a y ≡ true → slot_of a y n ≡ slot_of b y n) → a ≡ b
+one_world a b same slots = same_world a b same (λ y n. by y n (is_object a y) refl)
+  where
+    by : (y : ObjNo) (n : Name) (v : Bool) → is_object a y ≡ v → slot_of a y n ≡ slot_of b y n
+    by y n true e = slots y n e
+    by y n false e = no_slot (a.object y) n e ∙ sym (no_slot (b.object y) n (sym (objects_same a b same y) ∙ e))
+
+-- ---- one move
+
+module _ (w : World) (c q : ObjNo) where
+  -- the record that c gets
+  abbrev under_q : Record → Record
+  under_q r = record r { row = record r.row { parent = q } }
+
+  pub parent_moved : (y : ObjNo) → parent_of (manually_moved w c q) y ≡ option_map (λ p. if same_object c y then q else p) (parent_of w y)
+  parent_moved y = of (w.object y)
+    where
+      of : (o : Option Record) → option_map (λ r. r.row.parent) (option_map (with_slots (manual_slot w c q y)) (option_map (λ r. if same_object c y then under_q r else r) o)) ≡ option_map (λ p. if same_object c y then q else p) (option_map (λ r. r.row.parent) o)
+      of None = refl
+      of (Some r) = by (same_object c y)
+        where
+          by : (b : Bool) → Some (cond b (under_q r) r).row.parent ≡ Some (cond b q r.row.parent)
+          by true = refl
+          by false = refl
+
+  slot_moved : (y : ObjNo) (n : Name) → is_object w y ≡ true → slot_of (manually_moved w c q) y n ≡ manual_slot w c q y n
+  slot_moved y n o = of (w.object y) o
+    where
+      of : (k : Option Record) → is_some k ≡ true → option_and_then (λ r. r.slot n) (option_map (with_slots (manual_slot w c q y)) (option_map (λ r. if same_object c y then under_q r else r) k)) ≡ manual_slot w c q y n
+      of None h = absurd (false≢true h)
+      of (Some r) h = refl
+
+  object_stays : (y : ObjNo) → is_object (manually_moved w c q) y ≡ is_object w y
+  object_stays y = of (w.object y)
+    where
+      of : (k : Option Record) → is_some (option_map (with_slots (manual_slot w c q y)) (option_map (λ r. if same_object c y then under_q r else r) k)) ≡ is_some k
+      of None = refl
+      of (Some r) = refl
+
+  SameButSlots-moved : SameButSlots (manually_moved w c q) (with_parent w c q)
+  SameButSlots-moved = λ i. record w { object = λ y. twice (manual_slot w c q y) ((with_parent w c q).object y) i }
+    where
+      twice : (f : Name → Option Slot) (o : Option Record) → option_map (with_slots (λ n. None)) (option_map (with_slots f) o) ≡ option_map (with_slots (λ n. None)) o
+      twice f None = refl
+      twice f (Some r) = refl
+
+  module _ (m : MayReparent w c q) where
+    new : (is_object w q ≡ true) ⊎ (q ≡ nothing)
+    new = by (is_object w q) refl m.new
+      where
+        by : (b : Bool) → is_object w q ≡ b → (b || same_object nothing q) ≡ true → (is_object w q ≡ true) ⊎ (q ≡ nothing)
+        by true e h = inl e
+        by false e h = inr (sym ((same_object-Decides nothing q).0 h))
+
+    -- the manual's move is the model's
+    pub manually_moved-is : manually_moved w c q ≡ reparented w c q
+    manually_moved-is = one_world (manually_moved w c q) (reparented w c q) (SameButSlots-moved ∙ sym (SameButSlots-rebuilt w (with_parent w c q) q)) (λ y n o.
+        let yo : is_object w y ≡ true = sym (object_stays y) ∙ o in
+        slot_moved y n yo ∙ sym (manual_law w c q m.well_formed m.object new m.outside (NoClash-from_meets w m.well_formed.tree c q m.apart) y n yo))
+
+    pub IsWellFormed-moved : IsWellFormed (manually_moved w c q)
+    IsWellFormed-moved = subst IsWellFormed (sym manually_moved-is) (IsWellFormed-reparented w c q m.well_formed m.object new m.outside (NoClash-from_meets w m.well_formed.tree c q m.apart))
+
+-- ---- one child
+
+module _ (w : World) (x q : ObjNo) (wf : IsWellFormed w) (xp : parent_of w x ≡ Some q) where
+  xo : is_object w x ≡ true
+  xo = linked (w.object x) (λ r. r.row.parent) q xp
+
+  step_up : (z p : ObjNo) → parent_of w z ≡ Some p → chain w z ≡ z ∷ chain w p
+  step_up z p e = of (w.object z) refl e
+    where
+      of : (o : Option Record) → w.object z ≡ o → option_map (λ r. r.row.parent) o ≡ Some p → chain w z ≡ z ∷ chain w p
+      of None h g = absurd (none-some p g)
+      of (Some r) h g = chain-step w wf.tree z r h ∙ ap (λ k. z ∷ chain w k) (same_Some r.row.parent p g)
+
+  Chain-x : Chain w x (x ∷ chain w q)
+  Chain-x = subst (Chain w x) (step_up x q xp) (Chain-chain w wf.tree x xo)
+
+  -- the parent of an object is an object or nothing
+  heir_is : (is_object w q ≡ true) ⊎ (q ≡ nothing)
+  heir_is = subst (λ k. (is_object w k ≡ true) ⊎ (k ≡ nothing)) (same_Some Chain-x.1 q (sym Chain-x.2 ∙ xp)) (of (chain w q) Chain-x.1 Chain-x.3)
+    where
+      of : (l : List ObjNo) (z : ObjNo) → Chain w z l → (is_object w z ≡ true) ⊎ (z ≡ nothing)
+      of [] z p = inr p
+      of (y ∷ l) z p = inl (linked (w.object z) (λ r. r.row.parent) p.1 p.2)
+
+  -- and never the object itself
+  pub not_own : same_object x q ≡ false
+  not_own = false_from_ne_true (same_object x q) (λ h.
+      let again : chain w q ≡ x ∷ chain w q = ap (chain w) (sym ((same_object-Decides x q).0 h)) ∙ step_up x q xp in
+      both_ways (is_among x (chain w q)) (Climbs-once (parent_of w) (no_parent w wf.tree) (chain w q) x x Chain-x) (ap (is_among x) again ∙ ap (λ b. b || is_among x (chain w q)) (same_object-self x)))
+
+  module _ (c : ObjNo) (cp : (parent_of w c ≡ Some x) ⊎ (parent_of w c ≡ Some q)) where
+    abbrev v : World
+    v = manually_moved w c q
+
+    abbrev between : (parent_of w c ≡ Some x) ⊎ (parent_of w c ≡ Some q) → List ObjNo
+    between (inl h) = x ∷ []
+    between (inr h) = []
+
+    climbs : (k : (parent_of w c ≡ Some x) ⊎ (parent_of w c ≡ Some q)) → chain w c ≡ c ∷ between k ++ chain w q
+    climbs (inl h) = step_up c x h ∙ ap (λ l. c ∷ l) (step_up x q xp)
+    climbs (inr h) = step_up c q h
+
+    child : is_object w c ≡ true
+    child = elim cp [ inl h ↦ linked (w.object c) (λ r. r.row.parent) x h | inr h ↦ linked (w.object c) (λ r. r.row.parent) q h ]
+
+    pub may_move : MayReparent w c q
+    may_move = may_climb w c q (between cp) wf child heir_is (climbs cp)
+
+    pub form_moved : IsWellFormed v
+    form_moved = IsWellFormed-moved w c q may_move
+
+    pub heir_moved : parent_of v x ≡ Some q
+    heir_moved = parent_moved w c q x ∙ ap (option_map (λ p. if same_object c x then q else p)) xp ∙ either (same_object c x)
+      where
+        either : (b : Bool) → Some (if b then q else q) ≡ Some q
+        either true = refl
+        either false = refl
+
+    kept_twice : (k : (parent_of w c ≡ Some x) ⊎ (parent_of w c ≡ Some q)) (o : Option Slot) → kept_from (x ∷ []) (kept_from (between k) o) ≡ kept_from (x ∷ []) o
+    kept_twice (inl h) None = refl
+    kept_twice (inr h) None = refl
+    kept_twice (inr h) (Some s) = refl
+    kept_twice (inl h) (Some s) = by (is_among s.definer (x ∷ [])) refl
+      where
+        by : (b : Bool) → is_among s.definer (x ∷ []) ≡ b → kept_from (x ∷ []) (if b then None else Some s) ≡ kept_from (x ∷ []) (Some s)
+        by true e = sym (ap (λ b. if b then None else Some s) e)
+        by false e = refl
+
+    same_kept : (y : ObjNo) (n : Name) → is_object w y ≡ true → kept_from (x ∷ []) (slot_of v y n) ≡ kept_from (x ∷ []) (slot_of w y n)
+    same_kept y n o = ap (kept_from (x ∷ [])) (slot_moved w c q y n o ∙ climbed_slot w c q (between cp) wf child heir_is (climbs cp) y n) ∙ by (is_among c (chain w y))
+      where
+        by : (b : Bool) → kept_from (x ∷ []) (if b then kept_from (between cp) (slot_of w y n) else slot_of w y n) ≡ kept_from (x ∷ []) (slot_of w y n)
+        by true = kept_twice cp (slot_of w y n)
+        by false = refl
+
+    -- what is left when x goes has the same links, whether or not c was moved
+    abbrev linked_to : Record → ObjNo → Record
+    linked_to r p = record { row = record r.row { parent = p; location = if same_object x r.row.location then nothing else r.row.location }; defines = r.defines; slot = λ n. None; verbs = r.verbs }
+
+    one_parent : (p : ObjNo) → (Some p ≡ Some x) ⊎ (Some p ≡ Some q) → (if same_object x q then q else q) ≡ (if same_object x p then q else p)
+    one_parent p k = either (same_object x q) ∙ sym (elim k [
+      | inl h ↦ ap (λ b. if b then q else p) ((same_object-Decides x p).1 (sym (same_Some p x h)))
+      | inr h ↦ ap (λ z. if same_object x z then q else z) (same_Some p q h) ∙ either (same_object x q)
+    ])
+      where
+        either : (b : Bool) → (if b then q else q) ≡ q
+        either true = refl
+        either false = refl
+
+    left : (f : Name → Option Slot) (o : Option Record) (a b : Bool) → (b ≡ true → (option_map (λ r. r.row.parent) o ≡ Some x) ⊎ (option_map (λ r. r.row.parent) o ≡ Some q))
+        → option_map (with_slots (λ n. None)) (if a then None else option_map (released x q) (option_map (with_slots f) (option_map (λ r. if b then under_q w c q r else r) o)))
+        ≡ option_map (with_slots (λ n. None)) (if a then None else option_map (released x q) o)
+    left f None true b k = refl
+    left f None false b k = refl
+    left f (Some r) true b k = refl
+    left f (Some r) false true k = ap (λ p. Some (linked_to r p)) (one_parent r.row.parent (k refl))
+    left f (Some r) false false k = refl
+
+    same_left : SameButSlots (without_object v x) (without_object w x)
+    same_left =
+        (λ i. record w { object = λ y. option_map (with_slots (λ n. None)) (if same_object x y then None else option_map (released x (unwrap_or (heir_moved i) nothing)) (v.object y)) })
+        ∙ (λ i. record w { object = λ y. left (manual_slot w c q y) (w.object y) (same_object x y) (same_object c y) (λ h. subst (λ z. (parent_of w z ≡ Some x) ⊎ (parent_of w z ≡ Some q)) ((same_object-Decides c y).0 h) cp) i })
+        ∙ (λ i. record w { object = λ y. option_map (with_slots (λ n. None)) (if same_object x y then None else option_map (released x (unwrap_or (sym xp i) nothing)) (w.object y)) })
+
+    -- to recycle x after c was moved is to recycle x
+    pub recycled_moved : recycled v x ≡ recycled w x
+    recycled_moved = one_world (recycled v x) (recycled w x) (SameButSlots-rebuilt v (without_object v x) nothing ∙ same_left ∙ sym (SameButSlots-rebuilt w (without_object w x) nothing)) (λ y n o.
+        let vo : is_object (without_object v x) y ≡ true = sym (objects_same (recycled v x) (without_object v x) (SameButSlots-rebuilt v (without_object v x) nothing) y) ∙ o in
+        let wo : is_object (without_object w x) y ≡ true = sym (objects_same (without_object v x) (without_object w x) same_left y) ∙ vo in
+        recycle_law v x form_moved (linked (v.object x) (λ r. r.row.parent) q heir_moved) y n vo ∙ same_kept y n (stays w x wf.tree xo y wo).1 ∙ sym (recycle_law w x wf xo y n wo))
+
+-- ---- no child
+
+module _ (w : World) (x : ObjNo) (wf : IsWellFormed w) (xo : is_object w x ≡ true) (none : (y : ObjNo) → parent_of w y ≡ Some x → ⊥) where
+  heir : ObjNo
+  heir = unwrap_or (parent_of w x) nothing
+
+  untouched : (y : ObjNo) (o : Option Record) → w.object y ≡ o → option_map (emptied x) o ≡ option_map (released x heir) o
+  untouched y None e = refl
+  untouched y (Some r) e = ap (λ b. Some (record r { row = record r.row { parent = if b then heir else r.row.parent; location = if same_object x r.row.location then nothing else r.row.location } })) (sym other)
+    where
+      other : same_object x r.row.parent ≡ false
+      other = false_from_ne_true (same_object x r.row.parent) (λ h. none y (ap (option_map (λ k. k.row.parent)) e ∙ ap Some (sym ((same_object-Decides x r.row.parent).0 h))))
+
+  out_is : taken_out w x ≡ without_object w x
+  unfolding heir
+  out_is = λ i. record w { object = λ y. if same_object x y then None else untouched y (w.object y) refl i }
+
+  beside : (l : List ObjNo) (z : ObjNo) → Chain w z l → same_object x z ≡ false → is_among x l ≡ false
+  beside [] z p e = refl
+  beside (y ∷ l) z p e =
+      ap (λ b. b || is_among x l) (ap (same_object x) (sym p.0) ∙ e)
+      ∙ beside l p.1 p.3 (false_from_ne_true (same_object x p.1) (λ h. none z (p.2 ∙ ap Some (sym ((same_object-Decides x p.1).0 h)))))
+
+  -- no other object has a slot of a property that x defines
+  all_kept : (y : ObjNo) (n : Name) → is_object w y ≡ true → same_object x y ≡ false → kept_from (x ∷ []) (slot_of w y n) ≡ slot_of w y n
+  all_kept y n o e = by (pair_named (owed_by w (chain w y)) n) refl
+    where
+      definer : option_map (λ k. k.definer) (slot_of w y n) ≡ option_map (λ k. k.0) (pair_named (owed_by w (chain w y)) n)
+      definer = wf.slots y (chain w y) n o (Chain-chain w wf.tree y o)
+
+      apart : (d : ObjNo) → is_among d (chain w y) ≡ true → is_among d (x ∷ []) ≡ false
+      apart d h = ap (λ b. b || false) (false_from_ne_true (same_object d x) (λ k.
+          both_ways (is_among x (chain w y)) (beside (chain w y) y (Chain-chain w wf.tree y o) e) (subst (λ z. is_among z (chain w y) ≡ true) ((same_object-Decides d x).0 k) h)))
+
+      by : (p : Option Pair) → pair_named (owed_by w (chain w y)) n ≡ p → kept_from (x ∷ []) (slot_of w y n) ≡ slot_of w y n
+      by None g = let absent = slot_absent (slot_of w y n) (definer ∙ ap (option_map (λ p. p.0)) g) in ap (kept_from (x ∷ [])) absent ∙ sym absent
+      by (Some p) g = slot_kept (x ∷ []) (slot_of w y n) p.0 (definer ∙ ap (option_map (λ k. k.0)) g) (apart p.0 (definer_among w p (chain w y) (named_owed w (chain w y) n p g)).0)
+
+  slot_left : (y : ObjNo) (n : Name) → same_object x y ≡ false → slot_of (taken_out w x) y n ≡ slot_of w y n
+  slot_left y n e = ap (λ b. option_and_then (λ (r : Record). r.slot n) (if b then None else option_map (emptied x) (w.object y))) e ∙ of (w.object y)
+    where
+      of : (o : Option Record) → option_and_then (λ r. r.slot n) (option_map (emptied x) o) ≡ option_and_then (λ r. r.slot n) o
+      of None = refl
+      of (Some r) = refl
+
+  -- where x has no child, taking it out is recycling it
+  pub taken_out_is : taken_out w x ≡ recycled w x
+  taken_out_is = one_world (taken_out w x) (recycled w x) (ap without_slots out_is ∙ sym (SameButSlots-rebuilt w (without_object w x) nothing)) (λ y n o.
+      let so : is_object (without_object w x) y ≡ true = ap (λ v. is_object v y) (sym out_is) ∙ o in
+      let k = stays w x wf.tree xo y so in
+      slot_left y n k.0 ∙ sym (all_kept y n k.1 k.0) ∙ sym (recycle_law w x wf xo y n so))
+
+-- ---- all children
+
+-- each object of the list is a child of x or was moved to q already
+abbrev AreMovable : World → ObjNo → ObjNo → List ObjNo → Type 0
+AreMovable w x q l = (y : ObjNo) → is_among y l ≡ true → (parent_of w y ≡ Some x) ⊎ (parent_of w y ≡ Some q)
+
+-- the list has each child of x
+abbrev HasChildren : World → ObjNo → List ObjNo → Type 0
+HasChildren w x l = (y : ObjNo) → parent_of w y ≡ Some x → is_among y l ≡ true
+
+moved_all : (l : List ObjNo) (w : World) (x q : ObjNo) → IsWellFormed w → parent_of w x ≡ Some q → AreMovable w x q l → HasChildren w x l → MayMoveOneByOne w l q × (taken_out (moved_one_by_one w l q) x ≡ recycled w x)
+moved_all [] w x q wf xp each all = (tt, taken_out_is w x wf (linked (w.object x) (λ r. r.row.parent) q xp) (λ y e. false≢true (all y e)))
+moved_all (c ∷ l) w x q wf xp each all =
+    let rest = moved_all l (manually_moved w c q) x q (form_moved w x q wf xp c cp) (heir_moved w x q wf xp c cp) still others in
+    ((may_move w x q wf xp c cp, rest.0), rest.1 ∙ recycled_moved w x q wf xp c cp)
+  where
+    cp : (parent_of w c ≡ Some x) ⊎ (parent_of w c ≡ Some q)
+    cp = each c (ap (λ b. b || is_among c l) (same_object-self c))
+
+    still : AreMovable (manually_moved w c q) x q l
+    still y h = by (same_object c y) refl (each y (or_right (same_object y c) (is_among y l) h))
+      where
+        by : (b : Bool) → same_object c y ≡ b → (parent_of w y ≡ Some x) ⊎ (parent_of w y ≡ Some q) → (parent_of (manually_moved w c q) y ≡ Some x) ⊎ (parent_of (manually_moved w c q) y ≡ Some q)
+        by true e (inl g) = inr (parent_moved w c q y ∙ ap (option_map (λ p. if same_object c y then q else p)) g ∙ ap (λ b. Some (if b then q else x)) e)
+        by true e (inr g) = inr (parent_moved w c q y ∙ ap (option_map (λ p. if same_object c y then q else p)) g ∙ ap (λ b. Some (if b then q else q)) e)
+        by false e (inl g) = inl (parent_moved w c q y ∙ ap (option_map (λ p. if same_object c y then q else p)) g ∙ ap (λ b. Some (if b then q else x)) e)
+        by false e (inr g) = inr (parent_moved w c q y ∙ ap (option_map (λ p. if same_object c y then q else p)) g ∙ ap (λ b. Some (if b then q else q)) e)
+
+    others : HasChildren (manually_moved w c q) x l
+    others y h = by (same_object c y) refl (parent_of w y) refl (sym (parent_moved w c q y) ∙ h)
+      where
+        by : (b : Bool) → same_object c y ≡ b → (o : Option ObjNo) → parent_of w y ≡ o → option_map (λ p. if same_object c y then q else p) o ≡ Some x → is_among y l ≡ true
+        by b e None g k = absurd (none-some x k)
+        by true e (Some p) g k =
+            let own : q ≡ x = same_Some q x (ap (λ b. Some (if b then q else p)) (sym e) ∙ k) in
+            absurd (both_ways (same_object x q) (not_own w x q wf xp) ((same_object-Decides x q).1 (sym own)))
+        by false e (Some p) g k =
+            let child : parent_of w y ≡ Some x = g ∙ ap (λ b. Some (if b then q else p)) (sym e) ∙ k in
+            let apart : same_object y c ≡ false = false_from_ne_true (same_object y c) (λ m. both_ways (same_object c y) e ((same_object-Decides c y).1 (sym ((same_object-Decides y c).0 m)))) in
+            ap (λ b. b || is_among y l) (sym apart) ∙ all y child
+
+-- ---- the tests of the definitions
+
+parent_from : (w : World) (x y : ObjNo) → has_parent w x y ≡ true → parent_of w y ≡ Some x
+parent_from w x y h = of (w.object y) h
+  where
+    of : (o : Option Record) → unwrap_or (option_map (λ r. same_object x r.parent) (option_map (λ r. r.row) o)) false ≡ true → option_map (λ r. r.row.parent) o ≡ Some x
+    of None k = absurd (false≢true k)
+    of (Some r) k = ap Some (sym ((same_object-Decides x r.row.parent).0 k))
+
+parent_to : (w : World) (x y : ObjNo) → parent_of w y ≡ Some x → has_parent w x y ≡ true
+parent_to w x y e = of (w.object y) e
+  where
+    of : (o : Option Record) → option_map (λ r. r.row.parent) o ≡ Some x → unwrap_or (option_map (λ r. same_object x r.parent) (option_map (λ r. r.row) o)) false ≡ true
+    of None k = absurd (none-some x k)
+    of (Some r) k = (same_object-Decides x r.row.parent).1 (sym (same_Some r.row.parent x k))
+
+-- the ascending list has exactly the children
+pub children_listed : (w : World) (t : IsTree w) (x y : ObjNo) → is_among y (children_of w x) ≡ has_parent w x y
+children_listed w t x y = by (has_parent w x y) refl
+  where
+    by : (b : Bool) → has_parent w x y ≡ b → is_among y (children_of w x) ≡ b
+    by true e = among_filter (has_parent w x) (objects_of w) y (object_listed w t y (linked (w.object y) (λ r. r.row.parent) x (parent_from w x y e))) e
+    by false e = false_from_ne_true (is_among y (children_of w x)) (λ h. both_ways (has_parent w x y) e (filter_passes (has_parent w x) (objects_of w) y h))
+
+pub children_move : ChildrenMoveOneByOne
+children_move w x q children wf xp exact = moved_all children w x q wf xp (λ y h. inl (parent_from w x y (sym (exact y) ∙ h))) (λ y e. exact y ∙ parent_to w x y e)
+
+pub children_move_ascending : ChildrenMoveAscending
+children_move_ascending w x q wf xp = children_move w x q (children_of w x) wf xp (children_listed w wf.tree x)

@@ -1,0 +1,405 @@
+-- A property of a well formed world under another name.
+use Rattle.std.proofs.Common.{◌≡◌, ◌≢◌, ◌≤◌, Bool, true, false, cond, ◌||◌, Option, None, Some, List, [], ◌∷◌, ◌++◌, map, length, refl, sym, ap, ◌∙◌, subst, ◌⊎◌, inl, inr, append_assoc}
+use Rattle.std.specs.Prelude.{◌&&◌, is_some, unwrap_or, if◌then◌else◌}
+use Rattle.std.specs.Option.{option_map, option_and_then}
+use Rattle.std.specs.List.{list_any, list_all, IsDistinct, AllByRecursion}
+use Rattle.std.proofs.lemmas.Bool.{false≢true, both_ways, or_parts, or_cases, and_parts}
+use Rattle.std.proofs.lemmas.Option.{none-some}
+use Rattle.moo_value.specs.declared.value.ObjNo.{ObjNo}
+use Rattle.moo_rows.specs.declared.row.SlotState.TheVariants.{Clear}
+use Rattle.moo_world.specs.Changes.{clashes, renamed}
+use Rattle.moo_world.specs.Objects.{Name, Pair, nothing, same_object, same_text, same_pair, folded, is_among, same_object-Decides, same_text-Decides}
+use Rattle.moo_world.specs.World.{World, Record, Slot, IsTree, IsWellFormed, Climbs, Chain, NamesDiffer, is_object, parent_of, location_of, chain, names_of, defined_by, owed_by, pair_named, slot_of, without_slots, with_slots, is_property_name, verb_fits, row_fits, slot_fits}
+use Rattle.moo_world.proofs.Ancestry.Chains.{Climbs-once}
+use Rattle.moo_world.proofs.Inheritance.Owed.{none_named}
+use Rattle.moo_world.proofs.Ancestry.Trees.{chain_is, Chain-chain, no_parent, nothing_is_no_object}
+use Rattle.moo_world.proofs.Shown.PairLists.{distinct_map, pairs_left}
+use Rattle.moo_world.proofs.Inheritance.Insertion.{Inserted, still_apart, named_after, further, none_owed}
+
+-- ---- lists of pairs
+
+all_but : {A : Type 0} (P : A → Type 0) (xs ys : List A) (a : A) → AllByRecursion P (xs ++ (a ∷ ys)) → AllByRecursion P (xs ++ ys)
+all_but P [] ys a h = h.1
+all_but P (x ∷ xs) ys a h = (h.0, all_but P xs ys a h.1)
+
+one_of : {A : Type 0} (P : A → Type 0) (xs ys : List A) (a : A) → AllByRecursion P (xs ++ (a ∷ ys)) → P a
+one_of P [] ys a h = h.0
+one_of P (x ∷ xs) ys a h = one_of P xs ys a h.1
+
+apart_but : (p : Pair) (xs ys : List Pair) → NamesDiffer (xs ++ (p ∷ ys)) → NamesDiffer (xs ++ ys)
+unfolding IsDistinct
+apart_but p [] ys d = d.1
+apart_but p (x ∷ xs) ys d = (all_but (λ y. same_text (folded x.1) (folded y.1) ≡ false) xs ys p d.0, apart_but p xs ys d.1)
+
+none_but : (p : Pair) (xs ys : List Pair) → NamesDiffer (xs ++ (p ∷ ys)) → pair_named (xs ++ ys) (folded p.1) ≡ None
+unfolding IsDistinct
+none_but p [] ys d = none_named p ys (folded p.1) d.0 refl
+none_but p (x ∷ xs) ys d =
+    ap (λ b. cond b (Some x) (pair_named (xs ++ ys) (folded p.1))) (one_of (λ y. same_text (folded x.1) (folded y.1) ≡ false) xs ys p d.0) ∙ none_but p xs ys d.1
+
+none_fewer : (p : Pair) (n : Name) (xs ys : List Pair) → pair_named (xs ++ (p ∷ ys)) n ≡ None → pair_named (xs ++ ys) n ≡ None
+none_fewer p n [] ys e = by (same_text (folded p.1) n) e
+  where
+    by : (b : Bool) → cond b (Some p) (pair_named ys n) ≡ None → pair_named ys n ≡ None
+    by true h = absurd (none-some p (sym h))
+    by false h = h
+none_fewer p n (x ∷ xs) ys e = by (same_text (folded x.1) n) e (none_fewer p n xs ys)
+  where
+    by : (b : Bool) → cond b (Some x) (pair_named (xs ++ (p ∷ ys)) n) ≡ None → (pair_named (xs ++ (p ∷ ys)) n ≡ None → pair_named (xs ++ ys) n ≡ None) → cond b (Some x) (pair_named (xs ++ ys) n) ≡ None
+    by true h r = absurd (none-some x (sym h))
+    by false h r = r h
+
+-- b is a with q in the place of p
+record Replaced (p q : Pair) (a b : List Pair) : Type 0 where
+  rest : List Pair
+  had : Inserted p rest a
+  has : Inserted q rest b
+
+module _ (p q : Pair) (a b : List Pair) (r : Replaced p q a b) (d : NamesDiffer a) where
+  abbrev before : List Pair
+  before = r.had.before
+
+  abbrev after : List Pair
+  after = r.had.after
+
+  differ : NamesDiffer (before ++ (p ∷ after))
+  differ = subst NamesDiffer r.had.more d
+
+  rest_differ : NamesDiffer r.rest
+  rest_differ = subst NamesDiffer (sym r.had.less) (apart_but p before after differ)
+
+  none_old : pair_named r.rest (folded p.1) ≡ None
+  none_old = ap (λ l. pair_named l (folded p.1)) r.had.less ∙ none_but p before after differ
+
+  rest_none : (n : Name) → pair_named a n ≡ None → pair_named r.rest n ≡ None
+  rest_none n e = ap (λ l. pair_named l n) r.had.less ∙ none_fewer p n before after (sym (ap (λ l. pair_named l n) r.had.more) ∙ e)
+
+  module _ (free : pair_named a (folded q.1) ≡ None) where
+    none_new : pair_named r.rest (folded q.1) ≡ None
+    none_new = rest_none (folded q.1) free
+
+    differ_now : NamesDiffer b
+    differ_now = still_apart q r.rest b r.has none_new rest_differ
+
+    named_old : (n : Name) → pair_named a n ≡ (if same_text (folded p.1) n then Some p else pair_named r.rest n)
+    named_old n = named_after p n r.rest a r.had none_old
+
+    named_now : (n : Name) → pair_named b n ≡ (if same_text (folded q.1) n then Some q else pair_named r.rest n)
+    named_now n = named_after q n r.rest b r.has none_new
+
+-- ---- lists of names
+
+abbrev pub renames : Name → Name → Name → Name
+renames old new n = if same_text (folded n) (folded old) then new else n
+
+-- where one name stands in a list, and after it is replaced
+record Place (old new : Name) (a b : List Name) : Type 0 where
+  before : List Name
+  after : List Name
+  was : a ≡ before ++ (old ∷ after)
+  now : b ≡ before ++ (new ∷ after)
+
+others : (old new n : Name) (l : List Name) → same_text (folded n) (folded old) ≡ true → AllByRecursion (λ k. same_text (folded n) (folded k) ≡ false) l → map (renames old new) l ≡ l
+others old new n [] e h = refl
+others old new n (k ∷ l) e h = by (same_text (folded k) (folded old)) refl (others old new n l e h.1)
+  where
+    by : (b : Bool) → same_text (folded k) (folded old) ≡ b → map (renames old new) l ≡ l → (if b then new else k) ∷ map (renames old new) l ≡ k ∷ l
+    by false f r = ap (λ m. k ∷ m) r
+    by true f r = absurd (both_ways (same_text (folded n) (folded k)) h.0 ((same_text-Decides (folded n) (folded k)).1 ((same_text-Decides (folded n) (folded old)).0 e ∙ sym ((same_text-Decides (folded k) (folded old)).0 f))))
+
+none_alike : (old n : Name) (l : List Name) → same_text (folded n) (folded old) ≡ true → AllByRecursion (λ k. same_text (folded n) (folded k) ≡ false) l → list_any (same_text old) l ≡ false
+none_alike old n [] e h = refl
+none_alike old n (k ∷ l) e h = by (same_text old k) refl (none_alike old n l e h.1)
+  where
+    by : (b : Bool) → same_text old k ≡ b → list_any (same_text old) l ≡ false → (b || list_any (same_text old) l) ≡ false
+    by false f r = r
+    by true f r = absurd (both_ways (same_text (folded n) (folded k)) h.0 ((same_text-Decides (folded n) (folded k)).1 ((same_text-Decides (folded n) (folded old)).0 e ∙ ap folded ((same_text-Decides old k).0 f))))
+
+place : (old new : Name) (l : List Name) → list_any (same_text old) l ≡ true → IsDistinct (λ a b. same_text (folded a) (folded b)) l → Place old new l (map (renames old new) l)
+unfolding IsDistinct
+place old new [] h d = absurd (false≢true h)
+place old new (n ∷ l) h d = by (same_text (folded n) (folded old)) refl (or_cases _ _ h) (λ k. place old new l k d.1)
+  where
+    by : (b : Bool) → same_text (folded n) (folded old) ≡ b → (same_text old n ≡ true) ⊎ (list_any (same_text old) l ≡ true) → (list_any (same_text old) l ≡ true → Place old new l (map (renames old new) l)) → Place old new (n ∷ l) ((if b then new else n) ∷ map (renames old new) l)
+    by true e (inl k) r = record { before = []; after = l; was = ap (λ m. m ∷ l) (sym ((same_text-Decides old n).0 k)); now = ap (λ m. new ∷ m) (others old new n l e d.0) }
+    by true e (inr k) r = absurd (both_ways (list_any (same_text old) l) (none_alike old n l e d.0) k)
+    by false e (inl k) r = absurd (both_ways (same_text (folded n) (folded old)) e ((same_text-Decides (folded n) (folded old)).1 (ap folded (sym ((same_text-Decides old n).0 k)))))
+    by false e (inr k) r =
+        let p = r k in
+        record { before = n ∷ p.before; after = p.after; was = ap (λ m. n ∷ m) p.was; now = ap (λ m. n ∷ m) p.now }
+
+map-mid : (x : ObjNo) (xs ys : List Name) (n : Name) → map {B = Pair} (λ k. (x, k)) (xs ++ (n ∷ ys)) ≡ map (λ k. (x, k)) xs ++ ((x, n) ∷ map (λ k. (x, k)) ys)
+map-mid x [] ys n = refl
+map-mid x (k ∷ xs) ys n = ap (λ l. (x, k) ∷ l) (map-mid x xs ys n)
+
+listed_name : (x : ObjNo) (old : Name) (l : List Name) → list_any (same_pair (x, old)) (map (λ n. (x, n)) l) ≡ true → list_any (same_text old) l ≡ true
+unfolding same_pair
+listed_name x old [] h = h
+listed_name x old (n ∷ l) h = by (same_object x x) (same_text old n) h (listed_name x old l)
+  where
+    by : (a b : Bool) → ((a && b) || list_any (same_pair (x, old)) (map (λ n. (x, n)) l)) ≡ true → (list_any (same_pair (x, old)) (map (λ n. (x, n)) l) ≡ true → list_any (same_text old) l ≡ true) → (b || list_any (same_text old) l) ≡ true
+    by a true e r = refl
+    by true false e r = r e
+    by false false e r = r e
+
+-- ---- the world
+
+module _ (w : World) (wf : IsWellFormed w) (x : ObjNo) (old new : Name) (xo : is_object w x ≡ true) (mine : list_any (same_pair (x, old)) (defined_by w x) ≡ true) (free : clashes w x new ≡ false) where
+  abbrev pub v : World
+  v = renamed w x old new
+
+  abbrev new_record : ObjNo → Record → Record
+  new_record y r = record r {
+    defines = if same_object x y then map (λ m. if same_text (folded m) (folded old) then new else m) r.defines else r.defines;
+    slot = λ n. if is_among x (chain w y) then (if same_text (folded new) n then r.slot (folded old) else (if same_text (folded old) n then None else r.slot n)) else r.slot n;
+  }
+
+  -- no property of that name is owed to what has x in its chain
+  pub none_of_name : (y : ObjNo) (l : List ObjNo) → Chain w y l → is_among x l ≡ true → pair_named (owed_by w l) (folded new) ≡ None
+  none_of_name = none_owed w wf x new (record { definer = x; owner = nothing; bits = record { r = false; w = false; c = false }; state = Clear }) xo free
+
+  -- ---- what is as it was
+
+  kept : {A : Type 0} (g : Record → A) → ((y : ObjNo) (r : Record) → g (new_record y r) ≡ g r) → (y : ObjNo) → option_map g (v.object y) ≡ option_map g (w.object y)
+  kept g e y = by (w.object y)
+    where
+      by : (o : Option Record) → option_map g (option_map (new_record y) o) ≡ option_map g o
+      by None = refl
+      by (Some r) = ap Some (e y r)
+
+  parents : parent_of v ≡ parent_of w
+  parents = λ i y. kept (λ r. r.row.parent) (λ y r. refl) y i
+
+  locations : location_of v ≡ location_of w
+  locations = λ i y. kept (λ r. r.row.location) (λ y r. refl) y i
+
+  objects : (y : ObjNo) → is_object v y ≡ is_object w y
+  objects y = by (w.object y)
+    where
+      by : (o : Option Record) → is_some (option_map (new_record y) o) ≡ is_some o
+      by None = refl
+      by (Some r) = refl
+
+  back : (y : ObjNo) (l : List ObjNo) → Chain v y l → Chain w y l
+  back y l c = subst (λ link. Climbs link y l) parents c
+
+  tree : IsTree v
+  tree = record {
+    numbers = λ y o. wf.tree.numbers y (sym (objects y) ∙ o);
+    chains = λ y o. let c = wf.tree.chains y (sym (objects y) ∙ o) in (c.0, subst (λ link. Climbs link y c.0) (sym parents) c.1);
+    places = λ y o. let c = wf.tree.places y (sym (objects y) ∙ o) in (c.0, subst (λ link. Climbs link y c.0) (sym locations) c.1);
+  }
+
+  -- ---- what is owed
+
+  names_now : (y : ObjNo) → names_of v y ≡ (if same_object x y then map (renames old new) (names_of w y) else names_of w y)
+  names_now y = by (w.object y)
+    where
+      alone : (b : Bool) → [] ≡ (if b then map (renames old new) [] else [])
+      alone true = refl
+      alone false = refl
+
+      by : (o : Option Record) → unwrap_or (option_map (λ r. r.defines) (option_map (new_record y) o)) [] ≡ (if same_object x y then map (renames old new) (unwrap_or (option_map (λ r. r.defines) o) []) else unwrap_or (option_map (λ r. r.defines) o) [])
+      by None = alone (same_object x y)
+      by (Some r) = refl
+
+  own_distinct : IsDistinct (λ a b. same_text (folded a) (folded b)) (names_of w x)
+  own_distinct = first (chain w x) (Chain-chain w wf.tree x xo) (wf.names x (chain w x) (Chain-chain w wf.tree x xo))
+    where
+      first : (l : List ObjNo) → Chain w x l → NamesDiffer (owed_by w l) → IsDistinct (λ a b. same_text (folded a) (folded b)) (names_of w x)
+      first [] c d = absurd (both_ways (is_object w nothing) (nothing_is_no_object w wf.tree) (ap (is_object w) (sym c) ∙ xo))
+      first (z ∷ l) c d =
+          distinct_map (λ (a b : Pair). same_text (folded a.1) (folded b.1)) (λ n. (x, n)) (names_of w x)
+          (pairs_left (defined_by w x) (owed_by w l) (subst (λ u. NamesDiffer (defined_by w u ++ owed_by w l)) (sym c.0) d))
+
+  at : Place old new (names_of w x) (map (renames old new) (names_of w x))
+  at = place old new (names_of w x) (listed_name x old (names_of w x) mine) own_distinct
+
+  abbrev pairs : List Name → List Pair
+  pairs l = map {B = Pair} (λ n. (x, n)) l
+
+  defined_was : defined_by w x ≡ pairs at.before ++ ((x, old) ∷ pairs at.after)
+  defined_was = ap pairs at.was ∙ map-mid x at.before at.after old
+
+  defined_here : defined_by v x ≡ pairs at.before ++ ((x, new) ∷ pairs at.after)
+  defined_here = ap pairs (names_now x ∙ ap (λ b. if b then map (renames old new) (names_of w x) else names_of w x) ((same_object-Decides x x).1 refl) ∙ at.now) ∙ map-mid x at.before at.after new
+
+  defined_other : (y : ObjNo) → same_object x y ≡ false → defined_by v y ≡ defined_by w y
+  defined_other y e = ap (map {B = Pair} (λ n. (y, n))) (names_now y ∙ ap (λ b. if b then map (renames old new) (names_of w y) else names_of w y) e)
+
+  owed_beside : (l : List ObjNo) → is_among x l ≡ false → owed_by v l ≡ owed_by w l
+  owed_beside [] h = refl
+  owed_beside (z ∷ l) h =
+      let parts = or_parts (same_object x z) (is_among x l) h in
+      λ i. defined_other z parts.0 i ++ owed_beside l parts.1 i
+
+  put_in : (n : Name) (d : List Pair) (m : List Pair) → d ≡ pairs at.before ++ ((x, n) ∷ pairs at.after) → Inserted (x, n) (pairs at.before ++ (pairs at.after ++ m)) (d ++ m)
+  put_in n d m e = record {
+    before = pairs at.before;
+    after = pairs at.after ++ m;
+    less = refl;
+    more = ap (λ k. k ++ m) e ∙ append_assoc (pairs at.before) ((x, n) ∷ pairs at.after) m;
+  }
+
+  replaced : (y : ObjNo) (l : List ObjNo) → Chain w y l → is_among x l ≡ true → Replaced (x, old) (x, new) (owed_by w l) (owed_by v l)
+  replaced y [] c h = absurd (false≢true h)
+  replaced y (z ∷ l) c h = by (same_object x z) refl h (replaced c.1 l c.3)
+    where
+      by : (b : Bool) → same_object x z ≡ b → (b || is_among x l) ≡ true → (is_among x l ≡ true → Replaced (x, old) (x, new) (owed_by w l) (owed_by v l)) → Replaced (x, old) (x, new) (owed_by w (z ∷ l)) (owed_by v (z ∷ l))
+      by false e k r =
+          let here = r k in
+          record {
+            rest = defined_by w z ++ here.rest;
+            had = further (x, old) (defined_by w z) here.rest (owed_by w l) here.had;
+            has = subst (λ d. Inserted (x, new) (defined_by w z ++ here.rest) (d ++ owed_by v l)) (sym (defined_other z e)) (further (x, new) (defined_by w z) here.rest (owed_by v l) here.has);
+          }
+      by true e k r =
+          let own : x ≡ z = (same_object-Decides x z).0 e in
+          let once : is_among x l ≡ false = subst (λ u. is_among u l ≡ false) (c.0 ∙ sym own) (Climbs-once (parent_of w) (no_parent w wf.tree) l y z c) in
+          subst (λ u. Replaced (x, old) (x, new) (defined_by w u ++ owed_by w l) (defined_by v u ++ owed_by v l)) own
+          (subst (λ d. Replaced (x, old) (x, new) (defined_by w x ++ owed_by w l) (defined_by v x ++ d)) (sym (owed_beside l once))
+          (record {
+            rest = pairs at.before ++ (pairs at.after ++ owed_by w l);
+            had = put_in old (defined_by w x) (owed_by w l) defined_was;
+            has = put_in new (defined_by v x) (owed_by w l) defined_here;
+          }))
+
+  names : (y : ObjNo) (l : List ObjNo) → Chain v y l → NamesDiffer (owed_by v l)
+  names y l c = by (is_among x l) refl
+    where
+      by : (b : Bool) → is_among x l ≡ b → NamesDiffer (owed_by v l)
+      by false e = subst NamesDiffer (sym (owed_beside l e)) (wf.names y l (back y l c))
+      by true e = differ_now (x, old) (x, new) (owed_by w l) (owed_by v l) (replaced y l (back y l c) e) (wf.names y l (back y l c)) (none_of_name y l (back y l c) e)
+
+  -- ---- the slots
+
+  slot_now : (y : ObjNo) (n : Name) (r : Record) → w.object y ≡ Some r → slot_of v y n ≡ (new_record y r).slot n
+  slot_now y n r e = ap (λ o. option_and_then (λ (k : Record). k.slot n) (option_map (new_record y) o)) e
+
+  some_record : (o : Option Record) → is_some o ≡ true → (r : Record) × (o ≡ Some r)
+  some_record None e = absurd (false≢true e)
+  some_record (Some r) e = (r, refl)
+
+  abbrev moved_slot : Bool → (Name → Option Slot) → Name → Option Slot
+  moved_slot b slots n = if b then (if same_text (folded new) n then slots (folded old) else (if same_text (folded old) n then None else slots n)) else slots n
+
+  abbrev whose : Option Slot → Option ObjNo
+  whose o = option_map (λ (k : Slot). k.definer) o
+
+  abbrev by_whom : Option Pair → Option ObjNo
+  by_whom o = option_map (λ (p : Pair). p.0) o
+
+  module _ (y : ObjNo) (l : List ObjNo) (c : Chain w y l) (u : is_among x l ≡ true) where
+    abbrev at_l : Replaced (x, old) (x, new) (owed_by w l) (owed_by v l)
+    at_l = replaced y l c u
+
+    abbrev d : NamesDiffer (owed_by w l)
+    d = wf.names y l c
+
+    was_named : (n : Name) → pair_named (owed_by w l) n ≡ (if same_text (folded old) n then Some (x, old) else pair_named at_l.rest n)
+    was_named n = named_old (x, old) (x, new) (owed_by w l) (owed_by v l) at_l d (none_of_name y l c u) n
+
+    is_named : (n : Name) → pair_named (owed_by v l) n ≡ (if same_text (folded new) n then Some (x, new) else pair_named at_l.rest n)
+    is_named n = named_now (x, old) (x, new) (owed_by w l) (owed_by v l) at_l d (none_of_name y l c u) n
+
+    under_slots : (slots : Name → Option Slot) → ((n : Name) → whose (slots n) ≡ by_whom (pair_named (owed_by w l) n)) → (n : Name) → whose (moved_slot true slots n) ≡ by_whom (pair_named (owed_by v l) n)
+    under_slots slots was n = by (same_text (folded new) n) (same_text (folded old) n) refl ∙ ap by_whom (sym (is_named n))
+      where
+        by : (a b : Bool) → same_text (folded old) n ≡ b → whose (if a then slots (folded old) else (if b then None else slots n)) ≡ by_whom (if a then Some (x, new) else pair_named at_l.rest n)
+        by true b e =
+            was (folded old) ∙ ap by_whom (was_named (folded old)) ∙ ap (λ k. by_whom (if k then Some (x, old) else pair_named at_l.rest (folded old))) ((same_text-Decides (folded old) (folded old)).1 refl)
+        by false true e = ap by_whom (sym (ap (pair_named at_l.rest) (sym ((same_text-Decides (folded old) n).0 e)) ∙ none_old (x, old) (x, new) (owed_by w l) (owed_by v l) at_l d))
+        by false false e = was n ∙ ap by_whom (was_named n) ∙ ap (λ k. by_whom (if k then Some (x, old) else pair_named at_l.rest n)) e
+
+  slots : (y : ObjNo) (l : List ObjNo) (n : Name) → is_object v y ≡ true → Chain v y l → whose (slot_of v y n) ≡ by_whom (pair_named (owed_by v l) n)
+  slots y l n o c =
+      let yo : is_object w y ≡ true = sym (objects y) ∙ o in
+      let r = some_record (w.object y) yo in
+      let was : (k : Name) → whose (r.0.slot k) ≡ by_whom (pair_named (owed_by w l) k) = λ k. ap (λ o. whose (option_and_then (λ (z : Record). z.slot k) o)) (sym r.1) ∙ wf.slots y l k yo (back y l c) in
+      ap whose (slot_now y n r.0 r.1) ∙ ap (λ b. whose (moved_slot b r.0.slot n)) (ap (is_among x) (chain_is w wf.tree y l (back y l c))) ∙ by r.0.slot was (is_among x l) refl
+    where
+      by : (slots : Name → Option Slot) → ((k : Name) → whose (slots k) ≡ by_whom (pair_named (owed_by w l) k)) → (b : Bool) → is_among x l ≡ b → whose (moved_slot b slots n) ≡ by_whom (pair_named (owed_by v l) n)
+      by slots was false e = was n ∙ ap (λ k. by_whom (pair_named k n)) (sym (owed_beside l e))
+      by slots was true e = under_slots y l (back y l c) e slots was n
+
+  set : (y : ObjNo) (n : Name) (k : Slot) → slot_of v y n ≡ Some k → k.definer ≡ y → k.state ≢ Clear
+  set y n k e d = by (w.object y) refl e
+    where
+      was : (m : Name) (r : Record) → w.object y ≡ Some r → r.slot m ≡ Some k → k.state ≢ Clear
+      was m r g h = wf.set y m k (ap (option_and_then (λ (z : Record). z.slot m)) g ∙ h) d
+
+      test : (r : Record) → w.object y ≡ Some r → (a b c : Bool) → (if a then (if b then r.slot (folded old) else (if c then None else r.slot n)) else r.slot n) ≡ Some k → k.state ≢ Clear
+      test r g false b c h = was n r g h
+      test r g true true c h = was (folded old) r g h
+      test r g true false true h = absurd (none-some k h)
+      test r g true false false h = was n r g h
+
+      by : (o : Option Record) → w.object y ≡ o → option_and_then (λ (z : Record). z.slot n) (option_map (new_record y) o) ≡ Some k → k.state ≢ Clear
+      by None g h = absurd (none-some k h)
+      by (Some r) g h = test r g (is_among x (chain w y)) (same_text (folded new) n) (same_text (folded old) n) h
+
+  fit : (y : ObjNo) (n : Name) (k : Slot) → slot_of v y n ≡ Some k → slot_fits k ≡ true
+  fit y n k e = by (w.object y) refl e
+    where
+      was : (m : Name) (r : Record) → w.object y ≡ Some r → r.slot m ≡ Some k → slot_fits k ≡ true
+      was m r g h = wf.fit y m k (ap (option_and_then (λ (z : Record). z.slot m)) g ∙ h)
+
+      test : (r : Record) → w.object y ≡ Some r → (a b c : Bool) → (if a then (if b then r.slot (folded old) else (if c then None else r.slot n)) else r.slot n) ≡ Some k → slot_fits k ≡ true
+      test r g false b c h = was n r g h
+      test r g true true c h = was (folded old) r g h
+      test r g true false true h = absurd (none-some k h)
+      test r g true false false h = was n r g h
+
+      by : (o : Option Record) → w.object y ≡ o → option_and_then (λ (z : Record). z.slot n) (option_map (new_record y) o) ≡ Some k → slot_fits k ≡ true
+      by None g h = absurd (none-some k h)
+      by (Some r) g h = test r g (is_among x (chain w y)) (same_text (folded new) n) (same_text (folded old) n) h
+
+  -- ---- limits
+
+  module _ (good_name : is_property_name new ≡ true) where
+    bare : (o : Option Record) → unwrap_or (option_map (λ r. r.defines) (option_map (with_slots (λ n. None)) o)) [] ≡ unwrap_or (option_map (λ r. r.defines) o) []
+    bare None = refl
+    bare (Some r) = refl
+
+    all_names : (y : ObjNo) → list_all is_property_name (names_of (without_slots v) y) ≡ true
+    all_names y = ap (list_all is_property_name) (bare (v.object y) ∙ names_now y) ∙ by (same_object x y)
+      where
+        before : list_all is_property_name (names_of w y) ≡ true
+        before = ap (list_all is_property_name) (sym (bare (w.object y))) ∙ wf.limits.names y
+
+        each : (l : List Name) → list_all is_property_name l ≡ true → list_all is_property_name (map (renames old new) l) ≡ true
+        each [] h = h
+        each (n ∷ l) h = let parts = and_parts (is_property_name n) (list_all is_property_name l) h in one (same_text (folded n) (folded old)) parts.0 (each l parts.1)
+          where
+            one : (b : Bool) → is_property_name n ≡ true → list_all is_property_name (map (renames old new) l) ≡ true → (is_property_name (if b then new else n) && list_all is_property_name (map (renames old new) l)) ≡ true
+            one true k r = λ i. good_name i && r i
+            one false k r = λ i. k i && r i
+
+        by : (b : Bool) → list_all is_property_name (if b then map (renames old new) (names_of w y) else names_of w y) ≡ true
+        by false = before
+        by true = each (names_of w y) before
+
+    -- what reads neither slots nor names is as it was
+    unread : {A : Type 0} (g : Option Record → A) → ((r : Record) (y : ObjNo) → g (Some (with_slots (λ n. None) (new_record y r))) ≡ g (Some (with_slots (λ n. None) r))) → (y : ObjNo) → g (option_map (with_slots (λ n. None)) (v.object y)) ≡ g (option_map (with_slots (λ n. None)) (w.object y))
+    unread g e y = by (w.object y)
+      where
+        by : (o : Option Record) → g (option_map (with_slots (λ n. None)) (option_map (new_record y) o)) ≡ g (option_map (with_slots (λ n. None)) o)
+        by None = refl
+        by (Some r) = e r y
+
+    pub IsWellFormed-renamed : IsWellFormed v
+    IsWellFormed-renamed = record {
+      tree = tree;
+      names = names;
+      slots = slots;
+      set = set;
+      fit = fit;
+      limits = record {
+        top = wf.limits.top;
+        props = wf.limits.props;
+        verbs = wf.limits.verbs;
+        names = all_names;
+        directories = λ y. unread (λ o. list_all verb_fits (unwrap_or (option_map (λ r. r.verbs) o) [])) (λ r y. refl) y ∙ wf.limits.directories y;
+        rows = λ y. unread (λ o. unwrap_or (option_map row_fits (option_map (λ r. r.row) o)) true) (λ r y. refl) y ∙ wf.limits.rows y;
+      };
+    }

@@ -1,0 +1,245 @@
+-- A property taken from a well formed world.
+use Rattle.std.proofs.Common.{◌≡◌, ◌≤◌, Bool, true, false, cond, ◌||◌, Option, None, Some, List, [], ◌∷◌, ◌++◌, map, length, refl, sym, ap, ◌∙◌, subst}
+use Rattle.std.specs.Prelude.{◌&&◌, not, is_some, unwrap_or, if◌then◌else◌}
+use Rattle.std.specs.Option.{option_map, option_and_then}
+use Rattle.std.specs.List.{filter, list_any, list_all, IsDistinct, AllByRecursion}
+use Rattle.std.proofs.lemmas.Bool.{both_ways, or_right, and_parts}
+use Rattle.std.proofs.lemmas.Option.{none-some, same_Some}
+use Rattle.moo_value.specs.declared.value.ObjNo.{ObjNo}
+use Rattle.moo_world.specs.Changes.{undefined}
+use Rattle.moo_world.specs.Objects.{Name, Pair, nothing, same_object, same_text, same_pair, folded, same_object-Decides, same_text-Decides}
+use Rattle.moo_world.specs.World.{World, Record, Slot, IsTree, IsWellFormed, Climbs, Chain, NamesDiffer, is_object, parent_of, location_of, chain, climb, numbers_to, names_of, defined_by, owed_by, owes, owner_of, pair_named, slot_of, slot_for, fresh, with_record, with_slots, without_slots, is_property_name, verb_fits, row_fits}
+use Rattle.moo_world.proofs.Inheritance.Keeping.{MayBeRebuilt, IsWellFormed-rebuilt}
+use Rattle.moo_world.proofs.Inheritance.Owed.{named_owed, named_so, none_named}
+use Rattle.moo_world.proofs.Inheritance.Rebuilding.{slot_of-rebuilt}
+use Rattle.moo_world.proofs.Inheritance.Recycling.{own_owed}
+use Rattle.moo_world.proofs.Ancestry.Trees.{Chain-chain}
+
+-- ---- lists
+
+filter-append : {A : Type 0} (test : A → Bool) (l m : List A) → filter test (l ++ m) ≡ filter test l ++ filter test m
+filter-append test [] m = refl
+filter-append test (a ∷ l) m = by (test a) (filter-append test l m)
+  where
+    by : (b : Bool) → filter test (l ++ m) ≡ filter test l ++ filter test m → cond b (a ∷ filter test (l ++ m)) (filter test (l ++ m)) ≡ cond b (a ∷ filter test l) (filter test l) ++ filter test m
+    by true r = ap (λ k. a ∷ k) r
+    by false r = r
+
+all_of_filter : {A : Type 0} (P : A → Type 0) (test : A → Bool) (l : List A) → AllByRecursion P l → AllByRecursion P (filter test l)
+all_of_filter P test [] h = tt
+all_of_filter P test (a ∷ l) h = by (test a) (all_of_filter P test l h.1)
+  where
+    by : (b : Bool) → AllByRecursion P (filter test l) → AllByRecursion P (cond b (a ∷ filter test l) (filter test l))
+    by true r = (h.0, r)
+    by false r = r
+
+any_of_filter : {A : Type 0} (t test : A → Bool) (l : List A) → list_any t (filter test l) ≡ true → list_any t l ≡ true
+any_of_filter t test [] h = h
+any_of_filter t test (a ∷ l) h = by (test a) h (any_of_filter t test l)
+  where
+    by : (b : Bool) → list_any t (cond b (a ∷ filter test l) (filter test l)) ≡ true → (list_any t (filter test l) ≡ true → list_any t l ≡ true) → (t a || list_any t l) ≡ true
+    by false k r = or_right (t a) (list_any t l) (r k)
+    by true k r = both (t a) k
+      where
+        both : (c : Bool) → (c || list_any t (filter test l)) ≡ true → (c || list_any t l) ≡ true
+        both true e = refl
+        both false e = r e
+
+fewer_differ : (test : Pair → Bool) (l : List Pair) → NamesDiffer l → NamesDiffer (filter test l)
+unfolding IsDistinct
+fewer_differ test [] d = d
+fewer_differ test (p ∷ l) d = by (test p) (fewer_differ test l d.1)
+  where
+    by : (b : Bool) → NamesDiffer (filter test l) → NamesDiffer (cond b (p ∷ filter test l) (filter test l))
+    by true r = (all_of_filter (λ y. same_text (folded p.1) (folded y.1) ≡ false) test l d.0, r)
+    by false r = r
+
+abbrev pub kept_pair : (Pair → Bool) → Option Pair → Option Pair
+kept_pair test None = None
+kept_pair test (Some p) = if test p then Some p else None
+
+none_of_filter : (test : Pair → Bool) (n : Name) (l : List Pair) → pair_named l n ≡ None → pair_named (filter test l) n ≡ None
+none_of_filter test n [] e = refl
+none_of_filter test n (p ∷ l) e = by (same_text (folded p.1) n) refl e (test p) (none_of_filter test n l)
+  where
+    by : (b : Bool) → same_text (folded p.1) n ≡ b → cond b (Some p) (pair_named l n) ≡ None → (c : Bool) → (pair_named l n ≡ None → pair_named (filter test l) n ≡ None) → pair_named (cond c (p ∷ filter test l) (filter test l)) n ≡ None
+    by true f g c r = absurd (none-some p (sym g))
+    by false f g true r = ap (λ b. cond b (Some p) (pair_named (filter test l) n)) f ∙ r g
+    by false f g false r = r g
+
+named_in_filter : (test : Pair → Bool) (n : Name) (l : List Pair) → NamesDiffer l → pair_named (filter test l) n ≡ kept_pair test (pair_named l n)
+unfolding IsDistinct
+named_in_filter test n [] d = refl
+named_in_filter test n (p ∷ l) d = by (test p) refl (same_text (folded p.1) n) refl (named_in_filter test n l d.1)
+  where
+    by : (c : Bool) → test p ≡ c → (b : Bool) → same_text (folded p.1) n ≡ b → pair_named (filter test l) n ≡ kept_pair test (pair_named l n) → pair_named (cond c (p ∷ filter test l) (filter test l)) n ≡ kept_pair test (cond b (Some p) (pair_named l n))
+    by true f true g r = ap (λ b. cond b (Some p) (pair_named (filter test l) n)) g ∙ sym (ap (λ b. if b then Some p else None) f)
+    by true f false g r = ap (λ b. cond b (Some p) (pair_named (filter test l) n)) g ∙ r
+    by false f true g r = none_of_filter test n l (none_named p l n d.0 ((same_text-Decides (folded p.1) n).0 g)) ∙ sym (ap (λ b. if b then Some p else None) f)
+    by false f false g r = r
+
+module _ (w : World) (wf : IsWellFormed w) (x : ObjNo) (name : Name) where
+  abbrev pub s : World
+  s = with_record w x (λ r. record r { defines = filter (λ m. not (same_text (folded m) (folded name))) r.defines })
+
+  -- all but the property that goes
+  abbrev pub stays : Pair → Bool
+  stays p = not (same_object p.0 x && same_text (folded p.1) (folded name))
+
+  abbrev less : ObjNo → Record → Record
+  less y r = if same_object x y then record r { defines = filter (λ m. not (same_text (folded m) (folded name))) r.defines } else r
+
+  kept : {A : Type 0} (g : Record → A) → ((r : Record) → g (record r { defines = filter (λ m. not (same_text (folded m) (folded name))) r.defines }) ≡ g r) → (y : ObjNo) → option_map g (s.object y) ≡ option_map g (w.object y)
+  kept g e y = by (same_object x y) (w.object y)
+    where
+      by : (b : Bool) (o : Option Record) → option_map g (option_map (λ r. if b then record r { defines = filter (λ m. not (same_text (folded m) (folded name))) r.defines } else r) o) ≡ option_map g o
+      by b None = refl
+      by true (Some r) = ap Some (e r)
+      by false (Some r) = refl
+
+  parents : parent_of s ≡ parent_of w
+  parents = λ i y. kept (λ r. r.row.parent) (λ r. refl) y i
+
+  locations : location_of s ≡ location_of w
+  locations = λ i y. kept (λ r. r.row.location) (λ r. refl) y i
+
+  pub objects : (y : ObjNo) → is_object s y ≡ is_object w y
+  objects y = by (w.object y)
+    where
+      by : (o : Option Record) → is_some (option_map (less y) o) ≡ is_some o
+      by None = refl
+      by (Some r) = refl
+
+  same_chain : (y : ObjNo) → chain s y ≡ chain w y
+  unfolding chain
+  same_chain y = λ i. climb (numbers_to w.top) (parents i) y
+
+  tree : IsTree s
+  tree = record {
+    numbers = λ y o. wf.tree.numbers y (sym (objects y) ∙ o);
+    chains = λ y o. let c = wf.tree.chains y (sym (objects y) ∙ o) in (c.0, subst (λ link. Climbs link y c.0) (sym parents) c.1);
+    places = λ y o. let c = wf.tree.places y (sym (objects y) ∙ o) in (c.0, subst (λ link. Climbs link y c.0) (sym locations) c.1);
+  }
+
+  names_now : (y : ObjNo) → names_of s y ≡ (if same_object x y then filter (λ m. not (same_text (folded m) (folded name))) (names_of w y) else names_of w y)
+  names_now y = by (same_object x y) (w.object y)
+    where
+      by : (b : Bool) (o : Option Record) → unwrap_or (option_map (λ r. r.defines) (option_map (λ r. if b then record r { defines = filter (λ m. not (same_text (folded m) (folded name))) r.defines } else r) o)) [] ≡ (if b then filter (λ m. not (same_text (folded m) (folded name))) (unwrap_or (option_map (λ r. r.defines) o) []) else unwrap_or (option_map (λ r. r.defines) o) [])
+      by true None = refl
+      by false None = refl
+      by true (Some r) = refl
+      by false (Some r) = refl
+
+  turned : (a b : ObjNo) → same_object a b ≡ same_object b a
+  turned a b = by (same_object a b) refl (same_object b a) refl
+    where
+      by : (c : Bool) → same_object a b ≡ c → (d : Bool) → same_object b a ≡ d → c ≡ d
+      by true e true f = refl
+      by false e false f = refl
+      by true e false f = absurd (both_ways (same_object b a) f ((same_object-Decides b a).1 (sym ((same_object-Decides a b).0 e))))
+      by false e true f = absurd (both_ways (same_object a b) e ((same_object-Decides a b).1 (sym ((same_object-Decides b a).0 f))))
+
+  defined_now : (y : ObjNo) → defined_by s y ≡ filter stays (defined_by w y)
+  defined_now y = ap (map {B = Pair} (λ n. (y, n))) (names_now y) ∙ by (same_object x y) refl (names_of w y)
+    where
+      by : (b : Bool) → same_object x y ≡ b → (l : List Name) → map {B = Pair} (λ n. (y, n)) (if b then filter (λ m. not (same_text (folded m) (folded name))) l else l) ≡ filter stays (map {B = Pair} (λ n. (y, n)) l)
+      by true e [] = refl
+      by false e [] = refl
+      by true e (n ∷ l) =
+          one (same_text (folded n) (folded name)) (by true e l)
+          ∙ ap (λ b. cond (not (b && same_text (folded n) (folded name))) ((y, n) ∷ filter stays (map {B = Pair} (λ n. (y, n)) l)) (filter stays (map {B = Pair} (λ n. (y, n)) l))) (sym (sym (turned x y) ∙ e))
+        where
+          one : (c : Bool) → map {B = Pair} (λ n. (y, n)) (filter (λ m. not (same_text (folded m) (folded name))) l) ≡ filter stays (map {B = Pair} (λ n. (y, n)) l) → map {B = Pair} (λ n. (y, n)) (cond (not c) (n ∷ filter (λ m. not (same_text (folded m) (folded name))) l) (filter (λ m. not (same_text (folded m) (folded name))) l)) ≡ cond (not c) ((y, n) ∷ filter stays (map {B = Pair} (λ n. (y, n)) l)) (filter stays (map {B = Pair} (λ n. (y, n)) l))
+          one true r = r
+          one false r = ap (λ k. (y, n) ∷ k) r
+      by false e (n ∷ l) =
+          ap (λ k. (y, n) ∷ k) (by false e l)
+          ∙ ap (λ b. cond (not (b && same_text (folded n) (folded name))) ((y, n) ∷ filter stays (map {B = Pair} (λ n. (y, n)) l)) (filter stays (map {B = Pair} (λ n. (y, n)) l))) (sym (sym (turned x y) ∙ e))
+
+  owed_now : (l : List ObjNo) → owed_by s l ≡ filter stays (owed_by w l)
+  owed_now [] = refl
+  owed_now (z ∷ l) = (λ i. defined_now z i ++ owed_now l i) ∙ sym (filter-append stays (defined_by w z) (owed_by w l))
+
+  back : (y : ObjNo) (l : List ObjNo) → Chain s y l → Chain w y l
+  back y l c = subst (λ link. Climbs link y l) parents c
+
+  was_owed : (y : ObjNo) (n : Name) (p : Pair) → pair_named (owed_by s (chain s y)) n ≡ Some p → owes w y p ≡ true
+  was_owed y n p e = any_of_filter (same_pair p) stays (owed_by w (chain w y)) (ap (list_any (same_pair p)) (sym (ap (owed_by s) (same_chain y) ∙ owed_now (chain w y))) ∙ named_owed s (chain s y) n p e)
+
+  read : {A : Type 0} (g : Option Record → A) → ((r : Record) → g (Some (with_slots (λ n. None) (record r { defines = filter (λ m. not (same_text (folded m) (folded name))) r.defines }))) ≡ g (Some (with_slots (λ n. None) r))) → (y : ObjNo) → g (option_map (with_slots (λ n. None)) (s.object y)) ≡ g (option_map (with_slots (λ n. None)) (w.object y))
+  read g e y = by (same_object x y) (w.object y)
+    where
+      by : (b : Bool) (o : Option Record) → g (option_map (with_slots (λ n. None)) (option_map (λ r. if b then record r { defines = filter (λ m. not (same_text (folded m) (folded name))) r.defines } else r) o)) ≡ g (option_map (with_slots (λ n. None)) o)
+      by b None = refl
+      by true (Some r) = e r
+      by false (Some r) = refl
+
+  all_names : (y : ObjNo) → list_all is_property_name (names_of (without_slots s) y) ≡ true
+  all_names y = by (same_object x y) (w.object y) (wf.limits.names y)
+    where
+      fewer : (l : List Name) → list_all is_property_name l ≡ true → list_all is_property_name (filter (λ m. not (same_text (folded m) (folded name))) l) ≡ true
+      fewer [] h = h
+      fewer (n ∷ l) h = one (not (same_text (folded n) (folded name))) (and_parts (is_property_name n) (list_all is_property_name l) h) (fewer l)
+        where
+          one : (c : Bool) → (is_property_name n ≡ true) × (list_all is_property_name l ≡ true) → (list_all is_property_name l ≡ true → list_all is_property_name (filter (λ m. not (same_text (folded m) (folded name))) l) ≡ true) → list_all is_property_name (cond c (n ∷ filter (λ m. not (same_text (folded m) (folded name))) l) (filter (λ m. not (same_text (folded m) (folded name))) l)) ≡ true
+          one true k r = λ i. k.0 i && r k.1 i
+          one false k r = r k.1
+
+      by : (b : Bool) (o : Option Record) → list_all is_property_name (unwrap_or (option_map (λ r. r.defines) (option_map (with_slots (λ n. None)) o)) []) ≡ true → list_all is_property_name (unwrap_or (option_map (λ r. r.defines) (option_map (with_slots (λ n. None)) (option_map (λ r. if b then record r { defines = filter (λ m. not (same_text (folded m) (folded name))) r.defines } else r) o))) []) ≡ true
+      by b None h = h
+      by true (Some r) h = fewer r.defines h
+      by false (Some r) h = h
+
+  may : MayBeRebuilt w s nothing
+  may = record {
+    tree = tree;
+    names = λ y l c. subst NamesDiffer (sym (owed_now l)) (fewer_differ stays (owed_by w l) (wf.names y l (back y l c)));
+    new = λ y n p o e h. absurd (both_ways (owes w y p) h (was_owed y n p e));
+    own = λ y p o h. own_owed w wf.tree y p (sym (objects y) ∙ o) (any_of_filter (same_pair p) stays (defined_by w y) (ap (list_any (same_pair p)) (sym (defined_now y)) ∙ h));
+    limits = record {
+      top = wf.limits.top;
+      props = wf.limits.props;
+      verbs = wf.limits.verbs;
+      names = all_names;
+      directories = λ y. read (λ o. list_all verb_fits (unwrap_or (option_map (λ r. r.verbs) o) [])) (λ r. refl) y ∙ wf.limits.directories y;
+      rows = λ y. read (λ o. unwrap_or (option_map row_fits (option_map (λ r. r.row) o)) true) (λ r. refl) y ∙ wf.limits.rows y;
+    };
+  }
+
+  pub IsWellFormed-undefined : IsWellFormed (undefined w x name)
+  IsWellFormed-undefined = IsWellFormed-rebuilt w s nothing wf may
+
+  -- ---- the slots
+
+  -- the slot, unless it is of the property that goes
+  abbrev pub kept_slot : Name → Option Slot → Option Slot
+  kept_slot n None = None
+  kept_slot n (Some z) = if same_object z.definer x && same_text n (folded name) then None else Some z
+
+  pub undefined_law : (y : ObjNo) (n : Name) → is_object w y ≡ true → slot_of (undefined w x name) y n ≡ kept_slot n (slot_of w y n)
+  undefined_law y n o =
+      slot_of-rebuilt w s nothing y n
+      ∙ ap (slot_for w s nothing y n) (ap (λ k. pair_named k n) (ap (owed_by s) (same_chain y) ∙ owed_now (chain w y)) ∙ named_in_filter stays n (owed_by w (chain w y)) (wf.names y (chain w y) (Chain-chain w wf.tree y o)))
+      ∙ by (pair_named (owed_by w (chain w y)) n) refl (slot_of w y n) refl (wf.slots y (chain w y) n o (Chain-chain w wf.tree y o))
+    where
+      by : (a : Option Pair) → pair_named (owed_by w (chain w y)) n ≡ a → (b : Option Slot) → slot_of w y n ≡ b → option_map (λ k. k.definer) (slot_of w y n) ≡ option_map (λ p. p.0) (pair_named (owed_by w (chain w y)) n) → slot_for w s nothing y n (kept_pair stays a) ≡ kept_slot n b
+      by None e None f h = refl
+      by None e (Some z) f h = absurd (none-some z.definer (sym (sym (ap (option_map (λ (k : Slot). k.definer)) f) ∙ h ∙ ap (option_map (λ (p : Pair). p.0)) e)))
+      by (Some p) e None f h = absurd (none-some p.0 (sym (ap (option_map (λ (k : Slot). k.definer)) f) ∙ h ∙ ap (option_map (λ (p : Pair). p.0)) e))
+      by (Some p) e (Some z) f h = tested (same_object p.0 x && same_text (folded p.1) (folded name)) refl
+        where
+          mine : z.definer ≡ p.0
+          mine = same_Some z.definer p.0 (sym (ap (option_map (λ (k : Slot). k.definer)) f) ∙ h ∙ ap (option_map (λ (p : Pair). p.0)) e)
+
+          called : folded p.1 ≡ n
+          called = named_so (owed_by w (chain w y)) n p e
+
+          alike : (same_object z.definer x && same_text n (folded name)) ≡ (same_object p.0 x && same_text (folded p.1) (folded name))
+          alike = λ i. same_object (mine i) x && same_text (sym called i) (folded name)
+
+          tested : (c : Bool) → (same_object p.0 x && same_text (folded p.1) (folded name)) ≡ c → slot_for w s nothing y n (if not (same_object p.0 x && same_text (folded p.1) (folded name)) then Some p else None) ≡ (if same_object z.definer x && same_text n (folded name) then None else Some z)
+          tested true g = ap (λ b. slot_for w s nothing y n (if not b then Some p else None)) g ∙ sym (ap (λ b. if b then None else Some z) (alike ∙ g))
+          tested false g =
+              ap (λ b. slot_for w s nothing y n (if not b then Some p else None)) g
+              ∙ ap (λ b. if b then slot_of w y n else option_map (fresh (owner_of s y)) (slot_of w nothing n)) (named_owed w (chain w y) n p e)
+              ∙ f ∙ sym (ap (λ b. if b then None else Some z) (alike ∙ g))

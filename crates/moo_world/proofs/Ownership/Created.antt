@@ -1,0 +1,114 @@
+-- What stays of a world, and what is new, when an object is made.
+use Rattle.std.proofs.Common.{◌≡◌, Bool, true, false, ◌||◌, List, [], ◌∷◌, refl, sym, ◌∙◌, ap, ◌⊎◌, inl, inr, Option, Some, None, ℤ, pos, negsuc, FitsSigned, w32, arith}
+use Rattle.std.specs.Prelude.{◌+ℤ◌, ◌<ℤ◌, ◌≤ℤ◌, int_lt, is_some, unwrap_or, if◌then◌else◌}
+use Rattle.std.specs.Option.{option_map}
+use Rattle.std.proofs.lemmas.Bool.{or_cases}
+use Rattle.std.proofs.lemmas.Int.{ints}
+use Rattle.std.proofs.lemmas.Option.{none-some, same_Some}
+use Rattle.moo_value.specs.declared.value.ObjNo.{ObjNo}
+use Rattle.moo_world.specs.Arguments.{is_number}
+use Rattle.moo_world.specs.Creation.{born, next_object, with_object, created}
+use Rattle.moo_world.specs.Objects.{Name, Pair, nothing, same_object, same_object-Decides}
+use Rattle.moo_world.specs.World.{World, Record, Slot, IsWellFormed, SameButSlots, Chain, is_object, owner_of, chain, climb, numbers_to, slot_of, owed_by, pair_named, slot_for, fresh, read_in, read_along, read_of}
+use Rattle.moo_world.proofs.Inheritance.Creating.{IsWellFormed-created, chain_other, owed_still}
+use Rattle.moo_world.proofs.Inheritance.Owed.{named_owed}
+use Rattle.moo_world.proofs.Form.Ranges.{range_of}
+use Rattle.moo_world.proofs.Inheritance.Rebuilding.{SameButSlots-rebuilt, objects_same, owners_same, parents_same, slot_of-rebuilt}
+use Rattle.moo_world.proofs.Ancestry.Trees.{Chain-chain, linked}
+
+-- worlds that differ in slots alone have the same chains
+pub chains_same : (a b : World) → SameButSlots a b → (y : ObjNo) → chain a y ≡ chain b y
+unfolding chain
+chains_same a b same y = λ i. climb (numbers_to (same i).top) (parents_same a b same i) y
+
+module _ (w : World) (x q owner : ObjNo) (wf : IsWellFormed w) (is_next : next_object w ≡ Some x) (parent : (is_object w q || same_object nothing q) ≡ true) where
+  abbrev s : World
+  s = with_object w x (born q owner)
+
+  same : SameButSlots (created w x q owner) s
+  same = SameButSlots-rebuilt w s q
+
+  -- ---- what the number says
+
+  next_is : (w.top <ℤ pos 2147483647) × (x.0 ≡ w.top +ℤ pos 1)
+  next_is = by (int_lt w.top (pos 2147483647)) refl is_next
+    where
+      by : (b : Bool) → int_lt w.top (pos 2147483647) ≡ b → (if b then Some (record { 0 = w.top +ℤ pos 1 }) else None) ≡ Some x → (w.top <ℤ pos 2147483647) × (x.0 ≡ w.top +ℤ pos 1)
+      by true e h = (grind (arith, ints), ap (λ (y : ObjNo). y.0) (sym (same_Some (record { 0 = w.top +ℤ pos 1 }) x h)))
+      by false e h = absurd (none-some x h)
+
+  pub free : is_object w x ≡ false
+  free = by (is_object w x) refl
+    where
+      by : (b : Bool) → is_object w x ≡ b → b ≡ false
+      by false e = refl
+      by true e = let h = wf.tree.numbers x e in let n = next_is.1 in absurd (omega (arith, ints, h.1, n))
+
+  parent_is : (is_object w q ≡ true) ⊎ (q ≡ nothing)
+  parent_is = elim (or_cases _ _ parent) [ inl e ↦ inl e | inr e ↦ inr (sym ((same_object-Decides nothing q).0 e)) ]
+
+  -- the number of the new object has 32 bits
+  pub new_numbered : is_number x ≡ true
+  new_numbered = range_of x.0 (within x.0 w.top wf.limits.top.0 next_is.0 next_is.1)
+    where
+      within : (n top : ℤ) → negsuc 0 ≤ℤ top → top <ℤ pos 2147483647 → n ≡ top +ℤ pos 1 → FitsSigned w32 n
+      within n top a b c = grind (arith, ints)
+
+  pub formed : is_number owner ≡ true → IsWellFormed (created w x q owner)
+  formed = IsWellFormed-created w x q owner wf free next_is.1 next_is.0 parent_is
+
+  -- ---- objects and owners
+
+  pub objects_now : (y : ObjNo) → is_object (created w x q owner) y ≡ (same_object x y || is_object w y)
+  objects_now y = objects_same (created w x q owner) s same y ∙ by (same_object x y)
+    where
+      by : (b : Bool) → is_some (if b then Some (born q owner) else w.object y) ≡ (b || is_object w y)
+      by true = refl
+      by false = refl
+
+  pub owner_new : owner_of (created w x q owner) x ≡ owner
+  owner_new =
+      (λ i. owners_same (created w x q owner) s same i x)
+      ∙ ap (λ b. unwrap_or (option_map (λ (r : Record). r.row.owner) (if b then Some (born q owner) else w.object x)) nothing) ((same_object-Decides x x).1 refl)
+
+  not_new : (y : ObjNo) → is_object w y ≡ true → same_object x y ≡ false
+  not_new y o = by (same_object x y) refl
+    where
+      by : (b : Bool) → same_object x y ≡ b → b ≡ false
+      by false e = refl
+      by true e = absurd (none-some true (ap (λ b. if b then Some true else None) (sym free ∙ ap (is_object w) ((same_object-Decides x y).0 e) ∙ o)))
+
+  pub record_old : (y : ObjNo) → is_object w y ≡ true → s.object y ≡ w.object y
+  record_old y o = ap (λ b. if b then Some (born q owner) else w.object y) (not_new y o)
+
+  pub owner_old : (y : ObjNo) → is_object w y ≡ true → owner_of (created w x q owner) y ≡ owner_of w y
+  owner_old y o =
+      (λ i. owners_same (created w x q owner) s same i y)
+      ∙ ap (λ k. unwrap_or (option_map (λ (r : Record). r.row.owner) k) nothing) (record_old y o)
+
+  -- ---- slots, and what is read
+
+  pub slot_old : (y : ObjNo) (n : Name) → is_object w y ≡ true → slot_of (created w x q owner) y n ≡ slot_of w y n
+  slot_old y n o =
+      slot_of-rebuilt w s q y n
+      ∙ ap (slot_for w s q y n) (ap (λ k. pair_named k n) (owed_still w x q owner wf free next_is.1 next_is.0 parent_is (chain s y) ∙ ap (owed_by w) (chain_other w x q owner wf free next_is.1 next_is.0 parent_is y o)))
+      ∙ by (pair_named (owed_by w (chain w y)) n) refl
+    where
+      none : (v : Option Slot) → option_map (λ k. k.definer) v ≡ None → None ≡ v
+      none None h = refl
+      none (Some k) h = absurd (none-some k.definer (sym h))
+
+      by : (v : Option Pair) → pair_named (owed_by w (chain w y)) n ≡ v → slot_for w s q y n v ≡ slot_of w y n
+      by None e = none (slot_of w y n) (wf.slots y (chain w y) n o (Chain-chain w wf.tree y o) ∙ ap (option_map (λ p. p.0)) e)
+      by (Some p) e = ap (λ b. if b then slot_of w y n else option_map (fresh (owner_of s y)) (slot_of w q n)) (named_owed w (chain w y) n p e)
+
+  read_on : (n : Name) (l : List ObjNo) (y : ObjNo) → Chain w y l → read_along (created w x q owner) n l ≡ read_along w n l
+  read_on n [] y c = refl
+  read_on n (z ∷ l) y c =
+      let o : is_object w z ≡ true = ap (is_object w) (sym c.0) ∙ linked (w.object y) (λ r. r.row.parent) c.1 c.2 in
+      λ i. read_in (slot_old z n o i) (read_on n l c.1 c.3 i)
+
+  pub read_old : (y : ObjNo) (n : Name) → is_object w y ≡ true → read_of (created w x q owner) y n ≡ read_of w y n
+  read_old y n o =
+      ap (read_along (created w x q owner) n) (chains_same (created w x q owner) s same y ∙ chain_other w x q owner wf free next_is.1 next_is.0 parent_is y o)
+      ∙ read_on n (chain w y) y (Chain-chain w wf.tree y o)

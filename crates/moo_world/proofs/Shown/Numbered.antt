@@ -1,0 +1,101 @@
+-- Lists made from the numbers below a bound.
+use Rattle.std.proofs.Common.{◌≡◌, ℕ, zero, suc, ◌<◌, Bool, true, false, ◌||◌, Option, None, Some, List, [], ◌∷◌, ◌++◌, refl, sym, ap, ◌∙◌, subst, ◌⊎◌, inl, inr, arith}
+use Rattle.std.specs.Prelude.{slice_get}
+use Rattle.std.specs.List.{filter_map, cons_option, list_any, IsDistinct, AllByRecursion}
+use Rattle.std.proofs.lemmas.Bool.{false≢true, both_ways, or_right, cases_eq}
+use Rattle.std.proofs.lemmas.List.Elements.{filter_map-append}
+use Rattle.std.proofs.lemmas.Option.{none-some, same_Some}
+use Rattle.moo_world.specs.Rows.{numbers_below}
+use Rattle.moo_world.proofs.Inheritance.Owed.{any-append}
+
+first_append : {X : Type 0} (l m : List X) (v : X) → slice_get (l ++ m) 0 ≡ Some v → (slice_get l 0 ≡ Some v) ⊎ (slice_get m 0 ≡ Some v)
+first_append [] m v e = inr e
+first_append (x ∷ l) m v e = inl e
+
+pub no_first : {X : Type 0} (l : List X) → slice_get l 0 ≡ None → l ≡ []
+no_first [] e = refl
+no_first (x ∷ l) e = absurd (none-some x (sym e))
+
+module _ {X : Type 0} (h : ℕ → Option X) where
+  from_last : (n : ℕ) (v : X) → slice_get (filter_map h (n ∷ [])) 0 ≡ Some v → h n ≡ Some v
+  from_last n v e = by (h n) e
+    where
+      by : (o : Option X) → slice_get (cons_option o []) 0 ≡ Some v → o ≡ Some v
+      by None k = absurd (none-some v k)
+      by (Some u) k = k
+
+  -- the first value is that of a number
+  pub first_from : (n : ℕ) (v : X) → slice_get (filter_map h (numbers_below n)) 0 ≡ Some v → (k : ℕ) × (k < n) × (h k ≡ Some v)
+  first_from zero v e = absurd (none-some v e)
+  first_from (suc n) v e =
+      elim (first_append (filter_map h (numbers_below n)) (filter_map h (n ∷ [])) v (ap (λ l. slice_get l 0) (sym (filter_map-append h (numbers_below n) (n ∷ []))) ∙ e)) [
+        | inl k ↦ let r = first_from n v k in (r.0, omega (arith, r.1), r.2)
+        | inr k ↦ (n, omega arith, from_last n v k)
+      ]
+
+  -- where a number has a value a test that it passes finds one
+  pub any_from : (test : X → Bool) (n k : ℕ) (v : X) → k < n → h k ≡ Some v → test v ≡ true → list_any test (filter_map h (numbers_below n)) ≡ true
+  any_from test zero k v l e t = absurd (omega arith)
+  any_from test (suc n) k v l e t =
+      ap (list_any test) (filter_map-append h (numbers_below n) (n ∷ [])) ∙ any-append test (filter_map h (numbers_below n)) (filter_map h (n ∷ []))
+      ∙ by (cases_eq k n) (any_from test n k v)
+    where
+      left : (a b : Bool) → a ≡ true → (a || b) ≡ true
+      left true b g = refl
+      left false b g = absurd (false≢true g)
+
+      alone : (o : Option X) → o ≡ Some v → list_any test (cons_option o []) ≡ true
+      alone None g = absurd (none-some v g)
+      alone (Some u) g = left (test u) false (ap test (same_Some u v g) ∙ t)
+
+      by : (k ≡ n) ⊎ (k ≡ n → ⊥) → (k < n → h k ≡ Some v → test v ≡ true → list_any test (filter_map h (numbers_below n)) ≡ true) → (list_any test (filter_map h (numbers_below n)) || list_any test (filter_map h (n ∷ []))) ≡ true
+      by (inl g) r = or_right _ _ (alone (h n) (sym (ap h g) ∙ e))
+      by (inr g) r = left _ _ (r (omega arith) e t)
+
+  -- where there is no first value no number has one
+  pub none_from : (n k : ℕ) → slice_get (filter_map h (numbers_below n)) 0 ≡ None → k < n → h k ≡ None
+  none_from n k e l = by (h k) refl
+    where
+      by : (o : Option X) → h k ≡ o → o ≡ None
+      by None g = refl
+      by (Some v) g = absurd (false≢true (sym (ap (list_any (λ x. true)) (no_first (filter_map h (numbers_below n)) e)) ∙ any_from (λ x. true) n k v l g refl))
+
+  module _ (differ : X → X → Bool) where
+    pub left_distinct : (l m : List X) → IsDistinct differ (l ++ m) → IsDistinct differ l
+    unfolding IsDistinct
+    left_distinct [] m d = tt
+    left_distinct (x ∷ l) m d = (first l m d.0, left_distinct l m d.1)
+      where
+        first : (l m : List X) → AllByRecursion (λ y. differ x y ≡ false) (l ++ m) → AllByRecursion (λ y. differ x y ≡ false) l
+        first [] m a = tt
+        first (y ∷ l) m a = (a.0, first l m a.1)
+
+    last_differs : (test : X → Bool) (l : List X) (u v : X) → (test u ≡ true) → ((y : X) → test y ≡ true → differ y v ≡ true) → IsDistinct differ (l ++ v ∷ []) → list_any test l ≡ false
+    unfolding IsDistinct
+    last_differs test [] u v t s d = refl
+    last_differs test (x ∷ l) u v t s d = by (test x) refl (last_differs test l u v t s d.1)
+      where
+        at_end : (l : List X) → AllByRecursion (λ y. differ x y ≡ false) (l ++ v ∷ []) → differ x v ≡ false
+        at_end [] a = a.0
+        at_end (y ∷ l) a = at_end l a.1
+
+        by : (b : Bool) → test x ≡ b → list_any test l ≡ false → (b || list_any test l) ≡ false
+        by true g r = absurd (both_ways (differ x v) (at_end l d.0) (s x g))
+        by false g r = r
+
+    -- in a list without doubles two numbers with alike values are one: the later one is not the greater
+    pub no_later : (n i j : ℕ) (u v : X) → IsDistinct differ (filter_map h (numbers_below n)) → i < j → j < n → h i ≡ Some u → h j ≡ Some v → (test : X → Bool) → test u ≡ true → ((y : X) → test y ≡ true → differ y v ≡ true) → ⊥
+    no_later zero i j u v d l k e f test t s = omega arith
+    no_later (suc n) i j u v d l k e f test t s = by (cases_eq j n) (no_later n i j u v)
+      where
+        split : IsDistinct differ (filter_map h (numbers_below n) ++ filter_map h (n ∷ []))
+        split = subst (IsDistinct differ) (filter_map-append h (numbers_below n) (n ∷ [])) d
+
+        end : j ≡ n → filter_map h (n ∷ []) ≡ v ∷ []
+        end g = ap (λ o. cons_option o []) (sym (ap h g) ∙ f)
+
+        by : (j ≡ n) ⊎ (j ≡ n → ⊥) → (IsDistinct differ (filter_map h (numbers_below n)) → i < j → j < n → h i ≡ Some u → h j ≡ Some v → (test : X → Bool) → test u ≡ true → ((y : X) → test y ≡ true → differ y v ≡ true) → ⊥) → ⊥
+        by (inl g) r = both_ways (list_any test (filter_map h (numbers_below n)))
+            (last_differs test (filter_map h (numbers_below n)) u v t s (subst (λ m. IsDistinct differ (filter_map h (numbers_below n) ++ m)) (end g) split))
+            (any_from test n i u (omega arith) e t)
+        by (inr g) r = r (left_distinct (filter_map h (numbers_below n)) (filter_map h (n ∷ [])) split) l (omega arith) e f test t s

@@ -1,0 +1,158 @@
+-- Numbers that stay, over one call and over many.
+use Rattle.std.proofs.Common.{◌≡◌, ℕ, ◌+◌, ◌<◌, ◌≤◌, ◌⊎◌, inl, inr, Bool, true, false, cond, Option, Some, None, Ordering, List, [], ◌∷◌, refl, sym, ap, ◌∙◌, subst, arith}
+use Rattle.std.specs.Prelude.{is_some, if◌then◌else◌}
+use Rattle.std.specs.Cmp.{IsTotalOrder}
+use Rattle.std.specs.Ordering.{eq_by_cmp}
+use Rattle.std.specs.FinMap.{FinMap, get, insert, remove, get-insert, get-remove}
+use Rattle.std.proofs.lemmas.Map.Lookups.{CmpEqualImpliesEq}
+use Rattle.std.proofs.lemmas.Bool.{false≢true}
+use Rattle.std.proofs.lemmas.Option.{none-some, same_Some}
+use Rattle.moo_value.specs.declared.value.ObjNo.{ObjNo}
+use Rattle.moo_rows.specs.declared.row.PropId.{PropId}
+use Rattle.moo_rows.specs.declared.row.PropRow.{PropRow}
+use Rattle.moo_rows.specs.declared.row.VerbId.{VerbId}
+use Rattle.moo_rows.specs.declared.row.VerbRow.{VerbRow}
+use Rattle.moo_rows.specs.Exact.{prop_exact, verb_exact}
+use Rattle.moo_rows.specs.Maps.{Maps, prop_cmp, verb_cmp}
+use Rattle.moo_rows.proofs.Orders.{prop_total, verb_total}
+use Rattle.moo_world.specs.declared.call.Call.{Call}
+use Rattle.moo_world.specs.Between.{CallsLead, BatchesKeepNumbers}
+use Rattle.moo_world.specs.Numbers.{KeepsProps, props_stay, prop_added, prop_renamed, prop_removed, props_dropped, KeepsVerbs, verbs_stay, verb_added, verb_changed, verb_removed, verbs_dropped, KeepsNumbers, IsSameButSlots, NumbersStay, not_of}
+use Rattle.moo_world.specs.Objects.{same_object}
+use Rattle.moo_world.specs.Rows.{prop_id, verb_id}
+use Rattle.moo_world.proofs.Shown.MapLaws.{key-Decides}
+
+-- ---- one call
+
+pub as_high : (old new : ℕ) → new ≡ old → old ≤ new
+as_high old new e = omega (arith, e)
+
+pub one_higher : (old new : ℕ) → new ≡ old + 1 → old ≤ new
+one_higher old new e = omega (arith, e)
+
+pub numbers_same : (old new : Maps) → new.props ≡ old.props → new.verbs ≡ old.verbs → new.head.next_prop ≡ old.head.next_prop → new.head.next_verb ≡ old.head.next_verb → KeepsNumbers old new
+numbers_same old new props verbs p v = record { props = props_stay props; verbs = verbs_stay verbs; next_prop = omega (arith, p); next_verb = omega (arith, v) }
+
+pub slots_joined : (old mid new : Maps) → IsSameButSlots old mid → IsSameButSlots mid new → IsSameButSlots old new
+slots_joined old mid new e f = f ∙ ap (λ (m : Maps). record m { slots = new.slots }) e
+
+-- where before or after it slots alone change, the numbers are kept as well
+pub then_slots : (old mid new : Maps) → KeepsNumbers old mid → IsSameButSlots mid new → KeepsNumbers old new
+then_slots old mid new k e = subst (KeepsNumbers old) (sym e) (record { props = k.props; verbs = k.verbs; next_prop = k.next_prop; next_verb = k.next_verb })
+
+pub slots_then : (old mid new : Maps) → IsSameButSlots old mid → KeepsNumbers mid new → KeepsNumbers old new
+slots_then old mid new e k =
+    let l = subst (λ m. KeepsNumbers m new) e k in
+    record { props = l.props; verbs = l.verbs; next_prop = l.next_prop; next_verb = l.next_verb }
+
+pub slots_only : (old new : Maps) → IsSameButSlots old new → KeepsNumbers old new
+slots_only old new e = numbers_same old new (ap (λ (m : Maps). m.props) e) (ap (λ (m : Maps). m.verbs) e) (ap (λ (m : Maps). m.head.next_prop) e) (ap (λ (m : Maps). m.head.next_verb) e)
+
+-- ---- many
+
+module _ {K X : Type 0} {cmp : K → K → Ordering} (total : IsTotalOrder cmp) (exact : CmpEqualImpliesEq cmp) (m : FinMap cmp X) (k key : K) where
+  -- a key is the one that is put, or has its old row
+  put_or_old : (x : X) → ((key ≡ k) × (get (insert m k x) key ≡ Some x)) ⊎ (get (insert m k x) key ≡ get m key)
+  put_or_old x = by (eq_by_cmp cmp key k) refl
+    where
+      by : (b : Bool) → eq_by_cmp cmp key k ≡ b → ((key ≡ k) × (get (insert m k x) key ≡ Some x)) ⊎ (get (insert m k x) key ≡ get m key)
+      by true e = inl ((key-Decides cmp total exact key k).0 e, get-insert total m k x key ∙ ap (λ b. cond b (Some x) (get m key)) e)
+      by false e = inr (get-insert total m k x key ∙ ap (λ b. cond b (Some x) (get m key)) e)
+
+  none_or_old : (get (remove m k) key ≡ None) ⊎ (get (remove m k) key ≡ get m key)
+  none_or_old = by (eq_by_cmp cmp key k) refl
+    where
+      by : (b : Bool) → eq_by_cmp cmp key k ≡ b → (get (remove m k) key ≡ None) ⊎ (get (remove m k) key ≡ get m key)
+      by true e = inl (get-remove total m k key ∙ ap (λ b. cond b None (get m key)) e)
+      by false e = inr (get-remove total m k key ∙ ap (λ b. cond b None (get m key)) e)
+
+-- the definer's row stood there
+abbrev Stood : FinMap prop_cmp PropRow → PropId → PropRow → Type 0
+Stood old id row = (was : PropRow) × (get old id ≡ Some was) × (was.definer ≡ row.definer)
+
+not_new : (n k : ℕ) → n < k → n ≡ k → ⊥
+not_new n k less e = omega (arith, less, e)
+
+prop_stood : (next : ℕ) (old new : FinMap prop_cmp PropRow) → KeepsProps next old new → (id : PropId) (row : PropRow) → id.0 < next → get new id ≡ Some row → Stood old id row
+prop_stood next old new (props_stay e) id row less h = (row, sym (ap (λ m. get m id) e) ∙ h, refl)
+prop_stood next old new (prop_added more e) id row less h = by (put_or_old prop_total prop_exact old (prop_id next) id more)
+  where
+    by : ((id ≡ prop_id next) × (get (insert old (prop_id next) more) id ≡ Some more)) ⊎ (get (insert old (prop_id next) more) id ≡ get old id) → Stood old id row
+    by (inl s) = absurd (not_new id.0 next less (ap (λ (i : PropId). i.0) s.0))
+    by (inr s) = (row, sym s ∙ sym (ap (λ m. get m id) e) ∙ h, refl)
+prop_stood next old new (prop_renamed key was name here e) id row less h = by (put_or_old prop_total prop_exact old key id (record was { name = name }))
+  where
+    by : ((id ≡ key) × (get (insert old key (record was { name = name })) id ≡ Some (record was { name = name }))) ⊎ (get (insert old key (record was { name = name })) id ≡ get old id) → Stood old id row
+    by (inl s) = (was, ap (get old) s.0 ∙ here, ap (λ (r : PropRow). r.definer) (same_Some _ _ (sym s.1 ∙ sym (ap (λ m. get m id) e) ∙ h)))
+    by (inr s) = (row, sym s ∙ sym (ap (λ m. get m id) e) ∙ h, refl)
+prop_stood next old new (prop_removed key e) id row less h = by (none_or_old prop_total prop_exact old key id)
+  where
+    by : (get (remove old key) id ≡ None) ⊎ (get (remove old key) id ≡ get old id) → Stood old id row
+    by (inl s) = absurd (none-some row (sym s ∙ sym (ap (λ m. get m id) e) ∙ h))
+    by (inr s) = (row, sym s ∙ sym (ap (λ m. get m id) e) ∙ h, refl)
+prop_stood next old new (props_dropped x left) id row less h = by (get old id) refl (sym (left id) ∙ h)
+  where
+    by : (o : Option PropRow) → get old id ≡ o → not_of x o ≡ Some row → Stood old id row
+    by None e f = absurd (none-some row f)
+    by (Some p) e f = own (same_object p.definer x) f
+      where
+        own : (b : Bool) → (if b then None else Some p) ≡ Some row → Stood old id row
+        own true f = absurd (none-some row f)
+        own false f = (p, e, ap (λ (r : PropRow). r.definer) (same_Some _ _ f))
+
+verb_stood : (next : ℕ) (old new : FinMap verb_cmp VerbRow) → KeepsVerbs next old new → (x : ObjNo) (id : VerbId) → id.0 < next → is_some (get new (x, id)) ≡ true → is_some (get old (x, id)) ≡ true
+verb_stood next old new (verbs_stay e) x id less h = sym (ap (λ m. is_some (get m (x, id))) e) ∙ h
+verb_stood next old new (verb_added y row e) x id less h = by (put_or_old verb_total verb_exact old (y, verb_id next) (x, id) row)
+  where
+    by : (◌≡◌ {A = ObjNo × VerbId} (x, id) (y, verb_id next) × (get (insert old (y, verb_id next) row) (x, id) ≡ Some row)) ⊎ (get (insert old (y, verb_id next) row) (x, id) ≡ get old (x, id)) → is_some (get old (x, id)) ≡ true
+    by (inl s) = absurd (not_new id.0 next less (ap (λ (k : ObjNo × VerbId). k.1.0) s.0))
+    by (inr s) = ap is_some (sym s) ∙ sym (ap (λ m. is_some (get m (x, id))) e) ∙ h
+verb_stood next old new (verb_changed key row here e) x id less h = by (put_or_old verb_total verb_exact old key (x, id) row)
+  where
+    by : (◌≡◌ {A = ObjNo × VerbId} (x, id) key × (get (insert old key row) (x, id) ≡ Some row)) ⊎ (get (insert old key row) (x, id) ≡ get old (x, id)) → is_some (get old (x, id)) ≡ true
+    by (inl s) = ap (λ k. is_some (get old k)) s.0 ∙ here
+    by (inr s) = ap is_some (sym s) ∙ sym (ap (λ m. is_some (get m (x, id))) e) ∙ h
+verb_stood next old new (verb_removed key e) x id less h = by (none_or_old verb_total verb_exact old key (x, id))
+  where
+    by : (get (remove old key) (x, id) ≡ None) ⊎ (get (remove old key) (x, id) ≡ get old (x, id)) → is_some (get old (x, id)) ≡ true
+    by (inl s) = absurd (false≢true (ap is_some (sym s) ∙ sym (ap (λ m. is_some (get m (x, id))) e) ∙ h))
+    by (inr s) = ap is_some (sym s) ∙ sym (ap (λ m. is_some (get m (x, id))) e) ∙ h
+verb_stood next old new (verbs_dropped y left) x id less h = by (same_object y x) (ap is_some (sym (left (x, id))) ∙ h)
+  where
+    by : (b : Bool) → is_some (if b then None else get old (x, id)) ≡ true → is_some (get old (x, id)) ≡ true
+    by true f = absurd (false≢true f)
+    by false f = f
+
+pub numbers_stay : (old new : Maps) → KeepsNumbers old new → NumbersStay old new
+numbers_stay old new k = record {
+  props = λ id row less h. prop_stood old.head.next_prop old.props new.props k.props id row less h;
+  verbs = λ x id less h. verb_stood old.head.next_verb old.verbs new.verbs k.verbs x id less h;
+  next_prop = k.next_prop;
+  next_verb = k.next_verb;
+}
+
+less_still : (n a b : ℕ) → n < a → a ≤ b → n < b
+less_still n a b less more = omega (arith, less, more)
+
+most_still : (a b c : ℕ) → a ≤ b → b ≤ c → a ≤ c
+most_still a b c first second = omega (arith, first, second)
+
+pub stay_joined : (a b c : Maps) → NumbersStay a b → NumbersStay b c → NumbersStay a c
+stay_joined a b c s t = record {
+  props = λ id row less h. let was = t.props id row (less_still id.0 a.head.next_prop b.head.next_prop less s.next_prop) h in let before = s.props id was.0 less was.1 in (before.0, before.1, before.2 ∙ was.2);
+  verbs = λ x id less h. s.verbs x id less (t.verbs x id (less_still id.0 a.head.next_verb b.head.next_verb less s.next_verb) h);
+  next_prop = most_still a.head.next_prop b.head.next_prop c.head.next_prop s.next_prop t.next_prop;
+  next_verb = most_still a.head.next_verb b.head.next_verb c.head.next_verb s.next_verb t.next_verb;
+}
+
+pub stay_itself : (m : Maps) → NumbersStay m m
+stay_itself m = numbers_stay m m (numbers_same m m refl refl refl refl)
+
+pub calls_stay : (p : ObjNo) (calls : List Call) (old new : Maps) → CallsLead p calls old new → NumbersStay old new
+calls_stay p [] old new e = subst (NumbersStay old) (sym e) (stay_itself old)
+calls_stay p (call ∷ calls) old new l = stay_joined old l.1 new (numbers_stay old l.1 l.4) (calls_stay p calls l.1 new l.5)
+
+pub batches_keep_numbers : BatchesKeepNumbers
+batches_keep_numbers batch old new l =
+    let s = calls_stay batch.programmer batch.calls old l.0 l.1 in
+    subst (NumbersStay old) (sym l.2) (record { props = s.props; verbs = s.verbs; next_prop = s.next_prop; next_verb = s.next_verb })
