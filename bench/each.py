@@ -1,4 +1,4 @@
-"""How long each of the twenty-nine calls takes, in worlds of several sizes, and what an object takes in memory.
+"""How long each call takes, in worlds of several sizes, and what an object takes in memory.
 
     python3 bench/each.py PROGRAM.. [--objects N..] [--files FOLDER]
 

@@ -1,5 +1,5 @@
 #!/bin/sh
-# What the five tables of a world hold, as SQLite itself reads them: the rows of new worlds, and those that each call writes.
+# What the tables of a world hold, as SQLite itself reads them: the rows of new worlds, and those that each call writes.
 # needs: python3
 here=$(cd "$(dirname "$0")" && pwd)
 : "${MOO:?the program to test}"

@@ -82,7 +82,8 @@ pub fn take_quota<R: Rows>(rows: &mut R, o: ObjNo) -> Result<(), AllocError>
     move_quota(rows, o, -1)
 }
 
-/// Gives one back to the quota of o, where it has one. A quota at the greatest integer stays. The only error is want of memory.
+/// Gives one back to the quota of o, where it has one. A quota at the greatest integer, 9,223,372,036,854,775,807, stays. The
+/// only error is want of memory.
 pub fn return_quota<R: Rows>(rows: &mut R, o: ObjNo) -> Result<(), AllocError>
     requires { IsGood (R.held rows.old).maps }
     ensures world { OnOk result (world_of (R.held rows.new).maps ≡ quota_returned (world_of (R.held rows.old).maps) o) }

@@ -112,9 +112,9 @@ PERMS of a property: letters of \"rwc\": r all may read it, w all may write it, 
 owns it there. PERMS of a verb: letters of \"rwxd\": r all may read it, w all may change it, x and d are kept.
 Marks of an object: \"r\" all may list its properties and verbs, \"w\" all may add and delete them, \"f\" all may
 make objects under it; \"wizard\" has every right; \"programmer\" is kept, and not looked at.
- NAMES: \"get take\", or \"foo*bar\" for foo, foob, fooba and
-foobar. VERB: its place among the verbs, from 1 on, or a word such as \"take\". DOBJ and IOBJ: \"this\", \"any\" or
-\"none\". PREP: \"any\", \"none\" or a phrase such as \"in front of\".
+NAMES: \"get take\", or \"foo*bar\" for foo, foob, fooba and foobar. VERB: its place among the verbs, from 1
+on, or a word such as \"take\". DOBJ and IOBJ: \"this\", \"any\" or \"none\". PREP: \"any\", \"none\" or a phrase
+such as \"in front of\".
 
 Why a call is refused, E_NAME:
   E_PERM     the programmer may not: it has no right there, which a wizard has, or is no object; or nobody
