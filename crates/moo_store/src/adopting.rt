@@ -52,7 +52,8 @@ fn open_rows<S: Alter>(alloc: Global, conn: &mut Connection<S>) -> Result<Flat, 
 /// Tables of the first version are taken over to the second, in one transaction, once the whole world was read and found
 /// sound; they show the same world then. Nothing else is written.
 ///
-/// The connection has to be in no transaction (`is_autocommit`), and comes back at each refusal, with its tables as they were.
+/// The connection has to be in no transaction (`is_autocommit`), and comes back at each refusal, with its tables as they were
+/// where it is open still.
 /// Store: the store failed, or it has other tables than ours (`ErrorCode::NotADatabase`), or ours made in another order. Damaged
 /// and NewerVersion: the tables show no world, and say where, or are those of a later version. OutOfMemory: memory was refused.
 pub fn adopt<S: Alter + Drop>(

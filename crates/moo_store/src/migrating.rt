@@ -18,7 +18,7 @@ use std::alloc::Global;
 
 /// Takes tables of the first version, which show these rows, over to the second in one transaction.
 ///
-/// OutOfMemory: nothing was done. Store: the store failed, and the tables are those before.
+/// OutOfMemory: nothing was done. Store: the store failed; where the connection is open still, the tables are those before.
 fn migrate_rows<S: Alter>(
     alloc: Global,
     conn: &mut Connection<S>,
