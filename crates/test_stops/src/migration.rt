@@ -76,7 +76,10 @@ fn one_round(
     let files = visit_fused(alloc, files, Task::Tables, &mut tables);
     let mut look = Seen::new(alloc);
     let _files = visit_fused(alloc, files, Task::Look, &mut look);
-    found.note(&tables.written, look.is_done && look.written.as_slice() == dump);
+    found.note(
+        &tables.written,
+        look.is_done && look.written.as_slice() == dump,
+    );
     Ok(seen.is_done && seen.is_closed)
 }
 
