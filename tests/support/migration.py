@@ -246,7 +246,7 @@ def short_of_memory(rows):
     make_first("large.db", rows)
     whole = (0, f"ok seq 9 objects {len(rows['object'])}\n")
     wrong, statuses = [], set()
-    for megabytes in range(6, 66, 6):
+    for megabytes in range(8, 68, 6):
         file = copied("large.db", "short.db")
         ran = run("check", file, memory=megabytes << 20)
         statuses.add(ran[0])
