@@ -9,13 +9,14 @@ use Rattle.sqlite.specs.declared.error.Error.{Error}
 use Rattle.moo_world.specs.Judge.{State}
 use Rattle.moo_tables.specs.declared.version.Version.{Version}
 use Rattle.moo_tables.specs.declared.version.Version.TheVariants.{First, Second}
-use Rattle.moo_tables.specs.Tables.{schema_of, no_schema}
+use Rattle.moo_tables.specs.Tables.{Tables, schema_of, no_schema}
+use Rattle.moo_tables.specs.Inside.{Rests, Leaves}
 use Rattle.moo_tables.proofs.ReopenLemmas.{opened}
-use Rattle.moo_store.specs.States.{ShowsState, LeavesState}
+use Rattle.moo_store.specs.States.{ShowsState}
 use Rattle.moo_store.specs.Opening.{IsOfStore}
 use Rattle.moo_store.specs.declared.fault.StoreFault.{StoreFault}
 use Rattle.moo_store.specs.declared.fault.StoreFault.TheVariants.{Store, OutOfMemory}
-use Rattle.moo_files.specs.Contents.{HoldsState}
+use Rattle.moo_files.specs.Contents.{HoldsTables, HoldsState}
 
 none_below : (n m : ℕ) → n ≤ m → m ≡ 0 → n ≡ 0
 none_below n m le e = omega (arith, le, e)
@@ -24,16 +25,21 @@ none_below n m le e = omega (arith, le, e)
 pub was_clean : (old new : Database) (Commits : _) → Survives old new Commits → HasCleanDisk new → HasCleanDisk old
 was_clean old new Commits it clean = none_below _ _ it.clean clean
 
+-- tables that the files hold rest in a connection to them
+pub rests_held : (image : Image) (store : Database) (tables : Tables) → Opens store → IsLive store → FindsIn image store → HoldsTables image tables → Rests store tables
+rests_held image store tables opens live found it =
+    opened store tables opens (live opens.is_open).0 (subst (λ trees. Leaves trees tables) (sym (ap (λ db. db.trees) opens.clean ∙ found.holds it.trees it.holds)) it.leaves)
+
 pub shows_held : (image : Image) (store : Database) (s : State) → Opens store → IsLive store → FindsIn image store → HoldsState image s → ShowsState store s
 shows_held image store s opens live found it =
-    let shows : LeavesState store.now.trees s = subst (λ trees. LeavesState trees s) (sym (ap (λ db. db.trees) opens.clean ∙ found.holds it.trees it.holds)) it.shows in
+    let leaves = it.shows.leaves in
     record {
-      tables = shows.leaves.tables;
-      rests = opened store shows.leaves.tables opens (live opens.is_open).0 shows.leaves.leaves;
-      rows = shows.rows;
-      shows = shows.leaves.shows;
-      good = shows.good;
-      state = shows.state;
+      tables = leaves.tables;
+      rests = rests_held image store leaves.tables opens live found (record { trees = it.trees; holds = it.holds; leaves = leaves.leaves });
+      rows = it.shows.rows;
+      shows = leaves.shows;
+      good = it.shows.good;
+      state = it.shows.state;
     }
 
 -- each version has tables

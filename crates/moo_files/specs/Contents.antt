@@ -3,7 +3,15 @@ use Rattle.sqlite.specs.Recovery.{Image}
 use Rattle.sqlite.specs.Tree.{Trees}
 use Rattle.sqlite.specs.Files.{HoldsDatabase}
 use Rattle.moo_world.specs.Judge.{State}
+use Rattle.moo_tables.specs.Tables.{Tables}
+use Rattle.moo_tables.specs.Inside.{Leaves}
 use Rattle.moo_store.specs.States.{LeavesState}
+
+-- a log and its file hold a database with these tables
+pub record HoldsTables (image : Image) (tables : Tables) : Type 0 where
+  pub trees : Trees
+  pub holds : HoldsDatabase image trees
+  pub leaves : Leaves trees tables
 
 -- a log and its file hold a database whose tables show good rows of this world and number
 pub record HoldsState (image : Image) (s : State) : Type 0 where

@@ -6,11 +6,13 @@ ghost use Rattle.sqlite.specs.Files.{over_files, file_state};
 ghost use Rattle.sqlite.specs.WalFiles.{image_at};
 ghost use Rattle.moo_world.specs.Rows.{IsGood};
 ghost use Rattle.moo_world.specs.Judge.{State, state_of};
-ghost use Rattle.moo_tables.specs.Inside.{RestsAt};
+ghost use Rattle.moo_tables.specs.Tables.{Tables};
+ghost use Rattle.moo_tables.specs.Inside.{Rests, RestsAt};
+ghost use Rattle.moo_cells.specs.Shows.{ShowsRows};
 ghost use Rattle.moo_store.specs.States.{ShowsState};
-ghost use Rattle.moo_store.specs.Opening.{IsOfStore, Adopts};
+ghost use Rattle.moo_store.specs.Opening.{Says, IsOfStore, Adopts};
 ghost use Rattle.moo_store.specs.World.{store_of, StandsFor, Left};
-ghost use Rattle.moo_files.specs.Contents.{HoldsState};
+ghost use Rattle.moo_files.specs.Contents.{HoldsTables, HoldsState};
 
 use moo_store::{StoreFault, World, adopt};
 use sqlite::{Connection, Error, ErrorCode, File, FileFrom, FileStore, Start, Unknown};
@@ -38,6 +40,9 @@ pub fn adopt_files<D: Disk + Drop>(
     // Tables of either version that show a world and a number give a World that stands for these, unless the store fails or memory is refused.
     ensures stands { (s : State) → ShowsState (file_state conn) s → IfOk result (λ world. HasCleanDisk (store_of over_files world) → StandsFor over_files true world s) }
     ensures whole { (s : State) → ShowsState (file_state conn) s → IfErr result (λ e. HasCleanDisk (file_state e.1) → IsOfStore e.0) }
+    // Nothing else is opened, and a damage that is answered is that of the tables.
+    ensures shown { IfOk result (λ world. HasCleanDisk (store_of over_files world) → (tables : Tables) → Rests (file_state conn) tables → ShowsRows tables world.rows.maps × IsGood world.rows.maps) }
+    ensures fault { IfErr result (λ e. HasCleanDisk (file_state e.1) → (tables : Tables) → Rests (file_state conn) tables → Says tables e.0) }
     // Whatever is opened, its rows are good, and what is said of rows alone is said of them.
     ensures rows { IfOk result (λ world. IsGood world.rows.maps × StandsFor over_files false world (state_of world.rows.maps)) }
     ensures works { IfOk result (λ world. world.failed ≡ false) }
@@ -60,6 +65,8 @@ pub fn open_from<T: Start>(
 ) -> Result<World<FileStore<FileFrom<T>>>, StoreFault>
     // Where they hold a state, a World that is opened stands for it, on a disk that returns what was written.
     ensures kept { (s : State) → HoldsState (image_at T.Start) s → IfOk result (λ world. HasCleanDisk (store_of over_files world) → StandsFor over_files true world s) }
+    // Where they hold tables that show no world, none is opened: the rows are those that the tables show.
+    ensures only { (tables : Tables) → HoldsTables (image_at T.Start) tables → IfOk result (λ world. HasCleanDisk (store_of over_files world) → ShowsRows tables world.rows.maps) }
     // Whatever they hold, its rows are good, and what is said of rows alone is said of them.
     ensures rows { IfOk result (λ world. IsGood world.rows.maps × StandsFor over_files false world (state_of world.rows.maps)) }
     ensures works { IfOk result (λ world. world.failed ≡ false) }

@@ -2,7 +2,7 @@ use Rattle.sqlite.specs.Files.{over_files, file_state}
 use Rattle.sqlite.specs.WalFiles.{image_at}
 use Rattle.moo_store.specs.Opening.{Adopts}
 use Rattle.moo_store.specs.World.{store_of}
-use Rattle.moo_files.proofs.ContentsLemmas.{was_clean, shows_held}
+use Rattle.moo_files.proofs.ContentsLemmas.{was_clean, rests_held, shows_held}
 use Rattle.moo_files.proofs.opening.open_from.Goals as goal
 
 pub returns-in-Ok-adopt_files-clause-kept : goal.returns-in-Ok-adopt_files-clause-kept
@@ -11,3 +11,10 @@ returns-in-Ok-adopt_files-clause-kept g c s holds clean =
     let early = was_clean (file_state conn) (store_of over_files c.in-Ok-adopt_files.world) (Adopts (file_state conn)) c.in-Ok-adopt_files.ensures.crash clean in
     let opened = c.in-Ok.ensures.opened early in
     c.in-Ok-adopt_files.ensures.stands s (shows_held (image_at g.T.Start) (file_state conn) s opened.0 opened.1 (c.in-Ok.ensures.found early) holds) clean
+
+pub returns-in-Ok-adopt_files-clause-only : goal.returns-in-Ok-adopt_files-clause-only
+returns-in-Ok-adopt_files-clause-only g c tables holds clean =
+    let conn = c.in-Ok.conn in
+    let early = was_clean (file_state conn) (store_of over_files c.in-Ok-adopt_files.world) (Adopts (file_state conn)) c.in-Ok-adopt_files.ensures.crash clean in
+    let opened = c.in-Ok.ensures.opened early in
+    (c.in-Ok-adopt_files.ensures.shown clean tables (rests_held (image_at g.T.Start) (file_state conn) tables opened.0 opened.1 (c.in-Ok.ensures.found early) holds)).0
