@@ -6,13 +6,14 @@ use Rattle.moo_value.specs.declared.value.ObjNo.{ObjNo}
 use Rattle.moo_rows.specs.declared.row.ObjRow.{ObjRow}
 use Rattle.moo_rows.specs.Maps.{Maps, Held, wrote}
 use Rattle.moo_world.specs.Objects.{same_object}
-use Rattle.moo_world.specs.Rows.{LookUps, world_shown, look_ups, with_row as with_row_put, AreSound, IsSound}
+use Rattle.moo_world.specs.Rows.{LookUps, world_shown, look_ups, with_row as with_row_put, AreSound, IsSound, IsGood}
 use Rattle.moo_world.specs.World.{IsWellFormed}
 use Rattle.moo_world.specs.Fields.{with_row}
 use Rattle.moo_world.proofs.Shown.RowLaws.{world_shown-with_row}
 use Rattle.moo_world.proofs.Shown.MapLaws.{look_ups-put_object}
 use Rattle.moo_call_parts.specs.Outcomes.{world_in}
-use Rattle.moo_world.specs.Keeps.{Keeps}
+use Rattle.moo_world.specs.Keeps.{Keeps, beside_world}
+use Rattle.moo_world.proofs.Shown.Beside.{petitions_stay}
 use Rattle.moo_world.proofs.Shown.NumbersKept.{numbers_same}
 
 AreSound-with_row : (m : LookUps) (x : ObjNo) (row : ObjRow) → AreSound m → AreSound (with_row_put m x row)
@@ -43,13 +44,17 @@ module _ (old new : Held) (x : ObjNo) (row put : ObjRow) (change : ObjRow → Ob
       ∙ world_shown-with_row (look_ups old.maps) x row change here
 
   -- and the rows are good ones, where that world is well formed
-  pub Keeps-changed : IsSound old.maps → IsWellFormed (with_row (world_in old) x change) → Keeps old new
-  Keeps-changed sound formed = record {
+  beside : beside_world new.maps ≡ beside_world old.maps
+  beside = ap (λ (h : Held). beside_world h.maps) is_put
+
+  pub Keeps-changed : IsGood old.maps → IsWellFormed (with_row (world_in old) x change) → Keeps old new
+  Keeps-changed good formed = record {
     good = record {
-      sound = subst (λ (h : Held). IsSound h.maps) (sym is_put) (IsSound-put old.maps x put sound);
+      sound = subst (λ (h : Held). IsSound h.maps) (sym is_put) (IsSound-put old.maps x put good.sound);
       formed = subst IsWellFormed (sym world_in-changed) formed;
+      petitions = petitions_stay old.maps new.maps beside good;
     };
-    seq = ap (λ (h : Held). h.maps.head.seq) is_put;
+    beside = beside;
     base = ap (λ (h : Held). h.base) is_put;
     numbers = numbers_same old.maps new.maps (ap (λ (h : Held). h.maps.props) is_put) (ap (λ (h : Held). h.maps.verbs) is_put) (ap (λ (h : Held). h.maps.head.next_prop) is_put) (ap (λ (h : Held). h.maps.head.next_verb) is_put);
   }

@@ -15,6 +15,7 @@ use Rattle.moo_rows.specs.Maps.{Maps}
 use Rattle.moo_world.specs.Changes.{with_slot_of}
 use Rattle.moo_world.specs.Objects.{Name, same_object, same_text, folded, same_object-Decides, same_text-Decides}
 use Rattle.moo_world.specs.World.{World, Record, IsWellFormed, Slot, slot_of, with_record, slot_fits}
+use Rattle.moo_world.specs.Petitions.{PetitionsStand}
 use Rattle.moo_world.specs.Rows.{LookUps, IsSound, IsGood, look_ups, world_of, world_shown, slot_seen, prop_id}
 use Rattle.moo_world.proofs.Shown.RowLaws.{slot_shown, world_shown-with_slot}
 use Rattle.moo_world.proofs.Shown.MapLaws.{look_ups-put_slot}
@@ -87,7 +88,7 @@ module _ (t : Maps) (sound : IsSound t) (x : ObjNo) (id : PropId) (k : SlotRow) 
   spelled : spelling_of t id ≡ prop.0.name
   spelled = ap (λ o. unwrap_or (option_map (λ (p : PropRow). p.name) o) []) prop.1
 
-  module _ (wf : IsWellFormed w) (keeps : (s : Slot) → (change s).definer ≡ s.definer) (set : next.state ≡ Clear → defines t x id ≡ false) (fits_still : (s : Slot) → slot_fits s ≡ true → slot_fits (change s) ≡ true) where
+  module _ (wf : IsWellFormed w) (keeps : (s : Slot) → (change s).definer ≡ s.definer) (set : next.state ≡ Clear → defines t x id ≡ false) (fits_still : (s : Slot) → slot_fits s ≡ true → slot_fits (change s) ≡ true) (petitions : PetitionsStand t.petitions t.head.next_petition) where
     stays_set : (s : Slot) → slot_of w x (folded prop.0.name) ≡ Some s → s.definer ≡ x → (change s).state ≡ Clear → ⊥
     stays_set s e d c =
         let is : slot_seen prop.0.definer k ≡ s = same_Some (slot_seen prop.0.definer k) s (sym shown ∙ e) in
@@ -100,6 +101,7 @@ module _ (t : Maps) (sound : IsSound t) (x : ObjNo) (id : PropId) (k : SlotRow) 
     put_slot_good = record {
       sound = put_slot_sound;
       formed = subst IsWellFormed (sym (put_slot_world ∙ ap (λ n. with_slot_of w x n change) spelled)) (IsWellFormed-with_slot_of w x prop.0.name change wf keeps stays_set fits_still);
+      petitions = petitions;
     }
 
 -- a slot that is clear isn't the definer's

@@ -1,16 +1,18 @@
 //! Rows in ordered maps.
 
 ghost use Rattle.std.specs.Prelude.{◌≡◌, IfOk, IsOk};
-ghost use Rattle.moo_rows.specs.Maps.{no_maps, without_object, without_prop, without_slot, without_verb};
-ghost use Rattle.moo_rows.specs.Exact.{object_exact, prop_exact, slot_exact, verb_exact};
-ghost use Rattle.moo_rows.specs.SameClones.{object_clone, prop_clone, slot_clone, verb_clone};
-ghost use Rattle.moo_rows.specs.SameRows.{object_row-exact, prop_row-exact, slot_row-exact, verb_row-exact};
+ghost use Rattle.moo_rows.specs.Maps.{no_maps, without_object, without_prop, without_slot, without_verb, without_petition};
+ghost use Rattle.moo_rows.specs.Exact.{object_exact, prop_exact, slot_exact, verb_exact, petition_exact};
+ghost use Rattle.moo_rows.specs.SameClones.{object_clone, prop_clone, slot_clone, verb_clone, petition_clone};
+ghost use Rattle.moo_rows.specs.SameRows.{object_row-exact, prop_row-exact, slot_row-exact, verb_row-exact, petition_row-exact};
 
 use crate::links::{
     Links, are_same, definer_of, forget_defined, next_defined, row_defined, row_has, ties_of,
 };
 use crate::ordered::{self, Key, Row};
-use crate::row::{Head, Link, ObjRow, PropId, PropRow, SlotRow, VerbId, VerbRow};
+use crate::row::{
+    Head, Link, ObjRow, PetitionId, PetitionRow, PropId, PropRow, SlotRow, VerbId, VerbRow,
+};
 use crate::rows::Rows;
 use crate::writes::Writes;
 use moo_value::ObjNo;
@@ -32,6 +34,10 @@ impl Key for (ObjNo, PropId) {
 
 impl Key for (ObjNo, VerbId) {
     ghost exact = { verb_exact };
+}
+
+impl Key for PetitionId {
+    ghost exact = { petition_exact };
 }
 
 impl Row for ObjRow {
@@ -58,6 +64,12 @@ impl Row for VerbRow {
     ghost clones = { verb_clone };
 }
 
+impl Row for PetitionRow {
+    ghost exact = { petition_row-exact };
+
+    ghost clones = { petition_clone };
+}
+
 /// Rows in ordered maps. Its look-ups, next keys and removals take no memory, and its removals never fail.
 #[derive(Drop)]
 pub struct Flat {
@@ -66,13 +78,14 @@ pub struct Flat {
     props: BTreeMap<PropId, PropRow>,
     slots: BTreeMap<(ObjNo, PropId), SlotRow>,
     verbs: BTreeMap<(ObjNo, VerbId), VerbRow>,
+    petitions: BTreeMap<PetitionId, PetitionRow>,
     links: Links,
     definers: BTreeMap<(ObjNo, PropId), ()>,
     writes: Writes,
 }
 
 impl Model for Flat {
-    ghost use Rattle.moo_rows.specs.Maps.{Held, coded_held, no_maps, object_cmp, prop_cmp, slot_cmp, verb_cmp};
+    ghost use Rattle.moo_rows.specs.Maps.{Held, coded_held, no_maps, object_cmp, prop_cmp, slot_cmp, verb_cmp, petition_cmp};
     ghost use Rattle.moo_rows.specs.Ordered.{contents};
 
     ghost Value = { Held };
@@ -86,6 +99,7 @@ impl Model for Flat {
         props = contents prop_cmp f.props;
         slots = contents slot_cmp f.slots;
         verbs = contents verb_cmp f.verbs;
+        petitions = contents petition_cmp f.petitions;
       };
       writes = f.writes.count;
       base = no_maps;
@@ -98,7 +112,7 @@ impl Model for Flat {
 }
 
 impl Flat {
-    /// No rows: the greatest object number is -1, the next property and verb are 1, and no batch was accepted.
+    /// No rows: the greatest object number is -1, the next property, verb and petition are 1, and no batch was accepted.
     pub fn new(alloc: Global) -> Flat
         ensures maps { result.maps ≡ no_maps }
         ensures writes { result.writes ≡ 0 }
@@ -108,12 +122,14 @@ impl Flat {
                 top: -1,
                 next_prop: 1,
                 next_verb: 1,
+                next_petition: 1,
                 seq: 0,
             },
             objects: BTreeMap::new(alloc),
             props: BTreeMap::new(alloc),
             slots: BTreeMap::new(alloc),
             verbs: BTreeMap::new(alloc),
+            petitions: BTreeMap::new(alloc),
             links: Links::new(alloc),
             definers: BTreeMap::new(alloc),
             writes: Writes::new(),
@@ -130,6 +146,7 @@ impl Flat {
             props: self.props.clone()?,
             slots: self.slots.clone()?,
             verbs: self.verbs.clone()?,
+            petitions: self.petitions.clone()?,
             links: self.links.copy()?,
             definers: self.definers.clone()?,
             writes: Writes::new(),
@@ -280,6 +297,29 @@ impl Rows for Flat {
         ensures succeeds { IsOk result }
     {
         ordered::remove(&mut self.verbs, key);
+        self.writes.rise();
+        Ok(())
+    }
+
+    fn petition(&self, key: PetitionId) -> Option<&PetitionRow> {
+        ordered::get(&self.petitions, key)
+    }
+
+    fn next_petition(&self, from: Option<PetitionId>) -> Option<PetitionId> {
+        ordered::next(&self.petitions, from)
+    }
+
+    fn put_petition(&mut self, key: PetitionId, row: PetitionRow) -> Result<(), AllocError> {
+        ordered::put(&mut self.petitions, key, row)?;
+        self.writes.rise();
+        Ok(())
+    }
+
+    fn remove_petition(&mut self, key: PetitionId) -> Result<(), AllocError>
+        ensures ok { self.new ≡ without_petition self.old key }
+        ensures succeeds { IsOk result }
+    {
+        ordered::remove(&mut self.petitions, key);
         self.writes.rise();
         Ok(())
     }

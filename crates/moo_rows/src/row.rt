@@ -1,4 +1,4 @@
-//! The rows of the four maps.
+//! The rows of the five maps.
 
 ghost use Rattle.std.specs.Prelude.{◌≡◌, IfOk};
 ghost use Rattle.moo_value.specs.Text.{IsText};
@@ -6,7 +6,7 @@ ghost use Rattle.moo_rows.specs.Equal.{list_eq, list_laws};
 ghost use Rattle.moo_rows.specs.PlainRow.{plain_row};
 ghost use Rattle.moo_rows.specs.Links.{ties_of, has_link, is_to_nothing};
 
-use moo_value::{MooStr, ObjNo, Value};
+use moo_value::{MooStr, ObjNo, Value, ValueList};
 use std::alloc::{AllocError, Global};
 use std::marker::Model;
 
@@ -20,6 +20,10 @@ pub struct PropId(pub u32);
 /// The number of a verb: 1 and up, in the order of its object's list of verbs, and never used again.
 #[derive(Clone, Copy, Debug, PartialEq, Eq, PartialOrd, Ord)]
 pub struct VerbId(pub u32);
+
+/// The number of a petition: 1 and up, in the order in which they were made, and never used again.
+#[derive(Clone, Copy, Debug, PartialEq, Eq, PartialOrd, Ord)]
+pub struct PetitionId(pub u32);
 
 /// A list of objects, in the order given. Objects may stand in it more than once.
 #[derive(Clone, Drop)]
@@ -273,6 +277,15 @@ pub struct VerbRow {
     pub args: ArgSpec,
 }
 
+/// A petition: calls that one programmer asks a wizard to make.
+#[derive(Clone, PartialEq, Drop)]
+pub struct PetitionRow {
+    /// Who asks.
+    pub who: ObjNo,
+    /// The calls as they were given: each a list of the name of a call and what it is given.
+    pub calls: ValueList,
+}
+
 /// The counters.
 #[derive(Clone, Copy, Debug, PartialEq, Eq)]
 pub struct Head {
@@ -282,6 +295,8 @@ pub struct Head {
     pub next_prop: u32,
     /// The number of the next verb.
     pub next_verb: u32,
+    /// The number of the next petition.
+    pub next_petition: u32,
     /// How many batches were accepted.
     pub seq: u64,
 }

@@ -4,13 +4,15 @@ ghost use Rattle.std.specs.Prelude.{◌≡◌, option_map, OnErr, OnOk};
 ghost use Rattle.std.specs.FinMap as map;
 ghost use Rattle.moo_rows.specs.Ordered.{IsNext};
 ghost use Rattle.moo_rows.specs.Links.{IsFirst, is_linked, is_definer};
-ghost use Rattle.moo_rows.specs.Maps.{Held, object_cmp, prop_cmp, with_object, without_object, with_prop, without_prop, with_slot, without_slot, with_verb, without_verb};
+ghost use Rattle.moo_rows.specs.Maps.{Held, object_cmp, prop_cmp, with_object, without_object, with_prop, without_prop, with_slot, without_slot, with_verb, without_verb, with_petition, without_petition};
 
-use crate::row::{Head, Link, ObjRow, PropId, PropRow, SlotRow, VerbId, VerbRow};
+use crate::row::{
+    Head, Link, ObjRow, PetitionId, PetitionRow, PropId, PropRow, SlotRow, VerbId, VerbRow,
+};
 use moo_value::ObjNo;
 use std::alloc::AllocError;
 
-/// A head and four maps of rows: objects, properties, slots and verbs.
+/// A head and five maps of rows: objects, properties, slots, verbs and petitions.
 ///
 /// A look-up, a next key and the head take no memory. A put or a removal that is refused, for want of memory alone, changes nothing.
 /// Each other one changes the row of its key and nothing else, and raises the count of writes, which only contracts see, by one.
@@ -105,5 +107,23 @@ pub trait Rows {
     /// Takes the row of a verb away; it need not have one. An `Err` is want of memory.
     fn remove_verb(&mut self, key: (ObjNo, VerbId)) -> Result<(), AllocError>
         ensures ok { OnOk result (held self.new ≡ without_verb (held self.old) key) }
+        ensures err { OnErr result (held self.new ≡ held self.old) };
+
+    /// The row of a petition, or none where the map doesn't hold it.
+    fn petition(&self, key: PetitionId) -> Option<&PetitionRow>
+        ensures { option_map (λ row. row.now) result ≡ map.get (held self.now).maps.petitions key };
+
+    /// The least petition that is held past `from`, or the least of all where no `from` is given; none where there is no such petition.
+    fn next_petition(&self, from: Option<PetitionId>) -> Option<PetitionId>
+        ensures { IsNext (held self.now).maps.petitions from result };
+
+    /// Sets the row of a petition, in place of the one that it has, if any. An `Err` is want of memory.
+    fn put_petition(&mut self, key: PetitionId, row: PetitionRow) -> Result<(), AllocError>
+        ensures ok { OnOk result (held self.new ≡ with_petition (held self.old) key row) }
+        ensures err { OnErr result (held self.new ≡ held self.old) };
+
+    /// Takes the row of a petition away; it need not have one. An `Err` is want of memory.
+    fn remove_petition(&mut self, key: PetitionId) -> Result<(), AllocError>
+        ensures ok { OnOk result (held self.new ≡ without_petition (held self.old) key) }
         ensures err { OnErr result (held self.new ≡ held self.old) };
 }

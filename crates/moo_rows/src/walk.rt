@@ -4,9 +4,11 @@ ghost use Rattle.std.specs.Prelude.{◌≡◌};
 ghost use Rattle.std.specs.FinMap as map;
 ghost use Rattle.std.specs.Iterator.{YieldsFirstBy, item_count};
 ghost use Rattle.moo_rows.specs.Links.{linked_left, defined_left};
-ghost use Rattle.moo_rows.specs.Walk.{objects_left, props_left, slots_left, verbs_left, slots_of_left, verbs_of_left};
+ghost use Rattle.moo_rows.specs.Walk.{objects_left, props_left, slots_left, verbs_left, petitions_left, slots_of_left, verbs_of_left};
 
-use crate::row::{Link, ObjRow, PropId, PropRow, SlotRow, VerbId, VerbRow};
+use crate::row::{
+    Link, ObjRow, PetitionId, PetitionRow, PropId, PropRow, SlotRow, VerbId, VerbRow,
+};
 use crate::rows::Rows;
 use moo_value::ObjNo;
 
@@ -101,6 +103,28 @@ impl<'a, R: Rows> Iterator for Walk<'a, R, (ObjNo, VerbId)> {
 /// The verbs with their rows, in the order of their keys. Takes no memory.
 pub fn each_verb<R: Rows>(rows: &R) -> Walk<'_, R, (ObjNo, VerbId)>
     ensures { verbs_left result.last (R.held result.rows.now).maps ≡ map.entries (R.held rows.now).maps.verbs }
+{
+    Walk { rows, last: None }
+}
+
+impl<'a, R: Rows> Iterator for Walk<'a, R, PetitionId> {
+    type Item = (PetitionId, &'a PetitionRow);
+
+    ghost next_gives = { YieldsFirstBy (λ p. (p.0, p.1.now)) (λ s. petitions_left s.last (R.held s.rows.now).maps) };
+
+    ghost remaining = { item_count (λ s. petitions_left s.last (R.held s.rows.now).maps) };
+
+    fn next(&mut self) -> Option<(PetitionId, &'a PetitionRow)> {
+        let key = self.rows.next_petition(self.last)?;
+        let row = self.rows.petition(key)?;
+        self.last = Some(key);
+        Some((key, row))
+    }
+}
+
+/// The petitions with their rows, in the order of their keys. Takes no memory.
+pub fn each_petition<R: Rows>(rows: &R) -> Walk<'_, R, PetitionId>
+    ensures { petitions_left result.last (R.held result.rows.now).maps ≡ map.entries (R.held rows.now).maps.petitions }
 {
     Walk { rows, last: None }
 }

@@ -41,6 +41,7 @@ module _ (m : Maps) (good : IsGood m) (x : ObjNo) where
         record {
           sound = put_sound m good.sound x id row (m.head.next_verb + 1) (sym (is_object_seen (look_ups m) x) ∙ there) (omega (arith, room.0)) (omega arith) (omega arith);
           formed = subst IsWellFormed (sym added_world) (stays_formed (world_of m) x (λ verbs. verbs ++ row ∷ []) (m.head.next_verb + 1) good.formed (omega arith, omega arith) (added_fit row fit));
+          petitions = good.petitions;
         }
 
   module _ (id : VerbId) (held : has_verb m x id ≡ true) where
@@ -56,6 +57,7 @@ module _ (m : Maps) (good : IsGood m) (x : ObjNo) where
     removed_good = record {
       sound = rest_sound m good.sound x id;
       formed = subst IsWellFormed (sym removed_world) (stays_formed (world_of m) x (λ verbs. remove verbs (verb_place m x id)) m.head.next_verb good.formed (verb_room m good) (removed_fit (verb_place m x id)));
+      petitions = good.petitions;
     }
 
     -- a verb changed
@@ -70,4 +72,5 @@ module _ (m : Maps) (good : IsGood m) (x : ObjNo) where
           record {
             sound = put_sound m good.sound x id (change v) m.head.next_verb at.0 at.1 at.2 (omega arith);
             formed = subst IsWellFormed (sym changed_world) (stays_formed (world_of m) x (changed_at (verb_place m x id) change) m.head.next_verb good.formed (verb_room m good) (changed_fit change fits (verb_place m x id)));
+            petitions = good.petitions;
           }

@@ -12,3 +12,4 @@ pub mod PairLists
 pub mod Numbered
 pub mod NumbersKept
 pub mod OpeningRows
+pub mod Beside

@@ -1,12 +1,18 @@
 -- What every change of the rows keeps.
-use Rattle.std.specs.Prelude.{◌≡◌}
-use Rattle.moo_rows.specs.Maps.{Held}
+use Rattle.std.specs.Prelude.{◌≡◌, ℕ}
+use Rattle.std.specs.FinMap.{FinMap}
+use Rattle.moo_rows.specs.declared.row.PetitionRow.{PetitionRow}
+use Rattle.moo_rows.specs.Maps.{Maps, Held, petition_cmp}
 use Rattle.moo_world.specs.Rows.{IsGood}
 use Rattle.moo_world.specs.Numbers.{KeepsNumbers}
 
--- the rows are good ones, what no world shows is as it was, and what stays keeps its number
+-- what rows have beside the world that they show: how many batches were accepted, the petitions, and the number of the next one
+abbrev pub beside_world : Maps → ℕ × (ℕ × FinMap petition_cmp PetitionRow)
+beside_world m = (m.head.seq, (m.head.next_petition, m.petitions))
+
+-- the rows are good ones, what stands beside the world is as it was, and what stays keeps its number
 pub record Keeps (old new : Held) : Type 0 where
   pub good : IsGood new.maps
-  pub seq : new.maps.head.seq ≡ old.maps.head.seq
+  pub beside : beside_world new.maps ≡ beside_world old.maps
   pub base : new.base ≡ old.base
   pub numbers : KeepsNumbers old.maps new.maps

@@ -13,6 +13,7 @@ use Rattle.moo_rows.specs.declared.row.PropId.{PropId}
 use Rattle.moo_rows.specs.declared.row.VerbId.{VerbId}
 use Rattle.moo_rows.specs.Maps.{Maps}
 use Rattle.moo_world.specs.Objects.{Name, same_object, same_text, folded}
+use Rattle.moo_world.specs.Petitions.{PetitionsStand}
 use Rattle.moo_world.specs.World.{World, Record, Slot, IsWellFormed}
 
 pub record LookUps : Type 0 where
@@ -88,10 +89,11 @@ world_of t = world_shown (look_ups t)
 abbrev pub IsSound : Maps → Type 0
 IsSound t = AreSound (look_ups t)
 
--- sound rows of a well formed world
+-- sound rows of a well formed world, and petitions as they may stand beside it
 pub record IsGood (m : Maps) : Type 0 where
   pub sound : IsSound m
   pub formed : IsWellFormed (world_of m)
+  pub petitions : PetitionsStand m.petitions m.head.next_petition
 
 -- ---- rows with one row put or removed
 

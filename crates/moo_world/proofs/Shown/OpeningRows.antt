@@ -4,15 +4,16 @@ use Rattle.std.specs.Prelude.{◌≤ℤ◌, unwrap_or}
 use Rattle.std.specs.Option.{option_map, option_and_then}
 use Rattle.std.specs.List.{list_all, IsDistinct}
 use Rattle.std.specs.Ordering.{eq_by_cmp, is_eq}
-use Rattle.std.specs.FinMap.{get, get-insert, get-empty}
+use Rattle.std.specs.FinMap.{get, get-insert, get-empty, empty}
 use Rattle.moo_value.specs.declared.value.ObjNo.{ObjNo}
 use Rattle.moo_rows.specs.declared.row.ObjRow.{ObjRow}
-use Rattle.moo_rows.specs.Maps.{object_cmp, prop_cmp, slot_cmp, verb_cmp}
+use Rattle.moo_rows.specs.Maps.{object_cmp, prop_cmp, slot_cmp, verb_cmp, petition_cmp}
 use Rattle.moo_rows.specs.Exact.{object_exact}
 use Rattle.moo_rows.specs.Opening.{opening_maps, system_object, root_class, first_room, wizard}
 use Rattle.moo_rows.proofs.Orders.{object_total}
 use Rattle.moo_world.specs.Objects.{Name, Pair, nothing}
 use Rattle.moo_world.specs.World.{World, Record, Slot, IsTree, IsWellFormed, KeepsLimits, Chain, Places, is_object, slot_of, names_of, owed_by, pair_named, is_property_name, verb_fits, row_fits, without_slots, with_slots, NamesDiffer}
+use Rattle.moo_world.specs.Petitions.{PetitionsStand}
 use Rattle.moo_world.specs.Rows.{IsGood, LookUps, AreSound, world_shown, look_ups, prop_id, verb_id, record_of}
 
 abbrev no : ℕ → ObjNo
@@ -167,5 +168,12 @@ well_formed = record {
   limits = limits;
 }
 
+no_petitions : PetitionsStand (empty {R = petition_cmp}) 1
+no_petitions = record {
+  numbered = λ id h. absurd (false_true (ap is_some (sym (get-empty petition_cmp id)) ∙ h));
+  fit = λ id row e. absurd (none_some row (sym (get-empty petition_cmp id) ∙ e));
+  counter = (omega arith, omega arith);
+}
+
 pub opening-good : IsGood opening_maps
-opening-good = record { sound = subst AreSound (sym maps_are) sound; formed = subst (λ m. IsWellFormed (world_shown m)) (sym maps_are) well_formed }
+opening-good = record { sound = subst AreSound (sym maps_are) sound; formed = subst (λ m. IsWellFormed (world_shown m)) (sym maps_are) well_formed; petitions = no_petitions }

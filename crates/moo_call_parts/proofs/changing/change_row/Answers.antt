@@ -14,5 +14,5 @@ pub returns-clause-kept : goal.returns-clause-kept
 returns-clause-kept g c =
     let old = g.R.Rows.held c.args.rows.now in
     Keeps-changed old (g.R.Rows.held c.put_object.new.self) c.args.x c.in-Some.row.now c.applied.result (changed c.args.change) (sym c.in-Some.ensures)
-    (c.applied.ensures ∙ ap (changed c.args.change) c.in_ok-row-in-Some.ensures) c.in_ok-put_object.ensures.ok c.requires.good.sound
+    (c.applied.ensures ∙ ap (changed c.args.change) c.in_ok-row-in-Some.ensures) c.in_ok-put_object.ensures.ok c.requires.good
     (IsWellFormed-field_changed (world_in old) c.args.x c.args.change c.requires.there c.requires.allowed c.requires.good.formed)

@@ -15,7 +15,7 @@ returns-clause-kept g c =
     let charged = c.in_ok-charge.ensures in
     record {
       good = charged.kept.good;
-      seq = charged.kept.seq ∙ made.seq;
+      beside = charged.kept.beside ∙ made.beside;
       base = charged.kept.base ∙ made.base;
       numbers = then_slots (g.R.Rows.held c.args.rows.now).maps (g.R.Rows.held c.make.new.rows).maps (g.R.Rows.held c.charge.new.rows).maps made.numbers charged.rest;
     }

@@ -8,7 +8,7 @@ returns-clause-kept g c =
     let quota = c.in_ok-return_quota.ensures in
     record {
       good = quota.kept.good;
-      seq = quota.kept.seq ∙ dropped.seq;
+      beside = quota.kept.beside ∙ dropped.beside;
       base = quota.kept.base ∙ dropped.base;
       numbers = then_slots (g.R.Rows.held c.args.rows.now).maps (g.R.Rows.held c.drop_object.new.rows).maps (g.R.Rows.held c.return_quota.new.rows).maps dropped.numbers quota.rest;
     }

@@ -38,7 +38,7 @@ returns-in_ok-rename-clause-kept g c =
     let name = c.in_ok-rename.ensures.kept in
     record {
       good = name.good;
-      seq = name.seq ∙ info.kept.seq;
+      beside = name.beside ∙ info.kept.beside;
       base = name.base ∙ info.kept.base;
       numbers = slots_then (g.R.Rows.held c.args.rows.now).maps (g.R.Rows.held c.set_info.new.rows).maps (g.R.Rows.held c.rename.new.rows).maps info.rest name.numbers;
     }

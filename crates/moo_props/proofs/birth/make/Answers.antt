@@ -1,17 +1,18 @@
 use Rattle.std.proofs.Common.{FitsSigned, w32, rules, ◌≡◌, refl, sym, ap, ◌∙◌, subst}
 use Rattle.moo_rows.specs.Maps.{Maps, Held}
-use Rattle.moo_rows.specs.declared.row.Head.{Head}
 use Rattle.moo_world.specs.Creation.{created}
 use Rattle.moo_world.specs.Rows.{LookUps, AreSound, look_ups, world_of, world_shown}
 use Rattle.moo_world.specs.World.{World, IsWellFormed, read_of}
 use Rattle.moo_world.proofs.Form.Limits.{number_within}
 use Rattle.moo_props.specs.Birth.{objects_with}
 use Rattle.moo_props.specs.Slots.{origins_among, with_fresh}
-use Rattle.moo_props.proofs.NewSlots.{with_new, look_ups-new, head-fresh}
+use Rattle.moo_props.proofs.NewSlots.{with_new, look_ups-new}
 use Rattle.moo_props.proofs.Moved.{base-fresh, only-fresh}
 use Rattle.moo_props.proofs.NewObject.{world_new, formed_new, sound_new, reads_new, no_row}
 use Rattle.moo_props.proofs.Walked.{walk}
 use Rattle.moo_world.proofs.Shown.NumbersKept.{numbers_same}
+use Rattle.moo_world.specs.Keeps.{beside_world}
+use Rattle.moo_world.proofs.Shown.Beside.{petitions_stay}
 use Rattle.moo_props.proofs.birth.make.Goals as goal
 
 abbrev t : (g : _) → goal.After-drop-inherited-2 g → Maps
@@ -42,8 +43,9 @@ returns-clause-kept g c =
       good = record {
         sound = subst AreSound (sym (shown g c)) (sound_new m c.requires.good.sound c.requires.good.formed c.args.x c.args.parent c.args.owner c.requires.next c.requires.parent);
         formed = subst (λ (k : LookUps). IsWellFormed (world_shown k)) (sym (shown g c)) (formed_new m c.requires.good.sound c.requires.good.formed c.args.x c.args.parent c.args.owner c.requires.next c.requires.parent (number_within c.args.owner owner));
+        petitions = petitions_stay (t g c) (g.R.Rows.held c.put_fresh.new.rows).maps (ap beside_world rest) c.requires.good;
       };
-      seq = ap (λ (h : Held). h.maps.head.seq) (ends g c) ∙ ap (λ (h : Head). h.seq) (head-fresh c.args.x c.args.owner os held1);
+      beside = ap beside_world rest;
       base = ap (λ (h : Held). h.base) (ends g c) ∙ base-fresh c.args.x c.args.owner os held1;
       numbers = numbers_same (t g c) (g.R.Rows.held c.put_fresh.new.rows).maps (ap (λ (m : Maps). m.props) rest) (ap (λ (m : Maps). m.verbs) rest) (ap (λ (m : Maps). m.head.next_prop) rest) (ap (λ (m : Maps). m.head.next_verb) rest);
     }

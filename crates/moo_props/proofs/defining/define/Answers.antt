@@ -1,6 +1,5 @@
 use Rattle.std.proofs.Common.{FitsSigned, w32, rules, ◌≡◌, ◌+◌, refl, sym, ap, ◌∙◌, subst}
 use Rattle.moo_rows.specs.Maps.{Maps, Held, wrote}
-use Rattle.moo_rows.specs.declared.row.Head.{Head}
 use Rattle.moo_rows.specs.declared.row.PropId.{PropId}
 use Rattle.moo_rows.specs.declared.row.SlotRow.{SlotRow}
 use Rattle.moo_rows.specs.declared.row.SlotState.TheVariants.{Set}
@@ -13,9 +12,11 @@ use Rattle.moo_props.specs.declared.slots.Origin.{Origin}
 use Rattle.moo_props.specs.Defining.{fresh_over, with_definition}
 use Rattle.moo_tree.specs.Under.{owners_under}
 use Rattle.moo_props.proofs.NewProp.{sound_with, world_with, formed_with, with_property}
-use Rattle.moo_props.proofs.NewPropRows.{base-over, head-over, look_ups-with, held2, only2}
+use Rattle.moo_props.proofs.NewPropRows.{base-over, look_ups-with, held2, only2}
 use Rattle.moo_world.specs.Numbers.{prop_added, verbs_stay}
 use Rattle.moo_world.proofs.Shown.NumbersKept.{as_high, one_higher}
+use Rattle.moo_world.specs.Keeps.{beside_world}
+use Rattle.moo_world.proofs.Shown.Beside.{petitions_stay}
 use Rattle.moo_props.proofs.defining.define.Goals as goal
 
 abbrev t : (g : _) → goal.After-drop-under-2 g → Maps
@@ -62,8 +63,9 @@ returns-clause-kept g c =
       good = record {
         sound = subst AreSound (sym (shown g c)) (sound_with m c.requires.good.sound c.requires.good.formed c.args.x c.args.name c.args.owner c.args.bits c.args.value c.requires.object c.requires.free);
         formed = subst IsWellFormed (sym (world g c)) (formed_with m c.requires.good.sound c.requires.good.formed c.args.x c.args.name c.args.owner c.args.bits c.args.value c.requires.object c.requires.free c.requires.name c.requires.left (slot_within (record { definer = c.args.x; owner = c.args.owner; bits = c.args.bits; state = Set c.args.value }) (number_within c.args.owner owner) c.requires.fit));
+        petitions = petitions_stay (t g c) (g.R.Rows.held c.put_slot.new.self).maps (ap beside_world (rest g c)) c.requires.good;
       };
-      seq = ap (λ (h : Held). h.maps.head.seq) (ends g c) ∙ ap (λ (h : Head). h.seq) (head-over o under first);
+      beside = ap beside_world (rest g c);
       base = ap (λ (h : Held). h.base) (ends g c) ∙ base-over o under first;
       numbers = record {
         props = prop_added (record { definer = c.args.x; name = c.args.name }) (ap (λ (m : Maps). m.props) (rest g c));

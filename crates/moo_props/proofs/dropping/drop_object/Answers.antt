@@ -19,6 +19,8 @@ use Rattle.moo_props.proofs.LeftRows.{writes5, slots_left, props_left, verbs_lef
 use Rattle.moo_rows.specs.declared.row.Head.{Head}
 use Rattle.moo_world.specs.Numbers.{props_dropped, verbs_dropped}
 use Rattle.moo_world.proofs.Shown.NumbersKept.{as_high}
+use Rattle.moo_world.specs.Keeps.{beside_world}
+use Rattle.moo_world.proofs.Shown.Beside.{petitions_stay}
 use Rattle.moo_props.proofs.dropping.drop_object.Goals as goal
 
 abbrev before : (g : _) → goal.After-drop-under-2 g → Held
@@ -64,13 +66,17 @@ returns-clause-world g c = world g c
 head_is : (g : _) (c : goal.After-drop-under-2 g) → (g.R.Rows.held c.remove_object.new.self).maps.head ≡ (before g c).maps.head
 head_is g c = ap (λ (h : Held). h.maps.head) (ends g c) ∙ head5 (before g c).maps c.requires.good c.args.x c.in-Some.row.now (here g c) (before g c) refl
 
+beside : (g : _) (c : goal.After-drop-under-2 g) → beside_world (g.R.Rows.held c.remove_object.new.self).maps ≡ beside_world (before g c).maps
+beside g c = ap (λ (h : Held). beside_world h.maps) (ends g c) ∙ ap beside_world (only5 (before g c).maps c.requires.good c.args.x c.in-Some.row.now (here g c) (before g c) refl)
+
 pub returns-clause-kept : goal.returns-clause-kept
 returns-clause-kept g c = record {
   good = record {
     sound = subst AreSound (sym (shown g c)) (sound_less (look_ups (before g c).maps) c.requires.good.sound c.requires.good.formed c.args.x c.in-Some.row.now (here g c));
     formed = subst IsWellFormed (sym (world g c)) (formed_less (look_ups (before g c).maps) c.requires.good.sound c.requires.good.formed c.args.x c.in-Some.row.now (here g c));
+    petitions = petitions_stay (before g c).maps (g.R.Rows.held c.remove_object.new.self).maps (beside g c) c.requires.good;
   };
-  seq = ap (λ (h : Held). h.maps.head.seq) (ends g c) ∙ ap (λ (k : Maps). k.head.seq) (only5 (before g c).maps c.requires.good c.args.x c.in-Some.row.now (here g c) (before g c) refl);
+  beside = beside g c;
   base = ap (λ (h : Held). h.base) (ends g c) ∙ base5 (before g c).maps c.requires.good c.args.x c.in-Some.row.now (here g c) (before g c) refl;
   numbers = record {
     props = props_dropped c.args.x (λ id. ap (λ (h : Held). get h.maps.props id) (ends g c) ∙ props_left (before g c).maps c.requires.good c.args.x c.in-Some.row.now (here g c) (before g c) refl id ∙ left_is (before g c).maps c.args.x id);

@@ -9,6 +9,8 @@ use Rattle.moo_props.proofs.RenamedRows.{with_new_name, look_ups-renamed, world_
 use Rattle.moo_props.proofs.ShorterRows.{own_row, spelled}
 use Rattle.moo_world.specs.Numbers.{prop_renamed, verbs_stay}
 use Rattle.moo_world.proofs.Shown.NumbersKept.{as_high}
+use Rattle.moo_world.specs.Keeps.{beside_world}
+use Rattle.moo_world.proofs.Shown.Beside.{petitions_stay}
 use Rattle.moo_props.proofs.renaming.rename.Goals as goal
 
 abbrev t : (g : _) → goal.In_ok-put_prop g → Maps
@@ -23,6 +25,9 @@ shown g c = ap (λ (h : Held). look_ups h.maps) c.in_ok-put_prop.ensures.ok ∙ 
 world : (g : _) (c : goal.In_ok-put_prop g) → world_of (g.R.Rows.held c.put_prop.new.self).maps ≡ renamed (world_of (t g c)) c.args.x (prop g c).0.name c.args.name
 world g c = ap world_shown (shown g c) ∙ world_renamed (t g c) c.requires.good c.args.x c.args.id.0 (prop g c).0 (prop g c).1 (prop g c).2 c.args.name c.requires.free
 
+beside : (g : _) (c : goal.In_ok-put_prop g) → beside_world (g.R.Rows.held c.put_prop.new.self).maps ≡ beside_world (t g c)
+beside g c = ap (λ (h : Held). beside_world h.maps) c.in_ok-put_prop.ensures.ok
+
 pub returns-clause-world : goal.returns-clause-world
 returns-clause-world g c = world g c ∙ ap (λ n. renamed (world_of (t g c)) c.args.x n c.args.name) (sym (spelled (t g c) c.args.id (prop g c).0 (prop g c).1))
 
@@ -31,8 +36,9 @@ returns-clause-kept g c = record {
   good = record {
     sound = subst AreSound (sym (shown g c)) (sound_renamed (t g c) c.requires.good c.args.x c.args.id.0 (prop g c).0 (prop g c).1 (prop g c).2 c.args.name c.requires.free);
     formed = subst IsWellFormed (sym (world g c)) (formed_renamed (t g c) c.requires.good c.args.x c.args.id.0 (prop g c).0 (prop g c).1 (prop g c).2 c.args.name c.requires.free c.requires.name);
+    petitions = petitions_stay (t g c) (g.R.Rows.held c.put_prop.new.self).maps (beside g c) c.requires.good;
   };
-  seq = ap (λ (h : Held). h.maps.head.seq) c.in_ok-put_prop.ensures.ok;
+  beside = beside g c;
   base = ap (λ (h : Held). h.base) c.in_ok-put_prop.ensures.ok;
   numbers = record {
     props = prop_renamed c.args.id (prop g c).0 c.args.name (prop g c).1 (ap (λ (h : Held). h.maps.props) c.in_ok-put_prop.ensures.ok ∙ ap (λ d. insert (t g c).props c.args.id (record { definer = d; name = c.args.name })) (sym (prop g c).2));

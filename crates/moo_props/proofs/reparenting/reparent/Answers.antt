@@ -22,6 +22,8 @@ use Rattle.moo_props.specs.Slots.{id_of, origins, keys_over}
 use Rattle.moo_props.proofs.Ascending.{removed_ascend, added_ascend}
 use Rattle.moo_props.proofs.Presence.{removed_had, added_had, removed_gone, added_there}
 use Rattle.moo_world.proofs.Shown.NumbersKept.{numbers_same}
+use Rattle.moo_world.specs.Keeps.{beside_world}
+use Rattle.moo_world.proofs.Shown.Beside.{petitions_stay}
 use Rattle.moo_props.proofs.reparenting.reparent.Goals as goal
 
 abbrev before : (g : _) → goal.After-drop-above-2 g → Held
@@ -134,8 +136,9 @@ returns-clause-kept g c =
       good = record {
         sound = subst (λ (h : Held). IsSound h.maps) (sym (ends g c)) (sound2 (before g c).maps c.requires.good.sound c.args.x c.args.new c.requires.may c.in_ok-row-in-Some.row (here g c) (before g c) (λ i. (before g c).maps));
         formed = subst IsWellFormed (sym world) (IsWellFormed-reparented w c.args.x c.args.new c.requires.may.well_formed c.requires.may.object (new_is w c.args.x c.args.new c.requires.may) c.requires.may.outside (no_clash w c.args.x c.args.new c.requires.may));
+        petitions = petitions_stay (before g c).maps (g.R.Rows.held c.relink.new.rows).maps (ap beside_world rest) c.requires.good;
       };
-      seq = ap (λ (h : Held). h.maps.head.seq) (ends g c) ∙ ap (λ (m : Maps). m.head.seq) (rest2 (before g c).maps c.requires.good.sound c.args.x c.args.new c.requires.may c.in_ok-row-in-Some.row (here g c) (before g c) (λ i. (before g c).maps));
+      beside = ap beside_world rest;
       base = ap (λ (h : Held). h.base) (ends g c) ∙ base2 (before g c).maps c.requires.good.sound c.args.x c.args.new c.requires.may c.in_ok-row-in-Some.row (here g c) (before g c) (λ i. (before g c).maps);
       numbers = numbers_same (before g c).maps (g.R.Rows.held c.relink.new.rows).maps (ap (λ (m : Maps). m.props) rest) (ap (λ (m : Maps). m.verbs) rest) (ap (λ (m : Maps). m.head.next_prop) rest) (ap (λ (m : Maps). m.head.next_verb) rest);
     }

@@ -5,6 +5,7 @@ use Rattle.moo_world.proofs.Form.Limits.{slot_owner, slot_within}
 use Rattle.moo_props.proofs.States.{put_slot_world, put_slot_good}
 use Rattle.moo_world.specs.Numbers.{IsSameButSlots}
 use Rattle.moo_world.proofs.Shown.NumbersKept.{slots_only}
+use Rattle.moo_world.specs.Keeps.{beside_world}
 use Rattle.moo_props.proofs.state.put_state.Goals as goal
 
 rest : (g : _) (c : goal.In_ok-put_slot g) → IsSameButSlots (g.R.Rows.held c.args.rows.now).maps (g.R.Rows.held c.put_slot.new.self).maps
@@ -21,8 +22,8 @@ returns-clause-world g c =
 pub returns-clause-kept : goal.returns-clause-kept
 returns-clause-kept g c = record {
   good = subst (λ (h : Held). IsGood h.maps) (sym c.in_ok-put_slot.ensures.ok)
-      (put_slot_good (g.R.Rows.held c.args.rows.now).maps c.requires.good.sound c.args.x c.args.id c.in-Some.slot.now (sym c.in-Some.ensures) (record (c.in-Some.slot.now) { state = c.args.state }) (λ s. record s { state = c.args.state }) (λ d. refl) c.requires.good.formed (λ s. refl) c.requires.set (λ s h. slot_within (record s { state = c.args.state }) (slot_owner s h) c.requires.fit));
-  seq = ap (λ (h : Held). h.maps.head.seq) c.in_ok-put_slot.ensures.ok;
+      (put_slot_good (g.R.Rows.held c.args.rows.now).maps c.requires.good.sound c.args.x c.args.id c.in-Some.slot.now (sym c.in-Some.ensures) (record (c.in-Some.slot.now) { state = c.args.state }) (λ s. record s { state = c.args.state }) (λ d. refl) c.requires.good.formed (λ s. refl) c.requires.set (λ s h. slot_within (record s { state = c.args.state }) (slot_owner s h) c.requires.fit) c.requires.good.petitions);
+  beside = ap (λ (h : Held). beside_world h.maps) c.in_ok-put_slot.ensures.ok;
   base = ap (λ (h : Held). h.base) c.in_ok-put_slot.ensures.ok;
   numbers = slots_only (g.R.Rows.held c.args.rows.now).maps (g.R.Rows.held c.put_slot.new.self).maps (rest g c);
 }

@@ -10,6 +10,7 @@ use Rattle.moo_props.specs.Names.{defines}
 use Rattle.moo_props.proofs.States.{put_slot_world, put_slot_good, clear_inherited}
 use Rattle.moo_world.specs.Numbers.{IsSameButSlots}
 use Rattle.moo_world.proofs.Shown.NumbersKept.{slots_only}
+use Rattle.moo_world.specs.Keeps.{beside_world}
 use Rattle.moo_props.proofs.state.set_info.Goals as goal
 
 abbrev next : (g : _) → goal.In_ok-put_slot g → SlotRow
@@ -38,8 +39,8 @@ returns-clause-world g c =
 pub returns-clause-kept : goal.returns-clause-kept
 returns-clause-kept g c = let owner : FitsSigned w32 c.args.owner.0 = search rules in record {
   good = subst (λ (h : Held). IsGood h.maps) (sym c.in_ok-put_slot.ensures.ok)
-      (put_slot_good (g.R.Rows.held c.args.rows.now).maps c.requires.good.sound c.args.x c.args.id c.in-Some.row.now (sym c.in-Some.ensures) (next g c) (change g c) (agrees g c) c.requires.good.formed (λ s. refl) (stays_set g c) (λ s h. slot_within (change g c s) (number_within c.args.owner owner) (slot_state s h)));
-  seq = ap (λ (h : Held). h.maps.head.seq) c.in_ok-put_slot.ensures.ok;
+      (put_slot_good (g.R.Rows.held c.args.rows.now).maps c.requires.good.sound c.args.x c.args.id c.in-Some.row.now (sym c.in-Some.ensures) (next g c) (change g c) (agrees g c) c.requires.good.formed (λ s. refl) (stays_set g c) (λ s h. slot_within (change g c s) (number_within c.args.owner owner) (slot_state s h)) c.requires.good.petitions);
+  beside = ap (λ (h : Held). beside_world h.maps) c.in_ok-put_slot.ensures.ok;
   base = ap (λ (h : Held). h.base) c.in_ok-put_slot.ensures.ok;
   numbers = slots_only (g.R.Rows.held c.args.rows.now).maps (g.R.Rows.held c.put_slot.new.self).maps (rest g c);
 }

@@ -12,6 +12,8 @@ use Rattle.moo_props.proofs.ShorterRows.{own_row, spelled, world_shorter, sound_
 use Rattle.moo_tree.specs.Under.{owners_under}
 use Rattle.moo_world.specs.Numbers.{prop_removed, verbs_stay}
 use Rattle.moo_world.proofs.Shown.NumbersKept.{as_high}
+use Rattle.moo_world.specs.Keeps.{beside_world}
+use Rattle.moo_world.proofs.Shown.Beside.{petitions_stay}
 use Rattle.moo_props.proofs.undefining.undefine.Goals as goal
 
 abbrev t : (g : _) → goal.After-drop-under-2 g → Maps
@@ -52,8 +54,9 @@ returns-clause-kept g c = record {
   good = record {
     sound = subst AreSound (sym (shown g c)) (sound_shorter (t g c) c.requires.good c.args.x c.args.id.0 (prop g c).0 (prop g c).1 (prop g c).2);
     formed = subst IsWellFormed (sym (world g c)) (formed_shorter (t g c) c.requires.good c.args.x c.args.id.0 (prop g c).0 (prop g c).1 (prop g c).2);
+    petitions = petitions_stay (t g c) (g.R.Rows.held c.remove_prop.new.self).maps (ap beside_world (rest g c)) c.requires.good;
   };
-  seq = ap (λ (h : Held). h.maps.head.seq) (ends g c) ∙ ap (λ (k : Maps). k.head.seq) (only2 (t g c) c.requires.good c.args.x c.args.id.0 (prop g c).0 (prop g c).1 (prop g c).2 (row g c).0 (row g c).1 (g.R.Rows.held c.args.rows.now) refl);
+  beside = ap beside_world (rest g c);
   base = ap (λ (h : Held). h.base) (ends g c) ∙ base-over (t g c) c.requires.good c.args.x c.args.id.0 (prop g c).0 (prop g c).1 (prop g c).2 (row g c).0 (row g c).1 (g.R.Rows.held c.args.rows.now) refl (owners_under (t g c) c.args.x) (g.R.Rows.held c.args.rows.now);
   numbers = record {
     props = prop_removed c.args.id (ap (λ (k : Maps). k.props) (rest g c));

@@ -36,7 +36,7 @@ returns-clause-kept g c =
     subst (Keeps old) (sym (whole g c))
     (record {
       good = added_good old.maps c.requires.good c.args.x c.args.verb (record { 0 = old.maps.head.next_verb }) refl c.requires.object c.requires.left (verb_within c.args.verb c.requires.names c.bytes-names.ensures.text owner);
-      seq = refl;
+      beside = refl;
       base = refl;
       numbers = record { props = props_stay refl; verbs = verb_added c.args.x c.args.verb refl; next_prop = omega arith; next_verb = omega arith };
     })

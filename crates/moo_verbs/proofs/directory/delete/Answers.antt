@@ -14,7 +14,7 @@ returns-clause-world g c =
 pub returns-clause-kept : goal.returns-clause-kept
 returns-clause-kept g c =
     let old = g.R.Rows.held c.args.rows.now in
-    subst (Keeps old) (sym c.in_ok-remove_verb.ensures.ok) (record { good = removed_good old.maps c.requires.good c.args.x c.args.id c.requires.held; seq = refl; base = refl; numbers = record { props = props_stay refl; verbs = verb_removed (c.args.x, c.args.id) refl; next_prop = omega arith; next_verb = omega arith } })
+    subst (Keeps old) (sym c.in_ok-remove_verb.ensures.ok) (record { good = removed_good old.maps c.requires.good c.args.x c.args.id c.requires.held; beside = refl; base = refl; numbers = record { props = props_stay refl; verbs = verb_removed (c.args.x, c.args.id) refl; next_prop = omega arith; next_verb = omega arith } })
 
 pub returns-clause-verbs : goal.returns-clause-verbs
 returns-clause-verbs g c = ap (λ (h : Held). h.maps.verbs) c.in_ok-remove_verb.ensures.ok

@@ -28,7 +28,7 @@ returns-clause-kept g c =
     subst (Keeps old) (sym (whole g c))
     (record {
       good = changed_good old.maps c.requires.good c.args.x c.args.id c.requires.held c.in-Some.row.now (sym c.in-Some.ensures) (λ v. record v { args = c.args.args }) (λ u named. named);
-      seq = refl;
+      beside = refl;
       base = refl;
       numbers = record { props = props_stay refl; verbs = verb_changed (c.args.x, c.args.id) (record (c.in-Some.row.now) { args = c.args.args }) c.requires.held refl; next_prop = omega arith; next_verb = omega arith };
     })

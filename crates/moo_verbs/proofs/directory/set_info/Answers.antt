@@ -22,7 +22,7 @@ returns-clause-kept g c =
     subst (Keeps old) (sym c.in_ok-put_verb.ensures.ok)
     (record {
       good = changed_good old.maps c.requires.good c.args.x c.args.id c.requires.held c.in-Some.row.now (sym c.in-Some.ensures) change (λ u fit. verb_within (change u) c.requires.names c.bytes-names.ensures.text owner);
-      seq = refl;
+      beside = refl;
       base = refl;
       numbers = record { props = props_stay refl; verbs = verb_changed (c.args.x, c.args.id) (change c.in-Some.row.now) c.requires.held refl; next_prop = omega arith; next_verb = omega arith };
     })

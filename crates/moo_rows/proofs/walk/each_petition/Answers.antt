@@ -1,0 +1,7 @@
+use Rattle.std.specs.FinMap.{entries}
+use Rattle.moo_rows.specs.Maps.{petition_cmp}
+use Rattle.moo_rows.proofs.Walking.{past_none}
+use Rattle.moo_rows.proofs.walk.each_petition.Goals as goal
+
+pub returns : goal.returns
+returns g c = past_none petition_cmp (entries (g.R.Rows.held c.args.rows.now).maps.petitions)
