@@ -45,7 +45,7 @@ same_key x id k = same_object x k.0 && eqb id k.1
 -- #1, #4 under it with a, #5 under #4 with b, #6 under #5, and #7 under #1 with c
 abbrev rows_T : LookUps
 rows_T = record {
-  head = record { top = pos 7; next_prop = 4; next_verb = 1; seq = 1 };
+  head = record { top = pos 7; next_prop = 4; next_verb = 1; next_petition = 1; seq = 1 };
   object = λ x. lookup (same_object x) (
       (no 0, row (no 1)) ∷ (no 1, row nothing) ∷ (no 2, row (no 1)) ∷ (no 3, row (no 1)) ∷ (no 4, row (no 1)) ∷ (no 5, row (no 4)) ∷ (no 6, row (no 5)) ∷ (no 7, row (no 1)) ∷ []);
   prop = λ id. lookup (eqb id) (
@@ -161,7 +161,7 @@ keeping = record { r = true; w = false; c = true }
 -- #7 defines d with r and c; #8 is under #7 with owner #0 and these bits on its d; #5 and #6 are owned by #2
 abbrev rows_8 : Bits → LookUps
 rows_8 bits = record rows_T {
-  head = record { top = pos 8; next_prop = 5; next_verb = 1; seq = 1 };
+  head = record { top = pos 8; next_prop = 5; next_verb = 1; next_petition = 1; seq = 1 };
   object = λ x. lookup (same_object x) ((no 8, row (no 7)) ∷ (no 5, record (row (no 4)) { owner = no 2 }) ∷ (no 6, record (row (no 5)) { owner = no 2 }) ∷ (no 1, row nothing) ∷ (no 4, row (no 1)) ∷ (no 7, row (no 1)) ∷ []);
   prop = λ id. lookup (eqb id) ((1, record { definer = no 4; name = 97 ∷ [] }) ∷ (2, record { definer = no 5; name = 98 ∷ [] }) ∷ (3, record { definer = no 7; name = 99 ∷ [] }) ∷ (4, record { definer = no 7; name = 100 ∷ [] }) ∷ []);
   slot = λ x id. lookup (same_key x id) (

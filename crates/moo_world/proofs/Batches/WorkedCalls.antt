@@ -41,7 +41,7 @@ i n = Int (pos n)
 -- the opening world: #1 fertile, #2 takes in what is under #1, #3 the wizard in it
 abbrev opening_rows : LookUps
 opening_rows = record {
-  head = record { top = pos 3; next_prop = 1; next_verb = 1; seq = 0 };
+  head = record { top = pos 3; next_prop = 1; next_verb = 1; next_petition = 1; seq = 0 };
   object = λ x. lookup (same_object x) (
       (no 0, row (no 1)) ∷ (no 1, record (row nothing) { f = true }) ∷ (no 2, record (row (no 1)) { accept = Some (no 1 ∷ []) }) ∷ (no 3, record (row (no 1)) { location = no 2; player = true; programmer = true; wizard = true }) ∷ []);
   prop = λ id. None;
