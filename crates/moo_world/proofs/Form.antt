@@ -9,6 +9,7 @@ pub mod Slots
 pub mod Arguments
 pub mod Values
 pub mod Quotas
+pub mod Petitions
 pub mod Runs
 pub mod Calls
 pub mod Passing

@@ -10,6 +10,7 @@ pub mod ObjectEntries
 pub mod Listed
 pub mod PairLists
 pub mod Numbered
+pub mod OneKey
 pub mod NumbersKept
 pub mod OpeningRows
 pub mod Beside

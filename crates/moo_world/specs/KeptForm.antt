@@ -9,8 +9,9 @@ use Rattle.moo_value.specs.Text.{IsText}
 use Rattle.moo_world.specs.declared.call.Batch.{Batch}
 use Rattle.moo_world.specs.declared.call.Call.{Call}
 use Rattle.moo_world.specs.Arguments.{is_text, fits}
-use Rattle.moo_world.specs.Judge.{State, after}
+use Rattle.moo_world.specs.Judge.{after}
 use Rattle.moo_world.specs.Outcomes.{Done}
+use Rattle.moo_world.specs.Requests.{State, Answered, IsFormed, request}
 use Rattle.moo_world.specs.Step.{step}
 use Rattle.moo_world.specs.World.{World, IsWellFormed}
 
@@ -22,9 +23,13 @@ arguments_fit call = list_all fits call.args
 abbrev pub CallsKeepForm : Type 0
 CallsKeepForm = (w next : World) (p : ObjNo) (call : Call) (v : Value) → IsWellFormed w → arguments_fit call ≡ true → step w p call ≡ Done v next → IsWellFormed next
 
--- after any batches, accepted or not, a world that was well formed is well formed
+-- and so are the world and the petitions that any call of a batch leaves, those of petitions among them
+abbrev pub RequestsKeepForm : Type 0
+RequestsKeepForm = (s next : State) (p : ObjNo) (call : Call) (v : Value) → IsFormed s → arguments_fit call ≡ true → request s p call ≡ Answered v next → IsFormed next
+
+-- after any batches, accepted or not, a world and petitions that were well formed are well formed
 abbrev pub RunsKeepForm : Type 0
-RunsKeepForm = (s : State) (batches : List Batch) → IsWellFormed s.world → list_all (λ batch. list_all arguments_fit batch.calls) batches ≡ true → IsWellFormed (after s batches).world
+RunsKeepForm = (s : State) (batches : List Batch) → IsFormed s → list_all (λ batch. list_all arguments_fit batch.calls) batches ≡ true → IsFormed (after s batches)
 
 -- ---- what is given
 

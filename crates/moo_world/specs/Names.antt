@@ -1,7 +1,11 @@
 -- The names of the calls.
-use Rattle.std.specs.Prelude.{ℕ, List, [], ◌∷◌, codes}
+use Rattle.std.specs.Prelude.{ℕ, Bool, true, false, List, [], ◌∷◌, Option, Some, None, codes}
+use Rattle.std.specs.List.{find}
+use Rattle.moo_world.specs.Objects.{same_text, folded}
 use Rattle.moo_world.specs.declared.name.CallName.{CallName}
-use Rattle.moo_world.specs.declared.name.CallName.TheVariants.{Valid, Parent, Children, IsPlayer, Players, MaxObject, Get, Properties, PropertyInfo, IsClearProperty, Verbs, VerbInfo, VerbArgs, AcceptList, Create, Chparent, Recycle, Move, SetPlayerFlag, Set, AddProperty, DeleteProperty, SetPropertyInfo, ClearProperty, AddVerb, DeleteVerb, SetVerbInfo, SetVerbArgs, SetAccept}
+use Rattle.moo_world.specs.declared.name.PetitionCall.{PetitionCall}
+use Rattle.moo_world.specs.declared.name.PetitionCall.TheVariants.{Petition as to_petition, Petitions as to_list, Grant as to_grant, Decline as to_decline}
+use Rattle.moo_world.specs.declared.name.CallName.TheVariants.{Valid, Parent, Children, IsPlayer, Players, MaxObject, Get, Properties, PropertyInfo, IsClearProperty, Verbs, VerbInfo, VerbArgs, AcceptList, Create, Chparent, Recycle, Move, SetPlayerFlag, Set, AddProperty, DeleteProperty, SetPropertyInfo, ClearProperty, AddVerb, DeleteVerb, SetVerbInfo, SetVerbArgs, SetAccept, Petition, Petitions, Grant, Decline}
 
 -- the name of a call, in lower case
 abbrev pub spelling : CallName → List ℕ
@@ -34,11 +38,32 @@ spelling DeleteVerb = codes "delete_verb"
 spelling SetVerbInfo = codes "set_verb_info"
 spelling SetVerbArgs = codes "set_verb_args"
 spelling SetAccept = codes "set_accept"
+spelling Petition = codes "petition"
+spelling Petitions = codes "petitions"
+spelling Grant = codes "grant"
+spelling Decline = codes "decline"
 
 abbrev pub all_names : List CallName
 all_names =
     Valid ∷ Parent ∷ Children ∷ IsPlayer ∷ Players ∷ MaxObject ∷ Get ∷ Properties
     ∷ PropertyInfo ∷ IsClearProperty ∷ Verbs ∷ VerbInfo ∷ VerbArgs ∷ AcceptList ∷ Create ∷ Chparent
     ∷ Recycle ∷ Move ∷ SetPlayerFlag ∷ Set ∷ AddProperty ∷ DeleteProperty ∷ SetPropertyInfo ∷ ClearProperty
-    ∷ AddVerb ∷ DeleteVerb ∷ SetVerbInfo ∷ SetVerbArgs ∷ SetAccept
+    ∷ AddVerb ∷ DeleteVerb ∷ SetVerbInfo ∷ SetVerbArgs ∷ SetAccept ∷ Petition ∷ Petitions ∷ Grant
+    ∷ Decline
     ∷ []
+
+-- the call that the bytes name, in any case
+abbrev pub named : List ℕ → Option CallName
+named bytes = find (λ name. same_text (folded bytes) (spelling name)) all_names
+
+-- which call of petitions a name is: none where it is a call on the world
+abbrev pub petition_call : CallName → Option PetitionCall
+petition_call Petition = Some to_petition
+petition_call Petitions = Some to_list
+petition_call Grant = Some to_grant
+petition_call Decline = Some to_decline
+petition_call name = None
+
+abbrev pub is_grant : CallName → Bool
+is_grant Grant = true
+is_grant name = false

@@ -1,11 +1,10 @@
 //! The names of the calls.
 
 ghost use Rattle.std.specs.Prelude.{◌≡◌, ◌↔◌, Some};
-ghost use Rattle.std.specs.List.{find};
 ghost use Rattle.moo_world.specs.Objects.{same_text, folded};
-ghost use Rattle.moo_world.specs.Names.{spelling, all_names};
+ghost use Rattle.moo_world.specs.Names.{spelling, all_names, named, petition_call};
 
-/// The calls, those that only read first.
+/// The calls on the world, those that only read first, and then those of petitions.
 #[derive(Clone, Copy, Debug, PartialEq, Eq)]
 pub enum CallName {
     Valid,
@@ -37,10 +36,23 @@ pub enum CallName {
     SetVerbInfo,
     SetVerbArgs,
     SetAccept,
+    Petition,
+    Petitions,
+    Grant,
+    Decline,
+}
+
+/// The calls of petitions.
+#[derive(Clone, Copy, Debug, PartialEq, Eq)]
+pub enum PetitionCall {
+    Petition,
+    Petitions,
+    Grant,
+    Decline,
 }
 
 /// Every call.
-const ALL: [CallName; 29] = [
+const ALL: [CallName; 33] = [
     CallName::Valid,
     CallName::Parent,
     CallName::Children,
@@ -70,6 +82,10 @@ const ALL: [CallName; 29] = [
     CallName::SetVerbInfo,
     CallName::SetVerbArgs,
     CallName::SetAccept,
+    CallName::Petition,
+    CallName::Petitions,
+    CallName::Grant,
+    CallName::Decline,
 ];
 
 impl CallName {
@@ -107,6 +123,23 @@ impl CallName {
             CallName::SetVerbInfo => b"set_verb_info",
             CallName::SetVerbArgs => b"set_verb_args",
             CallName::SetAccept => b"set_accept",
+            CallName::Petition => b"petition",
+            CallName::Petitions => b"petitions",
+            CallName::Grant => b"grant",
+            CallName::Decline => b"decline",
+        }
+    }
+
+    /// Which call of petitions it is; none where it is a call on the world.
+    pub fn petition_call(self) -> Option<PetitionCall>
+        ensures { result ≡ petition_call self }
+    {
+        match self {
+            CallName::Petition => Some(PetitionCall::Petition),
+            CallName::Petitions => Some(PetitionCall::Petitions),
+            CallName::Grant => Some(PetitionCall::Grant),
+            CallName::Decline => Some(PetitionCall::Decline),
+            _ => None,
         }
     }
 
@@ -118,14 +151,15 @@ impl CallName {
     }
 
     fn first_spelled(bytes: &[u8]) -> Option<CallName>
-        ensures { result ≡ find (λ name. same_text (folded bytes.now) (spelling name)) all_names }
+        ensures { result ≡ named bytes.now }
     {
         ALL.iter().copied().find(|name| name.is_spelled(bytes))
     }
 
     /// The call that the bytes name, in any case; none where they name no call.
     pub fn read(bytes: &[u8]) -> Option<CallName>
-        ensures { (name : CallName) → (result ≡ Some name) ↔ (folded bytes.now ≡ spelling name) }
+        ensures named { result ≡ named bytes.now }
+        ensures one { (name : CallName) → (result ≡ Some name) ↔ (folded bytes.now ≡ spelling name) }
     {
         CallName::first_spelled(bytes)
     }

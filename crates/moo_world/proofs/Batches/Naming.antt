@@ -3,7 +3,7 @@ use Rattle.std.proofs.Common.{◌≡◌, ℕ, Bool, true, false, cond, List, [],
 use Rattle.std.specs.List.{find}
 use Rattle.std.proofs.lemmas.Option.{none-some, same_Some}
 use Rattle.moo_world.specs.declared.name.CallName.{CallName}
-use Rattle.moo_world.specs.declared.name.CallName.TheVariants.{Valid, Parent, Children, IsPlayer, Players, MaxObject, Get, Properties, PropertyInfo, IsClearProperty, Verbs, VerbInfo, VerbArgs, AcceptList, Create, Chparent, Recycle, Move, SetPlayerFlag, Set, AddProperty, DeleteProperty, SetPropertyInfo, ClearProperty, AddVerb, DeleteVerb, SetVerbInfo, SetVerbArgs, SetAccept}
+use Rattle.moo_world.specs.declared.name.CallName.TheVariants.{Valid, Parent, Children, IsPlayer, Players, MaxObject, Get, Properties, PropertyInfo, IsClearProperty, Verbs, VerbInfo, VerbArgs, AcceptList, Create, Chparent, Recycle, Move, SetPlayerFlag, Set, AddProperty, DeleteProperty, SetPropertyInfo, ClearProperty, AddVerb, DeleteVerb, SetVerbInfo, SetVerbArgs, SetAccept, Petition, Petitions, Grant, Decline}
 use Rattle.moo_world.specs.Objects.{same_text, same_text-Decides}
 use Rattle.moo_world.specs.Names.{spelling, all_names}
 
@@ -50,6 +50,10 @@ spelled-spelling DeleteVerb = refl
 spelled-spelling SetVerbInfo = refl
 spelled-spelling SetVerbArgs = refl
 spelled-spelling SetAccept = refl
+spelled-spelling Petition = refl
+spelled-spelling Petitions = refl
+spelled-spelling Grant = refl
+spelled-spelling Decline = refl
 
 pub spelled_is : (bytes : List ℕ) (name : CallName) → (spelled bytes ≡ Some name) ↔ (bytes ≡ spelling name)
 spelled_is bytes name = (λ e. (same_text-Decides bytes (spelling name)).0 (find_passes (λ n. same_text bytes (spelling n)) all_names name e), λ e. ap spelled e ∙ spelled-spelling name)

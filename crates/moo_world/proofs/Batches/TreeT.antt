@@ -2,6 +2,7 @@
 use Rattle.std.proofs.Common.{◌≡◌, ℕ, pos, Bool, true, false, List, [], ◌∷◌, refl, Option, Some, None, eqb}
 use Rattle.std.specs.Prelude.{◌&&◌}
 use Rattle.std.specs.Map.{lookup}
+use Rattle.std.specs.FinMap.{empty}
 use Rattle.moo_value.specs.declared.value.ObjNo.{ObjNo}
 use Rattle.moo_rows.specs.declared.row.ObjRow.{ObjRow}
 use Rattle.moo_rows.specs.declared.row.SlotRow.{SlotRow}
@@ -21,6 +22,7 @@ use Rattle.moo_world.specs.ObjectLists.{subtree_of, children_of}
 use Rattle.moo_world.specs.Outcomes.{Failed}
 use Rattle.moo_world.specs.Recycling.{recycled}
 use Rattle.moo_world.specs.Step.{step}
+use Rattle.moo_world.specs.Requests.{request}
 use Rattle.moo_world.specs.Judge.{Verdict, Accepted, Refused, NoRoom, Stale, judge}
 use Rattle.moo_world.specs.Rows.{LookUps, world_shown}
 
@@ -144,13 +146,13 @@ answers (Refused k e) = None
 answers (NoRoom k) = None
 answers (Stale k) = None
 
-numbers_rise : answers (judge (record { world = T; seq = 1 }) (record { programmer = no 3; at = None; calls = call Create (Obj (no 1) ∷ []) ∷ call MaxObject [] ∷ call Create (Obj (no 1) ∷ []) ∷ [] }))
+numbers_rise : answers (judge (record { world = T; petitions = empty; next_petition = 1; seq = 1 }) (record { programmer = no 3; at = None; calls = call Create (Obj (no 1) ∷ []) ∷ call MaxObject [] ∷ call Create (Obj (no 1) ∷ []) ∷ [] }))
     ≡ Some (Obj (no 8) ∷ Obj (no 8) ∷ Obj (no 9) ∷ [])
-unfolding world_shown chain same_object same_text same_pair folded rebuilt step judge
+unfolding world_shown chain same_object same_text same_pair folded rebuilt step request judge
 numbers_rise = refl
 
-refused_second : judge (record { world = T; seq = 1 }) (record { programmer = no 3; at = None; calls = call Create (Obj (no 1) ∷ []) ∷ call Create (Obj (no 99) ∷ []) ∷ [] }) ≡ Refused 2 Permission
-unfolding world_shown chain same_object same_text same_pair folded rebuilt step judge
+refused_second : judge (record { world = T; petitions = empty; next_petition = 1; seq = 1 }) (record { programmer = no 3; at = None; calls = call Create (Obj (no 1) ∷ []) ∷ call Create (Obj (no 99) ∷ []) ∷ [] }) ≡ Refused 2 Permission
+unfolding world_shown chain same_object same_text same_pair folded rebuilt step request judge
 refused_second = refl
 
 -- ---- bits and owners come from the new parent's slot, not from the definer's

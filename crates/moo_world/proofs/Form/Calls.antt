@@ -22,7 +22,7 @@ use Rattle.moo_world.specs.declared.change.Change.{Change}
 use Rattle.moo_world.specs.declared.change.Change.TheVariants as to
 use Rattle.moo_world.specs.declared.descriptor.Desc.{Desc}
 use Rattle.moo_world.specs.declared.name.CallName.{CallName}
-use Rattle.moo_world.specs.declared.name.CallName.TheVariants.{Valid, Parent, Children, IsPlayer, Players, MaxObject, Get, Properties, PropertyInfo, IsClearProperty, Verbs, VerbInfo, VerbArgs, AcceptList, Create, Chparent, Recycle, Move, SetPlayerFlag, Set, AddProperty, DeleteProperty, SetPropertyInfo, ClearProperty, AddVerb, DeleteVerb, SetVerbInfo, SetVerbArgs, SetAccept}
+use Rattle.moo_world.specs.declared.name.CallName.TheVariants.{Valid, Parent, Children, IsPlayer, Players, MaxObject, Get, Properties, PropertyInfo, IsClearProperty, Verbs, VerbInfo, VerbArgs, AcceptList, Create, Chparent, Recycle, Move, SetPlayerFlag, Set, AddProperty, DeleteProperty, SetPropertyInfo, ClearProperty, AddVerb, DeleteVerb, SetVerbInfo, SetVerbArgs, SetAccept, Petition, Petitions, Grant, Decline}
 use Rattle.moo_world.specs.Arguments.{Info, is_number, is_text, fits, no_values, one_object, two_objects, object_and_text, object_and_value, object_text_and_value, parent_and_owner, object_and_accept, new_property, new_property_info, object_and_desc, new_verb, new_verb_info, new_verb_args}
 use Rattle.moo_world.specs.BuiltIns.{built_in}
 use Rattle.moo_world.specs.Calls.{create, chparent, recycle, move, set_player_flag, set_accept}
@@ -54,7 +54,7 @@ use Rattle.moo_world.proofs.Ownership.Changed.{is_modest, by_field_change, by_ch
 use Rattle.moo_world.proofs.Ownership.Counted.{on_create, on_recycle}
 use Rattle.moo_world.proofs.Ownership.Kept.{on_record, on_slot, after, unchanged}
 use Rattle.moo_world.proofs.Ownership.Rebuilt.{by_reparenting, by_recycling, by_undefining, by_creation}
-use Rattle.moo_world.proofs.Form.Passing.{Holds, of_done, on_check, on_room, on_given, on_found, on_field, on_done}
+use Rattle.moo_world.proofs.Form.Passing.{Holds, of_done, on_check, on_room, on_given, on_found, on_field, on_failed, on_done}
 use Rattle.moo_world.proofs.Inheritance.Rebuilding.{objects_same}
 use Rattle.moo_world.proofs.Inheritance.Recycling.{IsWellFormed-recycled}
 use Rattle.moo_world.proofs.Inheritance.Reparenting.{IsWellFormed-reparented}
@@ -395,6 +395,10 @@ module _ (w : World) (p : ObjNo) (values : List Value) (wf : IsWellFormed w) (po
   named_kept SetVerbInfo = on_given _ (new_verb_info values) _ (λ a e. verb_info_kept a.0 a.1.0 a.1.1.0 a.1.1.1 (new_verb_info_named values a e))
   named_kept SetVerbArgs = on_given _ (new_verb_args values) _ (λ a e. verb_args_kept a.0 a.1.0 a.1.1)
   named_kept SetAccept = on_given _ (object_and_accept values) _ (λ a e. accept_kept a.0 a.1 (accept_list_numbered values a e))
+  named_kept Petition = on_failed _ _
+  named_kept Petitions = on_failed _ _
+  named_kept Grant = on_failed _ _
+  named_kept Decline = on_failed _ _
 
 calls_keep : (w next : World) (p : ObjNo) (call : Call) (v : Value) → IsWellFormed w → step w p call ≡ Done v next → CallKeeps w p call.args (name_after w call) next
 unfolding step

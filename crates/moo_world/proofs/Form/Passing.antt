@@ -51,3 +51,7 @@ on_field P None field other h k = k
 pub on_done : (P : Value → World → Type 0) (v : Value) (next : World) → P v next → Holds P (Done v next)
 unfolding Holds
 on_done P v next h = h
+
+pub on_failed : (P : Value → World → Type 0) (code : Code) → Holds P (Failed code)
+unfolding Holds
+on_failed P code = tt

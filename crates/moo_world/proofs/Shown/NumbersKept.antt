@@ -16,11 +16,13 @@ use Rattle.moo_rows.specs.Exact.{prop_exact, verb_exact}
 use Rattle.moo_rows.specs.Maps.{Maps, prop_cmp, verb_cmp}
 use Rattle.moo_rows.proofs.Orders.{prop_total, verb_total}
 use Rattle.moo_world.specs.declared.call.Call.{Call}
-use Rattle.moo_world.specs.Between.{CallsLead, BatchesKeepNumbers}
+use Rattle.moo_world.specs.Between.{CallsLead, KeepsInTurn, BatchesKeepNumbers}
 use Rattle.moo_world.specs.Numbers.{KeepsProps, props_stay, prop_added, prop_renamed, prop_removed, props_dropped, KeepsVerbs, verbs_stay, verb_added, verb_changed, verb_removed, verbs_dropped, KeepsNumbers, IsSameButSlots, NumbersStay, not_of}
 use Rattle.moo_world.specs.Objects.{same_object}
-use Rattle.moo_world.specs.Rows.{prop_id, verb_id}
-use Rattle.moo_world.proofs.Shown.MapLaws.{key-Decides}
+use Rattle.moo_world.specs.Requests.{PetitionsStay, state_of}
+use Rattle.moo_world.specs.Rows.{prop_id, verb_id, world_of}
+use Rattle.moo_world.proofs.Batches.PetitionNumbers.{petitions_same, petitions_joined, petitions_kept}
+use Rattle.moo_world.proofs.Shown.OneKey.{put_or_old, none_or_old}
 
 -- ---- one call
 
@@ -49,22 +51,6 @@ pub slots_only : (old new : Maps) → IsSameButSlots old new → KeepsNumbers ol
 slots_only old new e = numbers_same old new (ap (λ (m : Maps). m.props) e) (ap (λ (m : Maps). m.verbs) e) (ap (λ (m : Maps). m.head.next_prop) e) (ap (λ (m : Maps). m.head.next_verb) e)
 
 -- ---- many
-
-module _ {K X : Type 0} {cmp : K → K → Ordering} (total : IsTotalOrder cmp) (exact : CmpEqualImpliesEq cmp) (m : FinMap cmp X) (k key : K) where
-  -- a key is the one that is put, or has its old row
-  put_or_old : (x : X) → ((key ≡ k) × (get (insert m k x) key ≡ Some x)) ⊎ (get (insert m k x) key ≡ get m key)
-  put_or_old x = by (eq_by_cmp cmp key k) refl
-    where
-      by : (b : Bool) → eq_by_cmp cmp key k ≡ b → ((key ≡ k) × (get (insert m k x) key ≡ Some x)) ⊎ (get (insert m k x) key ≡ get m key)
-      by true e = inl ((key-Decides cmp total exact key k).0 e, get-insert total m k x key ∙ ap (λ b. cond b (Some x) (get m key)) e)
-      by false e = inr (get-insert total m k x key ∙ ap (λ b. cond b (Some x) (get m key)) e)
-
-  none_or_old : (get (remove m k) key ≡ None) ⊎ (get (remove m k) key ≡ get m key)
-  none_or_old = by (eq_by_cmp cmp key k) refl
-    where
-      by : (b : Bool) → eq_by_cmp cmp key k ≡ b → (get (remove m k) key ≡ None) ⊎ (get (remove m k) key ≡ get m key)
-      by true e = inl (get-remove total m k key ∙ ap (λ b. cond b None (get m key)) e)
-      by false e = inr (get-remove total m k key ∙ ap (λ b. cond b None (get m key)) e)
 
 -- the definer's row stood there
 abbrev Stood : FinMap prop_cmp PropRow → PropId → PropRow → Type 0
@@ -148,11 +134,23 @@ stay_joined a b c s t = record {
 pub stay_itself : (m : Maps) → NumbersStay m m
 stay_itself m = numbers_stay m m (numbers_same m m refl refl refl refl)
 
+in_turn_stay : (between : List Maps) (old new : Maps) → KeepsInTurn old between new → NumbersStay old new
+in_turn_stay [] old new k = numbers_stay old new k
+in_turn_stay (mid ∷ between) old new k = stay_joined old mid new (numbers_stay old mid k.0) (in_turn_stay between mid new k.1)
+
 pub calls_stay : (p : ObjNo) (calls : List Call) (old new : Maps) → CallsLead p calls old new → NumbersStay old new
 calls_stay p [] old new e = subst (NumbersStay old) (sym e) (stay_itself old)
-calls_stay p (call ∷ calls) old new l = stay_joined old l.1 new (numbers_stay old l.1 l.4) (calls_stay p calls l.1 new l.5)
+calls_stay p (call ∷ calls) old new l = stay_joined old l.1 new (in_turn_stay l.4.0 old l.1 l.4.2) (calls_stay p calls l.1 new l.5)
+
+pub petitions_stay : (p : ObjNo) (calls : List Call) (old new : Maps) → CallsLead p calls old new → PetitionsStay (state_of old) (state_of new)
+petitions_stay p [] old new e = subst (λ m. PetitionsStay (state_of old) (state_of m)) (sym e) (petitions_same (state_of old) (world_of old))
+petitions_stay p (call ∷ calls) old new l =
+    petitions_joined (state_of old) (state_of l.1) (state_of new) (petitions_kept (state_of old) (state_of l.1) p call l.0 l.2) (petitions_stay p calls l.1 new l.5)
 
 pub batches_keep_numbers : BatchesKeepNumbers
 batches_keep_numbers batch old new l =
     let s = calls_stay batch.programmer batch.calls old l.0 l.1 in
-    subst (NumbersStay old) (sym l.2) (record { props = s.props; verbs = s.verbs; next_prop = s.next_prop; next_verb = s.next_verb })
+    let t = petitions_stay batch.programmer batch.calls old l.0 l.1 in (
+      subst (NumbersStay old) (sym l.2) (record { props = s.props; verbs = s.verbs; next_prop = s.next_prop; next_verb = s.next_verb }),
+      subst (λ m. PetitionsStay (state_of old) (state_of m)) (sym l.2) (record { same = t.same; next = t.next }),
+    )

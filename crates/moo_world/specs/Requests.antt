@@ -1,0 +1,172 @@
+-- The calls of petitions, and what any call of a batch comes to. Petitions are this server's own: LambdaMOO has none.
+use Rattle.std.specs.Prelude.{◌≡◌, ℕ, ◌+◌, ◌<◌, ◌≤◌, ℤ, pos, negsuc, nat_lt, Bool, true, false, not, ◌&&◌, ◌||◌, List, [], ◌∷◌, map, Option, Some, None, is_some, Result, Ok, Err, if◌then◌else◌}
+use Rattle.std.specs.Option.{option_map, option_and_then}
+use Rattle.std.specs.List.{find, filter, list_all}
+use Rattle.std.specs.FinMap.{FinMap, get, insert, remove, entries}
+use Rattle.moo_value.specs.declared.code.Code.{Code}
+use Rattle.moo_value.specs.declared.code.Code.TheVariants.{«Type» as wrong_type, Arguments, Permission, InvalidArgument}
+use Rattle.moo_value.specs.declared.value.ObjNo.{ObjNo}
+use Rattle.moo_value.specs.declared.value.Value.{Value}
+use Rattle.moo_value.specs.declared.value.Value.TheVariants.{Int, Obj, Str, List as a_list}
+use Rattle.moo_value.specs.Value.{spread}
+use Rattle.moo_value.specs.Values.{Values}
+use Rattle.moo_rows.specs.declared.row.PetitionId.{PetitionId}
+use Rattle.moo_rows.specs.declared.row.PetitionRow.{PetitionRow}
+use Rattle.moo_rows.specs.Maps.{Maps, petition_cmp}
+use Rattle.moo_world.specs.declared.call.Call.{Call}
+use Rattle.moo_world.specs.declared.name.CallName.{CallName}
+use Rattle.moo_world.specs.declared.name.PetitionCall.{PetitionCall}
+use Rattle.moo_world.specs.declared.name.PetitionCall.TheVariants.{Petition as to_petition, Petitions as to_list, Grant as to_grant, Decline as to_decline}
+use Rattle.moo_world.specs.Answers.{zero, list_of}
+use Rattle.moo_world.specs.Arguments.{no_values}
+use Rattle.moo_world.specs.Names.{petition_call, named}
+use Rattle.moo_world.specs.Objects.{same_object}
+use Rattle.moo_world.specs.Outcomes.{Outcome, Done, Failed, Full}
+use Rattle.moo_world.specs.Petitions.{is_named, are_few, are_shallow, PetitionsStand}
+use Rattle.moo_world.specs.Rights.{is_wizard}
+use Rattle.moo_world.specs.Rows.{world_of}
+use Rattle.moo_world.specs.Step.{step}
+use Rattle.moo_world.specs.World.{World, is_object, IsWellFormed}
+
+-- the whole database: the world, the petitions with the number of the next one, and how many batches were accepted
+pub record State : Type 0 where
+  pub world : World
+  pub petitions : FinMap petition_cmp PetitionRow
+  pub next_petition : ℕ
+  pub seq : ℕ
+
+-- what rows show
+abbrev pub state_of : Maps → State
+state_of m = record { world = world_of m; petitions = m.petitions; next_petition = m.head.next_petition; seq = m.head.seq }
+
+-- a well formed world, and petitions as they may stand beside it
+pub record IsFormed (s : State) : Type 0 where
+  pub world : IsWellFormed s.world
+  pub petitions : PetitionsStand s.petitions s.next_petition
+
+-- what a call of a batch comes to: an answer and the next state, an error, or no number left
+pub data Effect : Type 0 where
+  Answered : Value → State → Effect
+  Erred : Code → Effect
+  NoneLeft : Effect
+
+-- the check has to hold, or the call has this effect
+abbrev pub unless_fails : Bool → Code → Effect → Effect
+unless_fails true code rest = rest
+unless_fails false code rest = Erred code
+
+abbrev pub taking : {A : Type 0} → Result A Code → (A → Effect) → Effect
+taking (Ok a) rest = rest a
+taking (Err code) rest = Erred code
+
+-- what is done in the world alone
+abbrev pub in_world : State → Outcome → Effect
+in_world s (Done v w) = Answered v (record s { world = w })
+in_world s (Failed code) = Erred code
+in_world s Full = NoneLeft
+
+-- ---- what the calls take
+
+abbrev pub one_list : List Value → Result Values Code
+one_list (a_list values ∷ []) = Ok values
+one_list (v ∷ []) = Err wrong_type
+one_list args = Err Arguments
+
+abbrev pub one_integer : List Value → Result ℤ Code
+one_integer (Int n ∷ []) = Ok n
+one_integer (v ∷ []) = Err wrong_type
+one_integer args = Err Arguments
+
+-- ---- petitions by number
+
+abbrev pub petition_id : ℕ → PetitionId
+petition_id n = record { 0 = n }
+
+-- the petition of a number, if there is one
+abbrev pub petition_at : State → ℤ → Option (PetitionId × PetitionRow)
+petition_at s (pos n) = option_map (λ row. (petition_id n, row)) (get s.petitions (petition_id n))
+petition_at s (negsuc n) = None
+
+abbrev pub without : PetitionId → State → State
+without id s = record s { petitions = remove s.petitions id }
+
+-- ---- the calls that a petition holds
+
+-- the name of a call and what it is given, of a name that names a call, and none of those of petitions
+abbrev pub call_in : List Value → Option Call
+call_in (Str name ∷ args) = option_and_then (λ n. if is_some (petition_call n) then None else Some (record { name = n; args = args })) (named name)
+call_in values = None
+
+-- the call that a petition holds
+abbrev pub held_call : Value → Option Call
+held_call (a_list values) = call_in (spread values)
+held_call v = None
+
+-- one of them, by the wizard who grants it. One that names no call is in no petition that a call has made
+abbrev pub held_step : World → ObjNo → Value → Outcome
+held_step w p held = elim (held_call held) [ None ↦ Failed InvalidArgument | Some call ↦ step w p call ]
+
+-- all of them, one after another, up to the first that isn't done
+abbrev pub held_steps : World → ObjNo → List Value → Outcome
+held_steps w p [] = Done zero w
+held_steps w p (held ∷ rest) = elim (held_step w p held) [ Done v next ↦ held_steps next p rest | Failed code ↦ Failed code | Full ↦ Full ]
+
+-- ---- the calls of petitions
+
+-- the greatest number that the next petition may have: at it none is left
+abbrev pub last_petition : ℕ
+last_petition = 4294967295
+
+-- with one petition more
+abbrev pub asked : State → ObjNo → Values → State
+asked s p calls = record s { petitions = insert s.petitions (petition_id s.next_petition) (record { who = p; calls = calls }); next_petition = s.next_petition + 1 }
+
+abbrev pub petition : State → ObjNo → Values → Effect
+petition s p calls =
+    unless_fails (list_all is_named (spread calls)) wrong_type
+    (unless_fails (are_few calls) InvalidArgument
+    (unless_fails (list_all (λ held. is_some (held_call held)) (spread calls)) InvalidArgument
+    (unless_fails (are_shallow calls) InvalidArgument
+    (if nat_lt s.next_petition last_petition then Answered (Int (pos s.next_petition)) (asked s p calls) else NoneLeft))))
+
+-- a petition as it is listed: {number, who, calls}
+abbrev pub listed : PetitionId × PetitionRow → Value
+listed e = list_of (Int (pos e.0.0) ∷ Obj e.1.who ∷ a_list e.1.calls ∷ [])
+
+-- all of them for a wizard, else the programmer's own
+abbrev pub petitions : State → ObjNo → Effect
+petitions s p = Answered (list_of (map listed (filter (λ e. is_wizard s.world p || same_object e.1.who p) (entries s.petitions)))) s
+
+-- the petition goes, and then its calls are made on the wizard's authority
+abbrev pub grant : State → ObjNo → ℤ → Effect
+grant s p n =
+    unless_fails (is_wizard s.world p) Permission
+    (elim (petition_at s n) [ None ↦ Erred InvalidArgument | Some e ↦ in_world (without e.0 s) (held_steps s.world p (spread e.1.calls)) ])
+
+abbrev pub decline : State → ObjNo → ℤ → Effect
+decline s p n =
+    elim (petition_at s n) [
+      | None ↦ Erred InvalidArgument
+      | Some e ↦ unless_fails (same_object e.1.who p || is_wizard s.world p) Permission (Answered zero (without e.0 s))
+    ]
+
+abbrev pub petition_call_by : State → ObjNo → PetitionCall → List Value → Effect
+petition_call_by s p to_petition args = taking (one_list args) (petition s p)
+petition_call_by s p to_list args = taking (no_values args) (λ _. petitions s p)
+petition_call_by s p to_grant args = taking (one_integer args) (grant s p)
+petition_call_by s p to_decline args = taking (one_integer args) (decline s p)
+
+-- any call, by its name: the programmer has to be an object
+unfoldable pub request : State → ObjNo → Call → Effect
+request s p call =
+    elim (petition_call call.name) [
+      | None ↦ in_world s (step s.world p call)
+      | Some c ↦ unless_fails (is_object s.world p) Permission (petition_call_by s p c call.args)
+    ]
+
+-- ---- numbers of petitions
+
+-- over any time, a number once given is not given again: under a number that was given there stands the petition that stood there
+pub record PetitionsStay (old new : State) : Type 0 where
+  pub same : (id : PetitionId) (row : PetitionRow) → id.0 < old.next_petition → get new.petitions id ≡ Some row → get old.petitions id ≡ Some row
+  pub next : old.next_petition ≤ new.next_petition
