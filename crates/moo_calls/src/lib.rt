@@ -16,4 +16,4 @@ mod stepping;
 mod values;
 
 pub use changing::set_accept;
-pub use stepping::step;
+pub use stepping::{step, step_named};

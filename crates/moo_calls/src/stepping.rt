@@ -16,7 +16,7 @@ use moo_value::{Code, ObjNo, Value};
 use moo_world::{Call, CallName};
 use std::alloc::Global;
 
-/// A call by its name, by a programmer who is an object.
+/// A call by its name, by a programmer who is an object. Petitions are no part of the world, and their calls none of these.
 fn named_call<R: Rows>(
     rows: &mut R,
     alloc: Global,
@@ -61,10 +61,13 @@ fn named_call<R: Rows>(
         CallName::SetVerbInfo => on_verbs::set_verb_info(rows, alloc, programmer, args),
         CallName::SetVerbArgs => on_verbs::set_verb_args(rows, alloc, programmer, args),
         CallName::SetAccept => on_objects::set_accept(rows, alloc, programmer, args),
+        CallName::Petition | CallName::Petitions | CallName::Grant | CallName::Decline => {
+            Err(Fault::Moo(Code::InvalidArgument))
+        }
     }
 }
 
-/// One call of the programmer's. E_PERM where the programmer is no object; then E_ARGS and E_TYPE; then the errors of the
+/// One call on the world, of the programmer's. E_PERM where the programmer is no object; then E_ARGS and E_TYPE; then the errors of the
 /// call. At an error, and where a number is wanted and none is left (Full), the rows are as they were. After want of memory they may be
 /// half changed, and the caller drops them.
 #[tactic(auto, unfolding(moo_world::specs::Step::step))]
@@ -78,8 +81,25 @@ pub fn step<R: Rows>(
     ensures comes { ComesTo (step (world_in (R.held rows.old)) programmer call.now) (R.held rows.old) (R.held rows.new) result }
     ensures kept { OnOk result (Keeps (R.held rows.old) (R.held rows.new)) }
 {
+    step_named(rows, alloc, programmer, call.name, call.args.items())
+}
+
+/// The same of a call whose name and arguments stand apart.
+#[tactic(auto, unfolding(moo_world::specs::Step::step))]
+pub fn step_named<R: Rows>(
+    rows: &mut R,
+    alloc: Global,
+    programmer: ObjNo,
+    name: CallName,
+    args: &[Value],
+) -> Result<Value, Fault>
+    requires good { IsGood (R.held rows.old).maps }
+    requires fit { list_all fits args.now ≡ true }
+    ensures comes { ComesTo (step (world_in (R.held rows.old)) programmer (record { name = name; args = args.now })) (R.held rows.old) (R.held rows.new) result }
+    ensures kept { OnOk result (Keeps (R.held rows.old) (R.held rows.new)) }
+{
     if !valid(rows, programmer) {
         return Err(Fault::Moo(Code::Permission));
     }
-    named_call(rows, alloc, programmer, call.name, call.args.items())
+    named_call(rows, alloc, programmer, name, args)
 }
