@@ -5,14 +5,12 @@ use Rattle.moo_value.specs.declared.value.Value.{Value}
 use Rattle.moo_value.specs.declared.code.Code.{Code}
 use Rattle.moo_rows.specs.Maps.{Maps, Held}
 use Rattle.moo_world.specs.declared.call.Call.{Call}
-use Rattle.moo_world.specs.World.{World}
 use Rattle.moo_world.specs.Between.{CallsLead}
 use Rattle.moo_world.specs.Rows.{IsGood}
-use Rattle.moo_world.specs.Outcomes.{Outcome, Done, Failed, Full}
-use Rattle.moo_world.specs.Step.{step}
+use Rattle.moo_world.specs.Requests.{State, Effect, Answered, Erred, NoneLeft, request}
 use Rattle.moo_world.specs.Judge.{Ran, Through, FailedAt, FullAt, after_one, run_calls}
-use Rattle.moo_call_parts.specs.Outcomes.{world_in}
-use Rattle.moo_world.specs.Keeps.{Keeps}
+use Rattle.moo_world.specs.Names.{is_grant}
+use Rattle.moo_petitions.specs.Outcomes.{state_in, KeepsRows}
 use Rattle.moo_batch.specs.Judge.{HaveKept}
 
 -- answers, and then what the later calls come to
@@ -20,7 +18,7 @@ abbrev pub after_all : List Value → Ran → Ran
 after_all [] ran = ran
 after_all (v ∷ vs) ran = after_one v (after_all vs ran)
 
--- the rows are good ones, what no world shows is as it was, and where the calls that are left lead, all of them do
+-- the rows are good ones, no batch is counted yet, and where the calls that are left lead, all of them do
 pub record HaveRunKeeping (before : Held) (p : ObjNo) (all : List Call) (now : Held) (left : List Call) : Type 0 where
   pub good : IsGood now.maps
   pub seq : now.maps.head.seq ≡ before.maps.head.seq
@@ -29,16 +27,16 @@ pub record HaveRunKeeping (before : Held) (p : ObjNo) (all : List Call) (now : H
 
 -- all calls come to these answers and then what the calls that are left come to
 pub record HaveRunSoFar (before : Held) (p : ObjNo) (all : List Call) (answers : List Value) (now : Held) (left : List Call) : Type 0 where
-  pub run : run_calls (world_in before) p all ≡ after_all answers (run_calls (world_in now) p left)
+  pub run : run_calls (state_in before) p all ≡ after_all answers (run_calls (state_in now) p left)
   pub kept : HaveRunKeeping before p all now left
 
 after_all-append : (vs : List Value) (v : Value) (ran : Ran) → after_all (vs ++ v ∷ []) ran ≡ after_all vs (after_one v ran)
 after_all-append [] v ran = refl
 after_all-append (u ∷ vs) v ran = ap (after_one u) (after_all-append vs v ran)
 
-after_all-through : (vs : List Value) (w : World) → after_all vs (Through [] w) ≡ Through vs w
-after_all-through [] w = refl
-after_all-through (v ∷ vs) w = ap (after_one v) (after_all-through vs w)
+after_all-through : (vs : List Value) (s : State) → after_all vs (Through [] s) ≡ Through vs s
+after_all-through [] s = refl
+after_all-through (v ∷ vs) s = ap (after_one v) (after_all-through vs s)
 
 after_all-failed : (vs : List Value) (e : Code) → after_all vs (FailedAt 1 e) ≡ FailedAt (length vs + 1) e
 after_all-failed [] e = refl
@@ -53,20 +51,20 @@ pub run-started : (before : Held) (p : ObjNo) (all : List Call) → IsGood befor
 run-started before p all good = record { run = refl; kept = record { good = good; seq = refl; base = refl; numbers = λ last lead. lead } }
 
 -- what the first of some calls makes of them
-first_of : World → ObjNo → List Call → Outcome → Ran
-first_of w p calls o = elim o [ Done v next ↦ after_one v (run_calls next p calls) | Failed e ↦ FailedAt 1 e | Full ↦ FullAt 1 ]
+first_of : State → ObjNo → List Call → Effect → Ran
+first_of s p calls o = elim o [ Answered v next ↦ after_one v (run_calls next p calls) | Erred e ↦ FailedAt 1 e | NoneLeft ↦ FullAt 1 ]
 
-first_is : (w : World) (p : ObjNo) (call : Call) (calls : List Call) (o : Outcome) → step w p call ≡ o → run_calls w p (call ∷ calls) ≡ first_of w p calls o
+first_is : (s : State) (p : ObjNo) (call : Call) (calls : List Call) (o : Effect) → request s p call ≡ o → run_calls s p (call ∷ calls) ≡ first_of s p calls o
 unfolding first_of
-first_is w p call calls o e = ap (first_of w p calls) e
+first_is s p call calls o e = ap (first_of s p calls) e
 
 module _ {before : Held} {p : ObjNo} {all : List Call} {answers : List Value} {now : Held} where
   pub run-one_more : (call : Call) (left : List Call) (v : Value) (more : List Value) (next : Held) → more ≡ answers ++ v ∷ [] → HaveRunSoFar before p all answers now (call ∷ left)
-      → step (world_in now) p call ≡ Done v (world_in next) → Keeps now next → HaveRunSoFar before p all more next left
+      → request (state_in now) p call ≡ Answered v (state_in next) → KeepsRows (is_grant call.name) now next → HaveRunSoFar before p all more next left
   unfolding first_of
   run-one_more call left v more next e h done kept = record {
-    run = h.run ∙ ap (after_all answers) (first_is (world_in now) p call left (Done v (world_in next)) done)
-        ∙ sym (ap (λ vs. after_all vs (run_calls (world_in next) p left)) e ∙ after_all-append answers v (run_calls (world_in next) p left));
+    run = h.run ∙ ap (after_all answers) (first_is (state_in now) p call left (Answered v (state_in next)) done)
+        ∙ sym (ap (λ vs. after_all vs (run_calls (state_in next) p left)) e ∙ after_all-append answers v (run_calls (state_in next) p left));
     kept = record {
       good = kept.good;
       seq = kept.seq ∙ h.kept.seq;
@@ -78,15 +76,15 @@ module _ {before : Held} {p : ObjNo} {all : List Call} {answers : List Value} {n
   pub run-kept : HaveRunSoFar before p all answers now [] → HaveKept p all before now
   run-kept h = record { good = h.kept.good; seq = h.kept.seq; base = h.kept.base; numbers = h.kept.numbers now.maps refl }
 
-  pub run-ended : HaveRunSoFar before p all answers now [] → run_calls (world_in before) p all ≡ Through answers (world_in now)
-  run-ended h = h.run ∙ after_all-through answers (world_in now)
+  pub run-ended : HaveRunSoFar before p all answers now [] → run_calls (state_in before) p all ≡ Through answers (state_in now)
+  run-ended h = h.run ∙ after_all-through answers (state_in now)
 
   pub run-failed : (call : Call) (left : List Call) (e : Code) → HaveRunSoFar before p all answers now (call ∷ left)
-      → step (world_in now) p call ≡ Failed e → run_calls (world_in before) p all ≡ FailedAt (length answers + 1) e
+      → request (state_in now) p call ≡ Erred e → run_calls (state_in before) p all ≡ FailedAt (length answers + 1) e
   unfolding first_of
-  run-failed call left e h failed = h.run ∙ ap (after_all answers) (first_is (world_in now) p call left (Failed e) failed) ∙ after_all-failed answers e
+  run-failed call left e h failed = h.run ∙ ap (after_all answers) (first_is (state_in now) p call left (Erred e) failed) ∙ after_all-failed answers e
 
   pub run-full : (call : Call) (left : List Call) → HaveRunSoFar before p all answers now (call ∷ left)
-      → step (world_in now) p call ≡ Full → run_calls (world_in before) p all ≡ FullAt (length answers + 1)
+      → request (state_in now) p call ≡ NoneLeft → run_calls (state_in before) p all ≡ FullAt (length answers + 1)
   unfolding first_of
-  run-full call left h full = h.run ∙ ap (after_all answers) (first_is (world_in now) p call left Full full) ∙ after_all-full answers
+  run-full call left h full = h.run ∙ ap (after_all answers) (first_is (state_in now) p call left NoneLeft full) ∙ after_all-full answers

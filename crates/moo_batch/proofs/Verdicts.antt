@@ -10,19 +10,19 @@ use Rattle.moo_world.specs.Judge.{State, NoRoom, Stale, is_due, last_seq, run_ca
 
 pub judge-stale : (s : State) (b : Batch) → is_due b.at s.seq ≡ false → judge s b ≡ Stale s.seq
 unfolding judge
-judge-stale s b e = ap (λ due. if due then (if nat_lt s.seq last_seq then verdict_of s.seq (run_calls s.world b.programmer b.calls) else NoRoom 0) else Stale s.seq) e
+judge-stale s b e = ap (λ due. if due then (if nat_lt s.seq last_seq then verdict_of s.seq (run_calls s b.programmer b.calls) else NoRoom 0) else Stale s.seq) e
 
 pub judge-full : (s : State) (b : Batch) → is_due b.at s.seq ≡ true → last_seq ≤ s.seq → judge s b ≡ NoRoom 0
 unfolding judge
 judge-full s b e full =
-    ap (λ due. if due then (if nat_lt s.seq last_seq then verdict_of s.seq (run_calls s.world b.programmer b.calls) else NoRoom 0) else Stale s.seq) e
-    ∙ ap (λ room. if room then verdict_of s.seq (run_calls s.world b.programmer b.calls) else NoRoom 0) (le-ltb s.seq last_seq full)
+    ap (λ due. if due then (if nat_lt s.seq last_seq then verdict_of s.seq (run_calls s b.programmer b.calls) else NoRoom 0) else Stale s.seq) e
+    ∙ ap (λ room. if room then verdict_of s.seq (run_calls s b.programmer b.calls) else NoRoom 0) (le-ltb s.seq last_seq full)
 
-pub judge-run : (s : State) (b : Batch) → is_due b.at s.seq ≡ true → s.seq < last_seq → judge s b ≡ verdict_of s.seq (run_calls s.world b.programmer b.calls)
+pub judge-run : (s : State) (b : Batch) → is_due b.at s.seq ≡ true → s.seq < last_seq → judge s b ≡ verdict_of s.seq (run_calls s b.programmer b.calls)
 unfolding judge
 judge-run s b e room =
-    ap (λ due. if due then (if nat_lt s.seq last_seq then verdict_of s.seq (run_calls s.world b.programmer b.calls) else NoRoom 0) else Stale s.seq) e
-    ∙ ap (λ room. if room then verdict_of s.seq (run_calls s.world b.programmer b.calls) else NoRoom 0) (lt-ltb s.seq last_seq room)
+    ap (λ due. if due then (if nat_lt s.seq last_seq then verdict_of s.seq (run_calls s b.programmer b.calls) else NoRoom 0) else Stale s.seq) e
+    ∙ ap (λ room. if room then verdict_of s.seq (run_calls s b.programmer b.calls) else NoRoom 0) (lt-ltb s.seq last_seq room)
 
 -- the rows with another number of accepted batches
 abbrev pub with_seq : ℕ → Maps → Maps
@@ -36,4 +36,5 @@ pub good-with_seq : (n : ℕ) (t : Maps) → IsGood t → IsGood (with_seq n t)
 good-with_seq n t h = record {
   sound = record { props_below = h.sound.props_below; definers = h.sound.definers; slots = h.sound.slots; one_name = h.sound.one_name; verbs = h.sound.verbs };
   formed = subst IsWellFormed (sym (world_of-with_seq n t)) h.formed;
+  petitions = h.petitions;
 }

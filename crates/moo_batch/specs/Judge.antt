@@ -6,24 +6,23 @@ use Rattle.moo_rows.specs.Maps.{Maps, Held}
 use Rattle.moo_world.specs.declared.call.Batch.{Batch}
 use Rattle.moo_world.specs.declared.call.Call.{Call}
 use Rattle.moo_world.specs.Between.{CallsLead, BatchLeads}
-use Rattle.moo_world.specs.World.{World}
 use Rattle.moo_world.specs.Rows.{IsGood}
 use Rattle.moo_world.specs.Judge as model
-use Rattle.moo_world.specs.Judge.{state_of}
+use Rattle.moo_world.specs.Judge.{State, state_of}
 use Rattle.moo_batch.specs.declared.judging.Stop.{Stop}
 use Rattle.moo_batch.specs.declared.judging.Stop.TheVariants.{Refused as refused_at, Full as full_at, OutOfMemory as no_memory}
 use Rattle.moo_batch.specs.declared.judging.Verdict.{Verdict}
 use Rattle.moo_batch.specs.declared.judging.Verdict.TheVariants.{Accepted, Refused, Full, Stale, OutOfMemory}
 use Rattle.moo_draft.specs.Changes.{AreChanges}
 
--- what is answered where calls come to this: their answers, with the world that they leave, or the first call that isn't done
-abbrev pub ComeTo : model.Ran → World → Result (List Value) Stop → Type 0
+-- what is answered where calls come to this: their answers, with the state that they leave, or the first call that isn't done
+abbrev pub ComeTo : model.Ran → State → Result (List Value) Stop → Type 0
 ComeTo ran after (Ok answers) = ran ≡ model.Through answers after
 ComeTo ran after (Err (refused_at call code)) = ran ≡ model.FailedAt call code
 ComeTo ran after (Err (full_at call)) = ran ≡ model.FullAt call
 ComeTo ran after (Err no_memory) = ⊤
 
--- what done calls keep: the rows are good ones, what no world shows is as it was, and each call kept numbers
+-- what done calls keep: the rows are good ones, no batch is counted yet, and each call kept numbers
 pub record HaveKept (p : ObjNo) (calls : List Call) (old new : Held) : Type 0 where
   pub good : IsGood new.maps
   pub seq : new.maps.head.seq ≡ old.maps.head.seq

@@ -3,12 +3,12 @@
 ghost use Rattle.std.specs.Prelude.{◌≡◌, ◌≤◌, length, OnOk};
 ghost use Rattle.moo_world.specs.Rows.{IsGood};
 ghost use Rattle.moo_world.specs.Judge.{is_due, run_calls};
-ghost use Rattle.moo_call_parts.specs.Outcomes.{world_in};
+ghost use Rattle.moo_petitions.specs.Outcomes.{state_in};
 ghost use Rattle.moo_batch.specs.Judge.{ComeTo, HaveKept, IsVerdict};
 
 use moo_call_parts::Fault;
-use moo_calls::step;
 use moo_draft::{Changes, Draft};
+use moo_petitions::step;
 use moo_rows::Rows;
 use moo_value::{Code, ObjNo, Value};
 use moo_world::{Answers, Batch, Call};
@@ -49,7 +49,7 @@ fn run_calls<R: Rows>(
 ) -> Result<Answers, Stop>
     requires good { IsGood (R.held rows.old).maps }
     requires few { length calls.now ≤ 1000 }
-    ensures comes { ComeTo (run_calls (world_in (R.held rows.old)) programmer calls.now) (world_in (R.held rows.new)) result }
+    ensures comes { ComeTo (run_calls (state_in (R.held rows.old)) programmer calls.now) (state_in (R.held rows.new)) result }
     ensures kept { OnOk result (HaveKept programmer calls.now (R.held rows.old) (R.held rows.new)) }
 {
     let mut answers = Vec::new(alloc);

@@ -1,5 +1,5 @@
 -- The rows between the calls of a batch.
-use Rattle.std.specs.Prelude.{◌≡◌, ◌+◌, false, List, [], ◌∷◌}
+use Rattle.std.specs.Prelude.{◌≡◌, ◌+◌, Bool, false, List, [], ◌∷◌}
 use Rattle.moo_value.specs.declared.value.ObjNo.{ObjNo}
 use Rattle.moo_value.specs.declared.value.Value.{Value}
 use Rattle.moo_rows.specs.Maps.{Maps}
@@ -16,14 +16,14 @@ KeepsInTurn old [] new = KeepsNumbers old new
 KeepsInTurn old (mid ∷ between) new = KeepsNumbers old mid × KeepsInTurn mid between new
 
 -- what a call does to numbers: one change, or, where it grants a petition, one for each call that it makes and one before them
-abbrev pub CallKeepsNumbers : Call → Maps → Maps → Type 0
-CallKeepsNumbers call old new = (between : List Maps) × (is_grant call.name ≡ false → between ≡ []) × KeepsInTurn old between new
+abbrev pub CallKeepsNumbers : Bool → Maps → Maps → Type 0
+CallKeepsNumbers grants old new = (between : List Maps) × (grants ≡ false → between ≡ []) × KeepsInTurn old between new
 
 -- the calls lead from rows to rows: each is done, leaves good rows, and keeps numbers
 abbrev pub CallsLead : ObjNo → List Call → Maps → Maps → Type 0
 CallsLead p [] old new = new ≡ old
 CallsLead p (call ∷ calls) old new =
-    (answer : Value) × (mid : Maps) × (request (state_of old) p call ≡ Answered answer (state_of mid)) × IsGood mid × CallKeepsNumbers call old mid × CallsLead p calls mid new
+    (answer : Value) × (mid : Maps) × (request (state_of old) p call ≡ Answered answer (state_of mid)) × IsGood mid × CallKeepsNumbers (is_grant call.name) old mid × CallsLead p calls mid new
 
 -- the calls of the batch do, and the batch is counted
 abbrev pub BatchLeads : Batch → Maps → Maps → Type 0

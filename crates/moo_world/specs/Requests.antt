@@ -121,13 +121,19 @@ last_petition = 4294967295
 abbrev pub asked : State → ObjNo → Values → State
 asked s p calls = record s { petitions = insert s.petitions (petition_id s.next_petition) (record { who = p; calls = calls }); next_petition = s.next_petition + 1 }
 
+-- what a petition may ask for: calls on the world, each a list that begins with its name, few and not too deep
+abbrev pub may_be_asked : Values → Result (Unit {0}) Code
+may_be_asked calls =
+    if list_all is_named (spread calls)
+    then (if are_few calls && (list_all (λ held. is_some (held_call held)) (spread calls) && are_shallow calls) then Ok tt else Err InvalidArgument)
+    else Err wrong_type
+
+-- one petition more, where a number is left
+abbrev pub ask : State → ObjNo → Values → Effect
+ask s p calls = if nat_lt s.next_petition last_petition then Answered (Int (pos s.next_petition)) (asked s p calls) else NoneLeft
+
 abbrev pub petition : State → ObjNo → Values → Effect
-petition s p calls =
-    unless_fails (list_all is_named (spread calls)) wrong_type
-    (unless_fails (are_few calls) InvalidArgument
-    (unless_fails (list_all (λ held. is_some (held_call held)) (spread calls)) InvalidArgument
-    (unless_fails (are_shallow calls) InvalidArgument
-    (if nat_lt s.next_petition last_petition then Answered (Int (pos s.next_petition)) (asked s p calls) else NoneLeft))))
+petition s p calls = taking (may_be_asked calls) (λ _. ask s p calls)
 
 -- a petition as it is listed: {number, who, calls}
 abbrev pub listed : PetitionId × PetitionRow → Value

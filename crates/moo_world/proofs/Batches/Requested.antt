@@ -1,6 +1,6 @@
 -- What any call of a batch leaves, along its checks.
 use Rattle.std.proofs.Common.{◌≡◌, ℕ, ℤ, pos, negsuc, Bool, true, false, List, [], ◌∷◌, refl, sym, ap, ◌∙◌, subst, Option, Some, None, Result, Ok, Err}
-use Rattle.std.specs.Prelude.{nat_lt, if◌then◌else◌, is_some, ◌||◌}
+use Rattle.std.specs.Prelude.{nat_lt, if◌then◌else◌, is_some, ◌||◌, ◌&&◌}
 use Rattle.std.specs.Option.{option_map}
 use Rattle.std.specs.List.{list_all}
 use Rattle.std.specs.FinMap.{get}
@@ -24,7 +24,7 @@ use Rattle.moo_world.specs.Names.{petition_call}
 use Rattle.moo_world.specs.Objects.{same_object}
 use Rattle.moo_world.specs.Outcomes.{Outcome, Done, Failed, Full}
 use Rattle.moo_world.specs.Petitions.{is_named, are_few, are_shallow}
-use Rattle.moo_world.specs.Requests.{State, Effect, Answered, Erred, NoneLeft, unless_fails, taking, in_world, one_list, one_integer, petition_id, petition_at, without, held_call, held_steps, last_petition, asked, petition, grant, decline, petition_call_by, request}
+use Rattle.moo_world.specs.Requests.{State, Effect, Answered, Erred, NoneLeft, unless_fails, taking, in_world, one_list, one_integer, petition_id, petition_at, without, held_call, held_steps, last_petition, asked, may_be_asked, petition, grant, decline, petition_call_by, request}
 use Rattle.moo_world.specs.Rights.{is_wizard}
 use Rattle.moo_world.specs.Step.{step}
 use Rattle.moo_world.specs.World.{World, is_object}
@@ -108,6 +108,21 @@ given_list (Error c ∷ []) calls e = absurd (false≢true (ap is_read e))
 given_list (a_list values ∷ v ∷ rest) calls e = absurd (false≢true (ap is_read e))
 given_list (u ∷ v ∷ rest) calls e = absurd (false≢true (ap is_read e))
 
+-- what may be asked for has passed its tests
+asked_for : (calls : Values) (u : Unit {0}) → may_be_asked calls ≡ Ok u → (list_all is_named (spread calls) ≡ true) × (are_few calls ≡ true) × (are_shallow calls ≡ true)
+asked_for calls u e = by (list_all is_named (spread calls)) (are_few calls) (list_all (λ held. is_some (held_call held)) (spread calls)) (are_shallow calls) e
+  where
+    may : Result (Unit {0}) Code → Bool
+    may (Ok u) = true
+    may (Err code) = false
+
+    by : (named few on_world shallow : Bool) → (if named then (if few && (on_world && shallow) then Ok tt else Err InvalidArgument) else Err wrong_type) ≡ Ok u → (named ≡ true) × (few ≡ true) × (shallow ≡ true)
+    by true true true true e = (refl, refl, refl)
+    by true true true false e = absurd (false≢true (ap may e))
+    by true true false shallow e = absurd (false≢true (ap may e))
+    by true false on_world shallow e = absurd (false≢true (ap may e))
+    by false few on_world shallow e = absurd (false≢true (ap may e))
+
 pub request_leaves : (P : State → Type 0) (s : State) (p : ObjNo) (call : Call) → Led P s p call → Leaves P (request s p call)
 unfolding request
 request_leaves P s p call led = by (petition_call call.name)
@@ -115,11 +130,9 @@ request_leaves P s p call led = by (petition_call call.name)
     one : (c : PetitionCall) → is_object s.world p ≡ true → Leaves P (petition_call_by s p c call.args)
     one to_petition po =
         on_taken P (one_list call.args) _ (λ calls e.
-        on_check P (list_all is_named (spread calls)) _ _ (λ named.
-        on_check P (are_few calls) _ _ (λ few.
-        on_check P (list_all (λ held. is_some (held_call held)) (spread calls)) _ _ (λ calls_named.
-        on_check P (are_shallow calls) _ _ (λ shallow.
-        on_left P (nat_lt s.next_petition last_petition) _ _ (λ left. led.asked calls (given_list call.args calls e) po named few shallow left))))))
+        on_taken P (may_be_asked calls) _ (λ u f.
+        let may = asked_for calls u f in
+        on_left P (nat_lt s.next_petition last_petition) _ _ (λ left. led.asked calls (given_list call.args calls e) po may.0 may.1 may.2 left)))
     one to_list po = on_taken P (no_values call.args) _ (λ a e. on_answer P _ s led.same)
     one to_grant po =
         on_taken P (one_integer call.args) _ (λ n e.

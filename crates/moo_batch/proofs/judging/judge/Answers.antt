@@ -2,7 +2,6 @@ use Rattle.std.proofs.Common.{◌≡◌, ◌+◌, ◌<◌, true, false, refl, sy
 use Rattle.moo_rows.specs.Maps.{Held}
 use Rattle.moo_rows.specs.declared.row.Head.{Head}
 use Rattle.moo_world.specs.Between.{CallsLead}
-use Rattle.moo_world.specs.Rows.{world_of}
 use Rattle.moo_world.specs.Judge.{is_due, last_seq, verdict_of, run_calls, Accepted}
 use Rattle.moo_draft.specs.Changes.{AreChanges}
 use Rattle.moo_world.specs.Judge.{state_of}
@@ -27,8 +26,8 @@ returns-in-Err-Refused g c =
     let batch = c.args.batch.now in
     let due : is_due c.args.batch.now.at t.head.seq ≡ true = ap (λ (h : Head). is_due c.args.batch.now.at h.seq) (sym c.head-head.ensures) ∙ sym c.is_due.ensures ∙ search rules in
     let room : t.head.seq < last_seq = rw c.head-head.ensures at c.if-head-ge-LAST_SEQ.false in
-    let same : run_calls (world_of t) batch.programmer batch.calls ≡ run_calls (world_of c.new-draft.result.maps) batch.programmer c.items.result.now =
-    λ i. run_calls (world_of (sym c.new-draft.ensures.maps i)) batch.programmer (sym c.items.ensures.value i) in
+    let same : run_calls (state_of t) batch.programmer batch.calls ≡ run_calls (state_of c.new-draft.result.maps) batch.programmer c.items.result.now =
+    λ i. run_calls (state_of (sym c.new-draft.ensures.maps i)) batch.programmer (sym c.items.ensures.value i) in
     let run = rw c.in-Err-Refused.field-0-is at c.in-Err-Refused.ensures.comes in
     rw c.in-Err-Refused.field-0-is (judge-run (state_of t) batch due room ∙ ap (verdict_of t.head.seq) (same ∙ run))
 
@@ -38,8 +37,8 @@ returns-in-Err-Full g c =
     let batch = c.args.batch.now in
     let due : is_due c.args.batch.now.at t.head.seq ≡ true = ap (λ (h : Head). is_due c.args.batch.now.at h.seq) (sym c.head-head.ensures) ∙ sym c.is_due.ensures ∙ search rules in
     let room : t.head.seq < last_seq = rw c.head-head.ensures at c.if-head-ge-LAST_SEQ.false in
-    let same : run_calls (world_of t) batch.programmer batch.calls ≡ run_calls (world_of c.new-draft.result.maps) batch.programmer c.items.result.now =
-    λ i. run_calls (world_of (sym c.new-draft.ensures.maps i)) batch.programmer (sym c.items.ensures.value i) in
+    let same : run_calls (state_of t) batch.programmer batch.calls ≡ run_calls (state_of c.new-draft.result.maps) batch.programmer c.items.result.now =
+    λ i. run_calls (state_of (sym c.new-draft.ensures.maps i)) batch.programmer (sym c.items.ensures.value i) in
     let run = rw c.in-Err-Full.field-0-is at c.in-Err-Full.ensures.comes in
     rw c.in-Err-Full.field-0-is (judge-run (state_of t) batch due room ∙ ap (verdict_of t.head.seq) (same ∙ run))
 
@@ -49,14 +48,14 @@ returns-in-Ok-into_changes g c =
     let batch = c.args.batch.now in
     let due : is_due c.args.batch.now.at t.head.seq ≡ true = ap (λ (h : Head). is_due c.args.batch.now.at h.seq) (sym c.head-head.ensures) ∙ sym c.is_due.ensures ∙ search rules in
     let room : t.head.seq < last_seq = rw c.head-head.ensures at c.if-head-ge-LAST_SEQ.false in
-    let same : run_calls (world_of t) batch.programmer batch.calls ≡ run_calls (world_of c.new-draft.result.maps) batch.programmer c.items.result.now =
-    λ i. run_calls (world_of (sym c.new-draft.ensures.maps i)) batch.programmer (sym c.items.ensures.value i) in
+    let same : run_calls (state_of t) batch.programmer batch.calls ≡ run_calls (state_of c.new-draft.result.maps) batch.programmer c.items.result.now =
+    λ i. run_calls (state_of (sym c.new-draft.ensures.maps i)) batch.programmer (sym c.items.ensures.value i) in
     let after = c.run_calls.new.rows.maps in
     let next = with_seq (t.head.seq + 1) after in
     let base : c.set_head.new.self.base ≡ t = ap (λ (h : Held). h.base) c.set_head.ensures ∙ c.in-Ok.ensures.kept.base ∙ c.new-draft.ensures.base in
     let maps : c.set_head.new.self.maps ≡ next = ap (λ (h : Held). h.maps) c.set_head.ensures ∙ (λ i. record after { head = record (c.head-next.ensures i) { seq = (c.head-head.ensures i).seq + 1 } }) in
     let judged = judge-run (state_of t) batch due room ∙ ap (verdict_of t.head.seq) (same ∙ c.in-Ok.ensures.comes)
-    ∙ ap (λ w. Accepted c.in-Ok.answers (record { world = w; seq = t.head.seq + 1 })) (sym (world_of-with_seq (t.head.seq + 1) after)) in
+    ∙ ap (λ w. Accepted c.in-Ok.answers (record (state_of after) { world = w; seq = t.head.seq + 1 })) (sym (world_of-with_seq (t.head.seq + 1) after)) in
     let lead : CallsLead batch.programmer batch.calls t after =
     subst (λ m. CallsLead batch.programmer batch.calls m after) c.new-draft.ensures.maps (subst (λ calls. CallsLead batch.programmer calls c.new-draft.result.maps after) c.items.ensures.value c.in-Ok.ensures.kept.numbers) in
     (next, subst (λ b. AreChanges b next c.in-Ok-into_changes.changes) base (subst (λ n. AreChanges c.set_head.new.self.base n c.in-Ok-into_changes.changes) maps c.in-Ok-into_changes.ensures), good-with_seq (t.head.seq + 1) after c.in-Ok.ensures.kept.good, judged, (after, lead, refl))

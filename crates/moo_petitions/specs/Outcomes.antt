@@ -1,0 +1,58 @@
+-- What a call of a batch comes to on rows.
+use Rattle.std.specs.Prelude.{◌≡◌, Bool, true, false, List, Result, Ok, Err, ⊤}
+use Rattle.moo_value.specs.declared.value.Value.{Value}
+use Rattle.moo_rows.specs.Maps.{Maps, Held}
+use Rattle.moo_world.specs.declared.name.PetitionCall.{PetitionCall}
+use Rattle.moo_world.specs.declared.name.PetitionCall.TheVariants.{Grant}
+use Rattle.moo_world.specs.Between.{KeepsInTurn, CallKeepsNumbers}
+use Rattle.moo_world.specs.Keeps.{beside_world}
+use Rattle.moo_world.specs.Outcomes.{Outcome, Done, Failed, Full as none_left}
+use Rattle.moo_world.specs.Requests.{State, Effect, Answered, Erred, NoneLeft, state_of}
+use Rattle.moo_world.specs.Rows.{IsGood}
+use Rattle.moo_call_parts.specs.Outcomes.{world_in}
+use Rattle.moo_call_parts.specs.declared.fault.Fault.{Fault}
+use Rattle.moo_call_parts.specs.declared.fault.Fault.TheVariants.{Moo, Full, OutOfMemory}
+
+abbrev pub state_in : Held → State
+state_in held = state_of held.maps
+
+-- what a call answers where it has an effect: the answer, with the rows of the next state, or the error. Want of memory may leave
+-- anything
+abbrev pub Reaches : Effect → Held → Result Value Fault → Type 0
+Reaches effect new (Ok v) = effect ≡ Answered v (state_in new)
+Reaches effect new (Err (Moo code)) = effect ≡ Erred code
+Reaches effect new (Err Full) = effect ≡ NoneLeft
+Reaches effect new (Err OutOfMemory) = ⊤
+
+-- where a call isn't done, and memory not the reason, the rows are as they were
+abbrev pub Stays : Held → Held → Result Value Fault → Type 0
+Stays old new (Ok v) = ⊤
+Stays old new (Err (Moo code)) = new ≡ old
+Stays old new (Err Full) = new ≡ old
+Stays old new (Err OutOfMemory) = ⊤
+
+-- the same of calls on the world that are made one after another, of which some may have been done before one wasn't
+abbrev pub ComesInTurn : Outcome → Held → Result Value Fault → Type 0
+ComesInTurn outcome new (Ok v) = outcome ≡ Done v (world_in new)
+ComesInTurn outcome new (Err (Moo code)) = outcome ≡ Failed code
+ComesInTurn outcome new (Err Full) = outcome ≡ none_left
+ComesInTurn outcome new (Err OutOfMemory) = ⊤
+
+-- what they keep: the rows are good ones, what stands beside the world is as it was, and numbers are kept in turn
+pub record KeepInTurn (old new : Held) : Type 0 where
+  pub good : IsGood new.maps
+  pub beside : beside_world new.maps ≡ beside_world old.maps
+  pub base : new.base ≡ old.base
+  pub numbers : (first : Maps) (between : List Maps) → KeepsInTurn first between old.maps → (mids : List Maps) × KeepsInTurn first mids new.maps
+
+abbrev pub grants : PetitionCall → Bool
+grants Grant = true
+grants call = false
+
+-- what a call keeps that is done: the rows are good ones, no batch is counted yet, and what stays keeps its number, by way of the rows
+-- between where it grants a petition
+pub record KeepsRows (grants : Bool) (old new : Held) : Type 0 where
+  pub good : IsGood new.maps
+  pub seq : new.maps.head.seq ≡ old.maps.head.seq
+  pub base : new.base ≡ old.base
+  pub numbers : CallKeepsNumbers grants old.maps new.maps

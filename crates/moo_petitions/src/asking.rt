@@ -1,0 +1,84 @@
+//! `petition`.
+
+ghost use Rattle.std.specs.Prelude.{◌≡◌, true, false, OnOk};
+ghost use Rattle.std.specs.List.{list_all};
+ghost use Rattle.moo_value.specs.declared.value.Value.TheVariants.{List as a_list};
+ghost use Rattle.moo_world.specs.Arguments.{fits};
+ghost use Rattle.moo_world.specs.Petitions.{petition_fits};
+ghost use Rattle.moo_world.specs.Requests.{ask, may_be_asked, one_list, petition, taking};
+ghost use Rattle.moo_world.specs.Rows.{IsGood};
+ghost use Rattle.moo_world.specs.World.{is_object};
+ghost use Rattle.moo_call_parts.specs.Outcomes.{world_in};
+ghost use Rattle.moo_petitions.specs.Outcomes.{state_in, KeepsRows, Reaches, Stays};
+
+use crate::args::one_list;
+use crate::held::{are_calls, are_few, are_named, are_shallow};
+use moo_call_parts::Fault;
+use moo_rows::{PetitionId, PetitionRow, Rows};
+use moo_value::{Code, ObjNo, Value, ValueList};
+use std::alloc::Global;
+
+/// Whether a petition may ask for these calls: E_TYPE where it isn't a list of lists that each begin with a string, else E_INVARG.
+fn may_be_asked(calls: &ValueList) -> Result<(), Code>
+    requires { fits (a_list calls.now) ≡ true }
+    ensures { result ≡ may_be_asked calls.now }
+{
+    if !are_named(calls.items()) {
+        return Err(Code::Type);
+    }
+    if are_few(calls) && are_calls(calls.items()) && are_shallow(calls) {
+        Ok(())
+    } else {
+        Err(Code::InvalidArgument)
+    }
+}
+
+/// Keeps the calls as a petition of the programmer's.
+fn ask<R: Rows>(
+    rows: &mut R,
+    programmer: ObjNo,
+    calls: ValueList,
+) -> Result<Value, Fault>
+    requires good { IsGood (R.held rows.old).maps }
+    requires fit { petition_fits (record { who = programmer; calls = calls }) ≡ true }
+    ensures reaches { Reaches (ask (state_in (R.held rows.old)) programmer calls) (R.held rows.new) result }
+    ensures stays { Stays (R.held rows.old) (R.held rows.new) result }
+    ensures kept { OnOk result (KeepsRows false (R.held rows.old) (R.held rows.new)) }
+{
+    let mut head = rows.head();
+    let number = head.next_petition;
+    if number == u32::MAX {
+        return Err(Fault::Full);
+    }
+    let row = PetitionRow {
+        who: programmer,
+        calls,
+    };
+    rows.put_petition(PetitionId(number), row)?;
+    head.next_petition = number + 1;
+    rows.set_head(head);
+    Ok(Value::Int(i64::from(number)))
+}
+
+/// `petition(calls)`: keeps the calls as a petition of the programmer's, and answers its number.
+///
+/// E_TYPE where it isn't given a list of lists that each begin with a string; then E_INVARG where there are none or more than 64,
+/// where such a string names no call or one of petitions, or where lists nest more than 30 deep. Full where no number is left: the
+/// greatest is 4,294,967,294. This server's own.
+pub(crate) fn petition<R: Rows>(
+    rows: &mut R,
+    programmer: ObjNo,
+    args: &[Value],
+) -> Result<Value, Fault>
+    requires good { IsGood (R.held rows.old).maps }
+    requires there { is_object (world_in (R.held rows.old)) programmer ≡ true }
+    requires fit { list_all fits args.now ≡ true }
+    ensures reaches { Reaches (taking (one_list args.now) (petition (state_in (R.held rows.old)) programmer)) (R.held rows.new) result }
+    ensures stays { Stays (R.held rows.old) (R.held rows.new) result }
+    ensures kept { OnOk result (KeepsRows false (R.held rows.old) (R.held rows.new)) }
+{
+    let calls = one_list(args)?;
+    may_be_asked(calls)?;
+    let calls = calls.clone()?;
+    ask(rows, programmer, calls)
+}

@@ -1,0 +1,37 @@
+//! `decline`.
+
+ghost use Rattle.std.specs.Prelude.{◌≡◌, false, OnOk};
+ghost use Rattle.moo_world.specs.Requests.{decline, one_integer, taking};
+ghost use Rattle.moo_world.specs.Rows.{IsGood};
+ghost use Rattle.moo_petitions.specs.Outcomes.{state_in, KeepsRows, Reaches, Stays};
+
+use crate::args::one_integer;
+use crate::looking::petition_at;
+use moo_call_parts::rights::is_wizard;
+use moo_call_parts::{Fault, ZERO};
+use moo_rows::Rows;
+use moo_value::{Code, ObjNo, Value};
+
+/// `decline(number)`: takes a petition away. E_INVARG where there is none of this number; E_PERM where the programmer is neither who asks nor a
+/// wizard. It answers 0. This server's own.
+pub(crate) fn decline<R: Rows>(
+    rows: &mut R,
+    programmer: ObjNo,
+    args: &[Value],
+) -> Result<Value, Fault>
+    requires good { IsGood (R.held rows.old).maps }
+    ensures reaches { Reaches (taking (one_integer args.now) (decline (state_in (R.held rows.old)) programmer)) (R.held rows.new) result }
+    ensures stays { Stays (R.held rows.old) (R.held rows.new) result }
+    ensures kept { OnOk result (KeepsRows false (R.held rows.old) (R.held rows.new)) }
+{
+    let number = one_integer(args)?;
+    let (id, who) = match petition_at(rows, number) {
+        Some((id, row)) => (id, row.who),
+        None => return Err(Fault::Moo(Code::InvalidArgument)),
+    };
+    if who != programmer && !is_wizard(rows, programmer) {
+        return Err(Fault::Moo(Code::Permission));
+    }
+    rows.remove_petition(id)?;
+    Ok(ZERO)
+}
