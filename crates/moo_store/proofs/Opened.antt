@@ -2,12 +2,13 @@
 use Rattle.std.proofs.Common.{◌≡◌, Option, None, Result, Ok, Err, IfOk, refl, sym, subst}
 use Rattle.std.specs.FinMap.{get-empty}
 use Rattle.sqlite.specs.State.{State as Database, Survives}
-use Rattle.moo_rows.specs.Maps.{Maps, no_maps, object_cmp, prop_cmp, slot_cmp, verb_cmp}
+use Rattle.moo_rows.specs.Maps.{Maps, no_maps, object_cmp, prop_cmp, slot_cmp, verb_cmp, petition_cmp}
 use Rattle.moo_rows.specs.Opening.{opening_maps}
 use Rattle.moo_rows.specs.declared.row.ObjRow.{ObjRow}
 use Rattle.moo_rows.specs.declared.row.PropRow.{PropRow}
 use Rattle.moo_rows.specs.declared.row.SlotRow.{SlotRow}
 use Rattle.moo_rows.specs.declared.row.VerbRow.{VerbRow}
+use Rattle.moo_rows.specs.declared.row.PetitionRow.{PetitionRow}
 use Rattle.moo_world.specs.Rows.{IsGood}
 use Rattle.moo_world.specs.Judge.{state_of}
 use Rattle.moo_tables.specs.declared.version.Version.TheVariants.{Second}
@@ -18,7 +19,7 @@ use Rattle.moo_tables.specs.declared.cells.CellChanges.{CellChanges}
 use Rattle.sqlite.specs.Effect.{Database as Content}
 use Rattle.moo_draft.specs.declared.changes.Changes.{Changes}
 use Rattle.moo_draft.specs.Changes.{AreChanges}
-use Rattle.moo_cells.specs.Shows.{ShowsObject, ShowsProp, ShowsSlot, ShowsVerb, ShowsOrNone, ShowsMaps, ShowsRows}
+use Rattle.moo_cells.specs.Shows.{ShowsObject, ShowsProp, ShowsSlot, ShowsVerb, ShowsPetition, ShowsOrNone, ShowsMaps, ShowsRows}
 use Rattle.moo_store.specs.Printed.{Prints}
 use Rattle.moo_store.specs.States.{KeepsRows, LeavesState}
 use Rattle.moo_store.proofs.Committed.{survives-map}
@@ -34,6 +35,8 @@ shows_nothing = record {
   no_slot = λ x n. refl;
   verbs = λ key. let P : Option VerbRow → Type 0 = λ r. ShowsOrNone (ShowsVerb key) None r in subst P (sym (get-empty verb_cmp key)) tt;
   no_verb = λ x n. refl;
+  petitions = λ id. let P : Option PetitionRow → Type 0 = λ r. ShowsOrNone (ShowsPetition id) None r in subst P (sym (get-empty petition_cmp id)) tt;
+  no_petition = λ n. refl;
 }
 
 -- the cells of the opening rows
@@ -49,7 +52,7 @@ pub has_no_tables : (db : Content) → db.schema ≡ no_schema → HasNoTables d
 has_no_tables db e = record { schema_is = e; empty = tt }
 
 shows_opening : (cells : CellChanges) → PrintsOpening cells → ShowsRows (tables_with cells no_tables) opening_maps
-shows_opening cells p = shows-written cells p.0 no_maps opening_maps no_tables p.1 p.2 refl (λ n h. refl) shows_nothing
+shows_opening cells p = shows-written cells p.0 no_maps opening_maps no_tables p.1 p.2 refl (λ n h. refl) (λ n h. refl) shows_nothing
 
 -- the new tables show the opening rows
 pub keeps_opening : (store : Database) (cells : CellChanges) (rows : Maps) → PrintsOpening cells → rows ≡ opening_maps → Rests store (tables_with cells no_tables) → KeepsRows store rows

@@ -6,23 +6,27 @@ use Rattle.std.specs.Ordering.{eq_by_cmp}
 use Rattle.std.proofs.lemmas.Bool.{and_parts}
 use Rattle.std.proofs.lemmas.Bool.Decides.{Decides-int_eq}
 use Rattle.std.specs.FinMap.{get}
+use Rattle.sqlite.specs.Order.{Row}
 use Rattle.moo_value.specs.declared.value.ObjNo.{ObjNo}
+use Rattle.moo_rows.specs.declared.row.Head.{Head}
 use Rattle.moo_rows.specs.declared.row.PropId.{PropId}
 use Rattle.moo_rows.specs.declared.row.VerbId.{VerbId}
-use Rattle.moo_rows.specs.Maps.{Maps, object_cmp, prop_cmp, slot_cmp, verb_cmp}
-use Rattle.moo_rows.specs.Exact.{object_exact, prop_exact, slot_exact, verb_exact}
-use Rattle.moo_rows.proofs.Orders.{prop_total, slot_total, verb_total}
+use Rattle.moo_rows.specs.declared.row.PetitionId.{PetitionId}
+use Rattle.moo_rows.specs.declared.row.PetitionRow.{PetitionRow}
+use Rattle.moo_rows.specs.Maps.{Maps, object_cmp, prop_cmp, slot_cmp, verb_cmp, petition_cmp}
+use Rattle.moo_rows.specs.Exact.{object_exact, prop_exact, slot_exact, verb_exact, petition_exact}
+use Rattle.moo_rows.proofs.Orders.{prop_total, slot_total, verb_total, petition_total}
 use Rattle.moo_world.proofs.Shown.MapLaws.{decided_alike, key-Decides}
 use Rattle.moo_tables.specs.declared.version.Version.{Version}
-use Rattle.moo_tables.specs.declared.version.Version.TheVariants.{Second}
-use Rattle.moo_tables.specs.Tables.{Tables, same_number, same_pair}
-use Rattle.moo_tables.specs.Cells.{head_cells, object_cells, prop_cells, slot_cells, verb_cells, tables_with, migrated}
+use Rattle.moo_tables.specs.declared.version.Version.TheVariants.{First, Second}
+use Rattle.moo_tables.specs.Tables.{Tables, same_number, same_pair, numbered_with}
+use Rattle.moo_tables.specs.Cells.{head_cells, object_cells, prop_cells, slot_cells, verb_cells, petition_cells, petition_head_cells, tables_with, migrated}
 use Rattle.moo_tables.specs.Inside.{IsCurrent}
 use Rattle.moo_tables.specs.declared.cells.CellChanges.{CellChanges}
 use Rattle.moo_tables.specs.declared.cells.SlotCells.{SlotCells}
 use Rattle.moo_draft.specs.declared.changes.Changes.{Changes}
 use Rattle.moo_draft.specs.Changes.{AreChanges}
-use Rattle.moo_cells.specs.Shows.{ShowsObject, ShowsProp, ShowsSlot, ShowsVerb, ShowsMaps, ShowsRows}
+use Rattle.moo_cells.specs.Shows.{ShowsObject, ShowsProp, ShowsSlot, ShowsVerb, ShowsPetition, ShowsOrNone, ShowsCounter, ShowsMaps, ShowsRows}
 use Rattle.moo_store.specs.Printed.{PrintEach, PrintsSlot, Prints, all_of}
 use Rattle.moo_store.specs.Untouched.{KeepsCells}
 use Rattle.moo_store.proofs.AllRows.{all_changed}
@@ -54,6 +58,11 @@ id_alike a b = decided_alike _ _ (a ≡ b)
     (λ e. let n = pos_inj a.0 b.0 ((same_number-Decides (pos a.0) (pos b.0)).0 e) in λ i. record { 0 = n i }, λ e. (same_number-Decides (pos a.0) (pos b.0)).1 (ap (λ (id : PropId). pos id.0) e))
     (key-Decides prop_cmp prop_total prop_exact a b)
 
+petition_alike : (a b : PetitionId) → same_number (pos a.0) (pos b.0) ≡ eq_by_cmp petition_cmp a b
+petition_alike a b = decided_alike _ _ (a ≡ b)
+    (λ e. let n = pos_inj a.0 b.0 ((same_number-Decides (pos a.0) (pos b.0)).0 e) in λ i. record { 0 = n i }, λ e. (same_number-Decides (pos a.0) (pos b.0)).1 (ap (λ (id : PetitionId). pos id.0) e))
+    (key-Decides petition_cmp petition_total petition_exact a b)
+
 slot_alike : (a b : ObjNo × PropId) → same_pair (a.0.0, pos a.1.0) (b.0.0, pos b.1.0) ≡ eq_by_cmp slot_cmp a b
 slot_alike a b = decided_alike _ _ (a ≡ b) (
   λ e.
@@ -83,6 +92,9 @@ negative n m e = cc
 no_id : (n : ℕ) (id : PropId) → same_number (negsuc n) (pos id.0) ≡ false
 no_id n id = decided_false _ _ (same_number-Decides (negsuc n) (pos id.0)) (negative n id.0)
 
+no_petition_id : (n : ℕ) (id : PetitionId) → same_number (negsuc n) (pos id.0) ≡ false
+no_petition_id n id = decided_false _ _ (same_number-Decides (negsuc n) (pos id.0)) (negative n id.0)
+
 no_pair : (x : ℤ) (n : ℕ) (y : ℤ) (id : ℕ) → same_pair (x, negsuc n) (y, pos id) ≡ false
 no_pair x n y id = decided_false _ _ (same_pair-Decides (x, negsuc n) (y, pos id)) (λ e. negative n id (ap (λ (k : ℤ × ℤ). k.1) e))
 
@@ -94,10 +106,22 @@ not_one n h = decided_false _ _ (same_number-Decides n (pos 1)) h
 prints_slots : (version : Version) (cells : CellChanges) (changes : Changes) → version ≡ Second → Prints cells changes → PrintEach (λ key cells row. ShowsSlot version key (slot_cells key cells) row) cells.slots.items changes.slots
 prints_slots version cells changes current p = subst (λ v. PrintEach (λ key cells row. ShowsSlot v key (slot_cells key cells) row) cells.slots.items changes.slots) (sym current) p.slots
 
-pub shows-written : (cells : CellChanges) (changes : Changes) (base new : Maps) (t : Tables) → Prints cells changes → AreChanges base new changes → IsCurrent t → ((n : ℤ) → n ≢ pos 1 → t.head n ≡ None) → ShowsMaps t base → ShowsRows (tables_with cells t) new
-shows-written cells changes base new t p c current alone shows = record {
+-- the row of the counter alone is put
+counts_written : (version : Version) (next : ℕ) (table : ℤ → Option Row) → version ≡ Second → ((n : ℤ) → n ≢ pos 1 → table n ≡ None) → ShowsCounter version (numbered_with (pos 1) (Some (petition_head_cells next)) table) next
+counts_written version next table current alone = subst (λ v. ShowsCounter v (numbered_with (pos 1) (Some (petition_head_cells next)) table) next) (sym current) (
+  ap (λ b. cond b (Some (petition_head_cells next)) (table (pos 1))) ((same_number-Decides (pos 1) (pos 1)).1 refl),
+  λ n h. ap (λ b. cond b (Some (petition_head_cells next)) (table n)) (not_one n h) ∙ alone n h,
+)
+
+-- in tables of the present version the counter has no other row
+pub counts_alone : (version : Version) (next : ℕ) (table : ℤ → Option Row) → version ≡ Second → ShowsCounter version table next → (n : ℤ) → n ≢ pos 1 → table n ≡ None
+counts_alone version next table current shows = (subst (λ v. ShowsCounter v table next) current shows).1
+
+pub shows-written : (cells : CellChanges) (changes : Changes) (base new : Maps) (t : Tables) → Prints cells changes → AreChanges base new changes → IsCurrent t → ((n : ℤ) → n ≢ pos 1 → t.head n ≡ None) → ((n : ℤ) → n ≢ pos 1 → t.petition_head n ≡ None) → ShowsMaps t base → ShowsRows (tables_with cells t) new
+shows-written cells changes base new t p c current alone counter_alone shows = record {
   head = ap (λ b. cond b (Some (head_cells Second cells.head)) (t.head (pos 1))) ((same_number-Decides (pos 1) (pos 1)).1 refl) ∙ ap (λ h. Some (head_cells Second h)) (p.head ∙ c.head) ∙ ap (λ v. Some (head_cells v new.head)) (sym current);
   no_head = λ n h. ap (λ b. cond b (Some (head_cells Second cells.head)) (t.head n)) (not_one n h) ∙ alone n h;
+  counter = subst (λ (h : Head). ShowsCounter t.version (numbered_with (pos 1) (Some (petition_head_cells cells.head.next_petition)) t.petition_head) h.next_petition) (p.head ∙ c.head) (counts_written t.version cells.head.next_petition t.petition_head current counter_alone);
   maps = record {
     objects = written object_cmp object_exact same_number (λ n. n.0) number_alike object_cells ShowsObject cells.objects.items changes.objects (get base.objects) (get new.objects) t.object p.objects c.objects shows.objects;
     props = written prop_cmp prop_exact same_number (λ id. pos id.0) id_alike prop_cells ShowsProp cells.props.items changes.props (get base.props) (get new.props) t.prop p.props c.props shows.props;
@@ -106,6 +130,8 @@ shows-written cells changes base new t p c current alone shows = record {
     no_slot = λ x n. elsewhere slot_cmp slot_exact same_pair (λ k. (k.0.0, pos k.1.0)) slot_alike slot_cells (ShowsSlot Second) cells.slots.items t.slot (x, negsuc n) (λ k. no_pair x n k.0.0 k.1.0) ∙ shows.no_slot x n;
     verbs = written verb_cmp verb_exact same_pair (λ k. (k.0.0, pos k.1.0)) verb_alike verb_cells ShowsVerb cells.verbs.items changes.verbs (get base.verbs) (get new.verbs) t.verb p.verbs c.verbs shows.verbs;
     no_verb = λ x n. elsewhere verb_cmp verb_exact same_pair (λ k. (k.0.0, pos k.1.0)) verb_alike verb_cells ShowsVerb cells.verbs.items t.verb (x, negsuc n) (λ k. no_pair x n k.0.0 k.1.0) ∙ shows.no_verb x n;
+    petitions = written petition_cmp petition_exact same_number (λ id. pos id.0) petition_alike petition_cells ShowsPetition cells.petitions.items changes.petitions (get base.petitions) (get new.petitions) t.petition p.petitions c.petitions shows.petitions;
+    no_petition = λ n. elsewhere petition_cmp petition_exact same_number (λ id. pos id.0) petition_alike petition_cells ShowsPetition cells.petitions.items t.petition (negsuc n) (no_petition_id n) ∙ shows.no_petition n;
   };
 }
 
@@ -114,18 +140,25 @@ pub keeps-written : (cells : CellChanges) (changes : Changes) (base new : Maps) 
 keeps-written cells changes base new t p c current shown = record {
   version = refl;
   shown = shown;
-  shows = shows-written cells changes base new t p c current shown.no_head shown.maps;
+  shows = shows-written cells changes base new t p c current shown.no_head (counts_alone t.version base.head.next_petition t.petition_head current shown.counter) shown.maps;
   objects = stays object_cmp object_exact same_number (λ n. n.0) number_alike object_cells ShowsObject cells.objects.items changes.objects (get base.objects) (get new.objects) t.object p.objects c.objects;
   props = stays prop_cmp prop_exact same_number (λ id. pos id.0) id_alike prop_cells ShowsProp cells.props.items changes.props (get base.props) (get new.props) t.prop p.props c.props;
   slots = stays slot_cmp slot_exact same_pair (λ k. (k.0.0, pos k.1.0)) slot_alike slot_cells (ShowsSlot Second) cells.slots.items changes.slots (get base.slots) (get new.slots) t.slot p.slots c.slots;
   verbs = stays verb_cmp verb_exact same_pair (λ k. (k.0.0, pos k.1.0)) verb_alike verb_cells ShowsVerb cells.verbs.items changes.verbs (get base.verbs) (get new.verbs) t.verb p.verbs c.verbs;
+  petitions = stays petition_cmp petition_exact same_number (λ id. pos id.0) petition_alike petition_cells ShowsPetition cells.petitions.items changes.petitions (get base.petitions) (get new.petitions) t.petition p.petitions c.petitions;
 }
 
+-- in tables of the first version no petition was made yet
+first_count : (version : Version) (next : ℕ) (table : ℤ → Option Row) → version ≡ First → ShowsCounter version table next → next ≡ 1
+first_count version next table first shows = subst (λ v. ShowsCounter v table next) first shows
+
 -- Tables that show rows, taken over with their head and all their slots printed anew, show the same rows.
-pub shows-migrated : (m : Maps) (slots : List ((ObjNo × PropId) × Option SlotCells)) (t : Tables) → PrintEach PrintsSlot slots (all_of m.slots) → ShowsRows t m → ShowsRows (migrated m.head slots t) m
-shows-migrated m slots t printed shown = record {
+pub shows-migrated : (m : Maps) (slots : List ((ObjNo × PropId) × Option SlotCells)) (t : Tables) → PrintEach PrintsSlot slots (all_of m.slots) → t.version ≡ First → ((n : ℤ) → t.petition n ≡ None) → ShowsRows t m → ShowsRows (migrated m.head slots t) m
+shows-migrated m slots t printed first none shown = record {
   head = ap (λ b. cond b (Some (head_cells Second m.head)) (t.head (pos 1))) ((same_number-Decides (pos 1) (pos 1)).1 refl);
   no_head = λ n h. ap (λ b. cond b (Some (head_cells Second m.head)) (t.head n)) (not_one n h) ∙ shown.no_head n h;
+  counter = subst (λ next. ShowsCounter Second (numbered_with (pos 1) (Some (petition_head_cells 1)) (λ _. None)) next) (sym (first_count t.version m.head.next_petition t.petition_head first shown.counter))
+      (counts_written Second 1 (λ _. None) refl (λ n h. refl));
   maps = record {
     objects = shown.maps.objects;
     props = shown.maps.props;
@@ -134,5 +167,7 @@ shows-migrated m slots t printed shown = record {
     no_slot = λ x n. elsewhere slot_cmp slot_exact same_pair (λ k. (k.0.0, pos k.1.0)) slot_alike slot_cells (ShowsSlot Second) slots (λ _. None) (x, negsuc n) (λ k. no_pair x n k.0.0 k.1.0);
     verbs = shown.maps.verbs;
     no_verb = shown.maps.no_verb;
+    petitions = λ id. subst (λ c. ShowsOrNone (ShowsPetition id) c (get m.petitions id)) (none (pos id.0)) (shown.maps.petitions id);
+    no_petition = λ n. refl;
   };
 }

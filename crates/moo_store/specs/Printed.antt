@@ -9,15 +9,18 @@ use Rattle.moo_rows.specs.declared.row.PropRow.{PropRow}
 use Rattle.moo_rows.specs.declared.row.SlotRow.{SlotRow}
 use Rattle.moo_rows.specs.declared.row.VerbId.{VerbId}
 use Rattle.moo_rows.specs.declared.row.VerbRow.{VerbRow}
+use Rattle.moo_rows.specs.declared.row.PetitionId.{PetitionId}
+use Rattle.moo_rows.specs.declared.row.PetitionRow.{PetitionRow}
 use Rattle.moo_tables.specs.declared.cells.ObjectCells.{ObjectCells}
 use Rattle.moo_tables.specs.declared.cells.PropCells.{PropCells}
 use Rattle.moo_tables.specs.declared.cells.SlotCells.{SlotCells}
 use Rattle.moo_tables.specs.declared.cells.VerbCells.{VerbCells}
+use Rattle.moo_tables.specs.declared.cells.PetitionCells.{PetitionCells}
 use Rattle.moo_tables.specs.declared.cells.CellChanges.{CellChanges}
 use Rattle.moo_tables.specs.declared.version.Version.TheVariants.{Second}
-use Rattle.moo_tables.specs.Cells.{object_cells, prop_cells, slot_cells, verb_cells}
+use Rattle.moo_tables.specs.Cells.{object_cells, prop_cells, slot_cells, verb_cells, petition_cells}
 use Rattle.moo_draft.specs.declared.changes.Changes.{Changes}
-use Rattle.moo_cells.specs.Shows.{ShowsObject, ShowsProp, ShowsSlot, ShowsVerb, ShowsOrNone}
+use Rattle.moo_cells.specs.Shows.{ShowsObject, ShowsProp, ShowsSlot, ShowsVerb, ShowsPetition, ShowsOrNone}
 
 abbrev pub PrintsObject : ObjNo → ObjectCells → ObjRow → Type 0
 PrintsObject n cells row = ShowsObject n (object_cells n cells) row
@@ -30,6 +33,9 @@ PrintsSlot key cells row = ShowsSlot Second key (slot_cells key cells) row
 
 abbrev pub PrintsVerb : ObjNo × VerbId → VerbCells → VerbRow → Type 0
 PrintsVerb key cells row = ShowsVerb key (verb_cells key cells) row
+
+abbrev pub PrintsPetition : PetitionId → PetitionCells → PetitionRow → Type 0
+PrintsPetition id cells row = ShowsPetition id (petition_cells id cells) row
 
 -- the keys are the same, one after another, and at each the cells show the new row, or neither is there
 abbrev pub PrintEach : {K C X : Type 0} → (K → C → X → Type 0) → List (K × Option C) → List (K × Option X) → Type 0
@@ -51,3 +57,4 @@ pub record Prints (cells : CellChanges) (changes : Changes) : Type 0 where
   pub props : PrintEach PrintsProp cells.props.items changes.props
   pub slots : PrintEach PrintsSlot cells.slots.items changes.slots
   pub verbs : PrintEach PrintsVerb cells.verbs.items changes.verbs
+  pub petitions : PrintEach PrintsPetition cells.petitions.items changes.petitions

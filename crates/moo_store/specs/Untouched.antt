@@ -6,6 +6,7 @@ use Rattle.sqlite.specs.Store.{Ghosts}
 use Rattle.moo_value.specs.declared.value.ObjNo.{ObjNo}
 use Rattle.moo_rows.specs.declared.row.PropId.{PropId}
 use Rattle.moo_rows.specs.declared.row.VerbId.{VerbId}
+use Rattle.moo_rows.specs.declared.row.PetitionId.{PetitionId}
 use Rattle.moo_rows.specs.Maps.{Maps}
 use Rattle.moo_tables.specs.Tables.{Tables}
 use Rattle.moo_tables.specs.Inside.{Rests, IsCurrent}
@@ -29,9 +30,10 @@ pub record KeepsCells (rows next : Maps) (old new : Tables) : Type 0 where
   pub props : (id : PropId) → get rows.props id ≡ get next.props id → new.prop (pos id.0) ≡ old.prop (pos id.0)
   pub slots : (key : ObjNo × PropId) → get rows.slots key ≡ get next.slots key → new.slot (key.0.0, pos key.1.0) ≡ old.slot (key.0.0, pos key.1.0)
   pub verbs : (key : ObjNo × VerbId) → get rows.verbs key ≡ get next.verbs key → new.verb (key.0.0, pos key.1.0) ≡ old.verb (key.0.0, pos key.1.0)
+  pub petitions : (id : PetitionId) → get rows.petitions id ≡ get next.petitions id → new.petition (pos id.0) ≡ old.petition (pos id.0)
 
 -- Accepted batches, one after another: each leads from good rows to good rows, as it is judged, call by call with the numbers of
--- properties and verbs kept, and keeps the cells of every row that is the same in both.
+-- properties, verbs and petitions kept, and keeps the cells of every row that is the same in both.
 abbrev pub Writes : Maps → Tables → List Batch → Maps → Tables → Type 0
 Writes rows tables [] end after = (end ≡ rows) × (after ≡ tables)
 Writes rows tables (batch ∷ batches) end after =

@@ -7,9 +7,10 @@ ghost use Rattle.moo_store.specs.Printed.{PrintEach, PrintsSlot, Prints, all_of}
 
 use moo_draft::{ChangeList, Changes};
 use moo_rows::{
-    Flat, ObjList, ObjRow, PropId, PropRow, SlotRow, SlotState, VerbId, VerbRow, each_slot,
+    Flat, ObjList, ObjRow, PetitionId, PetitionRow, PropId, PropRow, SlotRow, SlotState, VerbId,
+    VerbRow, each_slot,
 };
-use moo_tables::{CellChanges, ObjectCells, PropCells, SlotCells, VerbCells};
+use moo_tables::{CellChanges, ObjectCells, PetitionCells, PropCells, SlotCells, VerbCells};
 use moo_value::{MooStr, ObjNo, Value, ValueList, print_literal};
 use moo_verbs::{print_place, print_prep};
 use std::alloc::{AllocError, Global};
@@ -145,6 +146,21 @@ impl Print<(ObjNo, VerbId), VerbCells> for VerbRow {
     }
 }
 
+impl Print<PetitionId, PetitionCells> for PetitionRow {
+    ghost use Rattle.moo_store.specs.Printed.{PrintsPetition};
+
+    ghost prints = { PrintsPetition };
+
+    fn cells(&self, alloc: Global) -> Result<PetitionCells, AllocError> {
+        let calls = Value::List(self.calls.clone()?);
+        let calls = literal_cell(alloc, &calls)?;
+        Ok(PetitionCells {
+            who: self.who,
+            calls,
+        })
+    }
+}
+
 fn print_row<K, C, V: Print<K, C>>(alloc: Global, row: &Option<V>) -> Result<Option<C>, AllocError>
     ensures { IfOk result (λ cells. (key : K) → ShowsOrNone (V.prints key) cells row.now) }
 {
@@ -190,11 +206,13 @@ pub fn print_changes(alloc: Global, changes: &Changes) -> Result<CellChanges, Al
     let props = print_each(alloc, &changes.props)?;
     let slots = print_each(alloc, &changes.slots)?;
     let verbs = print_each(alloc, &changes.verbs)?;
+    let petitions = print_each(alloc, &changes.petitions)?;
     Ok(CellChanges {
         head: changes.head,
         objects,
         props,
         slots,
         verbs,
+        petitions,
     })
 }
