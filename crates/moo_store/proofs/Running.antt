@@ -48,8 +48,8 @@ pub accepted_low : (s t : State) (batch : Batch) (answers : List Value) → judg
 unfolding judge
 accepted_low s t batch answers e = by (is_due batch.at s.seq) (nat_lt s.seq last_seq) refl e
   where
-    by : (due room : Bool) → nat_lt s.seq last_seq ≡ room → (if due then (if room then verdict_of s.seq (run_calls s.world batch.programmer batch.calls) else NoRoom 0) else Stale s.seq) ≡ Accepted answers t → t.seq < 9223372036854775808
-    by true true low e = low_after s.seq (run_calls s.world batch.programmer batch.calls) answers t (ltb-true s.seq last_seq low) e
+    by : (due room : Bool) → nat_lt s.seq last_seq ≡ room → (if due then (if room then verdict_of s.seq (run_calls s batch.programmer batch.calls) else NoRoom 0) else Stale s.seq) ≡ Accepted answers t → t.seq < 9223372036854775808
+    by true true low e = low_after s.seq (run_calls s batch.programmer batch.calls) answers t (ltb-true s.seq last_seq low) e
     by true false low e = absurd cc
     by false room low e = absurd cc
 
@@ -58,7 +58,7 @@ pub accepted_is_run : (s t : State) (batch : Batch) (answers : List Value) → j
 unfolding judge
 accepted_is_run s t batch answers e = by (is_due batch.at s.seq) (nat_lt s.seq last_seq) refl refl e
   where
-    by : (due room : Bool) → is_due batch.at s.seq ≡ due → nat_lt s.seq last_seq ≡ room → (if due then (if room then verdict_of s.seq (run_calls s.world batch.programmer batch.calls) else NoRoom 0) else Stale s.seq) ≡ Accepted answers t → IsRun s batch
+    by : (due room : Bool) → is_due batch.at s.seq ≡ due → nat_lt s.seq last_seq ≡ room → (if due then (if room then verdict_of s.seq (run_calls s batch.programmer batch.calls) else NoRoom 0) else Stale s.seq) ≡ Accepted answers t → IsRun s batch
     by true true due low e = (due, ltb-true s.seq last_seq low)
     by true false due low e = absurd cc
     by false room due low e = absurd cc
