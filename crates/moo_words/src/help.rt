@@ -108,6 +108,10 @@ texts; VERB may be a number. A call answers 0 where nothing else is said.
   verb_info(O, VERB), verb_args(O, VERB)                  {OWNER, PERMS, NAMES}; {DOBJ, PREP, IOBJ}
   set_verb_info(O, VERB, {OWNER, PERMS, NAMES})
   set_verb_args(O, VERB, {DOBJ, PREP, IOBJ})
+  petition({{\"CALL\", V ..}, ..})  asks a wizard to make these calls, and answers the number of the petition
+  petitions()                     {N, WHO, CALLS} for each petition of one's own, or for a wizard for each
+  grant(N)                        a wizard makes the calls of petition N, all of them, and it is gone
+  decline(N)                      petition N is gone; a wizard may say so, and who made it
 PERMS of a property: letters of \"rwc\": r all may read it, w all may write it, c the owner of what is under O
 owns it there. PERMS of a verb: letters of \"rwxd\": r all may read it, w all may change it, x and d are kept.
 Marks of an object: \"r\" all may list its properties and verbs, \"w\" all may add and delete them, \"f\" all may
@@ -119,7 +123,8 @@ such as \"in front of\".
 Why a call is refused, E_NAME:
   E_PERM     the programmer may not: it has no right there, which a wizard has, or is no object; or nobody
              may: \"location\" and \"contents\" can't be set
-  E_INVARG   what must be an object is none, or an owner, a name or letters can't stand there
+  E_INVARG   what must be an object is none, or an owner, a name or letters can't stand there; or there is no
+             petition N, or one can't ask for this: 1 to 64 calls of those above, lists at most 30 deep
   E_INVIND   get or set of what is no object
   E_PROPNF   O has no such property
   E_VERBNF   O has no such verb

@@ -3,17 +3,21 @@
 ghost use Rattle.std.specs.Prelude.{◌≡◌, OnErr, OnOk};
 ghost use Rattle.moo_rows.specs.Maps.{wrote};
 
-use moo_rows::{Flat, Head, Link, ObjRow, PropId, PropRow, Rows, SlotRow, VerbId, VerbRow};
+use moo_rows::{
+    Flat, Head, Link, ObjRow, PetitionId, PetitionRow, PropId, PropRow, Rows, SlotRow, VerbId,
+    VerbRow,
+};
 use moo_value::ObjNo;
 use std::alloc::AllocError;
 
-/// How many rows were put and removed, of objects, properties, slots and verbs.
+/// How many rows were put and removed, of objects, properties, slots, verbs and petitions.
 #[derive(Clone, Copy, Debug, PartialEq, Eq)]
 pub(super) struct Counts {
     pub(super) objects: (u32, u32),
     pub(super) props: (u32, u32),
     pub(super) slots: (u32, u32),
     pub(super) verbs: (u32, u32),
+    pub(super) petitions: (u32, u32),
 }
 
 pub(super) const NONE: Counts = Counts {
@@ -21,6 +25,7 @@ pub(super) const NONE: Counts = Counts {
     props: (0, 0),
     slots: (0, 0),
     verbs: (0, 0),
+    petitions: (0, 0),
 };
 
 /// Rows, and what was put and removed since they were counted anew.
@@ -134,5 +139,23 @@ impl Rows for Counting {
     fn remove_verb(&mut self, key: (ObjNo, VerbId)) -> Result<(), AllocError> {
         one_more(&mut self.counts.verbs.1);
         self.rows.remove_verb(key)
+    }
+
+    fn petition(&self, key: PetitionId) -> Option<&PetitionRow> {
+        self.rows.petition(key)
+    }
+
+    fn next_petition(&self, from: Option<PetitionId>) -> Option<PetitionId> {
+        self.rows.next_petition(from)
+    }
+
+    fn put_petition(&mut self, key: PetitionId, row: PetitionRow) -> Result<(), AllocError> {
+        one_more(&mut self.counts.petitions.0);
+        self.rows.put_petition(key, row)
+    }
+
+    fn remove_petition(&mut self, key: PetitionId) -> Result<(), AllocError> {
+        one_more(&mut self.counts.petitions.1);
+        self.rows.remove_petition(key)
     }
 }
