@@ -1,12 +1,15 @@
 -- The text that a world is dumped as.
 use Rattle.std.specs.Prelude.{ℕ, pos, List, [], ◌∷◌, ◌++◌, Some, None, codes}
 use Rattle.std.specs.List.{flat_map}
+use Rattle.std.specs.FinMap.{entries}
 use Rattle.std.specs.Fmt.{decimal}
 use Rattle.moo_value.specs.declared.value.ObjNo.{ObjNo}
 use Rattle.moo_value.specs.declared.value.Value.{Value}
-use Rattle.moo_value.specs.declared.value.Value.TheVariants.{Int, Obj, Str}
+use Rattle.moo_value.specs.declared.value.Value.TheVariants.{Int, Obj, Str, List as a_list}
 use Rattle.moo_value.specs.Literal.{print}
 use Rattle.moo_rows.specs.declared.row.ObjRow.{ObjRow}
+use Rattle.moo_rows.specs.declared.row.PetitionId.{PetitionId}
+use Rattle.moo_rows.specs.declared.row.PetitionRow.{PetitionRow}
 use Rattle.moo_rows.specs.declared.row.SlotState.{SlotState}
 use Rattle.moo_rows.specs.declared.row.SlotState.TheVariants.{Clear, Set}
 use Rattle.moo_rows.specs.declared.row.VerbRow.{VerbRow}
@@ -65,10 +68,14 @@ record_lines w x r =
 abbrev pub object_lines : World → ObjNo → List ℕ
 object_lines w x = elim (w.object x) [ None ↦ [] | Some r ↦ record_lines w x r ]
 
+-- its number, who asks, and the calls that are asked for
+abbrev pub petition_line : PetitionId × PetitionRow → List ℕ
+petition_line e = line (codes "petition") (Int (pos e.0.0) ∷ Obj e.1.who ∷ a_list e.1.calls ∷ [])
+
 -- the number of the batches that were taken, and the greatest number that an object was given
 abbrev pub heading : State → List ℕ
 heading s = codes "seq " ++ (decimal s.seq ++ 10 ∷ (codes "top " ++ (print (Obj (record { 0 = s.world.top })) ++ 10 ∷ [])))
 
--- the heading, each object in ascending order, and the end
+-- the heading, each object in ascending order, each petition in ascending order, and the end
 unfoldable pub dump : State → List ℕ
-dump s = heading s ++ (flat_map (object_lines s.world) (objects_of s.world) ++ codes "end\n")
+dump s = heading s ++ (flat_map (object_lines s.world) (objects_of s.world) ++ (flat_map petition_line (entries s.petitions) ++ codes "end\n"))

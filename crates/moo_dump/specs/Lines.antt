@@ -1,4 +1,4 @@
--- The lines of objects, by the rows that they are printed from.
+-- The lines of objects and of petitions, by the rows that they are printed from.
 use Rattle.std.specs.Prelude.{◌≡◌, ℕ, List, [], Option, Some, None, map, unwrap_or}
 use Rattle.std.specs.BTreeMap.{BTreeMap, get as tree_get}
 use Rattle.std.specs.FinMap.{get, entries}
@@ -10,7 +10,7 @@ use Rattle.moo_rows.specs.declared.row.PropId.{PropId}
 use Rattle.moo_rows.specs.declared.row.PropRow.{PropRow}
 use Rattle.moo_rows.specs.declared.row.SlotRow.{SlotRow}
 use Rattle.moo_rows.specs.Maps.{Maps, object_cmp}
-use Rattle.moo_dump.specs.Dump.{property_line, slot_line, object_lines}
+use Rattle.moo_dump.specs.Dump.{property_line, slot_line, object_lines, petition_line}
 use Rattle.moo_world.specs.ObjectLists.{objects_of}
 use Rattle.moo_world.specs.Objects.{same_object}
 use Rattle.moo_world.specs.Rows.{slot_seen, world_of}
@@ -50,3 +50,7 @@ ListsDefinitions t ids = (d : ObjNo) → ids_listed ids d ≡ ids_defined t d
 -- the lines of the objects, ascending
 abbrev pub objects_text : Maps → List ℕ
 objects_text t = flat_map (object_lines (world_of t)) (objects_of (world_of t))
+
+-- the lines of the petitions, ascending
+abbrev pub petitions_text : Maps → List ℕ
+petitions_text t = flat_map petition_line (entries t.petitions)

@@ -3,16 +3,17 @@
 ghost use Rattle.std.specs.Prelude.{◌≡◌, ℕ, take, IfOk, OnOk, OnErr};
 ghost use Rattle.std.specs.Io.KnownBytes.{Appends};
 ghost use Rattle.moo_dump.specs.Dump.{heading, dump};
-ghost use Rattle.moo_dump.specs.Lines.{ListsDefinitions, objects_text};
+ghost use Rattle.moo_dump.specs.Lines.{ListsDefinitions, objects_text, petitions_text};
 ghost use Rattle.moo_dump.specs.Written.{AppendsFront};
 ghost use Rattle.moo_world.specs.Judge.{state_of};
 ghost use Rattle.moo_world.specs.Rows.{IsGood};
 
 use crate::definitions::{Definitions, all_definitions};
 use crate::fault::DumpFault;
+use crate::lines::petition_text;
 use crate::objects::object_text;
 use crate::output::put_all;
-use moo_rows::{Rows, each_object};
+use moo_rows::{Rows, each_object, each_petition};
 use moo_value::{ObjNo, Value, print_literal};
 use std::alloc::{AllocError, Global};
 use std::io::Write;
@@ -53,10 +54,27 @@ fn put_objects<R: Rows, W: Write>(
     Ok(())
 }
 
+/// Writes the lines of the petitions, ascending.
+fn put_petitions<R: Rows, W: Write>(
+    alloc: Global,
+    rows: &R,
+    output: &mut W,
+) -> Result<(), DumpFault>
+    ensures ok { OnOk result (Appends (W.contents output.old) (W.contents output.new) (petitions_text (R.held rows.now).maps)) }
+    ensures err { OnErr result (AppendsFront (W.contents output.old) (W.contents output.new) (petitions_text (R.held rows.now).maps)) }
+{
+    for (id, row) in each_petition(rows) {
+        let text = petition_text(alloc, id, row)?;
+        put_all(output, &text)?;
+    }
+    Ok(())
+}
+
 /// Writes all that the rows hold as text: `seq` with the number of the batches that were taken, `top` with the greatest
 /// number that an object was given, and then for each object, ascending, the lines `object`, `property` for each name that
 /// it defines, `slot` for each property that it has, by definers from the object up its chain, and `verb` for each of its
-/// verbs; then `end`. Behind `object`, `property`, `slot` and `verb` stands a literal list.
+/// verbs; then for each petition, ascending, the line `petition`, with its number, who asks and the calls; then `end`.
+/// Behind `object`, `property`, `slot`, `verb` and `petition` stands a literal list.
 ///
 /// Write where the writer fails or takes no bytes, OutOfMemory where memory runs out; a front of the text is written then.
 ///
@@ -71,5 +89,6 @@ pub fn dump<R: Rows, W: Write>(alloc: Global, rows: &R, output: &mut W) -> Resul
     let heading = heading_text(alloc, rows)?;
     put_all(output, &heading)?;
     put_objects(alloc, rows, &definitions, output)?;
+    put_petitions(alloc, rows, output)?;
     put_all(output, b"end\n")
 }

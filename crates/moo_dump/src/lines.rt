@@ -2,12 +2,12 @@
 
 ghost use Rattle.std.specs.Prelude.{◌≡◌, ◌++◌, OnOk, IfOk};
 ghost use Rattle.moo_value.specs.Text.{IsText};
-ghost use Rattle.moo_dump.specs.Dump.{line, object_line, property_line, slot_line, verb_line};
+ghost use Rattle.moo_dump.specs.Dump.{line, object_line, property_line, slot_line, verb_line, petition_line};
 ghost use Rattle.moo_world.specs.Prepositions.{place_text, prep_text};
 ghost use Rattle.moo_world.specs.Rows.{slot_seen};
 
 use moo_call_parts::{accept_value, flag, list_of};
-use moo_rows::{ArgSpec, ObjRow, PropRow, SlotRow, SlotState, VerbRow};
+use moo_rows::{ArgSpec, ObjRow, PetitionId, PetitionRow, PropRow, SlotRow, SlotState, VerbRow};
 use moo_value::{MooStr, ObjNo, Value, print_literal};
 use moo_verbs::{bits_letters, print_place, print_prep};
 use std::alloc::{AllocError, Global};
@@ -144,4 +144,23 @@ pub(crate) fn put_verb_line(
         iobj,
     ]?;
     put_line(alloc, b"verb", values, out)
+}
+
+/// The line of a petition.
+pub(crate) fn petition_text(
+    alloc: Global,
+    id: PetitionId,
+    row: &PetitionRow,
+) -> Result<Vec<u8>, AllocError>
+    ensures { IfOk result (λ text. text.items ≡ petition_line (id, row.now)) }
+{
+    let calls = row.calls.clone()?;
+    let values = vec![in alloc;
+        Value::Int(i64::from(id.0)),
+        Value::Obj(row.who),
+        Value::List(calls),
+    ]?;
+    let mut text = Vec::new(alloc);
+    put_line(alloc, b"petition", values, &mut text)?;
+    Ok(text)
 }
