@@ -2,7 +2,7 @@
 use Rattle.std.specs.Prelude.{◌≡◌, ◌≢◌, T, List, [], ◌∷◌, Option, Some, None}
 use Rattle.std.specs.declared.cmp.Ordering.{Ordering}
 use Rattle.std.specs.FinMap.{FinMap, find, get, is_sorted}
-use Rattle.moo_rows.specs.Maps.{Maps, object_cmp, prop_cmp, slot_cmp, verb_cmp}
+use Rattle.moo_rows.specs.Maps.{Maps, object_cmp, prop_cmp, slot_cmp, verb_cmp, petition_cmp}
 use Rattle.moo_draft.specs.Overlay.{changed}
 use Rattle.moo_draft.specs.declared.changes.Changes.{Changes}
 
@@ -21,6 +21,7 @@ pub record AreChanges (base new : Maps) (changes : Changes) : Type 0 where
   pub props : IsChanges prop_cmp (get base.props) (get new.props) changes.props
   pub slots : IsChanges slot_cmp (get base.slots) (get new.slots) changes.slots
   pub verbs : IsChanges verb_cmp (get base.verbs) (get new.verbs) changes.verbs
+  pub petitions : IsChanges petition_cmp (get base.petitions) (get new.petitions) changes.petitions
 
 -- the map with the keys of a list changed, one after another
 abbrev pub changed_each : {K X : Type 0} {cmp : K → K → Ordering} → FinMap cmp X → List (K × Option X) → FinMap cmp X

@@ -15,4 +15,4 @@ ChangesGiveTheRows = (base new other : Maps) (changes : Changes) → AreChanges 
 -- where every row is as it was, only the head is among the changes
 abbrev pub UndoneIsNoChange : Type 0
 UndoneIsNoChange = (base new : Maps) (changes : Changes) → new ≡ record base { head = new.head } → AreChanges base new changes
-    → changes ≡ record { head = new.head; objects = []; props = []; slots = []; verbs = [] }
+    → changes ≡ record { head = new.head; objects = []; props = []; slots = []; verbs = []; petitions = [] }

@@ -8,7 +8,10 @@ ghost use Rattle.moo_draft.specs.Overlay.{row_over};
 ghost use Rattle.moo_draft.specs.Changes.{IsChanges, AreChanges, changed_each};
 
 use crate::overlay::Base;
-use moo_rows::{Flat, Head, Key, ObjRow, PropId, PropRow, Row, Rows, SlotRow, VerbId, VerbRow};
+use moo_rows::{
+    Flat, Head, Key, ObjRow, PetitionId, PetitionRow, PropId, PropRow, Row, Rows, SlotRow, VerbId,
+    VerbRow,
+};
 use moo_value::ObjNo;
 use std::alloc::{AllocError, Global};
 use std::collections::BTreeMap;
@@ -59,6 +62,7 @@ pub struct Changes {
     pub props: ChangeList<PropId, PropRow>,
     pub slots: ChangeList<(ObjNo, PropId), SlotRow>,
     pub verbs: ChangeList<(ObjNo, VerbId), VerbRow>,
+    pub petitions: ChangeList<PetitionId, PetitionRow>,
 }
 
 /// Whether a key has the row, or none where that is none.
@@ -149,6 +153,21 @@ fn apply_verbs<R: Rows>(
     Ok(())
 }
 
+fn apply_petitions<R: Rows>(
+    rows: &mut R,
+    changes: ChangeList<PetitionId, PetitionRow>,
+) -> Result<(), AllocError>
+    ensures { OnOk result ((R.held rows.new).maps ≡ record ((R.held rows.old).maps) { petitions = changed_each (R.held rows.old).maps.petitions changes }) }
+{
+    for (key, row) in changes.into_vec() {
+        match row {
+            Some(row) => rows.put_petition(key, row)?,
+            None => rows.remove_petition(key)?,
+        }
+    }
+    Ok(())
+}
+
 /// Makes the changes in the rows that they are changes of. The only error is want of memory, and then some are made and
 /// some are not.
 pub fn apply_changes(rows: &mut Flat, changes: Changes) -> Result<(), AllocError>
@@ -159,5 +178,6 @@ pub fn apply_changes(rows: &mut Flat, changes: Changes) -> Result<(), AllocError
     apply_props(rows, changes.props)?;
     apply_slots(rows, changes.slots)?;
     apply_verbs(rows, changes.verbs)?;
+    apply_petitions(rows, changes.petitions)?;
     Ok(())
 }

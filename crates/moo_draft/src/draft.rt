@@ -11,8 +11,8 @@ use crate::overlay;
 use crate::overlay::Base;
 use crate::own::OwnLinks;
 use moo_rows::{
-    Head, Link, ObjRow, PropId, PropRow, Rows, SlotRow, VerbId, VerbRow, Writes, ordered,
-    row_defined, row_has,
+    Head, Link, ObjRow, PetitionId, PetitionRow, PropId, PropRow, Rows, SlotRow, VerbId, VerbRow,
+    Writes, ordered, row_defined, row_has,
 };
 use moo_value::ObjNo;
 use std::alloc::{AllocError, Global};
@@ -31,13 +31,14 @@ pub struct Draft<'a, R: Rows> {
     props: BTreeMap<PropId, Option<PropRow>>,
     slots: BTreeMap<(ObjNo, PropId), Option<SlotRow>>,
     verbs: BTreeMap<(ObjNo, VerbId), Option<VerbRow>>,
+    petitions: BTreeMap<PetitionId, Option<PetitionRow>>,
     links: OwnLinks,
     definers: BTreeMap<(ObjNo, PropId), ()>,
     writes: Writes,
 }
 
 impl<'a, R: Rows> Model for Draft<'a, R> {
-    ghost use Rattle.moo_rows.specs.Maps.{Held, coded_held, object_cmp, prop_cmp, slot_cmp, verb_cmp};
+    ghost use Rattle.moo_rows.specs.Maps.{Held, coded_held, object_cmp, prop_cmp, slot_cmp, verb_cmp, petition_cmp};
     ghost use Rattle.moo_rows.specs.Ordered.{contents};
     ghost use Rattle.moo_draft.specs.Overlay.{overlaid};
 
@@ -52,6 +53,7 @@ impl<'a, R: Rows> Model for Draft<'a, R> {
         props = overlaid below.props (contents prop_cmp d.props);
         slots = overlaid below.slots (contents slot_cmp d.slots);
         verbs = overlaid below.verbs (contents verb_cmp d.verbs);
+        petitions = overlaid below.petitions (contents petition_cmp d.petitions);
       };
       writes = d.writes.count;
       base = below;
@@ -81,6 +83,7 @@ impl<'a, R: Rows> Draft<'a, R> {
             props: BTreeMap::new(alloc),
             slots: BTreeMap::new(alloc),
             verbs: BTreeMap::new(alloc),
+            petitions: BTreeMap::new(alloc),
             links: OwnLinks::new(alloc),
             definers: BTreeMap::new(alloc),
             writes: Writes::new(),
@@ -96,12 +99,14 @@ impl<'a, R: Rows> Draft<'a, R> {
         let props = changed_rows(self.alloc, self.base, self.props)?;
         let slots = changed_rows(self.alloc, self.base, self.slots)?;
         let verbs = changed_rows(self.alloc, self.base, self.verbs)?;
+        let petitions = changed_rows(self.alloc, self.base, self.petitions)?;
         Ok(Changes {
             head: self.head,
             objects,
             props,
             slots,
             verbs,
+            petitions,
         })
     }
 }
@@ -159,6 +164,20 @@ impl<'a, R: Rows> Base<'a, (ObjNo, VerbId), VerbRow> for &'a R {
         ensures { IsNext (R.held self.entry.now).maps.verbs from result }
     {
         self.next_verb(from)
+    }
+}
+
+impl<'a, R: Rows> Base<'a, PetitionId, PetitionRow> for &'a R {
+    ghost row_at = { λ s. map.get (R.held s.now).maps.petitions };
+
+    fn get(self, key: PetitionId) -> Option<&'a PetitionRow> {
+        self.petition(key)
+    }
+
+    fn next(self, from: Option<PetitionId>) -> Option<PetitionId>
+        ensures { IsNext (R.held self.entry.now).maps.petitions from result }
+    {
+        self.next_petition(from)
     }
 }
 
@@ -285,6 +304,26 @@ impl<'a, R: Rows> Rows for Draft<'a, R> {
 
     fn remove_verb(&mut self, key: (ObjNo, VerbId)) -> Result<(), AllocError> {
         ordered::put(&mut self.verbs, key, None)?;
+        self.writes.rise();
+        Ok(())
+    }
+
+    fn petition(&self, key: PetitionId) -> Option<&PetitionRow> {
+        overlay::get(self.base, &self.petitions, key)
+    }
+
+    fn next_petition(&self, from: Option<PetitionId>) -> Option<PetitionId> {
+        overlay::next(self.base, &self.petitions, from)
+    }
+
+    fn put_petition(&mut self, key: PetitionId, row: PetitionRow) -> Result<(), AllocError> {
+        ordered::put(&mut self.petitions, key, Some(row))?;
+        self.writes.rise();
+        Ok(())
+    }
+
+    fn remove_petition(&mut self, key: PetitionId) -> Result<(), AllocError> {
+        ordered::put(&mut self.petitions, key, None)?;
         self.writes.rise();
         Ok(())
     }

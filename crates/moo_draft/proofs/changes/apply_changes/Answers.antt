@@ -1,7 +1,7 @@
 use Rattle.std.proofs.Common.{ap, ◌∙◌}
 use Rattle.moo_rows.specs.Maps.{Maps, Held}
-use Rattle.moo_rows.specs.Exact.{object_exact, prop_exact, slot_exact, verb_exact}
-use Rattle.moo_rows.proofs.Orders.{object_total, prop_total, slot_total, verb_total}
+use Rattle.moo_rows.specs.Exact.{object_exact, prop_exact, slot_exact, verb_exact, petition_exact}
+use Rattle.moo_rows.proofs.Orders.{object_total, prop_total, slot_total, verb_total, petition_total}
 use Rattle.moo_draft.specs.Changes.{changed_each}
 use Rattle.moo_draft.proofs.Changing.{changes-applied}
 use Rattle.moo_draft.proofs.changes.apply_changes.Goals as goal
@@ -15,10 +15,12 @@ returns c = λ new h.
     let props = c.in_ok-apply_props.ensures ∙ ap (λ (t : Maps). record t { props = changed_each t.props changes.props }) objects in
     let slots = c.in_ok-apply_slots.ensures ∙ ap (λ (t : Maps). record t { slots = changed_each t.slots changes.slots }) props in
     let verbs = c.in_ok-apply_verbs.ensures ∙ ap (λ (t : Maps). record t { verbs = changed_each t.verbs changes.verbs }) slots in
-    verbs ∙ (λ i. record {
+    let petitions = c.in_ok-apply_petitions.ensures ∙ ap (λ (t : Maps). record t { petitions = changed_each t.petitions changes.petitions }) verbs in
+    petitions ∙ (λ i. record {
       head = h.head i;
       objects = changes-applied object_total object_exact before.objects new.objects changes.objects h.objects i;
       props = changes-applied prop_total prop_exact before.props new.props changes.props h.props i;
       slots = changes-applied slot_total slot_exact before.slots new.slots changes.slots h.slots i;
       verbs = changes-applied verb_total verb_exact before.verbs new.verbs changes.verbs h.verbs i;
+      petitions = changes-applied petition_total petition_exact before.petitions new.petitions changes.petitions h.petitions i;
     })

@@ -1,8 +1,8 @@
 use Rattle.std.proofs.Common.{refl, sym, subst}
 use Rattle.std.specs.FinMap.{get}
 use Rattle.moo_rows.specs.Ordered.{contents}
-use Rattle.moo_rows.specs.Maps.{object_cmp, prop_cmp, slot_cmp, verb_cmp}
-use Rattle.moo_rows.proofs.Orders.{object_total, prop_total, slot_total, verb_total}
+use Rattle.moo_rows.specs.Maps.{object_cmp, prop_cmp, slot_cmp, verb_cmp, petition_cmp}
+use Rattle.moo_rows.proofs.Orders.{object_total, prop_total, slot_total, verb_total, petition_total}
 use Rattle.moo_draft.specs.Changes.{IsChanges}
 use Rattle.moo_draft.proofs.Overlays.{get-overlaid}
 use Rattle.moo_draft.proofs.draft.Draft.into_changes.Goals as goal
@@ -17,4 +17,5 @@ returns g c =
       props = subst (λ new. IsChanges prop_cmp (get below.props) new c.in_ok-props.props) (λ i q. sym (get-overlaid prop_total below.props (contents prop_cmp d.props) q) i) c.in_ok-props.ensures;
       slots = subst (λ new. IsChanges slot_cmp (get below.slots) new c.in_ok-slots.slots) (λ i q. sym (get-overlaid slot_total below.slots (contents slot_cmp d.slots) q) i) c.in_ok-slots.ensures;
       verbs = subst (λ new. IsChanges verb_cmp (get below.verbs) new c.in_ok-verbs.verbs) (λ i q. sym (get-overlaid verb_total below.verbs (contents verb_cmp d.verbs) q) i) c.in_ok-verbs.ensures;
+      petitions = subst (λ new. IsChanges petition_cmp (get below.petitions) new c.in_ok-petitions.petitions) (λ i q. sym (get-overlaid petition_total below.petitions (contents petition_cmp d.petitions) q) i) c.in_ok-petitions.ensures;
     })

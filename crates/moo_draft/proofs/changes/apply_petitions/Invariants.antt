@@ -1,0 +1,12 @@
+use Rattle.std.proofs.Common.{◌≡◌, length}
+use Rattle.std.specs.Vec.Iter.{into_iter_items, into_iter_len}
+use Rattle.moo_draft.specs.Changes.{changed_each}
+use Rattle.moo_draft.proofs.changes.apply_petitions.Given as goal
+
+-- with the changes that are left, it is as with all
+abbrev pub invariant-loop-key : goal.invariant-loop-key
+invariant-loop-key g l =
+    let now = (g.R.Rows.held l.rows).maps in
+    let before = (g.R.Rows.held l.fn.rows).maps in
+    (record now { petitions = changed_each now.petitions (into_iter_items l.key-iterator) } ≡ record before { petitions = changed_each before.petitions l.fn.changes })
+    × (into_iter_len l.key-iterator ≡ length (into_iter_items l.key-iterator))

@@ -1,0 +1,11 @@
+use Rattle.std.proofs.Common.{sym, ◌∙◌}
+use Rattle.moo_rows.specs.Ordered.{contents}
+use Rattle.moo_rows.specs.Maps.{petition_cmp}
+use Rattle.moo_rows.proofs.Orders.{petition_total}
+use Rattle.moo_draft.proofs.Overlays.{get-overlaid}
+use Rattle.moo_draft.proofs.draft.DraftRows.petition.Goals as goal
+
+pub returns : goal.returns
+returns g c =
+    let d = c.self.inside in
+    rw (← c.self.view_is) (c.get.ensures ∙ sym (get-overlaid petition_total (g.R.Rows.held d.base.now).maps.petitions (contents petition_cmp d.petitions) c.args.key))

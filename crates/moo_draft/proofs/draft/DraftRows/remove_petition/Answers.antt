@@ -1,0 +1,17 @@
+use Rattle.std.proofs.Common.{◌≡◌, None, ap, ◌∙◌}
+use Rattle.std.specs.FinMap as map
+use Rattle.moo_rows.specs.Ordered.{contents}
+use Rattle.moo_rows.specs.Maps.{petition_cmp}
+use Rattle.moo_rows.specs.Exact.{petition_exact}
+use Rattle.moo_rows.proofs.Orders.{petition_total}
+use Rattle.moo_draft.specs.Overlay.{overlaid}
+use Rattle.moo_draft.proofs.Overlays.{overlaid-insert}
+use Rattle.moo_draft.proofs.draft.DraftRows.remove_petition.Goals as goal
+
+pub returns-clause-ok : goal.returns-clause-ok
+returns-clause-ok g c =
+    let d = c.self.inside in
+    let below = (g.R.Rows.held d.base.now).maps.petitions in
+    let written : overlaid below (contents petition_cmp c.put.new.rows) ≡ map.remove (overlaid below (contents petition_cmp d.petitions)) c.args.key =
+    ap (overlaid below) c.in_ok-put.ensures.ok ∙ overlaid-insert petition_total petition_exact below (contents petition_cmp d.petitions) c.args.key None in
+    rw (← c.self.view_is) (cc)
