@@ -35,11 +35,7 @@ fn may_be_asked(calls: &ValueList) -> Result<(), Code>
 }
 
 /// Keeps the calls as a petition of the programmer's.
-fn ask<R: Rows>(
-    rows: &mut R,
-    programmer: ObjNo,
-    calls: ValueList,
-) -> Result<Value, Fault>
+fn ask<R: Rows>(rows: &mut R, programmer: ObjNo, calls: ValueList) -> Result<Value, Fault>
     requires good { IsGood (R.held rows.old).maps }
     requires fit { petition_fits (record { who = programmer; calls = calls }) ≡ true }
     ensures reaches { Reaches (ask (state_in (R.held rows.old)) programmer calls) (R.held rows.new) result }

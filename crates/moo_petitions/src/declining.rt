@@ -1,8 +1,11 @@
 //! `decline`.
 
-ghost use Rattle.std.specs.Prelude.{◌≡◌, false, OnOk};
+ghost use Rattle.std.specs.Prelude.{◌≡◌, ◌||◌, false, OnOk};
+ghost use Rattle.moo_world.specs.Objects.{same_object};
 ghost use Rattle.moo_world.specs.Requests.{decline, one_integer, taking};
+ghost use Rattle.moo_world.specs.Rights.{is_wizard};
 ghost use Rattle.moo_world.specs.Rows.{IsGood};
+ghost use Rattle.moo_call_parts.specs.Outcomes.{world_in};
 ghost use Rattle.moo_petitions.specs.Outcomes.{state_in, KeepsRows, Reaches, Stays};
 
 use crate::args::one_integer;
@@ -11,6 +14,13 @@ use moo_call_parts::rights::is_wizard;
 use moo_call_parts::{Fault, ZERO};
 use moo_rows::Rows;
 use moo_value::{Code, ObjNo, Value};
+
+/// Whether the programmer is who asks, or a wizard.
+fn may_decline<R: Rows>(rows: &R, programmer: ObjNo, who: ObjNo) -> bool
+    ensures { result ≡ (same_object who programmer || is_wizard (world_in (R.held rows.now)) programmer) }
+{
+    who == programmer || is_wizard(rows, programmer)
+}
 
 /// `decline(number)`: takes a petition away. E_INVARG where there is none of this number; E_PERM where the programmer is neither who asks nor a
 /// wizard. It answers 0. This server's own.
@@ -29,7 +39,7 @@ pub(crate) fn decline<R: Rows>(
         Some((id, row)) => (id, row.who),
         None => return Err(Fault::Moo(Code::InvalidArgument)),
     };
-    if who != programmer && !is_wizard(rows, programmer) {
+    if !may_decline(rows, programmer, who) {
         return Err(Fault::Moo(Code::Permission));
     }
     rows.remove_petition(id)?;

@@ -77,6 +77,11 @@ one_integer (Int n ∷ []) = Ok n
 one_integer (v ∷ []) = Err wrong_type
 one_integer args = Err Arguments
 
+-- what is done with the petition that is there, or the error that there is none
+abbrev pub found_petition : Option (PetitionId × PetitionRow) → (PetitionId × PetitionRow → Effect) → Effect
+found_petition None rest = Erred InvalidArgument
+found_petition (Some e) rest = rest e
+
 -- ---- petitions by number
 
 abbrev pub petition_id : ℕ → PetitionId
@@ -147,14 +152,13 @@ petitions s p = Answered (list_of (map listed (filter (λ e. is_wizard s.world p
 abbrev pub grant : State → ObjNo → ℤ → Effect
 grant s p n =
     unless_fails (is_wizard s.world p) Permission
-    (elim (petition_at s n) [ None ↦ Erred InvalidArgument | Some e ↦ in_world (without e.0 s) (held_steps s.world p (spread e.1.calls)) ])
+    (found_petition (petition_at s n) (λ e. in_world (without e.0 s) (held_steps s.world p (spread e.1.calls))))
 
 abbrev pub decline : State → ObjNo → ℤ → Effect
 decline s p n =
-    elim (petition_at s n) [
-      | None ↦ Erred InvalidArgument
-      | Some e ↦ unless_fails (same_object e.1.who p || is_wizard s.world p) Permission (Answered zero (without e.0 s))
-    ]
+    found_petition (petition_at s n) (λ e.
+    unless_fails (same_object e.1.who p || is_wizard s.world p) Permission
+    (Answered zero (without e.0 s)))
 
 abbrev pub petition_call_by : State → ObjNo → PetitionCall → List Value → Effect
 petition_call_by s p to_petition args = taking (one_list args) (petition s p)

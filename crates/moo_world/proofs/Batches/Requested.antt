@@ -24,7 +24,7 @@ use Rattle.moo_world.specs.Names.{petition_call}
 use Rattle.moo_world.specs.Objects.{same_object}
 use Rattle.moo_world.specs.Outcomes.{Outcome, Done, Failed, Full}
 use Rattle.moo_world.specs.Petitions.{is_named, are_few, are_shallow}
-use Rattle.moo_world.specs.Requests.{State, Effect, Answered, Erred, NoneLeft, unless_fails, taking, in_world, one_list, one_integer, petition_id, petition_at, without, held_call, held_steps, last_petition, asked, may_be_asked, petition, grant, decline, petition_call_by, request}
+use Rattle.moo_world.specs.Requests.{State, Effect, Answered, Erred, NoneLeft, unless_fails, taking, in_world, found_petition, one_list, one_integer, petition_id, petition_at, without, held_call, held_steps, last_petition, asked, may_be_asked, petition, grant, decline, petition_call_by, request}
 use Rattle.moo_world.specs.Rights.{is_wizard}
 use Rattle.moo_world.specs.Step.{step}
 use Rattle.moo_world.specs.World.{World, is_object}
@@ -65,7 +65,7 @@ module _ (P : State → Type 0) where
   unfolding Leaves
   on_answer v next h = h
 
-  on_petition : (o : Option (PetitionId × PetitionRow)) (rest : PetitionId × PetitionRow → Effect) → ((e : PetitionId × PetitionRow) → o ≡ Some e → Leaves P (rest e)) → Leaves P (elim o [ None ↦ Erred InvalidArgument | Some e ↦ rest e ])
+  on_petition : (o : Option (PetitionId × PetitionRow)) (rest : PetitionId × PetitionRow → Effect) → ((e : PetitionId × PetitionRow) → o ≡ Some e → Leaves P (rest e)) → Leaves P (found_petition o rest)
   unfolding Leaves
   on_petition None rest h = tt
   on_petition (Some e) rest h = h e refl

@@ -149,7 +149,7 @@ next_fits next h less = (omega (arith, h.0), omega (arith, less))
 last_is_new : (next : ℕ) → next < next + 1
 last_is_new next = omega arith
 
-still_stand : (petitions : FinMap petition_cmp PetitionRow) (next : ℕ) (gone : PetitionId) → PetitionsStand petitions next → PetitionsStand (remove petitions gone) next
+pub still_stand : (petitions : FinMap petition_cmp PetitionRow) (next : ℕ) (gone : PetitionId) → PetitionsStand petitions next → PetitionsStand (remove petitions gone) next
 still_stand petitions next gone h = record {
   numbered = λ id there. numbered id there (none_or_old petition_total petition_exact petitions gone id);
   fit = λ id row e. fit id row e (none_or_old petition_total petition_exact petitions gone id);
@@ -164,7 +164,7 @@ still_stand petitions next gone h = record {
     fit id row e (inl f) = absurd (none-some row (sym f ∙ e))
     fit id row e (inr f) = h.fit id row (sym f ∙ e)
 
-one_more_stands : (petitions : FinMap petition_cmp PetitionRow) (next : ℕ) (row : PetitionRow) → PetitionsStand petitions next → petition_fits row ≡ true → next < 4294967295
+pub one_more_stands : (petitions : FinMap petition_cmp PetitionRow) (next : ℕ) (row : PetitionRow) → PetitionsStand petitions next → petition_fits row ≡ true → next < 4294967295
     → PetitionsStand (insert petitions (petition_id next) row) (next + 1)
 one_more_stands petitions next new h fits_new less = record {
   numbered = λ id there. numbered id there (put_or_old petition_total petition_exact petitions (petition_id next) id new);

@@ -1,0 +1,4 @@
+pub mod Beside
+pub mod HeldCalls
+pub mod InTurn
+pub mod Chosen

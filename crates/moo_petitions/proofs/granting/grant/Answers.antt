@@ -1,0 +1,56 @@
+use Rattle.std.proofs.Common.{◌≡◌, true, Ok, Some, List, sym, ap, ◌∙◌, subst, rules}
+use Rattle.std.specs.List.{list_all}
+use Rattle.moo_value.specs.declared.code.Code.TheVariants.{Permission}
+use Rattle.moo_value.specs.declared.value.Value.{Value}
+use Rattle.moo_value.specs.Value.{spread}
+use Rattle.moo_rows.specs.declared.row.PetitionRow.{PetitionRow}
+use Rattle.moo_world.specs.Arguments.{fits}
+use Rattle.moo_world.specs.Requests.{State, found_petition, grant, held_steps, in_world, one_integer, petition_at, taking, unless_fails, without}
+use Rattle.moo_world.specs.Rights.{is_wizard}
+use Rattle.moo_world.specs.World.{World}
+use Rattle.moo_world.proofs.Batches.Requested.{found_there}
+use Rattle.moo_world.proofs.Form.Petitions.{held_fit}
+use Rattle.moo_call_parts.specs.Outcomes.{world_in}
+use Rattle.moo_petitions.specs.Outcomes.{state_in, ComesInTurn, Reaches}
+use Rattle.moo_petitions.proofs.Beside.{removed-keeps, removed-state}
+use Rattle.moo_petitions.proofs.InTurn.{granted-reaches, granted-keeps, on_ok}
+use Rattle.moo_petitions.proofs.granting.grant.Goals as goal
+
+pub held_steps-requires-clause-good : goal.held_steps-requires-clause-good
+held_steps-requires-clause-good g c = (removed-keeps (g.R.Rows.held c.args.rows.now) (g.R.Rows.held c.remove_petition.new.self) c.in-Some.id c.in_ok-remove_petition.ensures.ok c.requires.good).good
+
+pub held_steps-requires-clause-fit : goal.held_steps-requires-clause-fit
+held_steps-requires-clause-fit g c =
+    let s = state_in (g.R.Rows.held c.args.rows.now) in
+    let found : petition_at s c.in_ok-number.number ≡ Some (c.in-Some.id, c.in-Some.row.now) = search rules in
+    let there = found_there s c.in_ok-number.number (c.in-Some.id, c.in-Some.row.now) found in
+    let fit = held_fit c.in-Some.row.now (c.requires.good.petitions.fit c.in-Some.id c.in-Some.row.now there) in
+    subst (λ helds. list_all fits helds ≡ true) (sym (c.items.ensures.plain ∙ ap (λ (r : PetitionRow). spread r.calls) c.in_ok-copy-in-Some.ensures)) fit
+
+pub returns-clause-reaches : goal.returns-clause-reaches
+returns-clause-reaches g c =
+    let old = g.R.Rows.held c.args.rows.now in
+    let mid = g.R.Rows.held c.remove_petition.new.self in
+    let new = g.R.Rows.held c.held_steps.new.rows in
+    let s = state_in old in
+    let p = c.args.programmer in
+    let n = c.in_ok-number.number in
+    let given : one_integer c.args.args.now ≡ Ok n = search rules in
+    let wizard : is_wizard s.world p ≡ true = search rules in
+    let found : petition_at s n ≡ Some (c.in-Some.id, c.in-Some.row.now) = search rules in
+    let is = removed-state old mid c.in-Some.id c.in_ok-remove_petition.ensures.ok in
+    let helds : c.items.result.now ≡ spread c.in-Some.row.now.calls = c.items.ensures.plain ∙ ap (λ (r : PetitionRow). spread r.calls) c.in_ok-copy-in-Some.ensures in
+    let comes = subst (λ (w : World). ComesInTurn (held_steps w p (spread c.in-Some.row.now.calls)) new c.held_steps.result) (ap (λ (t : State). t.world) is)
+    (subst (λ (l : List Value). ComesInTurn (held_steps (world_in mid) p l) new c.held_steps.result) helds c.held_steps.ensures.comes) in
+    subst (λ effect. Reaches effect new c.held_steps.result)
+    (sym (ap (λ r. taking r (grant s p)) given
+    ∙ ap (λ b. unless_fails b Permission (found_petition (petition_at s n) (λ e. in_world (without e.0 s) (held_steps s.world p (spread e.1.calls))))) wizard
+    ∙ ap (λ o. found_petition o (λ e. in_world (without e.0 s) (held_steps s.world p (spread e.1.calls)))) found))
+    (granted-reaches (without c.in-Some.id s) mid new (held_steps s.world p (spread c.in-Some.row.now.calls)) c.held_steps.result is comes c.held_steps.ensures.kept)
+
+pub returns-clause-kept : goal.returns-clause-kept
+returns-clause-kept g c =
+    let old = g.R.Rows.held c.args.rows.now in
+    let mid = g.R.Rows.held c.remove_petition.new.self in
+    let removed = removed-keeps old mid c.in-Some.id c.in_ok-remove_petition.ensures.ok c.requires.good in
+    on_ok c.held_steps.result (granted-keeps old mid (g.R.Rows.held c.held_steps.new.rows) removed) c.held_steps.ensures.kept
