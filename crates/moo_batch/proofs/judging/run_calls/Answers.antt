@@ -18,8 +18,8 @@ returns-in-Err-Moo-clause-comes g c =
     let left = drop (c.loop-call.call-index + 1) calls in
     let next : drop c.loop-call.call-index calls ≡ c.call-item.result ∷ left = grind (arith, common_steps) in
     let so_far = subst (HaveRunSoFar (g.R.Rows.held c.args.rows.now) c.args.programmer calls c.loop-call.answers.items (g.R.Rows.held c.loop-call.rows)) next c.loop-call.invariant.0 in
-    let comes = rw c.in-Err-Moo.field-0-is at c.in-Err-Moo.ensures.comes in
-    let failed = run-failed c.call-item.result left c.in-Err-Moo.code so_far comes.0 in
+    let comes = rw c.in-Err-Moo.field-0-is at c.in-Err-Moo.ensures.reaches in
+    let failed = run-failed c.call-item.result left c.in-Err-Moo.code so_far comes in
     rw c.in-Err-Moo.field-0-is (failed ∙ ap (λ n. FailedAt n c.in-Err-Moo.code) (omega arith))
 
 pub returns-in-Err-Full-clause-comes : goal.returns-in-Err-Full-clause-comes
@@ -28,8 +28,8 @@ returns-in-Err-Full-clause-comes g c =
     let left = drop (c.loop-call.call-index + 1) calls in
     let next : drop c.loop-call.call-index calls ≡ c.call-item.result ∷ left = grind (arith, common_steps) in
     let so_far = subst (HaveRunSoFar (g.R.Rows.held c.args.rows.now) c.args.programmer calls c.loop-call.answers.items (g.R.Rows.held c.loop-call.rows)) next c.loop-call.invariant.0 in
-    let comes = rw c.in-Err-Full.field-0-is at c.in-Err-Full.ensures.comes in
-    run-full c.call-item.result left so_far comes.0 ∙ ap FullAt (omega arith)
+    let comes = rw c.in-Err-Full.field-0-is at c.in-Err-Full.ensures.reaches in
+    run-full c.call-item.result left so_far comes ∙ ap FullAt (omega arith)
 
 pub loop-call-preserved : goal.loop-call-preserved
 loop-call-preserved g c =
@@ -38,7 +38,7 @@ loop-call-preserved g c =
     let next : drop c.loop-call.call-index calls ≡ c.call-item.result ∷ left = grind (arith, common_steps) in
     let so_far = subst (HaveRunSoFar (g.R.Rows.held c.args.rows.now) c.args.programmer calls c.loop-call.answers.items (g.R.Rows.held c.loop-call.rows)) next c.loop-call.invariant.0 in
     let pushed : c.push.new.self.items ≡ c.loop-call.answers.items ++ c.in-Ok.answer ∷ [] = search rules in
-    (run-one_more c.call-item.result left c.in-Ok.answer c.push.new.self.items _ pushed so_far c.in-Ok.ensures.comes c.in-Ok.ensures.kept, ap length pushed ∙ grind (arith, common_steps))
+    (run-one_more c.call-item.result left c.in-Ok.answer c.push.new.self.items _ pushed so_far c.in-Ok.ensures.reaches c.in-Ok.ensures.kept, ap length pushed ∙ grind (arith, common_steps))
 
 pub returns-clause-comes : goal.returns-clause-comes
 returns-clause-comes g c =
