@@ -6,3 +6,4 @@ pub mod PetitionNumbers
 pub mod TreeT
 pub mod OneByOneT
 pub mod WorkedCalls
+pub mod WorkedPetitions

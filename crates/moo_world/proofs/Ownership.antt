@@ -5,3 +5,4 @@ pub mod Quotas
 pub mod Counted
 pub mod Changed
 pub mod Rebuilt
+pub mod Petitions

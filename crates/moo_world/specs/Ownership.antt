@@ -1,5 +1,5 @@
 -- What quotas count, and what only a wizard may do.
-use Rattle.std.specs.Prelude.{◌≡◌, ℤ, pos, negsuc, ◌+ℤ◌, int_lt, true, false, ◌&&◌, ◌||◌, Option, None, Some, Result, Ok, Err, if◌then◌else◌}
+use Rattle.std.specs.Prelude.{◌≡◌, ℤ, pos, negsuc, ◌+ℤ◌, int_lt, true, false, ◌&&◌, ◌||◌, is_some, Option, None, Some, Result, Ok, Err, if◌then◌else◌}
 use Rattle.moo_value.specs.declared.code.Code.{Code}
 use Rattle.moo_value.specs.declared.value.ObjNo.{ObjNo}
 use Rattle.moo_value.specs.declared.value.Value.{Value}
@@ -14,6 +14,8 @@ use Rattle.moo_world.specs.Calls.{create, recycle}
 use Rattle.moo_world.specs.Quota.{quota_of}
 use Rattle.moo_world.specs.Recycling.{recycled}
 use Rattle.moo_world.specs.Rights.{is_wizard}
+use Rattle.moo_world.specs.Names.{petition_call}
+use Rattle.moo_world.specs.Requests.{State, Answered, request}
 use Rattle.moo_world.specs.Step.{step}
 
 -- owner, player flag, programmer and wizard bits
@@ -47,6 +49,10 @@ pub record KeepsOwnership (w next : World) (p : ObjNo) (renamed : ObjNo → Name
 -- a call of a programmer who is no wizard
 abbrev pub NoWizardKeepsOwnership : Type 0
 NoWizardKeepsOwnership = (w next : World) (p : ObjNo) (call : Call) (v : Value) → IsWellFormed w → is_wizard w p ≡ false → step w p call ≡ Done v next → KeepsOwnership w next p (name_after w call)
+
+-- and the calls of petitions change no world, unless a wizard grants
+abbrev pub PetitionsLeaveTheWorld : Type 0
+PetitionsLeaveTheWorld = (s next : State) (p : ObjNo) (call : Call) (v : Value) → is_wizard s.world p ≡ false → is_some (petition_call call.name) ≡ true → request s p call ≡ Answered v next → next.world ≡ s.world
 
 -- an accepted create lowers the quota of the intended owner by one, and makes one object, of that owner, and no other
 abbrev pub CreateTakesOne : Type 0

@@ -40,17 +40,17 @@ unfolding Leaves
 of_answered P e v next h is = subst (Leaves P) is h
 
 module _ (P : State → Type 0) where
-  on_check : (b : Bool) (code : Code) (rest : Effect) → (b ≡ true → Leaves P rest) → Leaves P (unless_fails b code rest)
+  pub on_check : (b : Bool) (code : Code) (rest : Effect) → (b ≡ true → Leaves P rest) → Leaves P (unless_fails b code rest)
   unfolding Leaves
   on_check true code rest h = h refl
   on_check false code rest h = tt
 
-  on_taken : {A : Type 0} (r : Result A Code) (rest : A → Effect) → ((a : A) → r ≡ Ok a → Leaves P (rest a)) → Leaves P (taking r rest)
+  pub on_taken : {A : Type 0} (r : Result A Code) (rest : A → Effect) → ((a : A) → r ≡ Ok a → Leaves P (rest a)) → Leaves P (taking r rest)
   unfolding Leaves
   on_taken (Ok a) rest h = h a refl
   on_taken (Err code) rest h = tt
 
-  on_left : (b : Bool) (v : Value) (next : State) → (b ≡ true → P next) → Leaves P (if b then Answered v next else NoneLeft)
+  pub on_left : (b : Bool) (v : Value) (next : State) → (b ≡ true → P next) → Leaves P (if b then Answered v next else NoneLeft)
   unfolding Leaves
   on_left true v next h = h refl
   on_left false v next h = tt
@@ -61,11 +61,11 @@ module _ (P : State → Type 0) where
   on_world s (Failed code) h = tt
   on_world s Full h = tt
 
-  on_answer : (v : Value) (next : State) → P next → Leaves P (Answered v next)
+  pub on_answer : (v : Value) (next : State) → P next → Leaves P (Answered v next)
   unfolding Leaves
   on_answer v next h = h
 
-  on_petition : (o : Option (PetitionId × PetitionRow)) (rest : PetitionId × PetitionRow → Effect) → ((e : PetitionId × PetitionRow) → o ≡ Some e → Leaves P (rest e)) → Leaves P (found_petition o rest)
+  pub on_petition : (o : Option (PetitionId × PetitionRow)) (rest : PetitionId × PetitionRow → Effect) → ((e : PetitionId × PetitionRow) → o ≡ Some e → Leaves P (rest e)) → Leaves P (found_petition o rest)
   unfolding Leaves
   on_petition None rest h = tt
   on_petition (Some e) rest h = h e refl

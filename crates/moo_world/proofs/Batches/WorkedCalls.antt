@@ -23,21 +23,21 @@ use Rattle.moo_world.specs.Judge.{Ran, Through, FailedAt, FullAt, run_calls}
 use Rattle.moo_world.proofs.Batches.TreeT.{no, row, T as world_T}
 
 -- the answers of a batch's calls, or none where one failed
-abbrev answers : Ran → Option (List Value)
+abbrev pub answers : Ran → Option (List Value)
 answers (Through vs w) = Some vs
 answers (FailedAt k e) = None
 answers (FullAt k) = None
 
-abbrev call : CallName → List Value → Call
+abbrev pub call : CallName → List Value → Call
 call name args = record { name = name; args = args }
 
-abbrev o : ℕ → Value
+abbrev pub o : ℕ → Value
 o n = Obj (no n)
 
-abbrev text : List ℕ → Value
+abbrev pub text : List ℕ → Value
 text t = Str t
 
-abbrev i : ℕ → Value
+abbrev pub i : ℕ → Value
 i n = Int (pos n)
 
 -- the opening world: #1 fertile, #2 takes in what is under #1, #3 the wizard in it
@@ -55,7 +55,7 @@ opening_rows = record {
 abbrev beside_none : World → State
 beside_none w = record { world = w; petitions = empty; next_petition = 1; seq = 0 }
 
-abbrev opening : State
+abbrev pub opening : State
 opening = beside_none (world_shown opening_rows)
 
 abbrev T : State
