@@ -1,6 +1,6 @@
 //! Drafts over rows, beside rows that take the same steps.
 
-use crate::rows::petition_row;
+use crate::rows::{asks, petition_row};
 use moo_draft::{Changes, Draft, apply_changes};
 use moo_rows::{
     Bits, Flat, Link, ObjRow, PetitionId, PropId, Rows, SlotRow, SlotState, each_slot,
@@ -205,9 +205,9 @@ fn a_removed_petition_of_the_base_is_not_shown(rt: HostRuntime) -> Result<(), Fa
     change_petitions(&rt, &mut draft)?;
     assert!(rt; draft.petition(PetitionId(2)).is_none());
     assert!(rt; base.petition(PetitionId(2)).is_some());
-    assert!(rt; draft.petition(PetitionId(1)) == Some(&petition_row(&rt, 3, 5)?));
-    assert!(rt; draft.petition(PetitionId(4)) == Some(&petition_row(&rt, 7, 5)?));
-    assert!(rt; base.petition(PetitionId(4)) == Some(&petition_row(&rt, 3, 5)?));
+    assert!(rt; asks(draft.petition(PetitionId(1)), 3, 5));
+    assert!(rt; asks(draft.petition(PetitionId(4)), 7, 5));
+    assert!(rt; asks(base.petition(PetitionId(4)), 3, 5));
     for (from, next) in [
         (0, Some(1)),
         (1, Some(3)),
@@ -221,23 +221,34 @@ fn a_removed_petition_of_the_base_is_not_shown(rt: HostRuntime) -> Result<(), Fa
     Ok(())
 }
 
+/// The changes of `change_petitions`.
+fn petition_changes(rt: &HostRuntime, base: &Flat) -> Result<Changes, Fail> {
+    let mut draft = Draft::new(rt.alloc(), base);
+    change_petitions(rt, &mut draft)?;
+    Ok(draft.into_changes()?)
+}
+
 #[test]
 fn the_changes_of_petitions_are_those_that_differ(rt: HostRuntime) -> Result<(), Fail> {
     let base = some_petitions(&rt)?;
-    let mut draft = Draft::new(rt.alloc(), &base);
-    change_petitions(&rt, &mut draft)?;
-    let changes = draft.into_changes()?;
+    let changes = petition_changes(&rt, &base)?;
     let items = changes.petitions.items();
     assert_eq!(rt; items.len(), 3);
     assert!(rt; items[0].0 == PetitionId(2) && items[0].1.is_none());
-    assert!(rt; items[1].0 == PetitionId(3) && items[1].1.is_some());
-    assert!(rt; items[2].0 == PetitionId(4) && items[2].1.is_some());
-    let mut copy = base.copy(rt.alloc())?;
-    apply_changes(&mut copy, changes)?;
-    assert!(rt; copy.petition(PetitionId(2)).is_none());
-    assert!(rt; copy.petition(PetitionId(1)) == Some(&petition_row(&rt, 3, 5)?));
-    assert!(rt; copy.petition(PetitionId(3)) == Some(&petition_row(&rt, 3, 6)?));
-    assert!(rt; copy.petition(PetitionId(4)) == Some(&petition_row(&rt, 7, 5)?));
-    assert!(rt; copy.next_petition(Some(PetitionId(4))).is_none());
+    assert!(rt; items[1].0 == PetitionId(3) && asks(items[1].1.as_ref(), 3, 6));
+    assert!(rt; items[2].0 == PetitionId(4) && asks(items[2].1.as_ref(), 7, 5));
+    Ok(())
+}
+
+#[test]
+fn changes_of_petitions_are_made(rt: HostRuntime) -> Result<(), Fail> {
+    let mut rows = some_petitions(&rt)?;
+    let changes = petition_changes(&rt, &rows)?;
+    apply_changes(&mut rows, changes)?;
+    assert!(rt; asks(rows.petition(PetitionId(1)), 3, 5));
+    assert!(rt; rows.petition(PetitionId(2)).is_none());
+    assert!(rt; asks(rows.petition(PetitionId(3)), 3, 6));
+    assert!(rt; asks(rows.petition(PetitionId(4)), 7, 5));
+    assert!(rt; rows.next_petition(Some(PetitionId(4))).is_none());
     Ok(())
 }

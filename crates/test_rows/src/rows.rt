@@ -170,6 +170,27 @@ pub(crate) fn petition_row(rt: &HostRuntime, who: i32, object: i32) -> Result<Pe
     })
 }
 
+/// Whether it is what `petition_row` makes of these. No row is made to compare with: a test ends early wherever memory
+/// runs out, and what it holds there makes its proof longer.
+pub(crate) fn asks(row: Option<&PetitionRow>, who: i32, object: i32) -> bool {
+    let row = match row {
+        Some(row) => row,
+        None => return false,
+    };
+    let call = match row.calls.items() {
+        [Value::List(call)] => call,
+        _ => return false,
+    };
+    match call.items() {
+        [Value::Str(name), Value::Obj(given)] => {
+            row.who == ObjNo(who)
+                && name.bytes() == b"recycle".as_slice()
+                && *given == ObjNo(object)
+        }
+        _ => false,
+    }
+}
+
 fn room(rt: &HostRuntime) -> Result<ObjRow, Fail> {
     let opening = opening_world(rt.alloc())?;
     let room = opening.object(ObjNo(2)).ok_or("no room")?;
@@ -251,7 +272,7 @@ fn copies_keep_what_the_rows_lose(rt: HostRuntime) -> Result<(), Fail> {
     assert!(rt; copy.slot(slot) == Some(&seven));
     assert!(rt; copy.slot((LEAST, PropId(LAST))) == Some(&slot_row(&rt, SlotState::Clear)?));
     assert!(rt; copy.verb(verb) == Some(&verb_row(&rt)?));
-    assert!(rt; copy.petition(PetitionId(0)) == Some(&petition_row(&rt, 3, 4)?));
+    assert!(rt; asks(copy.petition(PetitionId(0)), 3, 4));
     Ok(())
 }
 
@@ -264,10 +285,8 @@ fn a_petition_is_put_replaced_and_removed(rt: HostRuntime) -> Result<(), Fail> {
     // Petitions and properties have numbers of their own.
     assert!(rt; rows.prop(PropId(2)).is_none());
     rows.put_petition(PetitionId(2), petition_row(&rt, 3, 8)?)?;
-    let first = rows.petition(PetitionId(2)).ok_or("no petition")?;
-    assert!(rt; *first == petition_row(&rt, 3, 8)?);
-    assert!(rt; *first != petition_row(&rt, 3, 4)?);
-    assert!(rt; *first != petition_row(&rt, 6, 8)?);
+    assert!(rt; asks(rows.petition(PetitionId(2)), 3, 8));
+    assert!(rt; asks(rows.petition(PetitionId(5)), 6, 7));
     for (from, next) in [
         (None, Some(PetitionId(2))),
         (Some(PetitionId(1)), Some(PetitionId(2))),
