@@ -1,9 +1,10 @@
 //! Drafts over rows, beside rows that take the same steps.
 
+use crate::rows::{asks, petition_row};
 use moo_draft::{Changes, Draft, apply_changes};
 use moo_rows::{
-    Bits, Flat, Link, ObjRow, PropId, Rows, SlotRow, SlotState, each_slot, each_slot_of,
-    opening_world,
+    Bits, Flat, Link, ObjRow, PetitionId, PropId, Rows, SlotRow, SlotState, each_slot,
+    each_slot_of, opening_world,
 };
 use moo_value::{ObjNo, Value};
 use std::alloc::{AllocError, Global};
@@ -130,6 +131,7 @@ fn a_row_put_back_is_no_change(rt: HostRuntime) -> Result<(), Fail> {
     assert_eq!(rt; changes.objects.items().len(), 1);
     assert!(rt; changes.objects.items()[0].1.is_none());
     assert!(rt; changes.props.items().is_empty());
+    assert!(rt; changes.petitions.items().is_empty());
     Ok(())
 }
 
@@ -173,5 +175,80 @@ fn changed_objects_are_found_by_their_links(rt: HostRuntime) -> Result<(), Fail>
     ] {
         assert!(rt; draft.next_linked(link, ObjNo(after)) == next);
     }
+    Ok(())
+}
+
+/// Petitions 1, 2 and 4.
+fn some_petitions(rt: &HostRuntime) -> Result<Flat, Fail> {
+    let mut flat = Flat::new(rt.alloc());
+    for id in [4, 1, 2] {
+        flat.put_petition(PetitionId(id), petition_row(rt, 3, 5)?)?;
+    }
+    Ok(flat)
+}
+
+/// Puts 1 back, removes 2 and 9, which isn't there, puts 3 and replaces 4.
+fn change_petitions(rt: &HostRuntime, draft: &mut Draft<'_, Flat>) -> Result<(), Fail> {
+    draft.remove_petition(PetitionId(1))?;
+    draft.put_petition(PetitionId(1), petition_row(rt, 3, 5)?)?;
+    draft.remove_petition(PetitionId(2))?;
+    draft.remove_petition(PetitionId(9))?;
+    draft.put_petition(PetitionId(3), petition_row(rt, 3, 6)?)?;
+    draft.put_petition(PetitionId(4), petition_row(rt, 7, 5)?)?;
+    Ok(())
+}
+
+#[test]
+fn a_removed_petition_of_the_base_is_not_shown(rt: HostRuntime) -> Result<(), Fail> {
+    let base = some_petitions(&rt)?;
+    let mut draft = Draft::new(rt.alloc(), &base);
+    change_petitions(&rt, &mut draft)?;
+    assert!(rt; draft.petition(PetitionId(2)).is_none());
+    assert!(rt; base.petition(PetitionId(2)).is_some());
+    assert!(rt; asks(draft.petition(PetitionId(1)), 3, 5));
+    assert!(rt; asks(draft.petition(PetitionId(4)), 7, 5));
+    assert!(rt; asks(base.petition(PetitionId(4)), 3, 5));
+    for (from, next) in [
+        (0, Some(1)),
+        (1, Some(3)),
+        (2, Some(3)),
+        (3, Some(4)),
+        (4, None),
+    ] {
+        assert!(rt; draft.next_petition(Some(PetitionId(from))) == next.map(|id| PetitionId(id)));
+    }
+    assert!(rt; base.next_petition(Some(PetitionId(1))) == Some(PetitionId(2)));
+    Ok(())
+}
+
+/// The changes of `change_petitions`.
+fn petition_changes(rt: &HostRuntime, base: &Flat) -> Result<Changes, Fail> {
+    let mut draft = Draft::new(rt.alloc(), base);
+    change_petitions(rt, &mut draft)?;
+    Ok(draft.into_changes()?)
+}
+
+#[test]
+fn the_changes_of_petitions_are_those_that_differ(rt: HostRuntime) -> Result<(), Fail> {
+    let base = some_petitions(&rt)?;
+    let changes = petition_changes(&rt, &base)?;
+    let items = changes.petitions.items();
+    assert_eq!(rt; items.len(), 3);
+    assert!(rt; items[0].0 == PetitionId(2) && items[0].1.is_none());
+    assert!(rt; items[1].0 == PetitionId(3) && asks(items[1].1.as_ref(), 3, 6));
+    assert!(rt; items[2].0 == PetitionId(4) && asks(items[2].1.as_ref(), 7, 5));
+    Ok(())
+}
+
+#[test]
+fn changes_of_petitions_are_made(rt: HostRuntime) -> Result<(), Fail> {
+    let mut rows = some_petitions(&rt)?;
+    let changes = petition_changes(&rt, &rows)?;
+    apply_changes(&mut rows, changes)?;
+    assert!(rt; asks(rows.petition(PetitionId(1)), 3, 5));
+    assert!(rt; rows.petition(PetitionId(2)).is_none());
+    assert!(rt; asks(rows.petition(PetitionId(3)), 3, 6));
+    assert!(rt; asks(rows.petition(PetitionId(4)), 7, 5));
+    assert!(rt; rows.next_petition(Some(PetitionId(4))).is_none());
     Ok(())
 }

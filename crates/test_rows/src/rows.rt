@@ -2,7 +2,7 @@
 ghost use Rattle.std.specs.Iterator.{IsFinite};
 
 use moo_rows::{Flat, Row, Rows, opening_world, *, *};
-use moo_value::{MooStr, ObjNo, Value};
+use moo_value::{MooStr, ObjNo, Value, ValueList};
 use std::test::*;
 
 const LEAST: ObjNo = ObjNo(-2147483648);
@@ -11,10 +11,12 @@ const GREATEST: ObjNo = ObjNo(2147483647);
 
 const LAST: u32 = 4294967295;
 
-/// What `put_ends` puts: objects, properties, and the objects with the numbers of their slots and of their verbs.
+/// What `put_ends` puts: objects, properties, petitions, and the objects with the numbers of their slots and of their verbs.
 const OBJECTS: [ObjNo; 3] = [LEAST, ObjNo(0), GREATEST];
 
 const PROPS: [PropId; 2] = [PropId(0), PropId(LAST)];
+
+const PETITIONS: [PetitionId; 3] = [PetitionId(0), PetitionId(7), PetitionId(LAST)];
 
 const PARTS: [(ObjNo, u32); 6] = [
     (LEAST, 1),
@@ -46,24 +48,31 @@ fn gives<K: PartialEq + Drop, V: Drop, I: Iterator<Item = (K, V)> + Drop>(
     rest.next().is_none()
 }
 
-/// Whether the rows are those of these objects, properties, slots and verbs.
-fn walks_give(rows: &Flat, objects: &[ObjNo], props: &[PropId], parts: &[(ObjNo, u32)]) -> bool {
+/// Whether the rows are those of these objects, properties, slots and verbs, and petitions.
+fn walks_give(
+    rows: &Flat,
+    objects: &[ObjNo],
+    props: &[PropId],
+    parts: &[(ObjNo, u32)],
+    petitions: &[PetitionId],
+) -> bool {
     let slots = each_slot(rows).map(|((x, id), row)| ((x, id.0), row));
     let verbs = each_verb(rows).map(|((x, id), row)| ((x, id.0), row));
     gives(each_object(rows), objects)
         && gives(each_prop(rows), props)
         && gives(slots, parts)
         && gives(verbs, parts)
+        && gives(each_petition(rows), petitions)
 }
 
 #[test]
 fn the_opening_world_is_the_four_objects(rt: HostRuntime) -> Result<(), Fail> {
     let rows = opening_world(rt.alloc())?;
     let head = rows.head();
-    let counters = (head.next_prop, head.next_verb, head.seq);
-    assert_eq!(rt; (head.top, counters), (3, (1, 1, 0)));
+    let counters = (head.next_prop, head.next_verb, head.next_petition, head.seq);
+    assert_eq!(rt; (head.top, counters), (3, (1, 1, 1, 0)));
     let objects = [ObjNo(0), ObjNo(1), ObjNo(2), ObjNo(3)];
-    assert!(rt; walks_give(&rows, &objects, &[], &[]));
+    assert!(rt; walks_give(&rows, &objects, &[], &[], &[]));
     for (number, name, places, is_wizard, is_fertile) in [
         (0, "System Object", [3, 1, -1], false, false),
         (1, "Root Class", [3, -1, -1], false, true),
@@ -150,6 +159,38 @@ fn verb_row(rt: &HostRuntime) -> Result<VerbRow, Fail> {
     })
 }
 
+/// A petition of one call, of this object alone.
+pub(crate) fn petition_row(rt: &HostRuntime, who: i32, object: i32) -> Result<PetitionRow, Fail> {
+    let name = text(rt, b"recycle")?;
+    let call = vec![in rt.alloc(); Value::Str(name), Value::Obj(ObjNo(object))]?;
+    let calls = vec![in rt.alloc(); Value::List(ValueList::from_vec(call))]?;
+    Ok(PetitionRow {
+        who: ObjNo(who),
+        calls: ValueList::from_vec(calls),
+    })
+}
+
+/// Whether it is what `petition_row` makes of these. No row is made to compare with: a test ends early wherever memory
+/// runs out, and what it holds there makes its proof longer.
+pub(crate) fn asks(row: Option<&PetitionRow>, who: i32, object: i32) -> bool {
+    let row = match row {
+        Some(row) => row,
+        None => return false,
+    };
+    let call = match row.calls.items() {
+        [Value::List(call)] => call,
+        _ => return false,
+    };
+    match call.items() {
+        [Value::Str(name), Value::Obj(given)] => {
+            row.who == ObjNo(who)
+                && name.bytes() == b"recycle".as_slice()
+                && *given == ObjNo(object)
+        }
+        _ => false,
+    }
+}
+
 fn room(rt: &HostRuntime) -> Result<ObjRow, Fail> {
     let opening = opening_world(rt.alloc())?;
     let room = opening.object(ObjNo(2)).ok_or("no room")?;
@@ -169,17 +210,20 @@ fn put_ends(rt: &HostRuntime, rows: &mut Flat) -> Result<(), Fail> {
         let definer = LEAST;
         rows.put_prop(PropId(id), PropRow { definer, name })?;
     }
+    for id in [7, LAST, 0] {
+        rows.put_petition(PetitionId(id), petition_row(rt, 3, 4)?)?;
+    }
     Ok(())
 }
 
 #[test]
 fn walks_go_from_end_to_end(rt: HostRuntime) -> Result<(), Fail> {
     let mut rows = Flat::new(rt.alloc());
-    assert!(rt; walks_give(&rows, &[], &[], &[]));
+    assert!(rt; walks_give(&rows, &[], &[], &[], &[]));
     rows.put_object(GREATEST, room(&rt)?)?;
-    assert!(rt; walks_give(&rows, &[GREATEST], &[], &[]));
+    assert!(rt; walks_give(&rows, &[GREATEST], &[], &[], &[]));
     put_ends(&rt, &mut rows)?;
-    assert!(rt; walks_give(&rows, &OBJECTS, &PROPS, &PARTS));
+    assert!(rt; walks_give(&rows, &OBJECTS, &PROPS, &PARTS, &PETITIONS));
     for x in OBJECTS {
         for (last, want) in [
             (0, [(x, 1), (x, LAST)].as_slice()),
@@ -210,12 +254,49 @@ fn copies_keep_what_the_rows_lose(rt: HostRuntime) -> Result<(), Fail> {
     rows.remove_slot(slot)?;
     rows.remove_slot((ObjNo(7), PropId(7)))?;
     rows.remove_verb(verb)?;
-    assert!(rt; walks_give(&rows, &OBJECTS[1..], &PROPS[1..], &PARTS[1..]));
+    rows.remove_petition(PetitionId(0))?;
+    rows.remove_petition(PetitionId(8))?;
+    assert!(rt;
+        walks_give(
+            &rows,
+            &OBJECTS[1..],
+            &PROPS[1..],
+            &PARTS[1..],
+            &PETITIONS[1..]
+        )
+    );
     assert!(rt; rows.object(LEAST).is_none() && rows.prop(PropId(0)).is_none());
     assert!(rt; rows.slot(slot).is_none() && rows.verb(verb).is_none());
-    assert!(rt; walks_give(&copy, &OBJECTS, &PROPS, &PARTS));
+    assert!(rt; rows.petition(PetitionId(0)).is_none());
+    assert!(rt; walks_give(&copy, &OBJECTS, &PROPS, &PARTS, &PETITIONS));
     assert!(rt; copy.slot(slot) == Some(&seven));
     assert!(rt; copy.slot((LEAST, PropId(LAST))) == Some(&slot_row(&rt, SlotState::Clear)?));
     assert!(rt; copy.verb(verb) == Some(&verb_row(&rt)?));
+    assert!(rt; asks(copy.petition(PetitionId(0)), 3, 4));
+    Ok(())
+}
+
+#[test]
+fn a_petition_is_put_replaced_and_removed(rt: HostRuntime) -> Result<(), Fail> {
+    let mut rows = Flat::new(rt.alloc());
+    assert!(rt; rows.next_petition(None).is_none());
+    rows.put_petition(PetitionId(2), petition_row(&rt, 3, 4)?)?;
+    rows.put_petition(PetitionId(5), petition_row(&rt, 6, 7)?)?;
+    // Petitions and properties have numbers of their own.
+    assert!(rt; rows.prop(PropId(2)).is_none());
+    rows.put_petition(PetitionId(2), petition_row(&rt, 3, 8)?)?;
+    assert!(rt; asks(rows.petition(PetitionId(2)), 3, 8));
+    assert!(rt; asks(rows.petition(PetitionId(5)), 6, 7));
+    for (from, next) in [
+        (None, Some(PetitionId(2))),
+        (Some(PetitionId(1)), Some(PetitionId(2))),
+        (Some(PetitionId(2)), Some(PetitionId(5))),
+        (Some(PetitionId(5)), None),
+    ] {
+        assert!(rt; rows.next_petition(from) == next);
+    }
+    rows.remove_petition(PetitionId(2))?;
+    assert!(rt; rows.petition(PetitionId(2)).is_none());
+    assert!(rt; rows.next_petition(None) == Some(PetitionId(5)));
     Ok(())
 }
