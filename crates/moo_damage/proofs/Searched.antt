@@ -79,7 +79,7 @@ module _ (m : Maps) where
   verb_least None f = none_met m StrangeVerb (λ x h. h) (λ id h. h) (λ key h. h) (no_bad m.verbs (λ k r. is_strange_verb m k ≡ false) (λ k r. is_strange_verb m k ≡ true) (λ k r. apart (is_strange_verb m k)) f) (λ id h. h)
   verb_least (Some key) f = verb_first m StrangeVerb (λ k r. is_strange_verb m k ≡ false) (λ k r. is_strange_verb m k ≡ true) (λ k h. h) (λ k h. h) (λ k r. apart (is_strange_verb m k)) (λ y h. h) (λ id h. h) (λ key h. h) key f
 
-  -- ---- numbers past the head, in four maps
+  -- ---- numbers past the head, in five maps
 
   abbrev ObjectPast : Option ObjNo → Type 0
   ObjectPast o = IsFirst m.objects (λ k r. is_object_past m.head k ≡ false) (λ k r. is_object_past m.head k ≡ true) o

@@ -154,7 +154,7 @@ Example:
   printf 'batch as #3\\nget(#2, \"name\")\\nend\\n' | moo ask world.db -";
 
 pub(crate) const DUMP: &str =
-    "Print the world: its number, and each object, property, slot and verb on a line";
+    "Print the world: its number, and each object, property, slot, verb and petition on a line";
 
 pub(crate) const DUMP_MORE: &str = "Standard output:
   seq S                  so many batches were accepted
@@ -165,6 +165,8 @@ pub(crate) const DUMP_MORE: &str = "Standard output:
   slot {object, definer, name, owner, perms, 0}           each that it has: clear, it reads as the parent's
   slot {object, definer, name, owner, perms, 1, value}    or set
   verb {object, names, owner, perms, dobj, prep, iobj}    each, in order
+  then of each petition, ascending:
+  petition {number, who made it, calls}
   and last:
   end
 Marks are 1 or 0, values as in a batch. Slots stand by their definers, from the object up.
