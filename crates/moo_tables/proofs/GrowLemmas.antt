@@ -1,25 +1,17 @@
 -- What the statements do that make the second layout of the first.
-use Rattle.std.proofs.Common.{◌≡◌, ℕ, pos, List, [], ◌∷◌, Ok, Err, Result, OnOk, refl, sym, ap, subst, ◌∙◌}
-use Rattle.sqlite.specs.declared.types.Value.TheVariants.{Null, Int}
-use Rattle.sqlite.specs.Order.{Row}
-use Rattle.sqlite.specs.Cast.{cast_row}
-use Rattle.sqlite.specs.Rowids.TheVariants.{Chosen}
-use Rattle.sqlite_rules.specs.Edit.{numbered, put_all, without_all}
+use Rattle.std.proofs.Common.{◌≡◌, ℕ, List, [], ◌∷◌, Ok, Err, Result, OnOk, refl, sym, ap, subst, ◌∙◌}
 use Rattle.sqlite.specs.Schema.{Schema}
 use Rattle.sqlite.specs.Effect.{Database}
 use Rattle.sqlite.specs.declared.error.Error.{Error}
-use Rattle.sqlite.specs.Listing.{understood}
 use Rattle.sqlite.specs.State.{State, HasCleanDisk}
-use Rattle.sqlite.proofs.Callers.{statement_of, runs_as}
 use Rattle.moo_tables.specs.declared.version.Version.TheVariants.{First}
-use Rattle.moo_tables.specs.Tables.{Tables, schema_of, first_schema, slot2_schema, petition_schema, second_schema, slot2_table, petition_table, petition_head_table, numbered_in, paired_in, head_places, object_places, prop_places, slot_places, verb_places}
-use Rattle.moo_tables.specs.Inside.{AreKeyed, Holds, Sees, StaysInside, Changes, Ran, HasTables, IsGrown, grown, first_petition, no_tables, no_first_tables}
-use Rattle.moo_tables.proofs.TextLemmas.{create_slot2_text, create_slot2_is, create_petition_text, create_petition_is, create_petition_head_text, create_petition_head_is, begin_petitions_text, begin_petitions_terms, begin_petitions_is, begin_petitions_plain}
+use Rattle.moo_tables.specs.Tables.{Tables, schema_of, first_schema, slot2_schema, petition_schema, second_schema, slot2_table, petition_table, petition_head_table, numbered_in, paired_in, head_places, object_places, prop_places, slot_places, verb_places, petition_places, petition_head_places}
+use Rattle.moo_tables.specs.Cells.{with_counter}
+use Rattle.moo_tables.specs.Inside.{AreKeyed, Holds, Sees, StaysInside, Changes, Ran, IsGrown, grown, no_tables, no_first_tables}
+use Rattle.moo_tables.proofs.TextLemmas.{create_slot2_text, create_slot2_is, create_petition_text, create_petition_is, create_petition_head_text, create_petition_head_is}
 use Rattle.moo_tables.proofs.CreateLemmas.{runs_making}
 use Rattle.moo_tables.proofs.InsideLemmas.{of_version, clean_before}
-use Rattle.moo_tables.proofs.RowLemmas.{moo_quiet}
-use Rattle.moo_tables.proofs.SeenLemmas.{SetsTree, five, schema_seen, sees_same}
-use Rattle.moo_tables.proofs.StepLemmas.{cast_null, cast_int, inserts}
+use Rattle.moo_tables.proofs.SeenLemmas.{same_tables}
 
 pub makes_slot2 : (old new : State) (r : Result ℕ Error) → Ran create_slot2_text [] old new r → OnOk r (HasCleanDisk new → (base : Database) → IsGrown base first_schema [] old.now → IsGrown base slot2_schema (7 ∷ []) new.now)
 makes_slot2 old new (Err e) ran = tt
@@ -46,7 +38,7 @@ makes_petition old new (Ok count) ran = λ clean base was.
     }
 
 pub makes_petition_head : (old new : State) (r : Result ℕ Error) → Ran create_petition_head_text [] old new r
-    → OnOk r (HasCleanDisk new → (base : Database) → IsGrown base petition_schema (7 ∷ 9 ∷ []) old.now → (tables : Tables) → Holds base tables → tables.version ≡ First → Sees new (grown tables) × (new.now.trees 10 ≡ []))
+    → OnOk r (HasCleanDisk new → (base : Database) → IsGrown base petition_schema (7 ∷ 9 ∷ []) old.now → (tables : Tables) → Holds base tables → tables.version ≡ First → Sees new (grown tables))
 makes_petition_head old new (Err e) ran = tt
 makes_petition_head old new (Ok count) ran = λ clean base was tables holds first.
     let it = runs_making petition_schema second_schema create_petition_head_text petition_head_table create_petition_head_is refl old new count was.schema_is (ran clean).1 in
@@ -58,62 +50,43 @@ makes_petition_head old new (Ok count) ran = λ clean base was tables holds firs
     let prop = same.1.1.0 ∙ kept.1.1.0 in
     let verb = same.1.1.1.1.0 ∙ kept.1.1.1.1.0 in
     let slot = same.1.1.1.1.1.0 ∙ was.empty.0 in
-    let seen : Sees new (grown tables) = record {
+    let petition = same.1.1.1.1.1.1.0 ∙ was.empty.1.0 in
+    let counter = it.made.empty in
+    record {
       is_open = it.is_open;
       inside = (ran clean).0;
       current = refl;
       holds = record {
         sound = it.sound;
         schema = it.made.schema_is;
-        rows = five refl (ap (numbered_in head_places) head ∙ ap (λ (t : Tables). t.head) held.rows) (ap (numbered_in object_places) object ∙ ap (λ (t : Tables). t.object) held.rows) (ap (numbered_in prop_places) prop ∙ ap (λ (t : Tables). t.prop) held.rows)
-            (ap (paired_in slot_places) slot) (ap (paired_in verb_places) verb ∙ ap (λ (t : Tables). t.verb) held.rows);
+        rows = same_tables refl (ap (numbered_in head_places) head ∙ ap (λ (t : Tables). t.head) held.rows) (ap (numbered_in object_places) object ∙ ap (λ (t : Tables). t.object) held.rows) (ap (numbered_in prop_places) prop ∙ ap (λ (t : Tables). t.prop) held.rows)
+            (ap (paired_in slot_places) slot) (ap (paired_in verb_places) verb ∙ ap (λ (t : Tables). t.verb) held.rows) (ap (numbered_in petition_places) petition) (ap (numbered_in petition_head_places) counter);
         heads = subst AreKeyed (sym head) held.heads;
         objects = subst AreKeyed (sym object) held.objects;
         props = subst AreKeyed (sym prop) held.props;
         slots = subst AreKeyed (sym slot) (tt, tt);
         verbs = subst AreKeyed (sym verb) held.verbs;
+        petitions = subst AreKeyed (sym petition) (tt, tt);
+        petition_heads = subst AreKeyed (sym counter) (tt, tt);
       };
-    } in (
-      seen,
-      it.made.empty,
-    )
-
-pub begins_petitions : (old new : State) (r : Result ℕ Error) → Ran begin_petitions_text [] old new r → OnOk r (Changes (λ tables. tables) old new)
-begins_petitions old new (Err e) ran = tt
-begins_petitions old new (Ok count) ran = λ clean tables seen.
-    let it = ran clean in
-    let has = schema_seen seen in
-    let w = runs_as begin_petitions_text [] old new second_schema has _ begin_petitions_is begin_petitions_plain count it.1 in
-    let step = inserts second_schema moo_quiet 7 _ _ _ _ _ _ _ refl old new has (statement_of begin_petitions_text (understood second_schema begin_petitions_text)) [] count begin_petitions_terms 3 w in
-    let sets : SetsTree old new 10 (new.now.trees 10) = record { schema_is = step.schema_is; sound = w.sound; is_open = w.shown.is_open; inside = it.0; rows_are = refl; others = step.applies.others } in
-    sees_same sets tables seen (λ e. cc) (λ e. cc) (λ e. cc) (λ e. cc) (λ e. cc)
-
-put_first : (rows : List Row) → rows ≡ [] → put_all (without_all rows []) (numbered Chosen (without_all rows []) (cast_row petition_head_table (Int (pos 1) ∷ Null ∷ Int (pos 1) ∷ []) ∷ [])) ≡ first_petition
-put_first rows none = rw (none, cast_int (pos 1), cast_null)
-
-pub puts_first : (old new : State) (r : Result ℕ Error) → Ran begin_petitions_text [] old new r → OnOk r (HasCleanDisk new → HasTables second_schema old → old.now.trees 10 ≡ [] → new.now.trees 10 ≡ first_petition)
-puts_first old new (Err e) ran = tt
-puts_first old new (Ok count) ran = λ clean has none.
-    let w = runs_as begin_petitions_text [] old new second_schema has _ begin_petitions_is begin_petitions_plain count (ran clean).1 in
-    let step = inserts second_schema moo_quiet 7 _ _ _ _ _ _ _ refl old new has (statement_of begin_petitions_text (understood second_schema begin_petitions_text)) [] count begin_petitions_terms 3 w in
-    step.applies.rows ∙ put_first (old.now.trees 10) none
+    }
 
 -- ---- the statements one after another
 
 abbrev Grows : Schema → List ℕ → Schema → List ℕ → State → State → Type 0
 Grows before made after more old new = HasCleanDisk new → (base : Database) → IsGrown base before made old.now → IsGrown base after more new.now
 
--- the tables of the first layout become those of the second
-abbrev pub Becomes : State → State → Type 0
-Becomes old new = HasCleanDisk new → (tables : Tables) → Holds old.now tables → tables.version ≡ First → Sees new (grown tables)
+-- the tables of the first layout are there in the second, and those that it adds are empty
+abbrev Grown : State → State → Type 0
+Grown old new = HasCleanDisk new → (tables : Tables) → Holds old.now tables → tables.version ≡ First → Sees new (grown tables)
 
--- and petition_head has no row yet
-abbrev BecomesBare : State → State → Type 0
-BecomesBare old new = HasCleanDisk new → (tables : Tables) → Holds old.now tables → tables.version ≡ First → Sees new (grown tables) × (new.now.trees 10 ≡ [])
+-- and the first petition has its number
+abbrev pub Becomes : State → State → Type 0
+Becomes old new = HasCleanDisk new → (tables : Tables) → Holds old.now tables → tables.version ≡ First → Sees new (with_counter 1 (grown tables))
 
 pub three_made : (a b d z : State) (r : Result ℕ Error) → StaysInside b d → StaysInside d z → Grows first_schema [] slot2_schema (7 ∷ []) a b → Grows slot2_schema (7 ∷ []) petition_schema (7 ∷ 9 ∷ []) b d
-    → OnOk r (HasCleanDisk z → (base : Database) → IsGrown base petition_schema (7 ∷ 9 ∷ []) d.now → (tables : Tables) → Holds base tables → tables.version ≡ First → Sees z (grown tables) × (z.now.trees 10 ≡ []))
-    → OnOk r (BecomesBare a z)
+    → OnOk r (HasCleanDisk z → (base : Database) → IsGrown base petition_schema (7 ∷ 9 ∷ []) d.now → (tables : Tables) → Holds base tables → tables.version ≡ First → Sees z (grown tables))
+    → OnOk r (Grown a z)
 three_made a b d z (Err e) quiet-two quiet-three one two three = tt
 three_made a b d z (Ok count) quiet-two quiet-three one two three = λ clean tables holds first.
     let late = clean_before d z _ quiet-three.survives clean in
@@ -121,15 +94,10 @@ three_made a b d z (Ok count) quiet-two quiet-three one two three = λ clean tab
     let begun : IsGrown a.now first_schema [] a.now = record { schema_is = holds.schema ∙ ap schema_of first; same = (refl, (refl, (refl, (refl, (refl, tt))))); empty = tt } in
     three clean a.now (two late a.now (one early a.now begun)) tables holds first
 
-pub becomes_then : (a b z : State) (r : Result ℕ Error) → StaysInside b z → BecomesBare a b → OnOk r (Changes (λ tables. tables) b z) → OnOk r (Becomes a z)
+pub becomes_then : (a b z : State) (r : Result ℕ Error) → StaysInside b z → Grown a b → OnOk r (Changes (with_counter 1) b z) → OnOk r (Becomes a z)
 becomes_then a b z (Err e) quiet one two = tt
-becomes_then a b z (Ok count) quiet one two = λ clean tables holds first. two clean (grown tables) (one (clean_before b z _ quiet.survives clean) tables holds first).0
+becomes_then a b z (Ok count) quiet one two = λ clean tables holds first. two clean (grown tables) (one (clean_before b z _ quiet.survives clean) tables holds first)
 
-pub begun_then : (a b z : State) (r : Result ℕ Error) → StaysInside b z → BecomesBare a b → OnOk r (HasCleanDisk z → HasTables second_schema b → b.now.trees 10 ≡ [] → z.now.trees 10 ≡ first_petition)
-    → OnOk r (HasCleanDisk z → (tables : Tables) → Holds a.now tables → tables.version ≡ First → z.now.trees 10 ≡ first_petition)
-begun_then a b z (Err e) quiet one two = tt
-begun_then a b z (Ok count) quiet one two = λ clean tables holds first. let it = one (clean_before b z _ quiet.survives clean) tables holds first in two clean (schema_seen it.0) it.1
-
-pub all_made : (a b z : State) (P : Type 0) (r : Result ℕ Error) → StaysInside b z → (HasCleanDisk b → P → Holds b.now no_first_tables) → OnOk r (Becomes b z) → OnOk r (HasCleanDisk z → P → Sees z no_tables)
+pub all_made : (a b z : State) (P : Type 0) (r : Result ℕ Error) → StaysInside b z → (HasCleanDisk b → P → Holds b.now no_first_tables) → OnOk r (Grown b z) → OnOk r (HasCleanDisk z → P → Sees z no_tables)
 all_made a b z P (Err e) quiet one two = tt
 all_made a b z P (Ok count) quiet one two = λ clean p. two clean no_first_tables (one (clean_before b z _ quiet.survives clean) p) refl

@@ -148,6 +148,8 @@ lists_are lists tables it = λ i. record {
   prop = λ n. it.prop.found n i;
   slot = λ key. it.slot.found key i;
   verb = λ key. it.verb.found key i;
+  petition = λ n. it.petition.found n i;
+  petition_head = λ n. it.petition_head.found n i;
 }
 
 pub lists_rise : (lists : CellLists) (tables : Tables) → ListsTables lists tables → AreListed lists
@@ -157,4 +159,6 @@ lists_rise lists tables it = record {
   prop = it.prop.keyed;
   slot = record { whole = it.slot.keyed; rise = it.slot.rise };
   verb = record { whole = it.verb.keyed; rise = it.verb.rise };
+  petition = it.petition.keyed;
+  petition_head = it.petition_head.keyed;
 }

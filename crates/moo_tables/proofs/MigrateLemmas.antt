@@ -35,7 +35,7 @@ empties_beside old new (Ok count) ran = λ clean tables seen.
     let w = runs_as empty_slots_text [] old new second_schema has _ empty_slots_is empty_slots_plain count it.1 in
     let step = deletes second_schema moo_quiet 3 _ _ _ _ _ _ _ refl old new has (statement_of empty_slots_text (understood second_schema empty_slots_text)) [] count (rowids_where 3 []) w in
     let sets : SetsTree old new 3 (new.now.trees 3) = record { schema_is = step.2.schema_is; sound = w.sound; is_open = w.shown.is_open; inside = it.0; rows_are = refl; others = step.2.applies.others } in
-    sees_same sets tables seen (λ e. cc) (λ e. cc) (λ e. cc) (λ e. cc) (λ e. cc)
+    sees_same sets tables seen (λ e. cc) (λ e. cc) (λ e. cc) (λ e. cc) (λ e. cc) (λ e. cc) (λ e. cc)
 
 none_left : (rows : List Row) → filter (λ r. not true) rows ≡ []
 none_left [] = refl

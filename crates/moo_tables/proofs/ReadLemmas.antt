@@ -39,11 +39,11 @@ use Rattle.sqlite_keyed.proofs.SortLemmas.{sorted_is-sort_by, IsPermutation-sort
 use Rattle.sqlite_keyed.proofs.ListLemmas.{ascending-map, ascending_from_map, ascending_weaker, all_map}
 use Rattle.moo_tables.specs.declared.version.Version.{Version}
 use Rattle.moo_tables.specs.declared.version.Version.TheVariants.{First, Second}
-use Rattle.moo_tables.specs.Tables.{Tables, required, schema_of, slot_tree, slot_table, slot2_table, verb_table, has_pair, cells_at, found_in, numbered_in, paired_in, head_places, object_places, prop_places, slot_places, verb_places}
+use Rattle.moo_tables.specs.Tables.{Tables, required, schema_of, slot_tree, slot_table, slot2_table, verb_table, has_pair, cells_at, found_in, numbered_in, paired_in, head_places, object_places, prop_places, slot_places, verb_places, petition_places, petition_head_places, second_schema, in_second}
 use Rattle.moo_tables.specs.Inside.{AreKeyed, Holds, Rests, HasTables, Reads, FailsToRead}
 use Rattle.moo_tables.specs.Listing.{ListsNumbers, ListsPairs, IsBelow, begins_with}
 use Rattle.moo_tables.proofs.TextLemmas.{plain_query, in_order, number_order, pair_order}
-use Rattle.moo_tables.proofs.SelectLemmas.{IsSelect, select_head_text, head_columns, select_head, select_object_text, object_columns, select_object, select_prop_text, prop_columns, select_prop, select_slot_text, slot_columns, select_slot, select_verb_text, verb_columns, select_verb}
+use Rattle.moo_tables.proofs.SelectLemmas.{IsSelect, select_head_text, head_columns, select_head, select_object_text, object_columns, select_object, select_prop_text, prop_columns, select_prop, select_slot_text, slot_columns, select_slot, select_verb_text, verb_columns, select_verb, select_petition_text, petition_columns, select_petition, select_counter_text, counter_columns, select_counter}
 use Rattle.moo_tables.proofs.InsideLemmas.{clean_before}
 use Rattle.moo_tables.proofs.QueryLemmas.{chosen, Selects, selects, shows_in_order, shown_rows}
 use Rattle.moo_tables.proofs.SortLemmas.{rises-sort_by}
@@ -182,6 +182,17 @@ fails_then {schema} {a} {b} {c} p q = record {
   crash = λ has. survives_then a b c _ _ (λ _. ⊥) (λ _ db none. none) (λ _ db none. none) (p.crash has) (q.crash (λ clean. let was = has (p.clean clean) in has_then schema a b (p.same clean was) was));
 }
 
+-- and at the end perhaps no query at all
+
+module _ {schema : Schema} {H : Type 0} (shown : H → State) {old new : H} where
+  pub reads_or : {a : State} → Reads schema a (shown old) → (new ≡ old) ⊎ Reads schema (shown old) (shown new) → Reads schema a (shown new)
+  reads_or {a} p (inl same) = subst (λ h. Reads schema a (shown h)) (sym same) p
+  reads_or p (inr q) = reads_then p q
+
+  pub clean_or : (new ≡ old) ⊎ Reads schema (shown old) (shown new) → HasCleanDisk (shown new) → HasCleanDisk (shown old)
+  clean_or (inl same) late = subst (λ h. HasCleanDisk (shown h)) same late
+  clean_or (inr q) late = q.clean late
+
 -- ---- a query with no parameters, whose text is known
 
 module _ (schema : Schema) (sql : List ℕ) (known : IsPlain (understood schema sql)) (old new : State) (r : Result (Vec Row Global) Error) (survives : Survives old new (CommitsShowing sql [] old)) where
@@ -292,3 +303,22 @@ pub verb_lists : (old new : State) (rows : List Row) (tables : Tables) → Holds
 verb_lists old new rows tables holds h =
     let pairs = verb_pairs tables.version old.now.trees (sound_in old.now tables holds) holds.verbs in
     subst (ListsPairs rows) (ap (λ (t : Tables). t.verb) holds.rows) (pairs_listed (schema_of tables.version) select_verb_text 5 verb_columns _ (drop 2 verb_places) old new rows holds.schema holds.verbs refl h (select_verb tables.version) (λ r. refl) pairs)
+
+pub petition_lists : (old new : State) (rows : List Row) (tables : Tables) → Holds old.now tables → Shown select_petition_text [] old new rows → tables.version ≡ Second → ListsNumbers rows tables.petition
+petition_lists old new rows tables holds h is =
+    let stored = old.now.trees 9 in
+    subst (ListsNumbers rows) (ap (λ v. numbered_in petition_places (in_second v stored)) (sym is) ∙ ap (λ (t : Tables). t.petition) holds.rows)
+    (numbers_listed second_schema select_petition_text 9 petition_columns _ (drop 1 petition_places) old new rows (holds.schema ∙ ap schema_of is) (subst (λ v. AreKeyed (in_second v stored)) is holds.petitions) refl h select_petition (λ r. refl))
+
+pub counter_lists : (old new : State) (rows : List Row) (tables : Tables) → Holds old.now tables → Shown select_counter_text [] old new rows → tables.version ≡ Second → ListsNumbers rows tables.petition_head
+counter_lists old new rows tables holds h is =
+    let stored = old.now.trees 10 in
+    subst (ListsNumbers rows) (ap (λ v. numbered_in petition_head_places (in_second v stored)) (sym is) ∙ ap (λ (t : Tables). t.petition_head) holds.rows)
+    (numbers_listed second_schema select_counter_text 10 counter_columns _ (drop 1 petition_head_places) old new rows (holds.schema ∙ ap schema_of is) (subst (λ v. AreKeyed (in_second v stored)) is holds.petition_heads) refl h select_counter (λ r. refl))
+
+-- the first version has no petition, and no number for the next
+pub none_listed : (db : Database) (tables : Tables) → Holds db tables → tables.version ≡ First → ListsNumbers [] tables.petition × ListsNumbers [] tables.petition_head
+none_listed db tables holds is = (
+  record { keyed = (tt, tt); found = λ n i. (ap (λ v. numbered_in petition_places (in_second v (db.trees 9))) (sym is) ∙ ap (λ (t : Tables). t.petition) holds.rows) i n },
+  record { keyed = (tt, tt); found = λ n i. (ap (λ v. numbered_in petition_head_places (in_second v (db.trees 10))) (sym is) ∙ ap (λ (t : Tables). t.petition_head) holds.rows) i n },
+)

@@ -133,3 +133,31 @@ verb_second = record { command = refl; plain = (refl, refl); unlisted = refl }
 pub select_verb : (version : Version) → IsSelect (schema_of version) select_verb_text (in_order 5 verb_columns pair_order) verb_names
 select_verb First = verb_first
 select_verb Second = verb_second
+
+-- ---- petition and petition_head, which the second version alone has
+
+abbrev pub select_petition_text : List ℕ
+select_petition_text = codes "SELECT id, who, calls FROM petition ORDER BY id"
+
+abbrev pub petition_columns : List Term
+petition_columns = col 1 0 ∷ col 1 2 ∷ col 1 3 ∷ []
+
+abbrev pub petition_names : List (List ℕ)
+petition_names = codes "id" ∷ codes "who" ∷ codes "calls" ∷ []
+
+pub select_petition : IsSelect second_schema select_petition_text (in_order 9 petition_columns number_order) petition_names
+unfolding understood everything
+select_petition = record { command = refl; plain = (refl, refl); unlisted = refl }
+
+abbrev pub select_counter_text : List ℕ
+select_counter_text = codes "SELECT id, next_petition FROM petition_head ORDER BY id"
+
+abbrev pub counter_columns : List Term
+counter_columns = col 1 0 ∷ col 1 2 ∷ []
+
+abbrev pub counter_names : List (List ℕ)
+counter_names = codes "id" ∷ codes "next_petition" ∷ []
+
+pub select_counter : IsSelect second_schema select_counter_text (in_order 10 counter_columns number_order) counter_names
+unfolding understood everything
+select_counter = record { command = refl; plain = (refl, refl); unlisted = refl }

@@ -1,7 +1,6 @@
 -- What the calls of one transaction leave of a connection, and what a whole one leaves.
-use Rattle.std.specs.Prelude.{◌≡◌, ◌⊎◌, ℕ, pos, false, IsTrue, List, [], ◌∷◌, None, Result, IfOk}
+use Rattle.std.specs.Prelude.{◌≡◌, ◌⊎◌, ℕ, false, IsTrue, List, [], ◌∷◌, None, Result, IfOk}
 use Rattle.std.specs.List.{AllByRecursion}
-use Rattle.sqlite.specs.declared.types.Value.TheVariants.{Null, Int}
 use Rattle.sqlite.specs.Schema.{Schema}
 use Rattle.sqlite.specs.Order.{Row}
 use Rattle.sqlite.specs.Tree.{Trees}
@@ -11,7 +10,7 @@ use Rattle.sqlite.specs.Effect.{Database, IsDatabase}
 use Rattle.sqlite.specs.declared.error.Error.{Error}
 use Rattle.sqlite.specs.State.{State, HasCleanDisk, Executes, IsUnchanged, IsRolledBack, KeepsCommit, Survives, Opens}
 use Rattle.moo_tables.specs.declared.version.Version.TheVariants.{First, Second}
-use Rattle.moo_tables.specs.Tables.{Tables, tables_in, no_schema, schema_of, slot_tree}
+use Rattle.moo_tables.specs.Tables.{Tables, tables_in, no_schema, schema_of, slot_tree, in_second}
 
 -- the rows rise by their numbers, which are whole
 abbrev pub AreKeyed : List Row → Type 0
@@ -31,6 +30,8 @@ pub record Holds (db : Database) (tables : Tables) : Type 0 where
   pub props : AreKeyed (db.trees 2)
   pub slots : AreKeyed (db.trees (slot_tree tables.version))
   pub verbs : AreKeyed (db.trees 5)
+  pub petitions : AreKeyed (in_second tables.version (db.trees 9))
+  pub petition_heads : AreKeyed (in_second tables.version (db.trees 10))
 
 -- a transaction is open, and sees these tables
 pub record Sees (s : State) (tables : Tables) : Type 0 where
@@ -81,7 +82,7 @@ Leaves trees tables = Holds (record { schema = schema_of tables.version; trees =
 
 -- tables without rows
 abbrev pub no_tables : Tables
-no_tables = record { version = Second; head = λ _. None; object = λ _. None; prop = λ _. None; slot = λ _. None; verb = λ _. None }
+no_tables = record { version = Second; head = λ _. None; object = λ _. None; prop = λ _. None; slot = λ _. None; verb = λ _. None; petition = λ _. None; petition_head = λ _. None }
 
 -- the connection is in no transaction, and its database is this one, committed
 pub record RestsAt (s : State) (db : Database) : Type 0 where
@@ -111,13 +112,9 @@ pub record IsGrown (base : Database) (schema : Schema) (made : List ℕ) (db : D
   pub same : AllByRecursion (λ tree. db.trees tree ≡ base.trees tree) (0 ∷ 1 ∷ 2 ∷ 3 ∷ 5 ∷ [])
   pub empty : AllByRecursion (λ tree. db.trees tree ≡ []) made
 
--- the one row of `petition_head` in a new store, as its tree has it: the next petition is the first
-abbrev pub first_petition : List Row
-first_petition = (Int (pos 1) ∷ Null ∷ Int (pos 1) ∷ []) ∷ []
-
--- the same tables in the second layout, in which there is no slot yet
+-- the same tables in the second layout, in which there is no slot yet, no petition and no number for the next
 abbrev pub grown : Tables → Tables
-grown tables = record tables { version = Second; slot = λ _. None }
+grown tables = record tables { version = Second; slot = λ _. None; petition = λ _. None; petition_head = λ _. None }
 
 -- a database without tables
 abbrev pub HasNoTables : Database → Type 0

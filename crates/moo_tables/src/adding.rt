@@ -4,9 +4,11 @@ ghost use Rattle.std.specs.Prelude.{◌≡◌, OnOk, ◌∷◌, []};
 ghost use Rattle.sqlite.specs.State.{HasCleanDisk};
 ghost use Rattle.sqlite.specs.Held.{state};
 ghost use Rattle.moo_tables.specs.declared.version.Version.TheVariants.{First};
-ghost use Rattle.moo_tables.specs.Inside.{StaysInside, Holds, Sees, Changes, HasTables, IsGrown, grown, first_petition};
-ghost use Rattle.moo_tables.specs.Tables.{first_schema, slot2_schema, petition_schema, second_schema};
+ghost use Rattle.moo_tables.specs.Cells.{with_counter};
+ghost use Rattle.moo_tables.specs.Inside.{StaysInside, Holds, Sees, IsGrown, grown};
+ghost use Rattle.moo_tables.specs.Tables.{first_schema, slot2_schema, petition_schema};
 
+use crate::counter::put_counter;
 use crate::statement::run;
 use sqlite::{Alter, Error, Transaction};
 
@@ -40,7 +42,7 @@ fn create_petition<S: Alter>(tx: &mut Transaction<'_, S>) -> Result<usize, Error
 fn create_petition_head<S: Alter>(tx: &mut Transaction<'_, S>) -> Result<usize, Error>
     ensures same_reference { tx.new.conn.ghost_name ≡ tx.old.conn.ghost_name }
     ensures inside { StaysInside (state S.Store tx.old.conn.now) (state S.Store tx.new.conn.now) }
-    ensures made { OnOk result (HasCleanDisk (state S.Store tx.new.conn.now) → (base : _) → IsGrown base petition_schema (7 ∷ 9 ∷ []) (state S.Store tx.old.conn.now).now → (tables : _) → Holds base tables → tables.version ≡ First → Sees (state S.Store tx.new.conn.now) (grown tables) × ((state S.Store tx.new.conn.now).now.trees 10 ≡ [])) }
+    ensures made { OnOk result (HasCleanDisk (state S.Store tx.new.conn.now) → (base : _) → IsGrown base petition_schema (7 ∷ 9 ∷ []) (state S.Store tx.old.conn.now).now → (tables : _) → Holds base tables → tables.version ≡ First → Sees (state S.Store tx.new.conn.now) (grown tables)) }
 {
     run(
         tx,
@@ -50,33 +52,23 @@ fn create_petition_head<S: Alter>(tx: &mut Transaction<'_, S>) -> Result<usize, 
 }
 
 /// Makes the three tables, empty, and leaves the others as they are.
-fn create_tables<S: Alter>(tx: &mut Transaction<'_, S>) -> Result<usize, Error>
+pub(crate) fn create_added_tables<S: Alter>(tx: &mut Transaction<'_, S>) -> Result<usize, Error>
     ensures same_reference { tx.new.conn.ghost_name ≡ tx.old.conn.ghost_name }
     ensures inside { StaysInside (state S.Store tx.old.conn.now) (state S.Store tx.new.conn.now) }
-    ensures made { OnOk result (HasCleanDisk (state S.Store tx.new.conn.now) → (tables : _) → Holds (state S.Store tx.old.conn.now).now tables → tables.version ≡ First → Sees (state S.Store tx.new.conn.now) (grown tables) × ((state S.Store tx.new.conn.now).now.trees 10 ≡ [])) }
+    ensures made { OnOk result (HasCleanDisk (state S.Store tx.new.conn.now) → (tables : _) → Holds (state S.Store tx.old.conn.now).now tables → tables.version ≡ First → Sees (state S.Store tx.new.conn.now) (grown tables)) }
 {
     create_slot2(tx)?;
     create_petition(tx)?;
     create_petition_head(tx)
 }
 
-/// Puts the one row of `petition_head`: the first petition has the number 1.
-fn begin_petitions<S: Alter>(tx: &mut Transaction<'_, S>) -> Result<usize, Error>
-    ensures same_reference { tx.new.conn.ghost_name ≡ tx.old.conn.ghost_name }
-    ensures inside { StaysInside (state S.Store tx.old.conn.now) (state S.Store tx.new.conn.now) }
-    ensures same { OnOk result (Changes (λ tables. tables) (state S.Store tx.old.conn.now) (state S.Store tx.new.conn.now)) }
-    ensures begun { OnOk result (HasCleanDisk (state S.Store tx.new.conn.now) → HasTables second_schema (state S.Store tx.old.conn.now) → (state S.Store tx.old.conn.now).now.trees 10 ≡ [] → (state S.Store tx.new.conn.now).now.trees 10 ≡ first_petition) }
-{
-    run(tx, "INSERT INTO petition_head VALUES (1, 1)", &[])
-}
-
-/// Makes the tables that the second version has beside those of the first, and writes no slot.
+/// Makes the three tables and puts the one row of `petition_head`: the first petition has the number 1. Writes no slot and no
+/// petition.
 pub(crate) fn add_tables<S: Alter>(tx: &mut Transaction<'_, S>) -> Result<usize, Error>
     ensures same_reference { tx.new.conn.ghost_name ≡ tx.old.conn.ghost_name }
     ensures inside { StaysInside (state S.Store tx.old.conn.now) (state S.Store tx.new.conn.now) }
-    ensures made { OnOk result (HasCleanDisk (state S.Store tx.new.conn.now) → (tables : _) → Holds (state S.Store tx.old.conn.now).now tables → tables.version ≡ First → Sees (state S.Store tx.new.conn.now) (grown tables)) }
-    ensures begun { OnOk result (HasCleanDisk (state S.Store tx.new.conn.now) → (tables : _) → Holds (state S.Store tx.old.conn.now).now tables → tables.version ≡ First → (state S.Store tx.new.conn.now).now.trees 10 ≡ first_petition) }
+    ensures made { OnOk result (HasCleanDisk (state S.Store tx.new.conn.now) → (tables : _) → Holds (state S.Store tx.old.conn.now).now tables → tables.version ≡ First → Sees (state S.Store tx.new.conn.now) (with_counter 1 (grown tables))) }
 {
-    create_tables(tx)?;
-    begin_petitions(tx)
+    create_added_tables(tx)?;
+    put_counter(tx, 1)
 }

@@ -98,4 +98,6 @@ pub fn are_listed(lists: &CellLists) -> bool
         && are_numbered(&lists.prop)
         && are_paired(&lists.slot)
         && are_paired(&lists.verb)
+        && are_numbered(&lists.petition)
+        && are_numbered(&lists.petition_head)
 }

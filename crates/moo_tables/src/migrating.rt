@@ -49,10 +49,10 @@ fn write_second<S: Alter>(
 /// Makes tables of the first layout those of the second, all or nothing.
 ///
 /// The row of `head` is put anew, with the version 2. `slots` are the slots that the second layout has from then on: of a
-/// key that comes more than once the last counts. The table `slot` is emptied, and the rows of the other tables stay as
-/// they are. The number of the last batch, `head.seq`, has to be below 2^63, and the connection in no transaction. After a
-/// fault of the store the database is as it was, unless the fault shut the connection; what a crash leaves is the tables
-/// before or those after, at every exit.
+/// key that comes more than once the last counts. There is no petition, and the first will have the number 1. The table
+/// `slot` is emptied, and the rows of the other tables stay as they are. The number of the last batch, `head.seq`, has to
+/// be below 2^63, and the connection in no transaction. After a fault of the store the database is as it was, unless the
+/// fault shut the connection; what a crash leaves is the tables before or those after, at every exit.
 pub fn migrate<S: Alter>(
     conn: &mut Connection<S>,
     head: &Head,

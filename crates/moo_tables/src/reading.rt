@@ -1,15 +1,17 @@
 //! The rows of the tables, each table's in the order of its keys.
 
-ghost use Rattle.std.specs.Prelude.{◌≡◌, false, IfOk, OnOk, OnErr};
+ghost use Rattle.std.specs.Prelude.{◌≡◌, ◌⊎◌, false, IfOk, OnOk, OnErr};
 ghost use Rattle.sqlite.specs.State.{HasCleanDisk};
 ghost use Rattle.sqlite.specs.Held.{state};
 ghost use Rattle.moo_tables.specs.declared.version.Version.{Version};
-ghost use Rattle.moo_tables.specs.Tables.{schema_of};
+ghost use Rattle.moo_tables.specs.declared.version.Version.TheVariants.{Second};
+ghost use Rattle.moo_tables.specs.Tables.{schema_of, second_schema};
 ghost use Rattle.moo_tables.specs.Inside.{Rests, Reads, FailsToRead};
 ghost use Rattle.moo_tables.specs.Listing.{ListsNumbers, ListsPairs, ListsTables};
 
 use crate::version::Version;
 use sqlite::{Alter, Connection, Error, Row};
+use std::alloc::Global;
 
 /// The rows of each table, each key once, in the order of the keys.
 #[derive(Drop)]
@@ -21,6 +23,10 @@ pub struct CellLists {
     pub prop: Vec<Row>,
     pub slot: Vec<Row>,
     pub verb: Vec<Row>,
+    /// None in the first version.
+    pub petition: Vec<Row>,
+    /// The row with the number of the next petition, none in the first version.
+    pub petition_head: Vec<Row>,
 }
 
 /// The row of the head.
@@ -91,7 +97,52 @@ fn verb_cells_of<S: Alter>(conn: &mut Connection<S>) -> Result<Vec<Row>, Error>
     )
 }
 
-/// Reads the rows of `head`, `object`, `prop` and `verb`, and of `slot` in the first version or `slot2` in the second.
+/// The rows of `petition`, in the order of their numbers. The first version has no such table.
+fn petition_cells_of<S: Alter>(conn: &mut Connection<S>) -> Result<Vec<Row>, Error>
+    ensures outside { (state S.Store conn.old).in_transaction ≡ false → (state S.Store conn.new).in_transaction ≡ false }
+    ensures read { OnOk result (Reads second_schema (state S.Store conn.old) (state S.Store conn.new)) }
+    ensures listed { HasCleanDisk (state S.Store conn.new) → IfOk result (λ rows. (tables : _) → Rests (state S.Store conn.old) tables → tables.version ≡ Second → ListsNumbers rows.items tables.petition) }
+    ensures failed { OnErr result (FailsToRead second_schema (state S.Store conn.old) (state S.Store conn.new)) }
+{
+    conn.query_all("SELECT id, who, calls FROM petition ORDER BY id", &[])
+}
+
+/// The row of `petition_head`. The first version has no such table.
+fn counter_cells_of<S: Alter>(conn: &mut Connection<S>) -> Result<Vec<Row>, Error>
+    ensures outside { (state S.Store conn.old).in_transaction ≡ false → (state S.Store conn.new).in_transaction ≡ false }
+    ensures read { OnOk result (Reads second_schema (state S.Store conn.old) (state S.Store conn.new)) }
+    ensures listed { HasCleanDisk (state S.Store conn.new) → IfOk result (λ rows. (tables : _) → Rests (state S.Store conn.old) tables → tables.version ≡ Second → ListsNumbers rows.items tables.petition_head) }
+    ensures failed { OnErr result (FailsToRead second_schema (state S.Store conn.old) (state S.Store conn.new)) }
+{
+    conn.query_all(
+        "SELECT id, next_petition FROM petition_head ORDER BY id",
+        &[],
+    )
+}
+
+/// The rows of `petition` and of `petition_head`, of both none in the first version, where nothing is asked.
+fn both_petition_cells_of<S: Alter>(
+    alloc: Global,
+    conn: &mut Connection<S>,
+    version: Version,
+) -> Result<(Vec<Row>, Vec<Row>), Error>
+    ensures outside { (state S.Store conn.old).in_transaction ≡ false → (state S.Store conn.new).in_transaction ≡ false }
+    ensures read { OnOk result ((conn.new ≡ conn.old) ⊎ Reads (schema_of version) (state S.Store conn.old) (state S.Store conn.new)) }
+    ensures listed { HasCleanDisk (state S.Store conn.new) → IfOk result (λ lists. (tables : _) → Rests (state S.Store conn.old) tables → tables.version ≡ version → ListsNumbers lists.0.items tables.petition × ListsNumbers lists.1.items tables.petition_head) }
+    ensures failed { OnErr result (FailsToRead (schema_of version) (state S.Store conn.old) (state S.Store conn.new)) }
+{
+    match version {
+        Version::First => Ok((Vec::new(alloc), Vec::new(alloc))),
+        Version::Second => {
+            let petition = petition_cells_of(conn)?;
+            let petition_head = counter_cells_of(conn)?;
+            Ok((petition, petition_head))
+        }
+    }
+}
+
+/// Reads the rows of `head`, `object`, `prop` and `verb`, and of `slot` in the first version, or of `slot2`, `petition` and
+/// `petition_head` in the second.
 ///
 /// The version has to be that of the database (`version_of`): of another one nothing is said. Nothing is written. After
 /// a fault of the store the tables are as they were, unless the fault shut the connection.
@@ -107,6 +158,7 @@ pub fn read_tables<S: Alter>(conn: &mut Connection<S>, version: Version) -> Resu
     let prop = prop_cells_of(conn)?;
     let slot = slot_cells_of(conn, version)?;
     let verb = verb_cells_of(conn)?;
+    let (petition, petition_head) = both_petition_cells_of(*verb.allocator(), conn, version)?;
     Ok(CellLists {
         version,
         head,
@@ -114,5 +166,7 @@ pub fn read_tables<S: Alter>(conn: &mut Connection<S>, version: Version) -> Resu
         prop,
         slot,
         verb,
+        petition,
+        petition_head,
     })
 }

@@ -5,5 +5,5 @@ use Rattle.moo_tables.proofs.creating.create_tables.Goals as goal
 
 pub returns-clause-made : goal.returns-clause-made
 returns-clause-made g c =
-    all_made (state g.S.Store c.args.tx.now.conn.now) (state g.S.Store c.create_first_tables.new.tx.conn.now) (state g.S.Store c.add_tables.new.tx.conn.now) (HasNoTables (state g.S.Store c.args.tx.now.conn.now).now)
-    c.add_tables.result c.add_tables.ensures.inside c.in_ok-create_first_tables.ensures.made c.add_tables.ensures.made
+    all_made (state g.S.Store c.args.tx.now.conn.now) (state g.S.Store c.create_first_tables.new.tx.conn.now) (state g.S.Store c.create_added_tables.new.tx.conn.now) (HasNoTables (state g.S.Store c.args.tx.now.conn.now).now)
+    c.create_added_tables.result c.create_added_tables.ensures.inside c.in_ok-create_first_tables.ensures.made c.create_added_tables.ensures.made

@@ -1,6 +1,6 @@
 use Rattle.sqlite.specs.Held.{state}
 use Rattle.moo_tables.proofs.GrowLemmas.{three_made}
-use Rattle.moo_tables.proofs.adding.create_tables.Goals as goal
+use Rattle.moo_tables.proofs.adding.create_added_tables.Goals as goal
 
 pub returns-clause-made : goal.returns-clause-made
 returns-clause-made g c =

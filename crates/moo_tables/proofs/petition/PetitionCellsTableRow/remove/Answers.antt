@@ -1,0 +1,6 @@
+use Rattle.moo_tables.proofs.PetitionLemmas.{remove}
+use Rattle.moo_tables.proofs.RowLemmas.{ran_as}
+use Rattle.moo_tables.proofs.petition.PetitionCellsTableRow.remove.Goals as goal
+
+pub returns-clause-gone : goal.returns-clause-gone
+returns-clause-gone g c same = remove _ _ _ _ (ran_as _ _ _ _ _ _ _ same c.petition_key.ensures c.run_prepared.ensures.ran)
