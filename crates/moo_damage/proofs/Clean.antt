@@ -129,6 +129,7 @@ module _ (m : Maps) (g : IsGood m) where
       objects = λ x row e. not_past x.0 m.head.top (numbers_seen m x (g.formed.tree.numbers x (object_there x row e)));
       props = λ id p e. below id.0 m.head.next_prop (g.sound.props_below id.0 (ap is_some e)).1;
       verbs = λ key v e. below key.1.0 m.head.next_verb (g.sound.verbs key.0 key.1.0 (ap is_some e)).2;
+      petitions = λ id row e. below id.0 m.head.next_petition (g.petitions.numbered id (ap is_some e)).1;
     };
     chains = λ x row e. let c = g.formed.tree.chains x (object_there x row e) in (c.0, subst (λ link. Climbs link x c.0) (parents_seen m) c.1);
     places = λ x row e. let c = g.formed.tree.places x (object_there x row e) in (c.0, subst (λ link. Climbs link x c.0) (places_seen m) c.1);

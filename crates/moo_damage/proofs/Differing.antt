@@ -3,13 +3,14 @@ use Rattle.std.proofs.Common.{◌≡◌, ◌≢◌, pos, negsuc, None, Some, Les
 use Rattle.std.specs.Cmp.{int_cmp_is}
 use Rattle.std.specs.FinMap.{same_map}
 use Rattle.moo_value.specs.declared.value.ObjNo.{ObjNo}
+use Rattle.moo_rows.specs.declared.row.PetitionId.{PetitionId}
 use Rattle.moo_rows.specs.declared.row.PropId.{PropId}
 use Rattle.moo_rows.specs.declared.row.VerbId.{VerbId}
-use Rattle.moo_rows.specs.Exact.{object_exact, prop_exact, slot_exact, verb_exact}
+use Rattle.moo_rows.specs.Exact.{object_exact, prop_exact, slot_exact, verb_exact, petition_exact}
 use Rattle.moo_rows.specs.Maps.{Maps}
-use Rattle.moo_rows.proofs.Orders.{object_total, prop_total, slot_total, verb_total}
+use Rattle.moo_rows.proofs.Orders.{object_total, prop_total, slot_total, verb_total, petition_total}
 use Rattle.moo_damage.specs.declared.kind.Key.{Key}
-use Rattle.moo_damage.specs.declared.kind.Key.TheVariants.{Head, Object, Prop, Slot, Verb}
+use Rattle.moo_damage.specs.declared.kind.Key.TheVariants.{Head, Object, Prop, Slot, Verb, Petition}
 use Rattle.moo_damage.specs.Differences.{AgreeAt, IsFirstDifference, IsFirstUnlike}
 use Rattle.moo_damage.specs.Kinds.{IsBelow}
 use Rattle.moo_damage.proofs.Least.{number_less, pair_less}
@@ -24,6 +25,7 @@ module _ (a b : Maps) where
       by (Prop i) l = absurd (omega (arith, l))
       by (Slot n i) l = absurd (omega (arith, l))
       by (Verb n i) l = absurd (omega (arith, l))
+      by (Petition i) l = absurd (omega (arith, l))
 
   module _ (head : a.head ≡ b.head) where
     pub in_objects : (x : ObjNo) → IsFirstUnlike a.objects b.objects (Some x) → IsFirstDifference a b (Object x.0)
@@ -35,6 +37,7 @@ module _ (a b : Maps) where
         by (Prop i) l = absurd (omega (arith, l))
         by (Slot n i) l = absurd (omega (arith, l))
         by (Verb n i) l = absurd (omega (arith, l))
+        by (Petition i) l = absurd (omega (arith, l))
 
     module _ (objects : IsFirstUnlike a.objects b.objects None) where
       pub in_props : (id : PropId) → IsFirstUnlike a.props b.props (Some id) → IsFirstDifference a b (Prop (pos id.0))
@@ -47,6 +50,7 @@ module _ (a b : Maps) where
           by (Prop (negsuc i)) l = tt
           by (Slot n i) l = absurd (omega (arith, l))
           by (Verb n i) l = absurd (omega (arith, l))
+          by (Petition i) l = absurd (omega (arith, l))
 
       module _ (props : IsFirstUnlike a.props b.props None) where
         pub in_slots : (key : ObjNo × PropId) → IsFirstUnlike a.slots b.slots (Some key) → IsFirstDifference a b (Slot key.0.0 (pos key.1.0))
@@ -60,6 +64,7 @@ module _ (a b : Maps) where
             by (Slot n (pos i)) l = f.1 (record { 0 = n }, record { 0 = i }) (pair_less n key.0.0 i key.1.0 l)
             by (Slot n (negsuc i)) l = tt
             by (Verb n i) l = absurd (omega (arith, l))
+            by (Petition i) l = absurd (omega (arith, l))
 
         module _ (slots : IsFirstUnlike a.slots b.slots None) where
           pub in_verbs : (key : ObjNo × VerbId) → IsFirstUnlike a.verbs b.verbs (Some key) → IsFirstDifference a b (Verb key.0.0 (pos key.1.0))
@@ -74,11 +79,29 @@ module _ (a b : Maps) where
               by (Slot n (negsuc i)) l = tt
               by (Verb n (pos i)) l = f.1 (record { 0 = n }, record { 0 = i }) (pair_less n key.0.0 i key.1.0 l)
               by (Verb n (negsuc i)) l = tt
+              by (Petition i) l = absurd (omega (arith, l))
 
-          pub nowhere : IsFirstUnlike a.verbs b.verbs None → a ≡ b
-          nowhere verbs =
-              let o : a.objects ≡ b.objects = same_map object_total object_exact _ _ objects in
-              let p : a.props ≡ b.props = same_map prop_total prop_exact _ _ props in
-              let s : a.slots ≡ b.slots = same_map slot_total slot_exact _ _ slots in
-              let v : a.verbs ≡ b.verbs = same_map verb_total verb_exact _ _ verbs in
-              λ i. record { head = head i; objects = o i; props = p i; slots = s i; verbs = v i }
+          module _ (verbs : IsFirstUnlike a.verbs b.verbs None) where
+            pub in_petitions : (id : PetitionId) → IsFirstUnlike a.petitions b.petitions (Some id) → IsFirstDifference a b (Petition (pos id.0))
+            in_petitions id f = (f.0, by)
+              where
+                by : (other : Key) → IsBelow other (Petition (pos id.0)) → AgreeAt a b other
+                by Head l = head
+                by (Object n) l = objects (record { 0 = n })
+                by (Prop (pos i)) l = props (record { 0 = i })
+                by (Prop (negsuc i)) l = tt
+                by (Slot n (pos i)) l = slots (record { 0 = n }, record { 0 = i })
+                by (Slot n (negsuc i)) l = tt
+                by (Verb n (pos i)) l = verbs (record { 0 = n }, record { 0 = i })
+                by (Verb n (negsuc i)) l = tt
+                by (Petition (pos i)) l = f.1 (record { 0 = i }) (number_less i id.0 l)
+                by (Petition (negsuc i)) l = tt
+
+            pub nowhere : IsFirstUnlike a.petitions b.petitions None → a ≡ b
+            nowhere petitions =
+                let o : a.objects ≡ b.objects = same_map object_total object_exact _ _ objects in
+                let p : a.props ≡ b.props = same_map prop_total prop_exact _ _ props in
+                let s : a.slots ≡ b.slots = same_map slot_total slot_exact _ _ slots in
+                let v : a.verbs ≡ b.verbs = same_map verb_total verb_exact _ _ verbs in
+                let r : a.petitions ≡ b.petitions = same_map petition_total petition_exact _ _ petitions in
+                λ i. record { head = head i; objects = o i; props = p i; slots = s i; verbs = v i; petitions = r i }

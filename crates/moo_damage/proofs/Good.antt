@@ -16,6 +16,7 @@ use Rattle.moo_rows.specs.declared.row.SlotState.TheVariants.{Clear}
 use Rattle.moo_rows.specs.Exact.{prop_exact}
 use Rattle.moo_rows.specs.Maps.{Maps, prop_cmp}
 use Rattle.moo_rows.proofs.Orders.{prop_total}
+use Rattle.moo_world.specs.Petitions.{PetitionsStand}
 use Rattle.moo_world.specs.Objects.{Name, Pair, nothing, same_object, same_text, folded, is_among, same_object-Decides, same_text-Decides}
 use Rattle.moo_world.specs.Rows.{LookUps, AreSound, IsGood, look_ups, world_of, world_shown, record_of, numbers_below, name_on, prop_id, verb_id}
 use Rattle.moo_world.specs.World.{World, Record, Slot, Climbs, IsTree, KeepsLimits, Chain, NamesDiffer, is_object, parent_of, location_of, chain, names_of, defined_by, owed_by, pair_named, slot_of, slot_fits, row_fits, verb_fits, is_property_name, without_slots}
@@ -358,8 +359,16 @@ module _ (m : Maps) (fit : AreWithin m) (clean : IsClean m) where
       let k = slot_from r x n row.0 row.1 s e in
       ap slot_fits k.2 ∙ fit.slots (x, prop_id k.0) k.1.row k.1.held
 
+  petitions : PetitionsStand m.petitions m.head.next_petition
+  petitions = record {
+    numbered = λ id e. let k = some_of (get m.petitions id) e in ((fit.petitions id k.0 k.1).0, below id.0 m.head.next_petition (clean.numbers.petitions id k.0 k.1));
+    fit = λ id row e. (fit.petitions id row e).1;
+    counter = fit.next_petition;
+  }
+
   pub good : IsGood m
   good = record {
     sound = sound;
     formed = record { tree = tree; names = λ x l c. names l x c; slots = slots; set = set; fit = fits; limits = limits_seen m fit };
+    petitions = petitions;
   }

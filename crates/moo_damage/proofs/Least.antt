@@ -7,6 +7,8 @@ use Rattle.std.specs.FinMap.{FinMap, get}
 use Rattle.std.proofs.lemmas.Int.{ints}
 use Rattle.moo_value.specs.declared.value.ObjNo.{ObjNo}
 use Rattle.moo_rows.specs.declared.row.ObjRow.{ObjRow}
+use Rattle.moo_rows.specs.declared.row.PetitionId.{PetitionId}
+use Rattle.moo_rows.specs.declared.row.PetitionRow.{PetitionRow}
 use Rattle.moo_rows.specs.declared.row.PropId.{PropId}
 use Rattle.moo_rows.specs.declared.row.PropRow.{PropRow}
 use Rattle.moo_rows.specs.declared.row.SlotRow.{SlotRow}
@@ -15,9 +17,9 @@ use Rattle.moo_rows.specs.declared.row.VerbRow.{VerbRow}
 use Rattle.moo_rows.specs.Maps.{Maps}
 use Rattle.moo_damage.specs.declared.kind.Kind.{Kind}
 use Rattle.moo_damage.specs.declared.kind.Key.{Key}
-use Rattle.moo_damage.specs.declared.kind.Key.TheVariants.{Head, Object, Prop, Slot, Verb}
+use Rattle.moo_damage.specs.declared.kind.Key.TheVariants.{Head, Object, Prop, Slot, Verb, Petition}
 use Rattle.moo_damage.specs.First.{IsFirst}
-use Rattle.moo_damage.specs.Kinds.{IsBelow, Has, AtObject, AtProp, AtSlot, AtVerb, InRows, IsLeast}
+use Rattle.moo_damage.specs.Kinds.{IsBelow, Has, AtObject, AtProp, AtSlot, AtVerb, AtPetition, InRows, IsLeast}
 
 pub number_less : (i j : ℕ) → pos i <ℤ pos j → nat_cmp i j ≡ Less
 number_less i j l = sym (nat_cmp_is i j Less (omega (arith, ints, l)))
@@ -31,15 +33,17 @@ pub no_bad : {K X : Type 0} {cmp : K → K → Ordering} (rows : FinMap cmp X) (
 no_bad rows right bad apart f k h = apart k h.0 (f k h.0 h.1) h.2
 
 module _ (m : Maps) (kind : Kind) where
-  pub none_met : ((x : ObjNo) → ¬ (AtObject m kind x)) → ((id : PropId) → ¬ (AtProp m kind id)) → ((key : ObjNo × PropId) → ¬ (AtSlot m kind key)) → ((key : ObjNo × VerbId) → ¬ (AtVerb m kind key)) → (key : Key) → ¬ (InRows m kind key)
-  none_met a b c d Head h = h
-  none_met a b c d (Object n) h = a (record { 0 = n }) h
-  none_met a b c d (Prop (pos i)) h = b (record { 0 = i }) h
-  none_met a b c d (Prop (negsuc i)) h = h
-  none_met a b c d (Slot n (pos i)) h = c (record { 0 = n }, record { 0 = i }) h
-  none_met a b c d (Slot n (negsuc i)) h = h
-  none_met a b c d (Verb n (pos i)) h = d (record { 0 = n }, record { 0 = i }) h
-  none_met a b c d (Verb n (negsuc i)) h = h
+  pub none_met : ((x : ObjNo) → ¬ (AtObject m kind x)) → ((id : PropId) → ¬ (AtProp m kind id)) → ((key : ObjNo × PropId) → ¬ (AtSlot m kind key)) → ((key : ObjNo × VerbId) → ¬ (AtVerb m kind key)) → ((id : PetitionId) → ¬ (AtPetition m kind id)) → (key : Key) → ¬ (InRows m kind key)
+  none_met a b c d e Head h = h
+  none_met a b c d e (Object n) h = a (record { 0 = n }) h
+  none_met a b c d e (Prop (pos i)) h = b (record { 0 = i }) h
+  none_met a b c d e (Prop (negsuc i)) h = h
+  none_met a b c d e (Slot n (pos i)) h = c (record { 0 = n }, record { 0 = i }) h
+  none_met a b c d e (Slot n (negsuc i)) h = h
+  none_met a b c d e (Verb n (pos i)) h = d (record { 0 = n }, record { 0 = i }) h
+  none_met a b c d e (Verb n (negsuc i)) h = h
+  none_met a b c d e (Petition (pos i)) h = e (record { 0 = i }) h
+  none_met a b c d e (Petition (negsuc i)) h = h
 
   -- below the first object
   pub least_object : (x : ObjNo) → AtObject m kind x → ((y : ObjNo) → y.0 <ℤ x.0 → ¬ (AtObject m kind y)) → IsLeast (InRows m kind) (Some (Object x.0))
@@ -51,6 +55,7 @@ module _ (m : Maps) (kind : Kind) where
       by (Prop i) l k = omega (arith, l)
       by (Slot n i) l k = omega (arith, l)
       by (Verb n i) l k = omega (arith, l)
+      by (Petition i) l k = omega (arith, l)
 
   pub least_prop : (id : PropId) → ((y : ObjNo) → ¬ (AtObject m kind y)) → AtProp m kind id → ((i : PropId) → pos i.0 <ℤ pos id.0 → ¬ (AtProp m kind i)) → IsLeast (InRows m kind) (Some (Prop (pos id.0)))
   least_prop id a h f = (h, by)
@@ -62,6 +67,7 @@ module _ (m : Maps) (kind : Kind) where
       by (Prop (negsuc i)) l k = k
       by (Slot n i) l k = omega (arith, l)
       by (Verb n i) l k = omega (arith, l)
+      by (Petition i) l k = omega (arith, l)
 
   pub least_slot : (key : ObjNo × PropId) → ((y : ObjNo) → ¬ (AtObject m kind y)) → ((id : PropId) → ¬ (AtProp m kind id)) → AtSlot m kind key
       → ((k : ObjNo × PropId) → (k.0.0 <ℤ key.0.0) ⊎ ((k.0.0 ≡ key.0.0) × (pos k.1.0 <ℤ pos key.1.0)) → ¬ (AtSlot m kind k)) → IsLeast (InRows m kind) (Some (Slot key.0.0 (pos key.1.0)))
@@ -75,6 +81,7 @@ module _ (m : Maps) (kind : Kind) where
       by (Slot n (pos i)) l k = f (record { 0 = n }, record { 0 = i }) l k
       by (Slot n (negsuc i)) l k = k
       by (Verb n i) l k = omega (arith, l)
+      by (Petition i) l k = omega (arith, l)
 
   pub least_verb : (key : ObjNo × VerbId) → ((y : ObjNo) → ¬ (AtObject m kind y)) → ((id : PropId) → ¬ (AtProp m kind id)) → ((key : ObjNo × PropId) → ¬ (AtSlot m kind key)) → AtVerb m kind key
       → ((k : ObjNo × VerbId) → (k.0.0 <ℤ key.0.0) ⊎ ((k.0.0 ≡ key.0.0) × (pos k.1.0 <ℤ pos key.1.0)) → ¬ (AtVerb m kind k)) → IsLeast (InRows m kind) (Some (Verb key.0.0 (pos key.1.0)))
@@ -89,6 +96,23 @@ module _ (m : Maps) (kind : Kind) where
       by (Slot n (negsuc i)) l k = k
       by (Verb n (pos i)) l k = f (record { 0 = n }, record { 0 = i }) l k
       by (Verb n (negsuc i)) l k = k
+      by (Petition i) l k = omega (arith, l)
+
+  pub least_petition : (id : PetitionId) → ((y : ObjNo) → ¬ (AtObject m kind y)) → ((id : PropId) → ¬ (AtProp m kind id)) → ((key : ObjNo × PropId) → ¬ (AtSlot m kind key)) → ((key : ObjNo × VerbId) → ¬ (AtVerb m kind key))
+      → AtPetition m kind id → ((i : PetitionId) → pos i.0 <ℤ pos id.0 → ¬ (AtPetition m kind i)) → IsLeast (InRows m kind) (Some (Petition (pos id.0)))
+  least_petition id a b c d h f = (h, by)
+    where
+      by : (other : Key) → IsBelow other (Petition (pos id.0)) → ¬ (InRows m kind other)
+      by Head l k = k
+      by (Object n) l k = a (record { 0 = n }) k
+      by (Prop (pos i)) l k = b (record { 0 = i }) k
+      by (Prop (negsuc i)) l k = k
+      by (Slot n (pos i)) l k = c (record { 0 = n }, record { 0 = i }) k
+      by (Slot n (negsuc i)) l k = k
+      by (Verb n (pos i)) l k = d (record { 0 = n }, record { 0 = i }) k
+      by (Verb n (negsuc i)) l k = k
+      by (Petition (pos i)) l k = f (record { 0 = i }) l k
+      by (Petition (negsuc i)) l k = k
 
 -- ---- the first bad row of a map, as the least key at which the kind is met
 
@@ -118,3 +142,10 @@ module _ (m : Maps) where
   verb_first kind right bad to from apart a b c key f =
       least_verb m kind key a b c (to key (f.0, f.1, f.2))
       (λ k l h. let t = from k h in apart k t.0 (f.3 k t.0 (pair_less k.0.0 key.0.0 k.1.0 key.1.0 l) t.1) t.2)
+
+  pub petition_first : (kind : Kind) (right bad : PetitionId → PetitionRow → Type 0) → ((id : PetitionId) → Has (get m.petitions) bad id → AtPetition m kind id) → ((id : PetitionId) → AtPetition m kind id → Has (get m.petitions) bad id)
+      → ((id : PetitionId) (row : PetitionRow) → right id row → ¬ (bad id row)) → ((y : ObjNo) → ¬ (AtObject m kind y)) → ((id : PropId) → ¬ (AtProp m kind id)) → ((key : ObjNo × PropId) → ¬ (AtSlot m kind key))
+      → ((key : ObjNo × VerbId) → ¬ (AtVerb m kind key)) → (id : PetitionId) → IsFirst m.petitions right bad (Some id) → IsLeast (InRows m kind) (Some (Petition (pos id.0)))
+  petition_first kind right bad to from apart a b c d id f =
+      least_petition m kind id a b c d (to id (f.0, f.1, f.2))
+      (λ i l h. let t = from i h in apart i t.0 (f.3 i t.0 (number_less i.0 id.0 l) t.1) t.2)

@@ -3,22 +3,23 @@ use Rattle.std.proofs.Common.{◌≡◌, pos, Bool, true, false, Option, None, S
 use Rattle.std.specs.Option.{option_map}
 use Rattle.std.proofs.lemmas.Bool.{both_ways}
 use Rattle.moo_value.specs.declared.value.ObjNo.{ObjNo}
+use Rattle.moo_rows.specs.declared.row.PetitionId.{PetitionId}
 use Rattle.moo_rows.specs.declared.row.PropId.{PropId}
 use Rattle.moo_rows.specs.declared.row.VerbId.{VerbId}
 use Rattle.moo_rows.specs.Maps.{Maps}
 use Rattle.moo_damage.specs.declared.kind.Kind.{Kind}
 use Rattle.moo_damage.specs.declared.kind.Kind.TheVariants.{PastHead, NoParent, ParentLoop, NoPlace, PlaceLoop, NoDefiner, DoubleName, StrangeSlot, MissingSlot, ClearDefiner, StrangeVerb}
 use Rattle.moo_damage.specs.declared.kind.Key.{Key}
-use Rattle.moo_damage.specs.declared.kind.Key.TheVariants.{Object, Prop, Slot, Verb}
+use Rattle.moo_damage.specs.declared.kind.Key.TheVariants.{Object, Prop, Slot, Verb, Petition}
 use Rattle.moo_damage.specs.declared.trees.Link.{Link}
 use Rattle.moo_damage.specs.declared.trees.Link.TheVariants.{Parent, Place}
-use Rattle.moo_damage.specs.Damage.{Ends, Loops, is_object_past, is_prop_past, is_verb_past, is_lost, lacks_definer, is_double, is_strange, is_clear_definer, is_strange_verb}
+use Rattle.moo_damage.specs.Damage.{Ends, Loops, is_object_past, is_prop_past, is_verb_past, is_petition_past, is_lost, lacks_definer, is_double, is_strange, is_clear_definer, is_strange_verb}
 use Rattle.moo_damage.specs.First.{IsFirst}
 use Rattle.moo_damage.specs.Kinds.{place, lost_kind, loop_kind, InRows, NoneBefore, IsLeast, IsFirstMet}
 use Rattle.moo_damage.specs.Missing.{IsFirstMissing}
 use Rattle.moo_damage.proofs.InTurn.{none_more}
 use Rattle.moo_damage.proofs.Lacking.{none_missing, missing_first}
-use Rattle.moo_damage.proofs.Least.{no_bad, none_met, object_first, prop_first, slot_first, verb_first}
+use Rattle.moo_damage.proofs.Least.{no_bad, none_met, object_first, prop_first, slot_first, verb_first, petition_first}
 
 abbrev pub of_object : Option ObjNo → Option Key
 of_object o = option_map (λ x. Object x.0) o
@@ -32,50 +33,53 @@ of_slot o = option_map (λ key. Slot key.0.0 (pos key.1.0)) o
 abbrev pub of_verb : Option (ObjNo × VerbId) → Option Key
 of_verb o = option_map (λ key. Verb key.0.0 (pos key.1.0)) o
 
+abbrev pub of_petition : Option PetitionId → Option Key
+of_petition o = option_map (λ id. Petition (pos id.0)) o
+
 apart : (b : Bool) → b ≡ false → ¬ (b ≡ true)
 apart b e f = both_ways b e f
 
 module _ (m : Maps) where
   pub lost_least : (link : Link) (o : Option ObjNo) → IsFirst m.objects (λ k r. is_lost link m r ≡ false) (λ k r. is_lost link m r ≡ true) o → IsLeast (InRows m (lost_kind link)) (of_object o)
-  lost_least Parent None f = none_met m NoParent (no_bad m.objects (λ k r. is_lost Parent m r ≡ false) (λ k r. is_lost Parent m r ≡ true) (λ k r. apart (is_lost Parent m r)) f) (λ id h. h) (λ key h. h) (λ key h. h)
+  lost_least Parent None f = none_met m NoParent (no_bad m.objects (λ k r. is_lost Parent m r ≡ false) (λ k r. is_lost Parent m r ≡ true) (λ k r. apart (is_lost Parent m r)) f) (λ id h. h) (λ key h. h) (λ key h. h) (λ id h. h)
   lost_least Parent (Some x) f = object_first m NoParent (λ k r. is_lost Parent m r ≡ false) (λ k r. is_lost Parent m r ≡ true) (λ x h. h) (λ x h. h) (λ k r. apart (is_lost Parent m r)) x f
-  lost_least Place None f = none_met m NoPlace (no_bad m.objects (λ k r. is_lost Place m r ≡ false) (λ k r. is_lost Place m r ≡ true) (λ k r. apart (is_lost Place m r)) f) (λ id h. h) (λ key h. h) (λ key h. h)
+  lost_least Place None f = none_met m NoPlace (no_bad m.objects (λ k r. is_lost Place m r ≡ false) (λ k r. is_lost Place m r ≡ true) (λ k r. apart (is_lost Place m r)) f) (λ id h. h) (λ key h. h) (λ key h. h) (λ id h. h)
   lost_least Place (Some x) f = object_first m NoPlace (λ k r. is_lost Place m r ≡ false) (λ k r. is_lost Place m r ≡ true) (λ x h. h) (λ x h. h) (λ k r. apart (is_lost Place m r)) x f
 
   ending : (link : Link) (x : ObjNo) → Ends link m x → ¬ (Loops link m x)
   ending link x c f = f c.0 c.1
 
   pub loops_least : (link : Link) (o : Option ObjNo) → IsFirst m.objects (λ x _. Ends link m x) (λ x _. Loops link m x) o → IsLeast (InRows m (loop_kind link)) (of_object o)
-  loops_least Parent None f = none_met m ParentLoop (no_bad m.objects (λ x _. Ends Parent m x) (λ x _. Loops Parent m x) (λ k r. ending Parent k) f) (λ id h. h) (λ key h. h) (λ key h. h)
+  loops_least Parent None f = none_met m ParentLoop (no_bad m.objects (λ x _. Ends Parent m x) (λ x _. Loops Parent m x) (λ k r. ending Parent k) f) (λ id h. h) (λ key h. h) (λ key h. h) (λ id h. h)
   loops_least Parent (Some x) f = object_first m ParentLoop (λ x _. Ends Parent m x) (λ x _. Loops Parent m x) (λ x h. h) (λ x h. h) (λ k r. ending Parent k) x f
-  loops_least Place None f = none_met m PlaceLoop (no_bad m.objects (λ x _. Ends Place m x) (λ x _. Loops Place m x) (λ k r. ending Place k) f) (λ id h. h) (λ key h. h) (λ key h. h)
+  loops_least Place None f = none_met m PlaceLoop (no_bad m.objects (λ x _. Ends Place m x) (λ x _. Loops Place m x) (λ k r. ending Place k) f) (λ id h. h) (λ key h. h) (λ key h. h) (λ id h. h)
   loops_least Place (Some x) f = object_first m PlaceLoop (λ x _. Ends Place m x) (λ x _. Loops Place m x) (λ x h. h) (λ x h. h) (λ k r. ending Place k) x f
 
   pub definer_least : (o : Option PropId) → IsFirst m.props (λ k r. lacks_definer m r ≡ false) (λ k r. lacks_definer m r ≡ true) o → IsLeast (InRows m NoDefiner) (of_prop o)
-  definer_least None f = none_met m NoDefiner (λ x h. h) (no_bad m.props (λ k r. lacks_definer m r ≡ false) (λ k r. lacks_definer m r ≡ true) (λ k r. apart (lacks_definer m r)) f) (λ key h. h) (λ key h. h)
+  definer_least None f = none_met m NoDefiner (λ x h. h) (no_bad m.props (λ k r. lacks_definer m r ≡ false) (λ k r. lacks_definer m r ≡ true) (λ k r. apart (lacks_definer m r)) f) (λ key h. h) (λ key h. h) (λ id h. h)
   definer_least (Some id) f = prop_first m NoDefiner (λ k r. lacks_definer m r ≡ false) (λ k r. lacks_definer m r ≡ true) (λ id h. h) (λ id h. h) (λ k r. apart (lacks_definer m r)) (λ y h. h) id f
 
   pub double_least : (o : Option PropId) → IsFirst m.props (λ k r. is_double m k r ≡ false) (λ k r. is_double m k r ≡ true) o → IsLeast (InRows m DoubleName) (of_prop o)
-  double_least None f = none_met m DoubleName (λ x h. h) (no_bad m.props (λ k r. is_double m k r ≡ false) (λ k r. is_double m k r ≡ true) (λ k r. apart (is_double m k r)) f) (λ key h. h) (λ key h. h)
+  double_least None f = none_met m DoubleName (λ x h. h) (no_bad m.props (λ k r. is_double m k r ≡ false) (λ k r. is_double m k r ≡ true) (λ k r. apart (is_double m k r)) f) (λ key h. h) (λ key h. h) (λ id h. h)
   double_least (Some id) f = prop_first m DoubleName (λ k r. is_double m k r ≡ false) (λ k r. is_double m k r ≡ true) (λ id h. h) (λ id h. h) (λ k r. apart (is_double m k r)) (λ y h. h) id f
 
   pub strange_least : (o : Option (ObjNo × PropId)) → IsFirst m.slots (λ k r. is_strange m k ≡ false) (λ k r. is_strange m k ≡ true) o → IsLeast (InRows m StrangeSlot) (of_slot o)
-  strange_least None f = none_met m StrangeSlot (λ x h. h) (λ id h. h) (no_bad m.slots (λ k r. is_strange m k ≡ false) (λ k r. is_strange m k ≡ true) (λ k r. apart (is_strange m k)) f) (λ key h. h)
+  strange_least None f = none_met m StrangeSlot (λ x h. h) (λ id h. h) (no_bad m.slots (λ k r. is_strange m k ≡ false) (λ k r. is_strange m k ≡ true) (λ k r. apart (is_strange m k)) f) (λ key h. h) (λ id h. h)
   strange_least (Some key) f = slot_first m StrangeSlot (λ k r. is_strange m k ≡ false) (λ k r. is_strange m k ≡ true) (λ k h. h) (λ k h. h) (λ k r. apart (is_strange m k)) (λ y h. h) (λ id h. h) key f
 
   pub missing_least : (o : Option (ObjNo × PropId)) → IsFirstMissing m o → IsLeast (InRows m MissingSlot) (of_slot o)
-  missing_least None f = none_met m MissingSlot (λ x h. h) (λ id h. h) (none_missing m f) (λ key h. h)
+  missing_least None f = none_met m MissingSlot (λ x h. h) (λ id h. h) (none_missing m f) (λ key h. h) (λ id h. h)
   missing_least (Some key) f = missing_first m key f
 
   pub clear_least : (o : Option (ObjNo × PropId)) → IsFirst m.slots (λ k r. is_clear_definer m k r ≡ false) (λ k r. is_clear_definer m k r ≡ true) o → IsLeast (InRows m ClearDefiner) (of_slot o)
-  clear_least None f = none_met m ClearDefiner (λ x h. h) (λ id h. h) (no_bad m.slots (λ k r. is_clear_definer m k r ≡ false) (λ k r. is_clear_definer m k r ≡ true) (λ k r. apart (is_clear_definer m k r)) f) (λ key h. h)
+  clear_least None f = none_met m ClearDefiner (λ x h. h) (λ id h. h) (no_bad m.slots (λ k r. is_clear_definer m k r ≡ false) (λ k r. is_clear_definer m k r ≡ true) (λ k r. apart (is_clear_definer m k r)) f) (λ key h. h) (λ id h. h)
   clear_least (Some key) f = slot_first m ClearDefiner (λ k r. is_clear_definer m k r ≡ false) (λ k r. is_clear_definer m k r ≡ true) (λ k h. h) (λ k h. h) (λ k r. apart (is_clear_definer m k r)) (λ y h. h) (λ id h. h) key f
 
   pub verb_least : (o : Option (ObjNo × VerbId)) → IsFirst m.verbs (λ k r. is_strange_verb m k ≡ false) (λ k r. is_strange_verb m k ≡ true) o → IsLeast (InRows m StrangeVerb) (of_verb o)
-  verb_least None f = none_met m StrangeVerb (λ x h. h) (λ id h. h) (λ key h. h) (no_bad m.verbs (λ k r. is_strange_verb m k ≡ false) (λ k r. is_strange_verb m k ≡ true) (λ k r. apart (is_strange_verb m k)) f)
+  verb_least None f = none_met m StrangeVerb (λ x h. h) (λ id h. h) (λ key h. h) (no_bad m.verbs (λ k r. is_strange_verb m k ≡ false) (λ k r. is_strange_verb m k ≡ true) (λ k r. apart (is_strange_verb m k)) f) (λ id h. h)
   verb_least (Some key) f = verb_first m StrangeVerb (λ k r. is_strange_verb m k ≡ false) (λ k r. is_strange_verb m k ≡ true) (λ k h. h) (λ k h. h) (λ k r. apart (is_strange_verb m k)) (λ y h. h) (λ id h. h) (λ key h. h) key f
 
-  -- ---- numbers past the head, in three maps
+  -- ---- numbers past the head, in four maps
 
   abbrev ObjectPast : Option ObjNo → Type 0
   ObjectPast o = IsFirst m.objects (λ k r. is_object_past m.head k ≡ false) (λ k r. is_object_past m.head k ≡ true) o
@@ -86,6 +90,9 @@ module _ (m : Maps) where
   abbrev VerbPast : Option (ObjNo × VerbId) → Type 0
   VerbPast o = IsFirst m.verbs (λ k r. is_verb_past m.head k ≡ false) (λ k r. is_verb_past m.head k ≡ true) o
 
+  abbrev PetitionPast : Option PetitionId → Type 0
+  PetitionPast o = IsFirst m.petitions (λ k r. is_petition_past m.head k ≡ false) (λ k r. is_petition_past m.head k ≡ true) o
+
   pub object_past : (x : ObjNo) → ObjectPast (Some x) → IsLeast (InRows m PastHead) (of_object (Some x))
   object_past x f = object_first m PastHead (λ k r. is_object_past m.head k ≡ false) (λ k r. is_object_past m.head k ≡ true) (λ x h. h) (λ x h. h) (λ k r. apart (is_object_past m.head k)) x f
 
@@ -94,15 +101,23 @@ module _ (m : Maps) where
       prop_first m PastHead (λ k r. is_prop_past m.head k ≡ false) (λ k r. is_prop_past m.head k ≡ true) (λ x h. h) (λ x h. h) (λ k r. apart (is_prop_past m.head k))
       (no_bad m.objects (λ k r. is_object_past m.head k ≡ false) (λ k r. is_object_past m.head k ≡ true) (λ k r. apart (is_object_past m.head k)) a) id f
 
-  pub verb_past : ObjectPast None → PropPast None → (o : Option (ObjNo × VerbId)) → VerbPast o → IsLeast (InRows m PastHead) (of_verb o)
-  verb_past a b None f =
-      none_met m PastHead (no_bad m.objects (λ k r. is_object_past m.head k ≡ false) (λ k r. is_object_past m.head k ≡ true) (λ k r. apart (is_object_past m.head k)) a)
-      (no_bad m.props (λ k r. is_prop_past m.head k ≡ false) (λ k r. is_prop_past m.head k ≡ true) (λ k r. apart (is_prop_past m.head k)) b) (λ key h. h)
-      (no_bad m.verbs (λ k r. is_verb_past m.head k ≡ false) (λ k r. is_verb_past m.head k ≡ true) (λ k r. apart (is_verb_past m.head k)) f)
-  verb_past a b (Some key) f =
+  pub verb_past : ObjectPast None → PropPast None → (key : ObjNo × VerbId) → VerbPast (Some key) → IsLeast (InRows m PastHead) (of_verb (Some key))
+  verb_past a b key f =
       verb_first m PastHead (λ k r. is_verb_past m.head k ≡ false) (λ k r. is_verb_past m.head k ≡ true) (λ x h. h) (λ x h. h) (λ k r. apart (is_verb_past m.head k))
       (no_bad m.objects (λ k r. is_object_past m.head k ≡ false) (λ k r. is_object_past m.head k ≡ true) (λ k r. apart (is_object_past m.head k)) a)
       (no_bad m.props (λ k r. is_prop_past m.head k ≡ false) (λ k r. is_prop_past m.head k ≡ true) (λ k r. apart (is_prop_past m.head k)) b) (λ key h. h) key f
+
+  pub petition_past : ObjectPast None → PropPast None → VerbPast None → (o : Option PetitionId) → PetitionPast o → IsLeast (InRows m PastHead) (of_petition o)
+  petition_past a b c None f =
+      none_met m PastHead (no_bad m.objects (λ k r. is_object_past m.head k ≡ false) (λ k r. is_object_past m.head k ≡ true) (λ k r. apart (is_object_past m.head k)) a)
+      (no_bad m.props (λ k r. is_prop_past m.head k ≡ false) (λ k r. is_prop_past m.head k ≡ true) (λ k r. apart (is_prop_past m.head k)) b) (λ key h. h)
+      (no_bad m.verbs (λ k r. is_verb_past m.head k ≡ false) (λ k r. is_verb_past m.head k ≡ true) (λ k r. apart (is_verb_past m.head k)) c)
+      (no_bad m.petitions (λ k r. is_petition_past m.head k ≡ false) (λ k r. is_petition_past m.head k ≡ true) (λ k r. apart (is_petition_past m.head k)) f)
+  petition_past a b c (Some id) f =
+      petition_first m PastHead (λ k r. is_petition_past m.head k ≡ false) (λ k r. is_petition_past m.head k ≡ true) (λ x h. h) (λ x h. h) (λ k r. apart (is_petition_past m.head k))
+      (no_bad m.objects (λ k r. is_object_past m.head k ≡ false) (λ k r. is_object_past m.head k ≡ true) (λ k r. apart (is_object_past m.head k)) a)
+      (no_bad m.props (λ k r. is_prop_past m.head k ≡ false) (λ k r. is_prop_past m.head k ≡ true) (λ k r. apart (is_prop_past m.head k)) b) (λ key h. h)
+      (no_bad m.verbs (λ k r. is_verb_past m.head k ≡ false) (λ k r. is_verb_past m.head k ≡ true) (λ k r. apart (is_verb_past m.head k)) c) id f
 
   -- ---- one after another
 

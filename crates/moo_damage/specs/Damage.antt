@@ -6,6 +6,8 @@ use Rattle.std.specs.FinMap.{get, entries}
 use Rattle.moo_value.specs.declared.value.ObjNo.{ObjNo}
 use Rattle.moo_rows.specs.declared.row.Head.{Head}
 use Rattle.moo_rows.specs.declared.row.ObjRow.{ObjRow}
+use Rattle.moo_rows.specs.declared.row.PetitionId.{PetitionId}
+use Rattle.moo_rows.specs.declared.row.PetitionRow.{PetitionRow}
 use Rattle.moo_rows.specs.declared.row.PropId.{PropId}
 use Rattle.moo_rows.specs.declared.row.PropRow.{PropRow}
 use Rattle.moo_rows.specs.declared.row.SlotRow.{SlotRow}
@@ -30,6 +32,9 @@ is_prop_past head id = nat_le head.next_prop id.0
 
 abbrev pub is_verb_past : Head → ObjNo × VerbId → Bool
 is_verb_past head key = nat_le head.next_verb key.1.0
+
+abbrev pub is_petition_past : Head → PetitionId → Bool
+is_petition_past head id = nat_le head.next_petition id.0
 
 -- what a row links its object to
 abbrev pub link_of : Link → ObjRow → ObjNo
@@ -99,6 +104,7 @@ pub record NumbersGiven (m : Maps) : Type 0 where
   pub objects : (x : ObjNo) (row : ObjRow) → get m.objects x ≡ Some row → is_object_past m.head x ≡ false
   pub props : (id : PropId) (p : PropRow) → get m.props id ≡ Some p → is_prop_past m.head id ≡ false
   pub verbs : (key : ObjNo × VerbId) (v : VerbRow) → get m.verbs key ≡ Some v → is_verb_past m.head key ≡ false
+  pub petitions : (id : PetitionId) (row : PetitionRow) → get m.petitions id ≡ Some row → is_petition_past m.head id ≡ false
 
 abbrev pub LinksEnd : Link → Maps → Type 0
 LinksEnd link m = (x : ObjNo) (row : ObjRow) → get m.objects x ≡ Some row → Ends link m x

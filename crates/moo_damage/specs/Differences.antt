@@ -5,7 +5,7 @@ use Rattle.std.specs.declared.cmp.Ordering.TheVariants.{Less}
 use Rattle.std.specs.FinMap.{FinMap, get}
 use Rattle.moo_rows.specs.Maps.{Maps}
 use Rattle.moo_damage.specs.declared.kind.Key.{Key}
-use Rattle.moo_damage.specs.declared.kind.Key.TheVariants.{Head, Object, Prop, Slot, Verb}
+use Rattle.moo_damage.specs.declared.kind.Key.TheVariants.{Head, Object, Prop, Slot, Verb, Petition}
 use Rattle.moo_damage.specs.Kinds.{IsBelow}
 
 -- both have one row at this key, or none
@@ -18,6 +18,8 @@ AgreeAt a b (Slot n (pos id)) = get a.slots (record { 0 = n }, record { 0 = id }
 AgreeAt a b (Slot n (negsuc i)) = ⊤
 AgreeAt a b (Verb n (pos id)) = get a.verbs (record { 0 = n }, record { 0 = id }) ≡ get b.verbs (record { 0 = n }, record { 0 = id })
 AgreeAt a b (Verb n (negsuc i)) = ⊤
+AgreeAt a b (Petition (pos id)) = get a.petitions (record { 0 = id }) ≡ get b.petitions (record { 0 = id })
+AgreeAt a b (Petition (negsuc i)) = ⊤
 
 -- they differ at the key, and at each below it they agree
 abbrev pub IsFirstDifference : Maps → Maps → Key → Type 0

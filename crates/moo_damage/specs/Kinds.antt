@@ -2,16 +2,17 @@
 use Rattle.std.specs.Prelude.{◌≡◌, ℕ, pos, negsuc, ◌<ℤ◌, ◌<◌, true, Option, None, Some, IsSome, ◌⊎◌}
 use Rattle.std.specs.FinMap.{get}
 use Rattle.moo_value.specs.declared.value.ObjNo.{ObjNo}
+use Rattle.moo_rows.specs.declared.row.PetitionId.{PetitionId}
 use Rattle.moo_rows.specs.declared.row.PropId.{PropId}
 use Rattle.moo_rows.specs.declared.row.VerbId.{VerbId}
 use Rattle.moo_rows.specs.Maps.{Maps}
 use Rattle.moo_damage.specs.declared.kind.Kind.{Kind}
 use Rattle.moo_damage.specs.declared.kind.Kind.TheVariants.{BadHead, BadCell, PastHead, NoParent, ParentLoop, NoPlace, PlaceLoop, NoDefiner, DoubleName, StrangeSlot, MissingSlot, ClearDefiner, StrangeVerb, Mismatch}
 use Rattle.moo_damage.specs.declared.kind.Key.{Key}
-use Rattle.moo_damage.specs.declared.kind.Key.TheVariants.{Head, Object, Prop, Slot, Verb}
+use Rattle.moo_damage.specs.declared.kind.Key.TheVariants.{Head, Object, Prop, Slot, Verb, Petition}
 use Rattle.moo_damage.specs.declared.trees.Link.{Link}
 use Rattle.moo_damage.specs.declared.trees.Link.TheVariants.{Parent, Place}
-use Rattle.moo_damage.specs.Damage.{is_object_past, is_prop_past, is_verb_past, is_lost, Loops, lacks_definer, is_double, is_strange, is_missing, is_clear_definer, is_strange_verb}
+use Rattle.moo_damage.specs.Damage.{is_object_past, is_prop_past, is_verb_past, is_petition_past, is_lost, Loops, lacks_definer, is_double, is_strange, is_missing, is_clear_definer, is_strange_verb}
 
 -- ---- the order of kinds and of keys
 
@@ -32,13 +33,14 @@ place ClearDefiner = 12
 place StrangeVerb = 13
 place Mismatch = 14
 
--- the head before objects before properties before slots before verbs
+-- the head before objects before properties before slots before verbs before petitions
 abbrev pub table : Key → ℕ
 table Head = 0
 table (Object n) = 1
 table (Prop id) = 2
 table (Slot n id) = 3
 table (Verb n id) = 4
+table (Petition id) = 5
 
 -- and in one table by number
 abbrev pub IsBelow : Key → Key → Type 0
@@ -46,6 +48,7 @@ IsBelow (Object n) (Object k) = n <ℤ k
 IsBelow (Prop i) (Prop j) = i <ℤ j
 IsBelow (Slot n i) (Slot k j) = (n <ℤ k) ⊎ ((n ≡ k) × (i <ℤ j))
 IsBelow (Verb n i) (Verb k j) = (n <ℤ k) ⊎ ((n ≡ k) × (i <ℤ j))
+IsBelow (Petition i) (Petition j) = i <ℤ j
 IsBelow a b = table a < table b
 
 -- ---- what is met where
@@ -79,6 +82,10 @@ AtVerb m PastHead = Has (get m.verbs) (λ key row. is_verb_past m.head key ≡ t
 AtVerb m StrangeVerb = Has (get m.verbs) (λ key row. is_strange_verb m key ≡ true)
 AtVerb m _ = λ key. ⊥
 
+abbrev pub AtPetition : Maps → Kind → PetitionId → Type 0
+AtPetition m PastHead = Has (get m.petitions) (λ id row. is_petition_past m.head id ≡ true)
+AtPetition m _ = λ id. ⊥
+
 -- the kind is met in the rows at this key; the first two kinds are of cells, the last is of two lots of rows
 abbrev pub InRows : Maps → Kind → Key → Type 0
 InRows m kind Head = ⊥
@@ -89,6 +96,8 @@ InRows m kind (Slot n (pos id)) = AtSlot m kind (record { 0 = n }, record { 0 = 
 InRows m kind (Slot n (negsuc i)) = ⊥
 InRows m kind (Verb n (pos id)) = AtVerb m kind (record { 0 = n }, record { 0 = id })
 InRows m kind (Verb n (negsuc i)) = ⊥
+InRows m kind (Petition (pos id)) = AtPetition m kind (record { 0 = id })
+InRows m kind (Petition (negsuc i)) = ⊥
 
 -- the kinds of a link: it names no object; the chain of links doesn't end
 abbrev pub lost_kind : Link → Kind

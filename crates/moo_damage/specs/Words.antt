@@ -4,7 +4,7 @@ use Rattle.std.specs.Fmt.{signed_decimal}
 use Rattle.moo_damage.specs.declared.kind.Kind.{Kind}
 use Rattle.moo_damage.specs.declared.kind.Kind.TheVariants.{BadHead, BadCell, PastHead, NoParent, ParentLoop, NoPlace, PlaceLoop, NoDefiner, DoubleName, StrangeSlot, MissingSlot, ClearDefiner, StrangeVerb, Mismatch}
 use Rattle.moo_damage.specs.declared.kind.Key.{Key}
-use Rattle.moo_damage.specs.declared.kind.Key.TheVariants.{Head, Object, Prop, Slot, Verb}
+use Rattle.moo_damage.specs.declared.kind.Key.TheVariants.{Head, Object, Prop, Slot, Verb, Petition}
 
 abbrev pub kind_text : Kind → List ℕ
 kind_text BadHead = codes "bad-head"
@@ -28,3 +28,4 @@ key_text (Object n) = codes "#" ++ signed_decimal n
 key_text (Prop n) = codes "p" ++ signed_decimal n
 key_text (Slot n p) = codes "#" ++ (signed_decimal n ++ (codes " p" ++ signed_decimal p))
 key_text (Verb n v) = codes "#" ++ (signed_decimal n ++ (codes " v" ++ signed_decimal v))
+key_text (Petition n) = codes "r" ++ signed_decimal n

@@ -7,14 +7,14 @@ ghost use Rattle.moo_world.specs.Rows.{world_of};
 ghost use Rattle.moo_world.specs.World.{IsTree};
 ghost use Rattle.moo_props.specs.Names.{defines};
 ghost use Rattle.moo_damage.specs.First.{IsFirst};
-ghost use Rattle.moo_damage.specs.Damage.{is_object_past, is_prop_past, is_verb_past, is_lost, lacks_definer, share_name, is_double, is_owed, is_strange, is_missing, is_clear, is_clear_definer, is_strange_verb};
+ghost use Rattle.moo_damage.specs.Damage.{is_object_past, is_prop_past, is_verb_past, is_petition_past, is_lost, lacks_definer, share_name, is_double, is_owed, is_strange, is_missing, is_clear, is_clear_definer, is_strange_verb};
 ghost use Rattle.moo_damage.specs.OwnClear.{has_clear};
 ghost use Rattle.moo_damage.specs.Missing.{IsFirstMissing};
 
 use crate::trees::Link;
 use moo_rows::{
-    Head, ObjRow, PropId, PropRow, Rows, SlotRow, SlotState, VerbId, each_object, each_prop,
-    each_slot, each_verb,
+    Head, ObjRow, PetitionId, PropId, PropRow, Rows, SlotRow, SlotState, VerbId, each_object,
+    each_petition, each_prop, each_slot, each_verb,
 };
 use moo_tree::{is_nothing, is_under, valid};
 use moo_value::{ObjNo, same_name};
@@ -35,6 +35,12 @@ fn is_verb_past(head: Head, key: (ObjNo, VerbId)) -> bool
     ensures { result ≡ is_verb_past head key }
 {
     head.next_verb <= key.1.0
+}
+
+fn is_petition_past(head: Head, id: PetitionId) -> bool
+    ensures { result ≡ is_petition_past head id }
+{
+    head.next_petition <= id.0
 }
 
 /// Whether the link of a row names neither an object nor `#-1`.
@@ -177,6 +183,19 @@ pub(crate) fn first_verb_past<R: Rows>(rows: &R) -> Option<(ObjNo, VerbId)>
     let head = rows.head();
     for (key, _row) in each_verb(rows) {
         if is_verb_past(head, key) {
+            return Some(key);
+        }
+    }
+    None
+}
+
+/// The least petition whose number was never given, or none.
+pub(crate) fn first_petition_past<R: Rows>(rows: &R) -> Option<PetitionId>
+    ensures { IsFirst (R.held rows.now).maps.petitions (λ k r. is_petition_past (R.held rows.now).maps.head k ≡ false) (λ k r. is_petition_past (R.held rows.now).maps.head k ≡ true) result }
+{
+    let head = rows.head();
+    for (key, _row) in each_petition(rows) {
+        if is_petition_past(head, key) {
             return Some(key);
         }
     }

@@ -10,10 +10,10 @@ ghost use Rattle.moo_damage.specs.Limits.{AreWithin};
 ghost use Rattle.moo_damage.specs.Local.{SlotsHold};
 
 use crate::checks::{
-    first_clear, first_lost, first_object_past, first_prop_past, first_strange_verb,
-    first_undefined, first_verb_past,
+    first_clear, first_lost, first_object_past, first_petition_past, first_prop_past,
+    first_strange_verb, first_undefined, first_verb_past,
 };
-use crate::kind::{Key, Kind, object_key, prop_key, slot_key, verb_key};
+use crate::kind::{Key, Kind, object_key, petition_key, prop_key, slot_key, verb_key};
 use crate::local::{double_name, missing_slot, slots_hold, strange_slot};
 use crate::trees::{Link, first_loop};
 use moo_rows::Rows;
@@ -32,6 +32,9 @@ fn wrong_number<R: Rows>(rows: &R) -> Option<(Kind, Key)>
     }
     if let Some(key) = first_verb_past(rows) {
         return Some((Kind::PastHead, verb_key(key)));
+    }
+    if let Some(id) = first_petition_past(rows) {
+        return Some((Kind::PastHead, petition_key(id)));
     }
     None
 }
@@ -97,7 +100,8 @@ fn wrong_slot<R: Rows>(rows: &R, hold: bool) -> Option<(Kind, Key)>
 }
 
 /// What is wrong with rows: the first of the kinds of damage from `PastHead` to `StrangeVerb` that is met, with its least key, where objects come
-/// before properties before slots before verbs. None where nothing is: the rows then show a well formed world. An `Err` is want of memory.
+/// before properties before slots before verbs before petitions. None where nothing is: the rows then show a well formed world, and petitions as
+/// they may stand beside it. An `Err` is want of memory.
 ///
 /// Its time is that of going over the rows and of looking up each one's neighbours. Only rows of which a slot is wrong take longer.
 pub fn damage_of<R: Rows>(alloc: Global, rows: &R) -> Result<Option<(Kind, Key)>, AllocError>

@@ -5,9 +5,10 @@ ghost use Rattle.std.specs.FinMap.{get};
 ghost use Rattle.moo_damage.specs.Differences.{IsFirstDifference, IsFirstUnlike};
 ghost use Rattle.moo_damage.specs.First.{IsFirst};
 
-use crate::kind::{Key, object_key, prop_key, slot_key, verb_key};
+use crate::kind::{Key, object_key, petition_key, prop_key, slot_key, verb_key};
 use moo_rows::{
-    Flat, PropId, Row, Rows, VerbId, each_object, each_prop, each_slot, each_verb, ordered,
+    Flat, PetitionId, PropId, Row, Rows, VerbId, each_object, each_petition, each_prop, each_slot,
+    each_verb, ordered,
 };
 use moo_value::ObjNo;
 
@@ -69,6 +70,18 @@ fn verb_unlike<R: Rows>(rows: &R, there: &R) -> Option<(ObjNo, VerbId)>
     None
 }
 
+/// The least petition whose row isn't its row there, or none.
+fn petition_unlike<R: Rows>(rows: &R, there: &R) -> Option<PetitionId>
+    ensures { IsFirst (R.held rows.now).maps.petitions (λ k r. get (R.held there.now).maps.petitions k ≡ Some r) (λ k r. get (R.held there.now).maps.petitions k ≢ Some r) result }
+{
+    for (key, row) in each_petition(rows) {
+        if !is_held(there.petition(key), row) {
+            return Some(key);
+        }
+    }
+    None
+}
+
 fn object_differing<R: Rows>(own: &R, found: &R) -> Option<ObjNo>
     ensures { IsFirstUnlike (R.held own.now).maps.objects (R.held found.now).maps.objects result }
 {
@@ -93,8 +106,14 @@ fn verb_differing<R: Rows>(own: &R, found: &R) -> Option<(ObjNo, VerbId)>
     ordered::least(verb_unlike(own, found), verb_unlike(found, own))
 }
 
-/// The first row in which two lots of rows differ, in the order head, objects, properties, slots, verbs, and in each by number: that both have with
-/// other content, or one of them alone. None where they are equal. Takes no memory.
+fn petition_differing<R: Rows>(own: &R, found: &R) -> Option<PetitionId>
+    ensures { IsFirstUnlike (R.held own.now).maps.petitions (R.held found.now).maps.petitions result }
+{
+    ordered::least(petition_unlike(own, found), petition_unlike(found, own))
+}
+
+/// The first row in which two lots of rows differ, in the order head, objects, properties, slots, verbs, petitions, and in each by number: that both
+/// have with other content, or one of them alone. None where they are equal. Takes no memory.
 pub fn first_difference(own: &Flat, found: &Flat) -> Option<Key>
     ensures differs { IfSome result (λ key. IsFirstDifference own.now.maps found.now.maps key) }
     ensures same { IfNone result (own.now.maps ≡ found.now.maps) }
@@ -113,6 +132,9 @@ pub fn first_difference(own: &Flat, found: &Flat) -> Option<Key>
     }
     if let Some(key) = verb_differing(own, found) {
         return Some(verb_key(key));
+    }
+    if let Some(id) = petition_differing(own, found) {
+        return Some(petition_key(id));
     }
     None
 }

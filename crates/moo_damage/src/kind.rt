@@ -4,7 +4,7 @@ ghost use Rattle.std.specs.Prelude.{◌≡◌, pos, Some};
 ghost use Rattle.moo_damage.specs.declared.kind.Key.TheVariants as keys;
 ghost use Rattle.moo_damage.specs.Words.{kind_text, key_text};
 
-use moo_rows::{PropId, VerbId};
+use moo_rows::{PetitionId, PropId, VerbId};
 use moo_value::ObjNo;
 use std::fmt;
 
@@ -77,6 +77,8 @@ pub enum Key {
     Slot(i64, i64),
     /// A verb, by the number of its object and its own.
     Verb(i64, i64),
+    /// A petition, by its number.
+    Petition(i64),
 }
 
 impl fmt::Display for Key {
@@ -89,6 +91,7 @@ impl fmt::Display for Key {
             Key::Prop(prop) => write!(f, "p{prop}"),
             Key::Slot(object, prop) => write!(f, "#{object} p{prop}"),
             Key::Verb(object, verb) => write!(f, "#{object} v{verb}"),
+            Key::Petition(petition) => write!(f, "r{petition}"),
         }
     }
 }
@@ -119,4 +122,11 @@ pub(crate) fn verb_key(key: (ObjNo, VerbId)) -> Key
     ensures { result ≡ keys.Verb key.0.0 (pos key.1.0) }
 {
     Key::Verb(i64::from(key.0.0), i64::from(key.1.0))
+}
+
+/// The key of a petition's row.
+pub(crate) fn petition_key(id: PetitionId) -> Key
+    ensures { result ≡ keys.Petition (pos id.0) }
+{
+    Key::Petition(i64::from(id.0))
 }

@@ -7,4 +7,4 @@ returns-clause-same c =
     let a = c.args.own.now.maps in
     let b = c.args.found.now.maps in
     let head : a.head ≡ b.head = search rules in
-    nowhere a b head c.in_default.ensures c.in_default-prop_differing.ensures c.in_default-slot_differing.ensures c.in_default-verb_differing.ensures
+    nowhere a b head c.in_default.ensures c.in_default-prop_differing.ensures c.in_default-slot_differing.ensures c.in_default-verb_differing.ensures c.in_default-petition_differing.ensures
