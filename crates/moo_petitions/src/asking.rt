@@ -12,10 +12,11 @@ ghost use Rattle.moo_call_parts.specs.Outcomes.{world_in};
 ghost use Rattle.moo_petitions.specs.Outcomes.{state_in, KeepsRows, Reaches, Stays};
 
 use crate::args::one_list;
-use crate::held::{are_calls, are_few, are_named, are_shallow};
+use crate::held::are_calls;
 use moo_call_parts::Fault;
 use moo_rows::{PetitionId, PetitionRow, Rows};
 use moo_value::{Code, ObjNo, Value, ValueList};
+use moo_world::{are_few, are_named, are_shallow};
 use std::alloc::Global;
 
 /// Whether a petition may ask for these calls: E_TYPE where it isn't a list of lists that each begin with a string, else E_INVARG.

@@ -5,54 +5,10 @@ ghost use Rattle.std.specs.List.{list_all};
 ghost use Rattle.std.specs.Option.{option_and_then};
 ghost use Rattle.moo_world.specs.Arguments.{fits};
 ghost use Rattle.moo_world.specs.Names.{named, petition_call};
-ghost use Rattle.moo_world.specs.Petitions.{are_few, are_shallow, is_named};
 ghost use Rattle.moo_world.specs.Requests.{held_call};
 
-use moo_value::{Value, ValueList};
+use moo_value::Value;
 use moo_world::CallName;
-
-/// The most calls that a petition holds.
-const MOST_CALLS: usize = 64;
-
-/// How deep lists may nest in each of its calls: with the list of the calls itself that makes 30.
-const MOST_NESTING: u32 = 29;
-
-/// Whether the value is a list that begins with a string.
-fn is_named(held: &Value) -> bool
-    ensures { result ≡ is_named held.now }
-{
-    match held {
-        Value::List(values) => matches!(values.items(), [Value::Str(_), ..]),
-        _ => false,
-    }
-}
-
-/// Whether each of them is a list that begins with a string.
-pub(crate) fn are_named(helds: &[Value]) -> bool
-    ensures { result ≡ list_all is_named helds.now }
-{
-    for held in helds {
-        if !is_named(held) {
-            return false;
-        }
-    }
-    true
-}
-
-/// Whether there are 1 to 64 of them.
-pub(crate) fn are_few(calls: &ValueList) -> bool
-    ensures { result ≡ are_few calls.now }
-{
-    let count = calls.items().len();
-    0 < count && count <= MOST_CALLS
-}
-
-/// Whether lists nest at most 30 deep in the list of the calls.
-pub(crate) fn are_shallow(calls: &ValueList) -> bool
-    ensures { result ≡ are_shallow calls.now }
-{
-    calls.nests_within(MOST_NESTING)
-}
 
 /// The call that a name names, where it is one on the world.
 fn name_of(name: &[u8]) -> Option<CallName>
