@@ -3,7 +3,7 @@
 ghost use Rattle.moo_damage.specs.Laws.{CleanRowsAreGood, GoodRowsAreClean, GoodRowsHaveNoDamage};
 ghost use Rattle.moo_damage.specs.Local.{HeldSlotsAreLocal, LocalSlotsHold};
 
-/// Rows within the limits that nothing is wrong with are sound, and show a well formed world.
+/// Rows within the limits that nothing is wrong with are sound, of a well formed world, with petitions as they may stand beside it.
 pub fn clean_rows_are_good()
     ensures { CleanRowsAreGood }
 {}
