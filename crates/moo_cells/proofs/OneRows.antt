@@ -15,7 +15,6 @@ use Rattle.moo_value.specs.declared.fault.LiteralFault.{LiteralFault}
 use Rattle.moo_value.specs.declared.fault.LiteralFault.TheVariants.{NotALiteral}
 use Rattle.moo_value.proofs.Literals.{front_again}
 use Rattle.moo_value.specs.Value.{spread}
-use Rattle.moo_value.specs.Values.{Values}
 use Rattle.moo_value.proofs.Printed.{one_spelled, whole}
 use Rattle.moo_rows.specs.declared.row.Head.{Head}
 use Rattle.moo_rows.specs.declared.row.ObjRow.{ObjRow}
