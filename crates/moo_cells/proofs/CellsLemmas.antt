@@ -10,18 +10,18 @@ use Rattle.moo_tables.specs.Version.{version_number}
 use Rattle.moo_damage.specs.declared.kind.Kind.{Kind}
 use Rattle.moo_damage.specs.declared.kind.Kind.TheVariants.{BadHead, BadCell, PastHead, NoParent, ParentLoop, NoPlace, PlaceLoop, NoDefiner, DoubleName, StrangeSlot, MissingSlot, ClearDefiner, StrangeVerb, Mismatch}
 use Rattle.moo_damage.specs.declared.kind.Key.{Key}
-use Rattle.moo_damage.specs.declared.kind.Key.TheVariants.{Head, Object, Prop, Slot, Verb}
+use Rattle.moo_damage.specs.declared.kind.Key.TheVariants.{Head, Object, Prop, Slot, Verb, Petition}
 use Rattle.moo_damage.specs.Kinds.{place, NoneBefore, IsLeast, IsFirstInRows, InRows}
 use Rattle.moo_damage.specs.Limits.{AreWithin}
 use Rattle.moo_damage.proofs.Clean.{clean}
 use Rattle.moo_damage.proofs.Told.{none_told}
 use Rattle.moo_cells.specs.Head.{HeadIs, ReadsHead}
-use Rattle.moo_cells.specs.Reading.{IsRead, ObjectFits, PropFits, SlotFits, VerbFits}
-use Rattle.moo_cells.specs.Shows.{ShowsOrNone, ShowsObject, ShowsProp, ShowsSlot, ShowsVerb, ShowsRows}
+use Rattle.moo_cells.specs.Reading.{IsRead, ObjectFits, PropFits, SlotFits, VerbFits, PetitionFits}
+use Rattle.moo_cells.specs.Shows.{ShowsOrNone, ShowsObject, ShowsProp, ShowsSlot, ShowsVerb, ShowsPetition, ShowsRows}
 use Rattle.moo_cells.specs.Damage.{IsNewer, IsBadHead, IsBadCell, IsMet, Damage, SaysOfCells}
 use Rattle.moo_cells.specs.declared.fault.CellFault.{CellFault}
 use Rattle.moo_cells.specs.declared.fault.CellFault.TheVariants.{Damaged, NewerVersion, OutOfMemory}
-use Rattle.moo_cells.proofs.GoodRows.{head_limits, object_fits, prop_fits, slot_fits_here, verb_fits_here, good_within}
+use Rattle.moo_cells.proofs.GoodRows.{head_limits, object_fits, prop_fits, slot_fits_here, verb_fits_here, counter_fits, petition_fits_here, good_within}
 use Rattle.moo_cells.proofs.HeadLemmas.{head_known, head_not_newer}
 use Rattle.moo_cells.proofs.OneRows.{one_rows}
 
@@ -41,11 +41,12 @@ module _ (t : Tables) (m : Maps) (shown : ShowsRows t m) (good : IsGood m) where
   not_newer = head_not_newer t.version t.head (head_cells t.version m.head) m.head head_is reads_head
 
   not_bad_head : (key : Key) → ¬ (IsBadHead t key)
-  not_bad_head Head bad = bad.0 (head_known (version_number t.version) t.head (head_cells t.version m.head) m.head head_is reads_head)
+  not_bad_head Head bad = bad.0 (head_known (version_number t.version) t.head (head_cells t.version m.head) m.head head_is reads_head, (m.head.next_petition, (shown.counter, counter_fits m good)))
   not_bad_head (Object n) bad = bad
   not_bad_head (Prop n) bad = bad
   not_bad_head (Slot n i) bad = bad
   not_bad_head (Verb n i) bad = bad
+  not_bad_head (Petition n) bad = bad
 
   -- the cells that show a row within its limits can be read
   is_read : {K X : Type 0} (shows : K → Row → X → Type 0) (fits : K → X → Type 0) (key : K) (cells : Row) (o : Option Row) (x : Option X) → ((row : X) → x ≡ Some row → fits key row) → ShowsOrNone (shows key) o x → o ≡ Some cells
@@ -68,6 +69,8 @@ module _ (t : Tables) (m : Maps) (shown : ShowsRows t m) (good : IsGood m) where
   not_bad_cell (Slot n (negsuc i)) bad = none_is (t.slot (n, negsuc i)) bad.0 (shown.maps.no_slot n i) bad.1
   not_bad_cell (Verb n (pos i)) bad = bad.2 (is_read ShowsVerb VerbFits (record { 0 = n }, record { 0 = i }) bad.0 (t.verb (n, pos i)) (get m.verbs (record { 0 = n }, record { 0 = i })) (verb_fits_here m good (record { 0 = n }, record { 0 = i })) (shown.maps.verbs (record { 0 = n }, record { 0 = i })) bad.1)
   not_bad_cell (Verb n (negsuc i)) bad = none_is (t.verb (n, negsuc i)) bad.0 (shown.maps.no_verb n i) bad.1
+  not_bad_cell (Petition (pos i)) bad = bad.2 (is_read ShowsPetition PetitionFits (record { 0 = i }) bad.0 (t.petition (pos i)) (get m.petitions (record { 0 = i })) (petition_fits_here m good (record { 0 = i })) (shown.maps.petitions (record { 0 = i })) bad.1)
+  not_bad_cell (Petition (negsuc i)) bad = none_is (t.petition (negsuc i)) bad.0 (shown.maps.no_petition i) bad.1
 
 -- ---- the other kinds
 
@@ -105,6 +108,8 @@ no_rows m BadHead under (Slot n (pos i)) met = met
 no_rows m BadHead under (Slot n (negsuc i)) met = met
 no_rows m BadHead under (Verb n (pos i)) met = met
 no_rows m BadHead under (Verb n (negsuc i)) met = met
+no_rows m BadHead under (Petition (pos i)) met = met
+no_rows m BadHead under (Petition (negsuc i)) met = met
 no_rows m BadCell under Head met = met
 no_rows m BadCell under (Object n) met = met
 no_rows m BadCell under (Prop (pos i)) met = met
@@ -113,6 +118,8 @@ no_rows m BadCell under (Slot n (pos i)) met = met
 no_rows m BadCell under (Slot n (negsuc i)) met = met
 no_rows m BadCell under (Verb n (pos i)) met = met
 no_rows m BadCell under (Verb n (negsuc i)) met = met
+no_rows m BadCell under (Petition (pos i)) met = met
+no_rows m BadCell under (Petition (negsuc i)) met = met
 no_rows m PastHead under key met = absurd (omega arith)
 no_rows m NoParent under key met = absurd (omega arith)
 no_rows m ParentLoop under key met = absurd (omega arith)

@@ -5,8 +5,8 @@ use Rattle.std.specs.FinMap.{entries}
 use Rattle.sqlite.specs.Order.{Row}
 use Rattle.sqlite.specs.Tree.{has_rowid}
 use Rattle.moo_rows.specs.Maps.{Maps}
-use Rattle.moo_rows.specs.Exact.{object_exact, prop_exact, slot_exact, verb_exact}
-use Rattle.moo_rows.proofs.Orders.{object_total, prop_total, slot_total, verb_total}
+use Rattle.moo_rows.specs.Exact.{object_exact, prop_exact, slot_exact, verb_exact, petition_exact}
+use Rattle.moo_rows.proofs.Orders.{object_total, prop_total, slot_total, verb_total, petition_total}
 use Rattle.moo_world.specs.Rows.{IsGood}
 use Rattle.moo_tables.specs.declared.reading.CellLists.{CellLists}
 use Rattle.moo_tables.specs.Listing.{tables_of}
@@ -16,25 +16,29 @@ use Rattle.moo_damage.specs.declared.kind.Key.{Key}
 use Rattle.moo_damage.specs.Differences.{IsFirstDifference}
 use Rattle.moo_cells.specs.Compared.{IsMismatch}
 use Rattle.moo_cells.specs.Each.{ShowEach}
-use Rattle.moo_cells.specs.Head.{HeadIs, ReadsHead}
-use Rattle.moo_cells.specs.Reading.{ReadsObject, ReadsProp, ReadsSlot, ReadsVerb}
+use Rattle.moo_cells.specs.Head.{HeadIs, ReadsHead, ReadsCounter}
+use Rattle.moo_cells.specs.Reading.{ReadsObject, ReadsProp, ReadsSlot, ReadsVerb, ReadsPetition}
 use Rattle.moo_cells.specs.Shows.{ShowsRows}
 use Rattle.moo_cells.proofs.Beside.{each_held}
-use Rattle.moo_cells.proofs.Keys.{objects_bear, props_bear, slots_bear, verbs_bear}
+use Rattle.moo_cells.proofs.Keys.{objects_bear, props_bear, slots_bear, verbs_bear, petitions_bear}
 use Rattle.moo_cells.proofs.RowsLemmas.{rows_shown}
 
--- tables whose rows show a head and the entries of four maps show these rows
+-- tables whose rows show a head, its number of the next petition and the entries of five maps show these rows
 pub all_shown : (lists : CellLists) (m : Maps) → (cells : Row) × HeadIs (λ n. find (has_rowid n) lists.head.items) cells × ReadsHead (version_number lists.version) m.head cells
+    → ReadsCounter lists.version (λ n. find (has_rowid n) lists.petition_head.items) m.head.next_petition
     → ShowEach ReadsObject lists.object.items (entries m.objects) → ShowEach ReadsProp lists.prop.items (entries m.props) → ShowEach (ReadsSlot lists.version) lists.slot.items (entries m.slots) → ShowEach ReadsVerb lists.verb.items (entries m.verbs)
+    → ShowEach ReadsPetition lists.petition.items (entries m.petitions)
     → ShowsRows (tables_of lists) m
-all_shown lists m head objects props slots verbs = rows_shown lists m (record {
+all_shown lists m head counter objects props slots verbs petitions = rows_shown lists m (record {
   cells = head.0;
   head_is = head.1;
   head_read = head.2;
+  counter = counter;
   objects = each_held objects_bear object_total object_exact lists.object.items m.objects objects;
   props = each_held props_bear prop_total prop_exact lists.prop.items m.props props;
   slots = each_held (slots_bear lists.version) slot_total slot_exact lists.slot.items m.slots slots;
   verbs = each_held verbs_bear verb_total verb_exact lists.verb.items m.verbs verbs;
+  petitions = each_held petitions_bear petition_total petition_exact lists.petition.items m.petitions petitions;
 })
 
 -- a difference from the rows of a world that the tables show is one from the tables

@@ -1,6 +1,6 @@
 -- What a call's result says of what is returned after it.
-use Rattle.std.proofs.Common.{Result, Ok, Err}
-use Rattle.std.specs.Prelude.{IfOk, IfErr}
+use Rattle.std.proofs.Common.{Option, Some, None, Result, Ok, Err}
+use Rattle.std.specs.Prelude.{IfSome, IfOk, IfErr}
 
 pub both_ok : {T E : Type 0} (P Q S : T → Type 0) (r : Result T E) → IfOk r P → IfOk r Q → ((x : T) → P x → Q x → S x) → IfOk r S
 both_ok P Q S (Ok x) p q f = f x p q
@@ -13,3 +13,7 @@ ok_then P Q (Err e) p f = tt
 pub err_then : {T E : Type 0} (P Q : E → Type 0) (r : Result T E) → IfErr r P → ((e : E) → P e → Q e) → IfErr r Q
 err_then P Q (Ok x) p f = tt
 err_then P Q (Err e) p f = f e p
+
+pub both_some : {T : Type 0} (P Q S : T → Type 0) (o : Option T) → IfSome o P → IfSome o Q → ((x : T) → P x → Q x → S x) → IfSome o S
+both_some P Q S (Some x) p q f = f x p q
+both_some P Q S None p q f = tt

@@ -12,6 +12,8 @@ use Rattle.std.proofs.lemmas.List.Elements.{filter_map-append}
 use Rattle.std.proofs.lemmas.List.Folds.{list_all-append}
 use Rattle.moo_value.specs.declared.value.ObjNo.{ObjNo}
 use Rattle.moo_rows.specs.declared.row.ObjRow.{ObjRow}
+use Rattle.moo_rows.specs.declared.row.PetitionId.{PetitionId}
+use Rattle.moo_rows.specs.declared.row.PetitionRow.{PetitionRow}
 use Rattle.moo_rows.specs.declared.row.PropId.{PropId}
 use Rattle.moo_rows.specs.declared.row.PropRow.{PropRow}
 use Rattle.moo_rows.specs.declared.row.SlotRow.{SlotRow}
@@ -31,8 +33,8 @@ use Rattle.moo_damage.specs.declared.trees.Link.TheVariants.{Parent, Place}
 use Rattle.moo_damage.specs.Damage.{next_of, link_of, Ends}
 use Rattle.moo_damage.specs.Limits.{AreWithin}
 use Rattle.moo_damage.proofs.Clean.{clean}
-use Rattle.moo_cells.specs.Head.{HeadFits}
-use Rattle.moo_cells.specs.Reading.{ObjectFits, PropFits, SlotFits, VerbFits}
+use Rattle.moo_cells.specs.Head.{HeadFits, IsCounter}
+use Rattle.moo_cells.specs.Reading.{ObjectFits, PropFits, SlotFits, VerbFits, PetitionFits}
 
 none_some : {A : Type 0} (x : A) → None ≡ Some x → ⊥
 none_some x e = cc
@@ -148,14 +150,24 @@ module _ (m : Maps) (good : IsGood m) where
         fits = made_passes ((look_ups m).verb key.0) verb_fits m.head.next_verb (verb_limits m good.formed.limits key.0 row.0 row.1) key.1.0 there.2 v e;
       }
 
+  pub counter_fits : IsCounter m.head.next_petition
+  counter_fits = good.petitions.counter
+
+  pub petition_fits_here : (id : PetitionId) (row : PetitionRow) → get m.petitions id ≡ Some row → PetitionFits id row
+  petition_fits_here id row e =
+      let below = good.petitions.numbered id (ap is_some e) in
+      record { number = (below.0, counter_limit id.0 m.head.next_petition below.1 counter_fits.1); fits = good.petitions.fit id row e }
+
   pub good_within : AreWithin m
   good_within =
       let head = head_limits m good in record {
         top = head.top;
         next_prop = head.next_prop;
         next_verb = head.next_verb;
+        next_petition = counter_fits;
         objects = λ x row e. (object_fits x row e).fits;
         props = λ id p e. let fit = prop_fits id p e in (fit.number.0, fit.name);
         slots = λ key s e. let fit = slot_fits_here key s e in and_from _ _ fit.owner fit.state;
         verbs = λ key v e. let fit = verb_fits_here key v e in (fit.number.0, fit.fits);
+        petitions = λ id row e. let fit = petition_fits_here id row e in (fit.number.0, fit.fits);
       }

@@ -1,4 +1,4 @@
--- The head, from the rows of its table.
+-- The head, from the rows of its table, and the number of the next petition, from those of its own.
 use Rattle.std.proofs.Common.{◌≡◌, ◌≢◌, inl, inr, ℕ, ℤ, pos, ◌<ℤ◌, ◌≤ℤ◌, List, [], ◌∷◌, length, get_or, find, cond, Bool, true, false, true≢false, Option, Some, None, refl, sym, ap, subst, ◌∙◌, arith, IsTrue}
 use Rattle.std.proofs.lemmas.Int.{ints}
 use Rattle.sqlite.specs.declared.types.Value.TheVariants.{Int as Number}
@@ -13,9 +13,11 @@ use Rattle.moo_tables.specs.declared.version.Version.{Version}
 use Rattle.moo_tables.specs.declared.version.Version.TheVariants.{First, Second}
 use Rattle.moo_tables.specs.Inside.{AreKeyed}
 use Rattle.moo_tables.specs.Version.{version_number}
+use Rattle.moo_tables.specs.Cells.{petition_head_cells}
 use Rattle.moo_tables.proofs.KeyLemmas.{int_value}
-use Rattle.moo_cells.specs.Head.{greatest, head_row, HeadIs, ReadsHead, ReadsNewer, ReadsKnown, IsNewerThan, HasHead, SaysOfHead}
+use Rattle.moo_cells.specs.Head.{greatest, head_row, HeadIs, ReadsHead, ReadsNewer, ReadsKnown, IsNewerThan, HasHead, IsCounter, ReadsCounter, HasCounter, SaysOfHead}
 use Rattle.moo_cells.specs.HeadCells.{cells_of, IsHead}
+use Rattle.moo_cells.specs.Shows.{ShowsCounter}
 use Rattle.moo_cells.specs.declared.head.HeadCells.{HeadCells}
 use Rattle.moo_cells.specs.declared.fault.CellFault.{CellFault}
 use Rattle.moo_cells.specs.declared.fault.CellFault.TheVariants.{Damaged, NewerVersion, OutOfMemory}
@@ -190,3 +192,16 @@ head_not_newer version table cells head is reads newer =
   where
     one_some : (a b : Row) → Some a ≡ Some b → a ≡ b
     one_some a b e = cc
+
+-- ---- the number of the next petition
+
+only_counter : (rows : List Row) → AreKeyed rows → (next : ℕ) → ShowsCounter Second (λ n. find (has_rowid n) rows) next → rows ≡ petition_head_cells next ∷ []
+only_counter rows keyed next shows = only_head rows keyed (petition_head_cells next) (record { row = shows.0; alone = shows.1 })
+
+pub no_counter : (rows : List Row) → AreKeyed rows → (length rows ≡ 1 → ⊥) → ¬ (HasCounter Second (λ n. find (has_rowid n) rows))
+no_counter rows keyed many has = many (ap length (only_counter rows keyed has.0 has.1.0))
+
+pub counter_read : (rows : List Row) (r : Row) → rows ≡ r ∷ [] → (next : ℕ) → r ≡ petition_head_cells next → IsCounter next → ReadsCounter Second (λ n. find (has_rowid n) rows) next
+counter_read rows r whole next is fits =
+    let P : List Row → Type 0 = λ l. HeadIs (λ n. find (has_rowid n) l) r in
+    let head = subst P (sym whole) (head_alone r (ap (λ (c : Row). column c 0) is)) in ((head.row ∙ ap Some is, head.alone), fits)

@@ -13,8 +13,8 @@ use Rattle.sqlite.specs.Tree.{rowid, has_rowid}
 use Rattle.sqlite_value.proofs.OrderLemmas.{value_cmp_total, value_cmp-Int}
 use Rattle.moo_tables.specs.declared.version.Version.{Version}
 use Rattle.moo_tables.specs.Listing.{begins_with, IsBelow}
-use Rattle.moo_cells.specs.Reading.{ReadsObject, ReadsProp, ReadsSlot, ReadsVerb}
-use Rattle.moo_cells.specs.Holding.{object_number, prop_number, slot_number, verb_number, IsLess, IsPairLess}
+use Rattle.moo_cells.specs.Reading.{ReadsObject, ReadsProp, ReadsSlot, ReadsVerb, ReadsPetition}
+use Rattle.moo_cells.specs.Holding.{object_number, prop_number, slot_number, verb_number, petition_number, IsLess, IsPairLess}
 use Rattle.moo_cells.proofs.Table.{Bears, tied}
 
 -- a value that ties with a number orders as it does
@@ -76,6 +76,16 @@ pub props_bear : Bears has_rowid prop_number ReadsProp rises IsLess
 props_bear = record {
   mine = λ k r x read. self_tied (rowid r) (pos k.0) (ap (λ (c : Row). column c 0) read.0);
   only = λ j k r x read h. tied_number (rowid r) (pos k.0) j (ap (λ (c : Row). column c 0) read.0) h;
+  one = λ k l e. let same = pos_inj k.0 l.0 e in λ i. record { 0 = same i };
+  apart = number_apart;
+  above = number_above;
+  same = number_same;
+}
+
+pub petitions_bear : Bears has_rowid petition_number ReadsPetition rises IsLess
+petitions_bear = record {
+  mine = λ k r x read. self_tied (rowid r) (pos k.0) (ap (λ (c : Row). column c 0) read.0.2);
+  only = λ j k r x read h. tied_number (rowid r) (pos k.0) j (ap (λ (c : Row). column c 0) read.0.2) h;
   one = λ k l e. let same = pos_inj k.0 l.0 e in λ i. record { 0 = same i };
   apart = number_apart;
   above = number_above;

@@ -7,7 +7,7 @@ use Rattle.std.specs.declared.cmp.Ordering.TheVariants.{Less, Equal, Greater}
 use Rattle.moo_damage.specs.declared.kind.Kind.{Kind}
 use Rattle.moo_damage.specs.declared.kind.Kind.TheVariants.{BadHead, BadCell, PastHead, NoParent, ParentLoop, NoPlace, PlaceLoop, NoDefiner, DoubleName, StrangeSlot, MissingSlot, ClearDefiner, StrangeVerb, Mismatch}
 use Rattle.moo_damage.specs.declared.kind.Key.{Key}
-use Rattle.moo_damage.specs.declared.kind.Key.TheVariants.{Head, Object, Prop, Slot, Verb}
+use Rattle.moo_damage.specs.declared.kind.Key.TheVariants.{Head, Object, Prop, Slot, Verb, Petition}
 use Rattle.moo_damage.specs.Kinds.{place, IsBelow, IsFirstMet}
 
 -- ---- orders
@@ -61,26 +61,37 @@ key_order (Object n) (Object k) = map_order (λ e i. Object (e i)) (int_order n 
 key_order (Prop n) (Prop k) = map_order (λ e i. Prop (e i)) (int_order n k)
 key_order (Slot n i) (Slot k j) = map_order (λ e l. Slot (e.0 l) (e.1 l)) (pair_order n i k j)
 key_order (Verb n i) (Verb k j) = map_order (λ e l. Verb (e.0 l) (e.1 l)) (pair_order n i k j)
+key_order (Petition n) (Petition k) = map_order (λ e i. Petition (e i)) (int_order n k)
 key_order Head (Object k) = below (omega arith)
 key_order Head (Prop k) = below (omega arith)
 key_order Head (Slot k j) = below (omega arith)
 key_order Head (Verb k j) = below (omega arith)
+key_order Head (Petition k) = below (omega arith)
 key_order (Object n) Head = above (omega arith)
 key_order (Object n) (Prop k) = below (omega arith)
 key_order (Object n) (Slot k j) = below (omega arith)
 key_order (Object n) (Verb k j) = below (omega arith)
+key_order (Object n) (Petition k) = below (omega arith)
 key_order (Prop n) Head = above (omega arith)
 key_order (Prop n) (Object k) = above (omega arith)
 key_order (Prop n) (Slot k j) = below (omega arith)
 key_order (Prop n) (Verb k j) = below (omega arith)
+key_order (Prop n) (Petition k) = below (omega arith)
 key_order (Slot n i) Head = above (omega arith)
 key_order (Slot n i) (Object k) = above (omega arith)
 key_order (Slot n i) (Prop k) = above (omega arith)
 key_order (Slot n i) (Verb k j) = below (omega arith)
+key_order (Slot n i) (Petition k) = below (omega arith)
 key_order (Verb n i) Head = above (omega arith)
 key_order (Verb n i) (Object k) = above (omega arith)
 key_order (Verb n i) (Prop k) = above (omega arith)
 key_order (Verb n i) (Slot k j) = above (omega arith)
+key_order (Verb n i) (Petition k) = below (omega arith)
+key_order (Petition n) Head = above (omega arith)
+key_order (Petition n) (Object k) = above (omega arith)
+key_order (Petition n) (Prop k) = above (omega arith)
+key_order (Petition n) (Slot k j) = above (omega arith)
+key_order (Petition n) (Verb k j) = above (omega arith)
 
 -- ---- kinds
 

@@ -1,5 +1,5 @@
 -- Tables show one lot of rows within the limits at most.
-use Rattle.std.proofs.Common.{◌≡◌, ℕ, pos, List, [], ◌∷◌, map, find, Bool, true, false, Option, Some, None, Result, Ok, Err, refl, sym, ap, subst, ◌∙◌}
+use Rattle.std.proofs.Common.{◌≡◌, ℕ, ℤ, pos, List, [], ◌∷◌, map, find, Bool, true, false, Option, Some, None, Result, Ok, Err, refl, sym, ap, subst, ◌∙◌}
 use Rattle.std.specs.FinMap.{same_map}
 use Rattle.std.specs.Str.{bytes_eq}
 use Rattle.std.proofs.lemmas.Bool.{and_parts}
@@ -18,6 +18,8 @@ use Rattle.moo_value.specs.Value.{spread}
 use Rattle.moo_value.proofs.Printed.{one_spelled, whole}
 use Rattle.moo_rows.specs.declared.row.Head.{Head}
 use Rattle.moo_rows.specs.declared.row.ObjRow.{ObjRow}
+use Rattle.moo_rows.specs.declared.row.PetitionId.{PetitionId}
+use Rattle.moo_rows.specs.declared.row.PetitionRow.{PetitionRow}
 use Rattle.moo_rows.specs.declared.row.PropId.{PropId}
 use Rattle.moo_rows.specs.declared.row.PropRow.{PropRow}
 use Rattle.moo_rows.specs.declared.row.SlotRow.{SlotRow}
@@ -33,19 +35,22 @@ use Rattle.moo_rows.specs.declared.row.PrepositionSet.TheVariants.{With, At, InF
 use Rattle.moo_rows.specs.Bits.{bits_of, verb_bits_of}
 use Rattle.moo_rows.specs.declared.row.Bits.{Bits}
 use Rattle.moo_rows.specs.Maps.{Maps}
-use Rattle.moo_rows.specs.Exact.{object_exact, prop_exact, slot_exact, verb_exact}
+use Rattle.moo_rows.specs.Exact.{object_exact, prop_exact, slot_exact, verb_exact, petition_exact}
 use Rattle.moo_rows.proofs.BitsNumber.{bits_number-injective}
-use Rattle.moo_rows.proofs.Orders.{object_total, prop_total, slot_total, verb_total}
+use Rattle.moo_rows.proofs.Orders.{object_total, prop_total, slot_total, verb_total, petition_total}
 use Rattle.moo_world.specs.Prepositions.{all_sets, prep_text, place_text}
+use Rattle.moo_world.specs.Arguments.{is_number}
+use Rattle.moo_world.specs.Petitions.{petition_fits}
 use Rattle.moo_world.specs.World.{accept_fits, row_fits, state_fits}
 use Rattle.moo_world.proofs.Form.Ranges.{fits_tested}
 use Rattle.moo_tables.specs.declared.version.Version.{Version}
 use Rattle.moo_tables.specs.declared.version.Version.TheVariants.{First, Second}
 use Rattle.moo_tables.specs.Tables.{Tables}
-use Rattle.moo_tables.specs.Cells.{flag, head_cells}
+use Rattle.moo_tables.specs.Cells.{flag, head_cells, petition_head_cells}
 use Rattle.moo_damage.specs.Limits.{AreWithin}
-use Rattle.moo_cells.specs.Shows.{ShowsOrNone, ShowsAccept, ShowsBits, ShowsState, ShowsObject, ShowsProp, ShowsSlot, ShowsVerb, ShowsRows, object_list}
-use Rattle.moo_cells.proofs.Texts.{int_inj, text_inj, fits_list, spread_objects}
+use Rattle.moo_cells.specs.Reading.{calls_fit}
+use Rattle.moo_cells.specs.Shows.{ShowsOrNone, ShowsAccept, ShowsBits, ShowsState, ShowsObject, ShowsProp, ShowsSlot, ShowsVerb, ShowsPetition, ShowsCounter, ShowsRows, object_list}
+use Rattle.moo_cells.proofs.Texts.{int_inj, text_inj, fits_list, spread_objects, values_in, calls_within}
 use Rattle.moo_cells.proofs.Keys.{pos_inj}
 
 one_some : {A : Type 0} (x y : A) → Some x ≡ Some y → x ≡ y
@@ -209,6 +214,15 @@ verb_one key c x y p q =
     let iobj = place_inj x.args.iobj y.args.iobj (ap (text_at 7) e) in
     λ i. record { names = names i; owner = record { 0 = owner i }; bits = bits i; args = record { dobj = dobj i; prep = prep i; iobj = iobj i } }
 
+petition_one : (id : PetitionId) (c : Row) (x y : PetitionRow) → petition_fits x ≡ true → petition_fits y ≡ true → ShowsPetition id c x → ShowsPetition id c y → x ≡ y
+petition_one id c x y f g p q =
+    let e = sym p.2 ∙ q.2 in
+    let who = int_inj x.who.0 y.who.0 (ap (λ (c : Row). column c 1) e) in
+    let text : p.0 ≡ q.0 = ap (text_at 2) e in
+    let same = one_spelled q.0 (a_list x.calls) (a_list y.calls) (calls_within x.calls (and_parts (is_number x.who) (calls_fit x.calls) f).1) (calls_within y.calls (and_parts (is_number y.who) (calls_fit y.calls) g).1) (subst (Spells (a_list x.calls)) text p.1) q.1 in
+    let calls : x.calls ≡ y.calls = ap values_in same in
+    λ i. record { who = record { 0 = who i }; calls = calls i }
+
 -- ---- tables
 
 same_row : {X : Type 0} (shows : Row → X → Type 0) (fits : X → Type 0) → ((c : Row) (x y : X) → fits x → fits y → shows c x → shows c y → x ≡ y) → (o : Option Row) (x y : Option X)
@@ -220,20 +234,25 @@ same_row shows fits one None (Some x) y f g p q = absurd p
 same_row shows fits one (Some c) None y f g p q = absurd p
 same_row shows fits one (Some c) (Some x) None f g p q = absurd q
 
-head_one : (version : Version) (g h : Head) → Some (head_cells version g) ≡ Some (head_cells version h) → g ≡ h
-head_one version g h same =
+counter_one : (version : Version) (table : ℤ → Option Row) (m n : ℕ) → ShowsCounter version table m → ShowsCounter version table n → m ≡ n
+counter_one First table m n p q = p ∙ sym q
+counter_one Second table m n p q = let e = one_some (petition_head_cells m) (petition_head_cells n) (sym p.0 ∙ q.0) in pos_inj m n (int_inj (pos m) (pos n) (ap (λ (c : Row). column c 1) e))
+
+head_one : (version : Version) (g h : Head) → Some (head_cells version g) ≡ Some (head_cells version h) → g.next_petition ≡ h.next_petition → g ≡ h
+head_one version g h same next_petition =
     let e = one_some (head_cells version g) (head_cells version h) same in
     let seq = pos_inj g.seq h.seq (int_inj (pos g.seq) (pos h.seq) (ap (λ (c : Row). column c 2) e)) in
     let top = int_inj g.top h.top (ap (λ (c : Row). column c 3) e) in
     let next_prop = pos_inj g.next_prop h.next_prop (int_inj (pos g.next_prop) (pos h.next_prop) (ap (λ (c : Row). column c 4) e)) in
     let next_verb = pos_inj g.next_verb h.next_verb (int_inj (pos g.next_verb) (pos h.next_verb) (ap (λ (c : Row). column c 5) e)) in
-    λ i. record { top = top i; next_prop = next_prop i; next_verb = next_verb i; seq = seq i }
+    λ i. record { top = top i; next_prop = next_prop i; next_verb = next_verb i; next_petition = next_petition i; seq = seq i }
 
 pub one_rows : (t : Tables) (m n : Maps) → ShowsRows t m → AreWithin m → ShowsRows t n → AreWithin n → m ≡ n
 one_rows t m n p f q g =
-    let head = head_one t.version m.head n.head (sym p.head ∙ q.head) in
+    let head = head_one t.version m.head n.head (sym p.head ∙ q.head) (counter_one t.version t.petition_head m.head.next_petition n.head.next_petition p.counter q.counter) in
     let objects = same_map object_total object_exact m.objects n.objects (λ x. same_row (ShowsObject x) (λ row. row_fits row ≡ true) (object_one x) (t.object x.0) _ _ (f.objects x) (g.objects x) (p.maps.objects x) (q.maps.objects x)) in
     let props = same_map prop_total prop_exact m.props n.props (λ id. same_row (ShowsProp id) (λ row. Unit {0}) (λ c x y _ _. prop_one id c x y) (t.prop (pos id.0)) _ _ (λ r e. tt) (λ r e. tt) (p.maps.props id) (q.maps.props id)) in
     let slots = same_map slot_total slot_exact m.slots n.slots (λ key. same_row (ShowsSlot t.version key) (λ row. state_fits row.state ≡ true) (slot_one t.version key) (t.slot (key.0.0, pos key.1.0)) _ _ (λ s e. (and_parts _ _ (f.slots key s e)).1) (λ s e. (and_parts _ _ (g.slots key s e)).1) (p.maps.slots key) (q.maps.slots key)) in
     let verbs = same_map verb_total verb_exact m.verbs n.verbs (λ key. same_row (ShowsVerb key) (λ row. Unit {0}) (λ c x y _ _. verb_one key c x y) (t.verb (key.0.0, pos key.1.0)) _ _ (λ r e. tt) (λ r e. tt) (p.maps.verbs key) (q.maps.verbs key)) in
-    λ i. record { head = head i; objects = objects i; props = props i; slots = slots i; verbs = verbs i }
+    let petitions = same_map petition_total petition_exact m.petitions n.petitions (λ id. same_row (ShowsPetition id) (λ row. petition_fits row ≡ true) (petition_one id) (t.petition (pos id.0)) _ _ (λ row e. (f.petitions id row e).1) (λ row e. (g.petitions id row e).1) (p.maps.petitions id) (q.maps.petitions id)) in
+    λ i. record { head = head i; objects = objects i; props = props i; slots = slots i; verbs = verbs i; petitions = petitions i }

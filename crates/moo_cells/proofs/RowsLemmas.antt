@@ -14,17 +14,17 @@ use Rattle.moo_tables.specs.Version.{version_number}
 use Rattle.moo_damage.specs.declared.kind.Kind.{Kind}
 use Rattle.moo_damage.specs.declared.kind.Kind.TheVariants.{BadHead, BadCell, PastHead, NoParent, ParentLoop, NoPlace, PlaceLoop, NoDefiner, DoubleName, StrangeSlot, MissingSlot, ClearDefiner, StrangeVerb, Mismatch}
 use Rattle.moo_damage.specs.declared.kind.Key.{Key}
-use Rattle.moo_damage.specs.declared.kind.Key.TheVariants.{Head, Object, Prop, Slot, Verb}
+use Rattle.moo_damage.specs.declared.kind.Key.TheVariants.{Head, Object, Prop, Slot, Verb, Petition}
 use Rattle.moo_damage.specs.Kinds.{place, IsBelow, NoneBefore}
 use Rattle.moo_damage.specs.Limits.{AreWithin}
-use Rattle.moo_cells.specs.Head.{HeadIs, ReadsHead, HasHead, SaysOfHead}
-use Rattle.moo_cells.specs.Reading.{IsRead, ReadsObject, ReadsProp, ReadsSlot, ReadsVerb}
-use Rattle.moo_cells.specs.Shows.{ShowsOrNone, ShowsObject, ShowsProp, ShowsSlot, ShowsVerb, ShowsRows}
-use Rattle.moo_cells.specs.Holding.{HoldsTable, SaysUnread, object_number, prop_number, slot_number, verb_number, object_key, prop_key, slot_key, verb_key, IsLess, IsPairLess}
+use Rattle.moo_cells.specs.Head.{HeadIs, ReadsHead, HasHead, ReadsCounter, HasCounter, SaysOfHead}
+use Rattle.moo_cells.specs.Reading.{IsRead, ReadsObject, ReadsProp, ReadsSlot, ReadsVerb, ReadsPetition}
+use Rattle.moo_cells.specs.Shows.{ShowsOrNone, ShowsObject, ShowsProp, ShowsSlot, ShowsVerb, ShowsPetition, ShowsRows}
+use Rattle.moo_cells.specs.Holding.{HoldsTable, SaysUnread, object_number, prop_number, slot_number, verb_number, petition_number, object_key, prop_key, slot_key, verb_key, petition_key, IsLess, IsPairLess}
 use Rattle.moo_cells.specs.Damage.{IsNewer, IsBadCell, IsMet, SaysOfCells}
 use Rattle.moo_cells.specs.declared.fault.CellFault.{CellFault}
 use Rattle.moo_cells.specs.declared.fault.CellFault.TheVariants.{Damaged, NewerVersion, OutOfMemory}
-use Rattle.moo_cells.proofs.Keys.{objects_bear, props_bear, slots_bear, verbs_bear}
+use Rattle.moo_cells.proofs.Keys.{objects_bear, props_bear, slots_bear, verbs_bear, petitions_bear}
 use Rattle.moo_cells.proofs.HeadLemmas.{head_known, head_not_newer}
 use Rattle.moo_cells.proofs.Table.{none_unread, no_other}
 
@@ -54,16 +54,19 @@ pub record ReadTables (lists : CellLists) (m : Maps) : Type 0 where
   pub cells : Row
   pub head_is : HeadIs (λ n. find (has_rowid n) lists.head.items) cells
   pub head_read : ReadsHead (version_number lists.version) m.head cells
+  pub counter : ReadsCounter lists.version (λ n. find (has_rowid n) lists.petition_head.items) m.head.next_petition
   pub objects : HoldsTable has_rowid object_number ReadsObject lists.object.items m.objects
   pub props : HoldsTable has_rowid prop_number ReadsProp lists.prop.items m.props
   pub slots : HoldsTable begins_with slot_number (ReadsSlot lists.version) lists.slot.items m.slots
   pub verbs : HoldsTable begins_with verb_number ReadsVerb lists.verb.items m.verbs
+  pub petitions : HoldsTable has_rowid petition_number ReadsPetition lists.petition.items m.petitions
 
 module _ (lists : CellLists) (m : Maps) (read : ReadTables lists m) where
   pub rows_shown : ShowsRows (tables_of lists) m
   rows_shown = record {
     head = read.head_is.row ∙ ap Some read.head_read.0;
     no_head = read.head_is.alone;
+    counter = read.counter.0;
     maps = record {
       objects = λ n. shows_of (ReadsObject n) (ShowsObject n) (λ c x h. h.0) (find (has_rowid n.0) lists.object.items) (get m.objects n) (read.objects.shown n);
       props = λ id. shows_of (ReadsProp id) (ShowsProp id) (λ c x h. h.0) (find (has_rowid (pos id.0)) lists.prop.items) (get m.props id) (read.props.shown id);
@@ -72,6 +75,8 @@ module _ (lists : CellLists) (m : Maps) (read : ReadTables lists m) where
       no_slot = λ x n. no_other (slots_bear lists.version) lists.slot.items read.slots.read (x, negsuc n) (λ k e. not_negative k.1.0 n (ap (λ (p : ℤ × ℤ). p.1) e));
       verbs = λ key. shows_of (ReadsVerb key) (ShowsVerb key) (λ c x h. h.0) (find (begins_with (verb_number key)) lists.verb.items) (get m.verbs key) (read.verbs.shown key);
       no_verb = λ x n. no_other verbs_bear lists.verb.items read.verbs.read (x, negsuc n) (λ k e. not_negative k.1.0 n (ap (λ (p : ℤ × ℤ). p.1) e));
+      petitions = λ id. shows_of (ReadsPetition id) (ShowsPetition id) (λ c x h. h.0) (find (has_rowid (pos id.0)) lists.petition.items) (get m.petitions id) (read.petitions.shown id);
+      no_petition = λ n. no_other petitions_bear lists.petition.items read.petitions.read (negsuc n) (λ k e. not_negative k.0 n e);
     };
   }
 
@@ -80,30 +85,37 @@ module _ (lists : CellLists) (m : Maps) (read : ReadTables lists m) where
     top = read.head_read.1.top;
     next_prop = read.head_read.1.next_prop;
     next_verb = read.head_read.1.next_verb;
+    next_petition = read.counter.1;
     objects = λ x row e. (read_of (ReadsObject x) (find (has_rowid x.0) lists.object.items) (get m.objects x) row (read.objects.shown x) e).1.1.fits;
     props = λ id p e. let h = (read_of (ReadsProp id) (find (has_rowid (pos id.0)) lists.prop.items) (get m.props id) p (read.props.shown id) e).1.1 in (h.number.0, h.name);
     slots = λ key s e. let h = (read_of (ReadsSlot lists.version key) (find (begins_with (slot_number key)) lists.slot.items) (get m.slots key) s (read.slots.shown key) e).1.1 in and_from _ _ h.owner h.state;
     verbs = λ key v e. let h = (read_of (ReadsVerb key) (find (begins_with (verb_number key)) lists.verb.items) (get m.verbs key) v (read.verbs.shown key) e).1.1 in (h.number.0, h.fits);
+    petitions = λ id row e. let h = (read_of (ReadsPetition id) (find (has_rowid (pos id.0)) lists.petition.items) (get m.petitions id) row (read.petitions.shown id) e).1.1 in (h.number.0, h.fits);
   }
 
 -- each table after another: what was read before stays
-pub read_all : (lists : CellLists) (cells : Row) (m0 m1 m2 m3 m4 : Maps) → HeadIs (λ n. find (has_rowid n) lists.head.items) cells → ReadsHead (version_number lists.version) m0.head cells
-    → m1 ≡ record m0 { objects = m1.objects } → m2 ≡ record m1 { props = m2.props } → m3 ≡ record m2 { slots = m3.slots } → m4 ≡ record m3 { verbs = m4.verbs }
+pub read_all : (lists : CellLists) (cells : Row) (m0 m1 m2 m3 m4 m5 : Maps) → HeadIs (λ n. find (has_rowid n) lists.head.items) cells → ReadsHead (version_number lists.version) m0.head cells
+    → ReadsCounter lists.version (λ n. find (has_rowid n) lists.petition_head.items) m0.head.next_petition
+    → m1 ≡ record m0 { objects = m1.objects } → m2 ≡ record m1 { props = m2.props } → m3 ≡ record m2 { slots = m3.slots } → m4 ≡ record m3 { verbs = m4.verbs } → m5 ≡ record m4 { petitions = m5.petitions }
     → HoldsTable has_rowid object_number ReadsObject lists.object.items m1.objects → HoldsTable has_rowid prop_number ReadsProp lists.prop.items m2.props
-    → HoldsTable begins_with slot_number (ReadsSlot lists.version) lists.slot.items m3.slots → HoldsTable begins_with verb_number ReadsVerb lists.verb.items m4.verbs → ReadTables lists m4
-read_all lists cells m0 m1 m2 m3 m4 is reads k1 k2 k3 k4 objects props slots verbs =
-    let head : m4.head ≡ m0.head = ap (λ (m : Maps). m.head) k4 ∙ ap (λ (m : Maps). m.head) k3 ∙ ap (λ (m : Maps). m.head) k2 ∙ ap (λ (m : Maps). m.head) k1 in
-    let o : m4.objects ≡ m1.objects = ap (λ (m : Maps). m.objects) k4 ∙ ap (λ (m : Maps). m.objects) k3 ∙ ap (λ (m : Maps). m.objects) k2 in
-    let p : m4.props ≡ m2.props = ap (λ (m : Maps). m.props) k4 ∙ ap (λ (m : Maps). m.props) k3 in
-    let s : m4.slots ≡ m3.slots = ap (λ (m : Maps). m.slots) k4 in
+    → HoldsTable begins_with slot_number (ReadsSlot lists.version) lists.slot.items m3.slots → HoldsTable begins_with verb_number ReadsVerb lists.verb.items m4.verbs
+    → HoldsTable has_rowid petition_number ReadsPetition lists.petition.items m5.petitions → ReadTables lists m5
+read_all lists cells m0 m1 m2 m3 m4 m5 is reads counter k1 k2 k3 k4 k5 objects props slots verbs petitions =
+    let head : m5.head ≡ m0.head = ap (λ (m : Maps). m.head) k5 ∙ ap (λ (m : Maps). m.head) k4 ∙ ap (λ (m : Maps). m.head) k3 ∙ ap (λ (m : Maps). m.head) k2 ∙ ap (λ (m : Maps). m.head) k1 in
+    let o : m5.objects ≡ m1.objects = ap (λ (m : Maps). m.objects) k5 ∙ ap (λ (m : Maps). m.objects) k4 ∙ ap (λ (m : Maps). m.objects) k3 ∙ ap (λ (m : Maps). m.objects) k2 in
+    let p : m5.props ≡ m2.props = ap (λ (m : Maps). m.props) k5 ∙ ap (λ (m : Maps). m.props) k4 ∙ ap (λ (m : Maps). m.props) k3 in
+    let s : m5.slots ≡ m3.slots = ap (λ (m : Maps). m.slots) k5 ∙ ap (λ (m : Maps). m.slots) k4 in
+    let v : m5.verbs ≡ m4.verbs = ap (λ (m : Maps). m.verbs) k5 in
     record {
       cells = cells;
       head_is = is;
       head_read = subst (λ h. ReadsHead (version_number lists.version) h cells) (sym head) reads;
+      counter = subst (λ (h : HeadRow). ReadsCounter lists.version (λ n. find (has_rowid n) lists.petition_head.items) h.next_petition) (sym head) counter;
       objects = subst (HoldsTable has_rowid object_number ReadsObject lists.object.items) (sym o) objects;
       props = subst (HoldsTable has_rowid prop_number ReadsProp lists.prop.items) (sym p) props;
       slots = subst (HoldsTable begins_with slot_number (ReadsSlot lists.version) lists.slot.items) (sym s) slots;
-      verbs = verbs;
+      verbs = subst (HoldsTable begins_with verb_number ReadsVerb lists.verb.items) (sym v) verbs;
+      petitions = petitions;
     }
 
 -- ---- what is told of tables
@@ -157,7 +169,7 @@ cell_kind StrangeVerb under = absurd (omega arith)
 cell_kind Mismatch under = absurd (omega arith)
 
 -- a bad head is told as it is
-pub says_head : (lists : CellLists) (fault : CellFault) → (let t = tables_of lists in SaysOfHead (HasHead (version_number lists.version) t.head) (IsNewer t) fault) → SaysOfCells (tables_of lists) fault
+pub says_head : (lists : CellLists) (fault : CellFault) → (let t = tables_of lists in SaysOfHead (HasHead (version_number lists.version) t.head × HasCounter lists.version t.petition_head) (IsNewer t) fault) → SaysOfCells (tables_of lists) fault
 says_head lists (Damaged kind key) says = rw (says.0, says.1) (says.3, ((λ k under other met. no_kind k under), ((says.2, says.3), (λ other under met. none other under met))))
   where
     none : (other : Key) → IsBelow other Head → IsMet (tables_of lists) BadHead other → ⊥
@@ -166,19 +178,22 @@ says_head lists (Damaged kind key) says = rw (says.0, says.1) (says.3, ((λ k un
     none (Prop n) under met = met
     none (Slot n i) under met = met
     none (Verb n i) under met = met
+    none (Petition n) under met = met
 says_head lists NewerVersion says = says
 says_head lists OutOfMemory says = absurd says
 
-module _ (lists : CellLists) (head : HeadRow) (cells : Row) (is : HeadIs (λ n. find (has_rowid n) lists.head.items) cells) (reads : ReadsHead (version_number lists.version) head cells) where
+module _ (lists : CellLists) (head : HeadRow) (cells : Row) (is : HeadIs (λ n. find (has_rowid n) lists.head.items) cells) (reads : ReadsHead (version_number lists.version) head cells)
+    (counter : ReadsCounter lists.version (λ n. find (has_rowid n) lists.petition_head.items) head.next_petition) where
   abbrev t : Tables
   t = tables_of lists
 
   no_bad_head : (key : Key) → ¬ (IsMet t BadHead key)
-  no_bad_head Head met = met.0 (head_known (version_number lists.version) t.head cells head is reads)
+  no_bad_head Head met = met.0 (head_known (version_number lists.version) t.head cells head is reads, (head.next_petition, counter))
   no_bad_head (Object n) met = met
   no_bad_head (Prop n) met = met
   no_bad_head (Slot n i) met = met
   no_bad_head (Verb n i) met = met
+  no_bad_head (Petition n) met = met
 
   before : (kind : Kind) → place kind < 2 → (key : Key) → ¬ (IsMet t kind key)
   before kind under key met = no_bad_head key (subst (λ k. IsMet t k key) (head_kind kind under) met)
@@ -192,6 +207,7 @@ module _ (lists : CellLists) (head : HeadRow) (cells : Row) (is : HeadIs (λ n. 
       least (Prop n) under bad = absurd (omega arith)
       least (Slot n i) under bad = absurd (omega arith)
       least (Verb n i) under bad = absurd (omega arith)
+      least (Petition n) under bad = absurd (omega arith)
   says_object NewerVersion says = absurd says
   says_object OutOfMemory says = tt
 
@@ -205,6 +221,7 @@ module _ (lists : CellLists) (head : HeadRow) (cells : Row) (is : HeadIs (λ n. 
         least (Prop n) under bad = says.3.least n under bad
         least (Slot n i) under bad = absurd (omega arith)
         least (Verb n i) under bad = absurd (omega arith)
+        least (Petition n) under bad = absurd (omega arith)
     says_prop NewerVersion says = absurd says
     says_prop OutOfMemory says = tt
 
@@ -218,6 +235,7 @@ module _ (lists : CellLists) (head : HeadRow) (cells : Row) (is : HeadIs (λ n. 
           least (Prop n) under bad = none_unread props_bear lists.prop.items props n bad
           least (Slot n i) under bad = says.3.least (n, i) under bad
           least (Verb n i) under bad = absurd (omega arith)
+          least (Petition n) under bad = absurd (omega arith)
       says_slot NewerVersion says = absurd says
       says_slot OutOfMemory says = tt
 
@@ -231,20 +249,36 @@ module _ (lists : CellLists) (head : HeadRow) (cells : Row) (is : HeadIs (λ n. 
             least (Prop n) under bad = none_unread props_bear lists.prop.items props n bad
             least (Slot n i) under bad = none_unread (slots_bear lists.version) lists.slot.items slots (n, i) bad
             least (Verb n i) under bad = says.3.least (n, i) under bad
+            least (Petition n) under bad = absurd (omega arith)
         says_verb NewerVersion says = absurd says
         says_verb OutOfMemory says = tt
 
-        -- where each row of each table is read, neither of the first two kinds is met
-        pub none_met : AllByRecursion (IsRead ReadsVerb) lists.verb.items → ¬ (IsNewer t) × NoneBefore (IsMet t) 3
-        none_met verbs = (head_not_newer lists.version t.head cells head is reads, λ kind under key met. go kind key (cell_kind kind under) met)
-          where
-            bad_cell : (key : Key) → ¬ (IsBadCell t key)
-            bad_cell Head bad = bad
-            bad_cell (Object n) bad = none_unread objects_bear lists.object.items objects n bad
-            bad_cell (Prop n) bad = none_unread props_bear lists.prop.items props n bad
-            bad_cell (Slot n i) bad = none_unread (slots_bear lists.version) lists.slot.items slots (n, i) bad
-            bad_cell (Verb n i) bad = none_unread verbs_bear lists.verb.items verbs (n, i) bad
+        module _ (verbs : AllByRecursion (IsRead ReadsVerb) lists.verb.items) where
+          pub says_petition : (fault : CellFault) → SaysUnread has_rowid ReadsPetition IsLess petition_key lists.petition.items fault → SaysOfCells t fault
+          says_petition (Damaged kind key) says = rw (says.1, says.2) (head_not_newer lists.version t.head cells head is reads, (before, (says.3.bad, least)))
+            where
+              least : (other : Key) → IsBelow other (Petition says.0) → ¬ (IsBadCell t other)
+              least Head under bad = bad
+              least (Object n) under bad = none_unread objects_bear lists.object.items objects n bad
+              least (Prop n) under bad = none_unread props_bear lists.prop.items props n bad
+              least (Slot n i) under bad = none_unread (slots_bear lists.version) lists.slot.items slots (n, i) bad
+              least (Verb n i) under bad = none_unread verbs_bear lists.verb.items verbs (n, i) bad
+              least (Petition n) under bad = says.3.least n under bad
+          says_petition NewerVersion says = absurd says
+          says_petition OutOfMemory says = tt
 
-            go : (kind : Kind) (key : Key) → (kind ≡ BadHead) ⊎ (kind ≡ BadCell) → IsMet t kind key → ⊥
-            go kind key (inl same) met = no_bad_head key (subst (λ k. IsMet t k key) same met)
-            go kind key (inr same) met = bad_cell key (subst (λ k. IsMet t k key) same met)
+          -- where each row of each table is read, neither of the first two kinds is met
+          pub none_met : AllByRecursion (IsRead ReadsPetition) lists.petition.items → ¬ (IsNewer t) × NoneBefore (IsMet t) 3
+          none_met petitions = (head_not_newer lists.version t.head cells head is reads, λ kind under key met. go kind key (cell_kind kind under) met)
+            where
+              bad_cell : (key : Key) → ¬ (IsBadCell t key)
+              bad_cell Head bad = bad
+              bad_cell (Object n) bad = none_unread objects_bear lists.object.items objects n bad
+              bad_cell (Prop n) bad = none_unread props_bear lists.prop.items props n bad
+              bad_cell (Slot n i) bad = none_unread (slots_bear lists.version) lists.slot.items slots (n, i) bad
+              bad_cell (Verb n i) bad = none_unread verbs_bear lists.verb.items verbs (n, i) bad
+              bad_cell (Petition n) bad = none_unread petitions_bear lists.petition.items petitions n bad
+
+              go : (kind : Kind) (key : Key) → (kind ≡ BadHead) ⊎ (kind ≡ BadCell) → IsMet t kind key → ⊥
+              go kind key (inl same) met = no_bad_head key (subst (λ k. IsMet t k key) same met)
+              go kind key (inr same) met = bad_cell key (subst (λ k. IsMet t k key) same met)

@@ -1,6 +1,6 @@
 -- Texts in cells.
 use Rattle.std.proofs.Common.{◌≡◌, ◌≢◌, ℕ, zero, suc, ℤ, List, [], ◌∷◌, ◌≤◌, ◌<◌, length, map, get_or, take, Bool, true, false, true≢false, Some, Result, Ok, Err, refl, sym, ap, subst, ◌∙◌, arith}
-use Rattle.std.specs.Prelude.{if◌then◌else◌, ◌==◌}
+use Rattle.std.specs.Prelude.{if◌then◌else◌, ◌==◌, ◌&&◌, nat_le}
 use Rattle.std.specs.Result.{is_err}
 use Rattle.std.specs.List.{list_all}
 use Rattle.std.proofs.lemmas.Bool.{and_parts, and_from, le-leb, leb-true}
@@ -16,16 +16,18 @@ use Rattle.moo_value.specs.declared.value.Value.{Value as MooValue}
 use Rattle.moo_value.specs.declared.value.Value.TheVariants.{Obj, List as a_list}
 use Rattle.moo_value.specs.Literal.{Spells, Fits, HoldInside, InRange}
 use Rattle.moo_value.specs.Reading.{Fails}
-use Rattle.moo_value.specs.Value.{gather, spread}
+use Rattle.moo_value.specs.Value.{gather, nesting, spread}
 use Rattle.moo_value.specs.Values.{Values, no_values, levels}
 use Rattle.moo_value.proofs.Printed.{one_spelled}
 use Rattle.moo_rows.specs.declared.row.SlotState.{SlotState}
 use Rattle.moo_rows.specs.declared.row.SlotState.TheVariants.{Clear, Set}
-use Rattle.moo_world.specs.Arguments.{is_text, is_number}
+use Rattle.moo_world.specs.Arguments.{is_text, is_number, all_within_limits}
+use Rattle.moo_world.specs.Petitions.{is_named, are_few, are_shallow}
 use Rattle.moo_world.specs.World.{has_word, state_fits, accept_fits}
-use Rattle.moo_world.proofs.Form.Ranges.{text_tested, fits_tested, range_of, fits_signed}
+use Rattle.moo_world.proofs.Form.Ranges.{text_tested, fits_tested, fits_of, range_of, fits_signed}
 use Rattle.moo_verbs.specs.declared.fault.VerbFault.{VerbFault}
 use Rattle.moo_verbs.specs.declared.fault.VerbFault.TheVariants.{BadNames}
+use Rattle.moo_cells.specs.Reading.{calls_fit}
 use Rattle.moo_cells.specs.Shows.{ShowsState, object_list}
 
 abbrev text_in : Value → List ℕ
@@ -138,7 +140,7 @@ pub spread_objects : (objects : List ObjNo) → spread (gather (map Obj objects)
 spread_objects [] = refl
 spread_objects (x ∷ objects) = ap (λ l. Obj x ∷ l) (spread_objects objects)
 
-abbrev values_in : MooValue → Values
+abbrev pub values_in : MooValue → Values
 values_in (a_list vs) = vs
 values_in v = no_values
 
@@ -148,3 +150,41 @@ no_list b v fits spells objects short spelled = one_spelled b v (object_list obj
 
 pub no_items : (vs : Values) (items : List MooValue) (objects : List ObjNo) → items ≡ spread vs → a_list vs ≡ object_list objects → items ≡ map Obj objects
 no_items vs items objects plain same = plain ∙ ap (λ v. spread (values_in v)) same ∙ spread_objects objects
+
+-- ---- the calls of petitions
+
+-- the tests of calls, one by one
+record Held (calls : Values) : Type 0 where
+  named : list_all is_named (spread calls) ≡ true
+  few : are_few calls ≡ true
+  shallow : are_shallow calls ≡ true
+  limits : all_within_limits calls ≡ true
+
+held_of : (calls : Values) → calls_fit calls ≡ true → Held calls
+held_of calls fits =
+    let one = and_parts (list_all is_named (spread calls)) (are_few calls && (are_shallow calls && all_within_limits calls)) fits in
+    let two = and_parts (are_few calls) (are_shallow calls && all_within_limits calls) one.1 in
+    let three = and_parts (are_shallow calls) (all_within_limits calls) two.1 in record { named = one.0; few = two.0; shallow = three.0; limits = three.1 }
+
+-- calls that a petition may hold are a value within the limits
+pub calls_within : (calls : Values) → calls_fit calls ≡ true → Fits (a_list calls)
+calls_within calls fits =
+    let held = held_of calls fits in
+    let deep : nesting (a_list calls) ≤ 30 = leb-true (nesting (a_list calls)) 30 held.shallow in
+    let within : nesting (a_list calls) ≤ 32 = omega arith in (fits_tested (a_list calls)).0 (and_from (nat_le (nesting (a_list calls)) 32) (all_within_limits calls) (le-leb (nesting (a_list calls)) 32 within) held.limits)
+
+-- a value within the limits is such calls where they are named, few and shallow
+pub calls_held : (calls : Values) → Fits (a_list calls) → (list_all is_named (spread calls) && (are_few calls && are_shallow calls)) ≡ true → calls_fit calls ≡ true
+calls_held calls fits held =
+    let one = and_parts (list_all is_named (spread calls)) (are_few calls && are_shallow calls) held in
+    let two = and_parts (are_few calls) (are_shallow calls) one.1 in
+    let limits = and_parts (nat_le (nesting (a_list calls)) 32) (all_within_limits calls) (fits_of (a_list calls) fits) in
+    and_from (list_all is_named (spread calls)) (are_few calls && (are_shallow calls && all_within_limits calls)) one.0
+    (and_from (are_few calls) (are_shallow calls && all_within_limits calls) two.0 (and_from (are_shallow calls) (all_within_limits calls) two.1 limits.1))
+
+pub calls_may : (calls : Values) → calls_fit calls ≡ true → (list_all is_named (spread calls) && (are_few calls && are_shallow calls)) ≡ true
+calls_may calls fits =
+    let held = held_of calls fits in and_from (list_all is_named (spread calls)) (are_few calls && are_shallow calls) held.named (and_from (are_few calls) (are_shallow calls) held.few held.shallow)
+
+pub same_values : (calls others : Values) → a_list calls ≡ a_list others → calls ≡ others
+same_values calls others same = ap values_in same

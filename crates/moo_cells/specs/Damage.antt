@@ -6,11 +6,11 @@ use Rattle.moo_tables.specs.Version.{version_number}
 use Rattle.moo_damage.specs.declared.kind.Kind.{Kind}
 use Rattle.moo_damage.specs.declared.kind.Kind.TheVariants.{BadHead, BadCell}
 use Rattle.moo_damage.specs.declared.kind.Key.{Key}
-use Rattle.moo_damage.specs.declared.kind.Key.TheVariants.{Head, Object, Prop, Slot, Verb}
+use Rattle.moo_damage.specs.declared.kind.Key.TheVariants.{Head, Object, Prop, Slot, Verb, Petition}
 use Rattle.moo_damage.specs.Kinds.{InRows, IsFirstMet}
 use Rattle.moo_damage.specs.Limits.{AreWithin}
-use Rattle.moo_cells.specs.Head.{greatest, IsNewerThan, HasHead}
-use Rattle.moo_cells.specs.Reading.{ReadsObject, ReadsProp, ReadsSlot, ReadsVerb}
+use Rattle.moo_cells.specs.Head.{greatest, IsNewerThan, HasHead, HasCounter}
+use Rattle.moo_cells.specs.Reading.{ReadsObject, ReadsProp, ReadsSlot, ReadsVerb, ReadsPetition}
 use Rattle.moo_cells.specs.Shows.{ShowsRows}
 use Rattle.moo_cells.specs.Unread.{IsUnread}
 use Rattle.moo_cells.specs.declared.fault.CellFault.{CellFault}
@@ -20,9 +20,9 @@ use Rattle.moo_cells.specs.declared.fault.CellFault.TheVariants.{Damaged, NewerV
 abbrev pub IsNewer : Tables → Type 0
 IsNewer t = IsNewerThan greatest t.head
 
--- there is no head of the version of the tables, and it isn't that of a later version either
+-- there is no head of the version of the tables with a number of the next petition, and it isn't that of a later version either
 abbrev pub IsBadHead : Tables → Key → Type 0
-IsBadHead t Head = ¬ (HasHead (version_number t.version) t.head) × ¬ (IsNewer t)
+IsBadHead t Head = ¬ (HasHead (version_number t.version) t.head × HasCounter t.version t.petition_head) × ¬ (IsNewer t)
 IsBadHead t _ = ⊥
 
 -- a row is there that can't be read
@@ -32,6 +32,7 @@ IsBadCell t (Object n) = IsUnread ReadsObject t.object n
 IsBadCell t (Prop id) = IsUnread ReadsProp t.prop id
 IsBadCell t (Slot n id) = IsUnread (ReadsSlot t.version) t.slot (n, id)
 IsBadCell t (Verb n id) = IsUnread ReadsVerb t.verb (n, id)
+IsBadCell t (Petition id) = IsUnread ReadsPetition t.petition id
 
 -- the kind is met at the key: the first two in the cells, each other one in the rows that the cells show
 abbrev pub IsMet : Tables → Kind → Key → Type 0

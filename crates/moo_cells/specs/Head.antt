@@ -1,10 +1,12 @@
--- The table of the head.
-use Rattle.std.specs.Prelude.{◌≡◌, ◌≢◌, ℤ, pos, negsuc, ◌≤ℤ◌, ◌<ℤ◌, ◌<◌, ◌≤◌, [], ◌∷◌, Option, None, Some}
+-- The table of the head, and that of the number of the next petition.
+use Rattle.std.specs.Prelude.{◌≡◌, ◌≢◌, ℕ, ℤ, pos, negsuc, ◌≤ℤ◌, ◌<ℤ◌, ◌<◌, ◌≤◌, [], ◌∷◌, Option, None, Some}
 use Rattle.sqlite.specs.Order.{Row}
 use Rattle.sqlite.specs.declared.types.Value.TheVariants.{Int as Number}
 use Rattle.moo_rows.specs.declared.row.Head.{Head}
+use Rattle.moo_tables.specs.declared.version.Version.{Version}
 use Rattle.moo_damage.specs.declared.kind.Kind.TheVariants.{BadHead}
 use Rattle.moo_damage.specs.declared.kind.Key.TheVariants.{Head as the_head}
+use Rattle.moo_cells.specs.Shows.{ShowsCounter}
 use Rattle.moo_cells.specs.declared.fault.CellFault.{CellFault}
 use Rattle.moo_cells.specs.declared.fault.CellFault.TheVariants.{Damaged, NewerVersion, OutOfMemory}
 
@@ -22,7 +24,7 @@ pub record HeadIs (table : ℤ → Option Row) (cells : Row) : Type 0 where
   pub row : table (pos 1) ≡ Some cells
   pub alone : (n : ℤ) → n ≢ pos 1 → table n ≡ None
 
--- the limits of the counters
+-- the limits of the counters that the table of the head has
 pub record HeadFits (head : Head) : Type 0 where
   pub top : (negsuc 0 ≤ℤ head.top) × (head.top ≤ℤ pos 2147483647)
   pub next_prop : (0 < head.next_prop) × (head.next_prop ≤ 4294967295)
@@ -47,6 +49,18 @@ IsNewerThan known table = (cells : Row) × HeadIs table cells × ReadsNewer know
 -- tables that have a head of this version
 abbrev pub HasHead : ℤ → (ℤ → Option Row) → Type 0
 HasHead version table = (cells : Row) × HeadIs table cells × ReadsKnown version cells
+
+-- the limits of a counter
+abbrev pub IsCounter : ℕ → Type 0
+IsCounter next = (0 < next) × (next ≤ 4294967295)
+
+-- the table has this number of the next petition, within its limits
+abbrev pub ReadsCounter : Version → (ℤ → Option Row) → ℕ → Type 0
+ReadsCounter version table next = ShowsCounter version table next × IsCounter next
+
+-- the table has such a number, as that of the first version always does
+abbrev pub HasCounter : Version → (ℤ → Option Row) → Type 0
+HasCounter version table = (next : ℕ) × ReadsCounter version table next
 
 -- the fault of a head
 abbrev pub SaysOfHead : (known newer : Type 0) → CellFault → Type 0

@@ -5,11 +5,12 @@ use Rattle.std.specs.FinMap.{FinMap, get, insert}
 use Rattle.std.specs.declared.cmp.Ordering.{Ordering}
 use Rattle.sqlite.specs.Order.{Row}
 use Rattle.moo_value.specs.declared.value.ObjNo.{ObjNo}
+use Rattle.moo_rows.specs.declared.row.PetitionId.{PetitionId}
 use Rattle.moo_rows.specs.declared.row.PropId.{PropId}
 use Rattle.moo_rows.specs.declared.row.VerbId.{VerbId}
 use Rattle.moo_damage.specs.declared.kind.Kind.TheVariants.{BadCell}
 use Rattle.moo_damage.specs.declared.kind.Key.{Key}
-use Rattle.moo_damage.specs.declared.kind.Key.TheVariants.{Object, Prop, Slot, Verb}
+use Rattle.moo_damage.specs.declared.kind.Key.TheVariants.{Object, Prop, Slot, Verb, Petition}
 use Rattle.moo_cells.specs.Reading.{IsRead}
 use Rattle.moo_cells.specs.Shows.{ShowsOrNone}
 use Rattle.moo_cells.specs.Unread.{FirstUnread}
@@ -28,6 +29,9 @@ slot_number key = (key.0.0, pos key.1.0)
 abbrev pub verb_number : ObjNo × VerbId → ℤ × ℤ
 verb_number key = (key.0.0, pos key.1.0)
 
+abbrev pub petition_number : PetitionId → ℤ
+petition_number id = pos id.0
+
 -- the key that is told of a row
 abbrev pub object_key : ℤ → Key
 object_key n = Object n
@@ -40,6 +44,9 @@ slot_key key = Slot key.0 key.1
 
 abbrev pub verb_key : ℤ × ℤ → Key
 verb_key key = Verb key.0 key.1
+
+abbrev pub petition_key : ℤ → Key
+petition_key id = Petition id
 
 -- the order of keys
 abbrev pub IsLess : ℤ → ℤ → Type 0

@@ -1,19 +1,25 @@
 -- Cells that can be read: those that show a row within its limits.
-use Rattle.std.specs.Prelude.{◌≡◌, ℕ, ◌<◌, true}
+use Rattle.std.specs.Prelude.{◌≡◌, ℕ, ◌<◌, Bool, true, ◌&&◌}
+use Rattle.std.specs.List.{list_all}
 use Rattle.sqlite.specs.Order.{Row}
 use Rattle.moo_value.specs.declared.value.ObjNo.{ObjNo}
+use Rattle.moo_value.specs.Value.{spread}
+use Rattle.moo_value.specs.Values.{Values}
 use Rattle.moo_rows.specs.declared.row.ObjRow.{ObjRow}
+use Rattle.moo_rows.specs.declared.row.PetitionId.{PetitionId}
+use Rattle.moo_rows.specs.declared.row.PetitionRow.{PetitionRow}
 use Rattle.moo_rows.specs.declared.row.PropId.{PropId}
 use Rattle.moo_rows.specs.declared.row.PropRow.{PropRow}
 use Rattle.moo_rows.specs.declared.row.SlotRow.{SlotRow}
 use Rattle.moo_rows.specs.declared.row.VerbId.{VerbId}
 use Rattle.moo_rows.specs.declared.row.VerbRow.{VerbRow}
-use Rattle.moo_world.specs.Arguments.{is_number}
+use Rattle.moo_world.specs.Arguments.{is_number, all_within_limits}
+use Rattle.moo_world.specs.Petitions.{is_named, are_few, are_shallow, petition_fits}
 use Rattle.moo_world.specs.World.{row_fits, is_property_name, state_fits, verb_fits}
 use Rattle.moo_tables.specs.declared.version.Version.{Version}
-use Rattle.moo_cells.specs.Shows.{ShowsObject, ShowsProp, ShowsSlot, ShowsVerb}
+use Rattle.moo_cells.specs.Shows.{ShowsObject, ShowsProp, ShowsSlot, ShowsVerb, ShowsPetition}
 
--- a number that a property or a verb may have: it lies below the greatest counter
+-- a number that a property, a verb or a petition may have: it lies below the greatest counter
 abbrev pub IsId : ℕ → Type 0
 IsId n = (0 < n) × (n < 4294967295)
 
@@ -40,6 +46,14 @@ pub record VerbFits (key : ObjNo × VerbId) (row : VerbRow) : Type 0 where
   pub number : IsId key.1.0
   pub fits : verb_fits row ≡ true
 
+pub record PetitionFits (id : PetitionId) (row : PetitionRow) : Type 0 where
+  pub number : IsId id.0
+  pub fits : petition_fits row ≡ true
+
+-- the calls are such as a petition may hold, whoever asks
+abbrev pub calls_fit : Values → Bool
+calls_fit calls = list_all is_named (spread calls) && (are_few calls && (are_shallow calls && all_within_limits calls))
+
 -- the cells show this row of this key, and it is within its limits
 abbrev pub ReadsObject : ObjNo → Row → ObjRow → Type 0
 ReadsObject n cells row = ShowsObject n cells row × ObjectFits n row
@@ -52,6 +66,9 @@ ReadsSlot version key cells row = ShowsSlot version key cells row × SlotFits ke
 
 abbrev pub ReadsVerb : ObjNo × VerbId → Row → VerbRow → Type 0
 ReadsVerb key cells row = ShowsVerb key cells row × VerbFits key row
+
+abbrev pub ReadsPetition : PetitionId → Row → PetitionRow → Type 0
+ReadsPetition id cells row = ShowsPetition id cells row × PetitionFits id row
 
 -- the cells show such a row
 abbrev pub IsRead : {K X : Type 0} → (K → Row → X → Type 0) → Row → Type 0

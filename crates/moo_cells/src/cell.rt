@@ -27,7 +27,7 @@ use sqlite::Row;
 use sqlite::types::ValueRef;
 use std::alloc::Global;
 
-/// The greatest number of a property or a verb: one below the greatest counter.
+/// The greatest number of a property, a verb or a petition: one below the greatest counter.
 const MAX_ID: u32 = u32::MAX - 1;
 
 /// The whole number in a column.
@@ -77,7 +77,7 @@ pub(crate) fn object_at(cells: &Row, at: usize) -> Result<ObjNo, RowFault>
     }
 }
 
-/// The number of a property or a verb in a column.
+/// The number of a property, a verb or a petition in a column.
 pub(crate) fn id_at(cells: &Row, at: usize) -> Result<u32, RowFault>
     ensures ok { IfOk result (λ n. column cells.now at ≡ Number (pos n)) }
     ensures fits { IfOk result (λ n. IsId n) }

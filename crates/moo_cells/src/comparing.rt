@@ -6,7 +6,7 @@ ghost use Rattle.moo_world.specs.Rows.{IsGood};
 ghost use Rattle.moo_tables.specs.Inside.{AreKeyed};
 ghost use Rattle.moo_tables.specs.Listing.{AreListed, tables_of};
 ghost use Rattle.moo_tables.specs.Version.{version_number};
-ghost use Rattle.moo_cells.specs.Head.{HeadIs, ReadsHead};
+ghost use Rattle.moo_cells.specs.Head.{HeadIs, ReadsHead, ReadsCounter};
 ghost use Rattle.moo_cells.specs.Shows.{ShowsRows};
 ghost use Rattle.moo_cells.specs.Damage.{SaysOfCells};
 ghost use Rattle.moo_cells.specs.Compared.{IsMismatch};
@@ -16,17 +16,19 @@ use crate::fault::CellFault;
 use crate::head::read_head;
 use crate::showing::show_each;
 use moo_damage::{Key, first_difference};
-use moo_rows::{Flat, Head, Rows, each_object, each_prop, each_slot, each_verb};
+use moo_rows::{Flat, Head, Rows, each_object, each_petition, each_prop, each_slot, each_verb};
 use moo_tables::{CellLists as Cells, Version};
 use sqlite::Row;
 use std::alloc::{AllocError, Global};
 
-/// Whether the table of the head, in tables of this version, shows this one.
-fn shows_head(version: Version, rows: &[Row], head: Head) -> bool
-    requires { AreKeyed rows.now }
-    ensures { result ≡ true → (cells : _) × HeadIs (λ n. find (has_rowid n) rows.now) cells × ReadsHead (version_number version) head cells }
+/// Whether the table of the head, in tables of this version, and that of the number of the next petition show this one.
+fn shows_head(version: Version, rows: &[Row], counters: &[Row], head: Head) -> bool
+    requires head { AreKeyed rows.now }
+    requires counter { AreKeyed counters.now }
+    ensures counter { result ≡ true → ReadsCounter version (λ n. find (has_rowid n) counters.now) head.next_petition }
+    ensures head { result ≡ true → (cells : _) × HeadIs (λ n. find (has_rowid n) rows.now) cells × ReadsHead (version_number version) head cells }
 {
-    match read_head(version, rows) {
+    match read_head(version, rows, counters) {
         Ok(read) => read == head,
         Err(_) => false,
     }
@@ -37,7 +39,12 @@ fn show_rows(alloc: Global, lists: &Cells, rows: &Flat) -> Result<bool, AllocErr
     requires { AreListed lists.now }
     ensures { IfOk result (λ show. show ≡ true → ShowsRows (tables_of lists.now) rows.now.maps) }
 {
-    if !shows_head(lists.version, &lists.head, rows.head()) {
+    if !shows_head(
+        lists.version,
+        &lists.head,
+        &lists.petition_head,
+        rows.head(),
+    ) {
         return Ok(false);
     }
     if !show_each(alloc, lists.version, &lists.object, each_object(rows))? {
@@ -49,7 +56,10 @@ fn show_rows(alloc: Global, lists: &Cells, rows: &Flat) -> Result<bool, AllocErr
     if !show_each(alloc, lists.version, &lists.slot, each_slot(rows))? {
         return Ok(false);
     }
-    show_each(alloc, lists.version, &lists.verb, each_verb(rows))
+    if !show_each(alloc, lists.version, &lists.verb, each_verb(rows))? {
+        return Ok(false);
+    }
+    show_each(alloc, lists.version, &lists.petition, each_petition(rows))
 }
 
 /// The first row in which the tables differ from the rows of a world, in the order of `first_difference`, or none where they show these.

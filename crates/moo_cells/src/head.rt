@@ -1,4 +1,4 @@
-//! The table of the head.
+//! The head: its table, and that of the number of the next petition.
 
 ghost use Rattle.std.specs.Prelude.{◌≡◌, ◌≢◌, ℕ, ◌<◌, ◌≤◌, ◌^◌, pos, negsuc, ◌≤ℤ◌, find, FitsSigned, IfOk, IfErr, IfSome, IfNone};
 ghost use Rattle.std.specs.Int.{w32};
@@ -6,11 +6,12 @@ ghost use Rattle.sqlite.specs.Tree.{has_rowid};
 ghost use Rattle.moo_rows.specs.declared.row.Head.{Head};
 ghost use Rattle.moo_tables.specs.Inside.{AreKeyed};
 ghost use Rattle.moo_tables.specs.Version.{version_number};
-ghost use Rattle.moo_cells.specs.Head.{greatest, HeadIs, ReadsHead, ReadsNewer, ReadsKnown, IsNewerThan, HasHead, SaysOfHead};
+ghost use Rattle.moo_cells.specs.Head.{greatest, HeadIs, ReadsHead, ReadsNewer, ReadsKnown, IsNewerThan, HasHead, ReadsCounter, HasCounter, SaysOfHead};
 ghost use Rattle.moo_cells.specs.HeadCells.{cells_of, AreWords, IsHead};
 ghost use Rattle.moo_cells.specs.declared.head.HeadCells.{HeadCells};
 
 use crate::cell::int_at;
+use crate::counter::{FIRST_PETITION, counter_in, read_counter};
 use crate::fault::{CellFault, RowFault};
 use moo_damage::{Key, Kind};
 use moo_rows::Head;
@@ -83,19 +84,8 @@ fn top_in(number: i64) -> Option<i32>
     }
 }
 
-/// The next number of a property or a verb.
-fn counter_in(number: i64) -> Option<u32>
-    ensures some { IfSome result (λ counter. number ≡ pos counter) }
-    ensures within { IfSome result (λ counter. (0 < counter) × (counter ≤ 4294967295)) }
-    ensures none { IfNone result ((counter : ℕ) → (0 < counter) × (counter ≤ 4294967295) → number ≢ pos counter) }
-{
-    match u32::try_from(number) {
-        Ok(counter) if 0 < counter => Some(counter),
-        _ => None,
-    }
-}
-
-/// The head of these numbers, where they are within its limits.
+/// The head of these numbers, where they are within its limits. The number of the next petition, which isn't among them, is
+/// that of the first.
 fn head_within(numbers: HeadCells) -> Option<Head>
     requires { AreWords numbers }
     ensures some { IfSome result (λ head. IsHead numbers head) }
@@ -110,6 +100,7 @@ fn head_within(numbers: HeadCells) -> Option<Head>
         top,
         next_prop,
         next_verb,
+        next_petition: FIRST_PETITION,
         seq,
     })
 }
@@ -138,11 +129,8 @@ fn head_of(version: Version, cells: &Row) -> Result<Head, CellFault>
     }
 }
 
-/// The head of tables of this version, from the rows of its table.
-///
-/// Errors: `Damaged(BadHead, Head)` where the table isn't one row of id 1 with the number of the version and with counters
-/// within their limits; `NewerVersion` where it is one row of id 1 with whole numbers, the version above 2.
-pub fn read_head(version: Version, rows: &[Row]) -> Result<Head, CellFault>
+/// The head of tables of this version, from the rows of its own table.
+fn head_in(version: Version, rows: &[Row]) -> Result<Head, CellFault>
     requires { AreKeyed rows.now }
     ensures ok { IfOk result (λ head. (cells : _) × HeadIs (λ n. find (has_rowid n) rows.now) cells × ReadsHead (version_number version) head cells) }
     ensures limit { IfOk result (λ head. head.seq < 2 ^ 63) }
@@ -152,4 +140,28 @@ pub fn read_head(version: Version, rows: &[Row]) -> Result<Head, CellFault>
         return Err(BAD_HEAD);
     }
     head_of(version, &rows[0])
+}
+
+/// The head of tables of this version, from the rows of its table, with the number of the next petition from the rows of
+/// `petition_head`: in the first version, which has no such table, it is 1.
+///
+/// Errors: `Damaged(BadHead, Head)` where the table of the head isn't one row of id 1 with the number of the version and with
+/// counters within their limits, or in the second version `petition_head` isn't one row of id 1 with a counter within its
+/// limits; `NewerVersion` where the table of the head is one row of id 1 with whole numbers, the version above 2.
+pub fn read_head(version: Version, rows: &[Row], counters: &[Row]) -> Result<Head, CellFault>
+    requires head { AreKeyed rows.now }
+    requires counter { AreKeyed counters.now }
+    ensures ok { IfOk result (λ head. (cells : _) × HeadIs (λ n. find (has_rowid n) rows.now) cells × ReadsHead (version_number version) head cells) }
+    ensures counter { IfOk result (λ head. ReadsCounter version (λ n. find (has_rowid n) counters.now) head.next_petition) }
+    ensures limit { IfOk result (λ head. head.seq < 2 ^ 63) }
+    ensures err { IfErr result (SaysOfHead (HasHead (version_number version) (λ n. find (has_rowid n) rows.now) × HasCounter version (λ n. find (has_rowid n) counters.now)) (IsNewerThan greatest (λ n. find (has_rowid n) rows.now))) }
+{
+    let mut head = head_in(version, rows)?;
+    match read_counter(version, counters) {
+        Some(next_petition) => {
+            head.next_petition = next_petition;
+            Ok(head)
+        }
+        None => Err(BAD_HEAD),
+    }
 }

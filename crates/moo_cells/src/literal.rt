@@ -1,20 +1,26 @@
 //! Cells that hold literals.
 
-ghost use Rattle.std.specs.Prelude.{◌≡◌, ◌≢◌, ◌≤◌, ℕ, true, List, Option, Some, map, length, IfOk, IfErr};
+ghost use Rattle.std.specs.Prelude.{◌≡◌, ◌≢◌, ◌≤◌, ℕ, true, ◌&&◌, List, Option, Some, map, length, IfOk, IfErr};
+ghost use Rattle.std.specs.List.{list_all};
 ghost use Rattle.sqlite.specs.Order.{column};
 ghost use Rattle.sqlite.specs.declared.types.Value.TheVariants.{Text};
 ghost use Rattle.moo_value.specs.declared.value.ObjNo.{ObjNo};
-ghost use Rattle.moo_value.specs.declared.value.Value.TheVariants.{Obj};
+ghost use Rattle.moo_value.specs.declared.value.Value.TheVariants.{Obj, List as a_list};
+ghost use Rattle.moo_value.specs.Value.{spread};
+ghost use Rattle.moo_value.specs.Values.{Values};
 ghost use Rattle.moo_value.specs.Literal.{Spells};
 ghost use Rattle.moo_rows.specs.declared.row.SlotState.{SlotState};
+ghost use Rattle.moo_world.specs.Petitions.{is_named, are_few, are_shallow};
 ghost use Rattle.moo_world.specs.World.{accept_fits, state_fits};
+ghost use Rattle.moo_cells.specs.Reading.{calls_fit};
 ghost use Rattle.moo_cells.specs.Shows.{ShowsAccept, ShowsState, object_list};
 ghost use Rattle.moo_cells.specs.declared.fault.RowFault.TheVariants.{Unreadable};
 
 use crate::cell::text_at;
 use crate::fault::RowFault;
 use moo_rows::{ObjList, SlotState};
-use moo_value::{ObjNo, Value, read_whole_literal};
+use moo_value::{ObjNo, Value, ValueList, read_whole_literal};
+use moo_world::{are_few, are_named, are_shallow};
 use sqlite::Row;
 use std::alloc::Global;
 
@@ -78,4 +84,37 @@ pub(crate) fn state_at(alloc: Global, cells: &Row, at: usize) -> Result<SlotStat
     }
     let value = read_whole_literal(alloc, text)?;
     Ok(SlotState::Set(value))
+}
+
+/// Whether a petition may hold these calls, which are within the limits of values.
+fn may_be_held(calls: &ValueList) -> bool
+    ensures { result ≡ (list_all is_named (spread calls.now) && (are_few calls.now && are_shallow calls.now)) }
+{
+    are_named(calls.items()) && are_few(calls) && are_shallow(calls)
+}
+
+/// The list of calls that a literal spells.
+fn calls_spelled(alloc: Global, bytes: &[u8]) -> Result<ValueList, RowFault>
+    ensures ok { IfOk result (λ calls. Spells (a_list calls) bytes.now) }
+    ensures fits { IfOk result (λ calls. calls_fit calls ≡ true) }
+    ensures err { IfErr result (λ fault. fault ≡ Unreadable → (calls : Values) → calls_fit calls ≡ true → ¬ (Spells (a_list calls) bytes.now)) }
+{
+    let Value::List(calls) = read_whole_literal(alloc, bytes)? else {
+        return Err(RowFault::Unreadable);
+    };
+    if may_be_held(&calls) {
+        Ok(calls)
+    } else {
+        Err(RowFault::Unreadable)
+    }
+}
+
+/// The calls of a petition, in a column.
+pub(crate) fn calls_at(alloc: Global, cells: &Row, at: usize) -> Result<ValueList, RowFault>
+    ensures ok { IfOk result (λ calls. (text : List ℕ) × Spells (a_list calls) text × (column cells.now at ≡ Text text)) }
+    ensures fits { IfOk result (λ calls. calls_fit calls ≡ true) }
+    ensures err { IfErr result (λ fault. fault ≡ Unreadable → (text : List ℕ) (calls : Values) → Spells (a_list calls) text → calls_fit calls ≡ true → column cells.now at ≢ Text text) }
+{
+    let text = text_at(cells, at)?;
+    calls_spelled(alloc, text)
 }

@@ -10,7 +10,7 @@ ghost use Rattle.moo_cells.specs.Damage.{IsMet, IsNewer, SaysOfCells};
 
 use crate::fault::CellFault;
 use crate::head::read_head;
-use crate::tables::{read_objects, read_props, read_slots, read_verbs};
+use crate::tables::{read_objects, read_petitions, read_props, read_slots, read_verbs};
 use moo_rows::{Flat, Head, Rows};
 use moo_tables::CellLists as Cells;
 use std::alloc::Global;
@@ -37,11 +37,12 @@ pub fn read_rows(alloc: Global, lists: &Cells) -> Result<Flat, CellFault>
     ensures read { OnOk result (¬ (IsNewer (tables_of lists.now)) × NoneBefore (IsMet (tables_of lists.now)) 3) }
     ensures fault { IfErr result (SaysOfCells (tables_of lists.now)) }
 {
-    let head = read_head(lists.version, &lists.head)?;
+    let head = read_head(lists.version, &lists.head, &lists.petition_head)?;
     let mut rows = under(alloc, head);
     read_objects(alloc, &lists.object, &mut rows)?;
     read_props(alloc, &lists.prop, &mut rows)?;
     read_slots(alloc, lists.version, &lists.slot, &mut rows)?;
     read_verbs(alloc, &lists.verb, &mut rows)?;
+    read_petitions(alloc, &lists.petition, &mut rows)?;
     Ok(rows)
 }

@@ -6,7 +6,7 @@ use Rattle.moo_tables.specs.Version.{version_number}
 use Rattle.moo_cells.specs.Head.{greatest, HeadIs, ReadsHead, ReadsNewer, ReadsKnown, IsNewerThan, HasHead, SaysOfHead}
 use Rattle.moo_cells.proofs.Exits.{ok_then, err_then}
 use Rattle.moo_cells.proofs.HeadLemmas.{no_head, one_row, head_is, says_table}
-use Rattle.moo_cells.proofs.head.read_head.Goals as goal
+use Rattle.moo_cells.proofs.head.head_in.Goals as goal
 
 pub returns-then-rows-ne1-clause-err : goal.returns-then-rows-ne1-clause-err
 returns-then-rows-ne1-clause-err c = let none = no_head (version_number c.args.version) c.args.rows.now c.requires c.if-rows-ne1.true in (refl, refl, none.0, none.1)

@@ -1,0 +1,64 @@
+//! The table of petitions.
+
+ghost use Rattle.std.specs.Prelude.{◌≡◌, IfErr, OnOk};
+ghost use Rattle.std.specs.FinMap.{empty, insert};
+ghost use Rattle.sqlite.specs.Tree.{has_rowid};
+ghost use Rattle.moo_tables.specs.Inside.{AreKeyed};
+ghost use Rattle.moo_cells.specs.Reading.{ReadsPetition, IsRead};
+ghost use Rattle.moo_cells.specs.Holding.{petition_number, petition_key, IsLess, HoldsTable, SaysUnread, Takes};
+ghost use Rattle.moo_cells.specs.declared.fault.RowFault.TheVariants.{Unreadable};
+
+use crate::cell::int_in;
+use crate::fault::{CellFault, RowFault};
+use crate::petition::read_petition;
+use crate::table_row::TableRow;
+use moo_damage::{Key, Kind};
+use moo_rows::{Flat, PetitionId, PetitionRow, Rows};
+use moo_tables::Version;
+use sqlite::Row;
+use std::alloc::Global;
+
+impl TableRow for PetitionRow {
+    type Key = PetitionId;
+
+    ghost reads = { λ _. ReadsPetition };
+
+    fn read(
+        alloc: Global,
+        _version: Version,
+        cells: &Row,
+    ) -> Result<(PetitionId, PetitionRow), RowFault> {
+        read_petition(alloc, cells)
+    }
+}
+
+/// Puts the petition that these cells show.
+fn take_petition(alloc: Global, cells: &Row, rows: &mut Flat) -> Result<(), RowFault>
+    ensures ok { OnOk result (Takes ReadsPetition cells.now rows.old.maps.petitions rows.new.maps.petitions) }
+    ensures kept { OnOk result (rows.new.maps ≡ record rows.old.maps { petitions = rows.new.maps.petitions }) }
+    ensures err { IfErr result (λ fault. fault ≡ Unreadable → ¬ (IsRead ReadsPetition cells.now)) }
+{
+    let (key, row) = read_petition(alloc, cells)?;
+    rows.put_petition(key, row)?;
+    Ok(())
+}
+
+/// Puts what each row of the table shows, where no row is so far.
+pub(crate) fn read_petitions(alloc: Global, cells: &[Row], rows: &mut Flat) -> Result<(), CellFault>
+    requires listed { AreKeyed cells.now }
+    requires none { rows.old.maps.petitions ≡ empty }
+    ensures holds { OnOk result (HoldsTable has_rowid petition_number ReadsPetition cells.now rows.new.maps.petitions) }
+    ensures kept { OnOk result (rows.new.maps ≡ record rows.old.maps { petitions = rows.new.maps.petitions }) }
+    ensures fault { IfErr result (SaysUnread has_rowid ReadsPetition IsLess petition_key cells.now) }
+{
+    for row in cells {
+        match take_petition(alloc, row, rows) {
+            Ok(()) => {}
+            Err(RowFault::Unreadable) => {
+                return Err(CellFault::Damaged(Kind::BadCell, Key::Petition(int_in(row, 0))));
+            }
+            Err(RowFault::OutOfMemory) => return Err(CellFault::OutOfMemory),
+        }
+    }
+    Ok(())
+}
