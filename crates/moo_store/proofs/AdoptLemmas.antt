@@ -120,6 +120,7 @@ module _ {S : Type 0} (g : Ghosts S) (old mid : Held S) (version : Version) (row
           λ s it.
               let same : rows ≡ it.rows = one early it.tables it.rows it.rests it.shows it.good in
               record { rows = rows; good = good; state = ap state_of same ∙ it.state; leaves = takes.1 it.tables (rests_still early it.tables it.rests) (shown early it.tables it.rests) },
+          λ tables rests. (rows, good, shown early tables rests, takes.1 tables (rests_still early tables rests) (shown early tables rests)),
         ))
         (read.crash (λ _. has)) survives
 

@@ -4,6 +4,7 @@ use Rattle.sqlite.specs.State.{State as Database}
 use Rattle.sqlite.specs.Tree.{Trees}
 use Rattle.moo_rows.specs.Maps.{Maps}
 use Rattle.moo_world.specs.Judge.{State}
+use Rattle.moo_world.specs.Rows.{IsGood}
 use Rattle.moo_tables.specs.Tables.{Tables, first_schema}
 use Rattle.moo_tables.specs.Inside.{Rests}
 use Rattle.moo_cells.specs.Shows.{ShowsRows}
@@ -32,6 +33,9 @@ IsOfStore Closed = ⊥
 abbrev pub TakesOver : Maps → Database → Trees → Type 0
 TakesOver rows store trees = (tables : Tables) → Rests store tables → ShowsRows tables rows → LeavesRows trees rows
 
--- what opening may commit: in place of tables of the first version others that show what those showed
+-- what opening may commit: in place of tables of the first version others that show what those showed; and of those that rest there
+-- only such as show the rows of a world
 abbrev pub Adopts : Database → Trees → Type 0
-Adopts conn trees = (conn.now.schema ≡ first_schema) × ((s : State) → ShowsState conn s → LeavesState trees s)
+Adopts conn trees =
+    (conn.now.schema ≡ first_schema) × ((s : State) → ShowsState conn s → LeavesState trees s)
+    × ((tables : Tables) → Rests conn tables → (rows : Maps) × IsGood rows × ShowsRows tables rows × LeavesRows trees rows)
