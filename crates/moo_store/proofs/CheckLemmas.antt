@@ -18,7 +18,7 @@ use Rattle.moo_world.proofs.Shown.ObjectEntries.{objects_listed}
 use Rattle.moo_tables.specs.Tables.{Tables}
 use Rattle.moo_tables.specs.Inside.{Rests}
 use Rattle.moo_damage.specs.declared.kind.Key.{Key}
-use Rattle.moo_damage.specs.declared.kind.Key.TheVariants.{Head, Object, Prop, Slot, Verb}
+use Rattle.moo_damage.specs.declared.kind.Key.TheVariants.{Head, Object, Prop, Slot, Verb, Petition}
 use Rattle.moo_damage.specs.Differences.{AgreeAt}
 use Rattle.moo_cells.specs.Shows.{ShowsRows}
 use Rattle.moo_store.specs.States.{KeepsRows}
@@ -38,6 +38,8 @@ agrees_itself m (Slot n (pos id)) = refl
 agrees_itself m (Slot n (negsuc i)) = tt
 agrees_itself m (Verb n (pos id)) = refl
 agrees_itself m (Verb n (negsuc i)) = tt
+agrees_itself m (Petition (pos id)) = refl
+agrees_itself m (Petition (negsuc i)) = tt
 
 -- what opening says of the tables, a check says too
 pub says_in_check : (own : Maps) (tables : Tables) (fault : StoreFault) → Says tables fault → SaysInCheck own tables fault

@@ -15,12 +15,12 @@ use Rattle.moo_cells.specs.Shows.{ShowsRows}
 use Rattle.moo_store.specs.Printed.{Prints}
 use Rattle.moo_store.specs.States.{KeepsRows, LeavesRows}
 use Rattle.moo_store.specs.Untouched.{KeepsCells}
-use Rattle.moo_store.proofs.Shown.{shows-written, keeps-written}
+use Rattle.moo_store.proofs.Shown.{shows-written, keeps-written, counts_alone}
 use Rattle.moo_store.proofs.Versions.{one_tables}
 
 module _ (cells : CellChanges) (changes : Changes) (base next : Maps) (printed : Prints cells changes) (exact : AreChanges base next changes) where
   pub shows_next : (t : Tables) → IsCurrent t → ShowsRows t base → ShowsRows (tables_with cells t) next
-  shows_next t current shows = shows-written cells changes base next t printed exact current shows.no_head shows.maps
+  shows_next t current shows = shows-written cells changes base next t printed exact current shows.no_head (counts_alone t.version base.head.next_petition t.petition_head current shows.counter) shows.maps
 
   pub keeps_next : (old new : Database) → ((t : Tables) → Rests old t → IsCurrent t → Rests new (tables_with cells t)) → KeepsRows old base → KeepsRows new next
   keeps_next old new rests it = record { tables = tables_with cells it.tables; rests = rests it.tables it.rests it.current; current = it.current; shows = shows_next it.tables it.current it.shows }

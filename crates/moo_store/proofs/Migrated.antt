@@ -16,6 +16,7 @@ use Rattle.moo_store.specs.Printed.{PrintEach, PrintsSlot, all_of}
 use Rattle.moo_store.specs.States.{KeepsRows}
 use Rattle.moo_store.specs.Opening.{TakesOver}
 use Rattle.moo_store.proofs.Shown.{shows-migrated}
+use Rattle.moo_tables.proofs.InsideLemmas.{clean_before}
 use Rattle.moo_store.proofs.AdoptLemmas.{survives_more}
 use Rattle.moo_store.proofs.Versions.{version_is}
 
@@ -33,4 +34,4 @@ module _ (m : Maps) (head : Head) (slots : List ((ObjNo × PropId) × Option Slo
   pub survives_migrated : (old new : Database) → (HasCleanDisk old → HasTables first_schema old) → Survives old new (λ trees. (t : Tables) → Rests old t → Leaves trees (migrated head slots t)) → Survives old new (TakesOver m old)
   survives_migrated old new has survives =
       survives_more old new (λ trees. (t : Tables) → Rests old t → Leaves trees (migrated head slots t)) (TakesOver m old)
-      (λ clean trees lies t rests shown. record { tables = migrated head slots t; leaves = lies t rests; shows = shows old.now t rests.holds (version_is old First t (has (survives.clean clean)) rests) shown }) survives
+      (λ clean trees lies t rests shown. record { tables = migrated head slots t; leaves = lies t rests; shows = shows old.now t rests.holds (version_is old First t (has (clean_before old new (λ trees. (t : Tables) → Rests old t → Leaves trees (migrated head slots t)) survives clean)) rests) shown }) survives

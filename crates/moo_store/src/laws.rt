@@ -10,6 +10,7 @@ ghost use Rattle.moo_rows.specs.Maps.{Maps};
 ghost use Rattle.moo_tables.specs.Tables.{Tables};
 ghost use Rattle.moo_world.specs.Judge.{State, after};
 ghost use Rattle.moo_world.specs.Numbers.{NumbersStay};
+ghost use Rattle.moo_world.specs.Requests.{PetitionsStay, state_of};
 ghost use Rattle.moo_store.specs.Untouched.{Writes};
 ghost use Rattle.moo_store.specs.Answered.{Answered, acknowledged};
 ghost use Rattle.moo_store.specs.Stand.{Stand, state_at, RunsBatch, AsksBatch};
@@ -26,10 +27,11 @@ pub fn runs_join()
     ensures { (s : State) (first second : List Batch) → after s (first ++ second) ≡ after (after s first) second }
 {}
 
-/// The rows that accepted batches lead to have every property and verb that they keep under its number, and none under a number that
-/// was given before.
+/// The rows that accepted batches lead to have every property, verb and petition that they keep under its number, and none under a
+/// number that was given before.
 pub fn written_batches_keep_numbers()
-    ensures { (rows end : Maps) (tables after : Tables) (batches : List Batch) → Writes rows tables batches end after → NumbersStay rows end }
+    ensures numbers { (rows end : Maps) (tables after : Tables) (batches : List Batch) → Writes rows tables batches end after → NumbersStay rows end }
+    ensures petitions { (rows end : Maps) (tables after : Tables) (batches : List Batch) → Writes rows tables batches end after → PetitionsStay (state_of rows) (state_of end) }
 {}
 
 /// The state behind a text is that after its acknowledged batches.
