@@ -78,7 +78,7 @@ lists "help has every reply" '[ `]%[ `]' accepted refused full stale malformed t
 lists "help has every reason" '^  %  ' E_PERM E_INVARG E_INVIND E_PROPNF E_VERBNF E_ARGS E_TYPE E_QUOTA E_RECMOVE E_NACC
 says "help has the fields of an object" 0 'object {number, name, owner, parent, location, player, programmer, wizard, r, w, f, accept list or 0}' dump --help
 says "and those of a slot" 0 'slot {object, definer, name, owner, perms, 1, value}' dump --help
-says "and those of a petition" 0 'petition {number, who, calls}' dump --help
+says "and those of a petition" 0 'petition {number, who' dump --help
 for word in '' init apply ask dump check serve; do
     # shellcheck disable=SC2086
     "$MOO" $word --help
