@@ -247,6 +247,10 @@ KEPT = [
     ),
     ("a question of grants", "petitions", "ask", "batch as #3\ngrant(2)\ngrant(1)\npetitions()\nmax_object()\nend\n", "accepted 2\n0\n0\n{}\n#8\nend\n"),
     ("a petition that is refused", "petitions", "apply", 'batch as #4\npetition({{"players"}})\npetition({{"grant", 1}})\nend\n', "refused 2 E_INVARG\n"),
+    (
+        "two questions, of which none sees the other's petition",
+        "tree", "ask", 'batch as #3\npetition({{"players"}})\nend\nbatch as #3\ngrant(1)\nend\n', "accepted 1\n1\nend\nrefused 1 E_INVARG\n",
+    ),
     ("a question of one", "petitions", "ask", 'batch as #4\npetition({{"players"}})\nend\n', "accepted 2\n3\nend\n"),
     ("a batch of another number", "tree", "apply", "batch as #3 at 0\ncreate(#1)\nend\nbatch as #3 at 2\ncreate(#1)\nend\n", "stale 1\nstale 1\n"),
     ("a batch that can't be read", "tree", "apply", "batch as #3\ncreate(#1)\ncreat(#1)\nend\n", "malformed 3\n"),
