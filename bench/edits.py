@@ -3,11 +3,11 @@
     python3 bench/edits.py PROGRAM [COUNT [SEED [FIRST]]]
 
 COUNT times (2,000) a copy of a world's file is edited through a connection: numbers and texts are put into cells of every column, and
-rows are added and deleted, one to three edits a copy. The world has properties, clear and set slots, verbs and accept lists. Then
+rows are added and deleted, one to three edits a copy. The world has clear and set slots, verbs, accept lists and petitions. Then
 
 - `check` refuses it with a kind and a key, status 3, and so does `dump`, in the same words; or
-- `check` accepts it, `dump` writes the objects, properties, slots and verbs that the tables hold, each line of which can be read, and
-  a batch runs on it; then `check` accepts it again.
+- `check` accepts it, `dump` writes the objects, properties, slots, verbs and petitions that the tables hold, each line of which can be
+  read, and a batch runs on it; then `check` accepts it again.
 
 Whichever it is, the edited rows stay as they are until a batch is accepted. The seed is printed first. It stops at the first edit of which
 anything else comes, with its seed, its number and its statements, and leaves the file: status 1. FIRST begins at that number.
@@ -53,12 +53,18 @@ create(#7)
 set(#10, "c", -9223372036854775808)
 set(#10, "r", 1)
 end
+batch as #6
+petition({{"create", #1, #6}, {"set_player_flag", #6, 1}})
+petition({{"recycle", #6}})
+petition({{"set", #8, "a", {1, {"x\"y", #4}, E_PERM}}})
+decline(2)
+end
 '''
 KINDS = (
     "bad-head bad-cell past-head no-parent parent-loop no-place place-loop no-definer double-name strange-slot missing-slot "
     "clear-definer strange-verb"
 ).split()
-TEXTS = {("object", "name"), ("object", "accept"), ("prop", "name"), ("slot2", "value")} | {
+TEXTS = {("object", "name"), ("object", "accept"), ("prop", "name"), ("slot2", "value"), ("petition", "calls")} | {
     ("verb", column) for column in ("names", "bits", "dobj", "prep", "iobj")
 }
 NUMBERS = [-(2**63), -(2**31) - 1, -(2**31), -2, -1, 0, 1, 2, 3, 4, 5, 6, 7, 8, 9, 10, 11, 2**31 - 1, 2**31, 2**32 - 1, 2**32, 2**63 - 1]
@@ -68,6 +74,8 @@ WORDS = [
     "0", "-1", "9223372036854775807", "9223372036854775808", "-9223372036854775809", "#4", "#-1", "#2147483648", "{}", "{#1}", "{ #1}", "{#1,#5 }", "{1,}", "{", "}", '"', '"x"',
     '"\\', "E_PERM", "e_perm", "E_", "{" * 32 + "}" * 32, "{" * 33 + "}" * 33, "\t", "\n", "a\nb", "\u00e9", "'", "x" * 255, "x" * 256, '"' + "x" * 65535 + '"',
     '"' + "x" * 65536 + '"', "{" + "0," * 1023 + "0}", "{" + "0," * 1024 + "0}", "a b", "a " * 300,
+    '{{"players"}}', '{ {"sing" ,#1},{"Grant", 1}}', '{{"players"},}', "{{}}", "{{1}}", '{"players"}', "{" + ",".join(['{"players"}'] * 64) + "}",
+    "{" + ",".join(['{"players"}'] * 65) + "}", '{{"x",' + "{" * 28 + "}" * 28 + "}}", '{{"x",' + "{" * 29 + "}" * 29 + "}}",
 ]
 BYTES = [b"\x00", b"\xff", b"a\x00b", b'"\xc3"', b"\x7f", b'"\x01"']
 CREATE = b"batch as #3\nset(#3, \"name\", \"Wizard\")\nend\n"
@@ -82,7 +90,7 @@ class Edits:
         self.program, self.folder = program, folder
         self.world, self.copy = os.path.join(folder, "world.db"), os.path.join(folder, "copy.db")
         self.said = collections.Counter()
-        if self.run("init", self.world)[0] or self.run("apply", self.world, "-", text=WORLD.encode())[1].count(b"accepted") != 2:
+        if self.run("init", self.world)[0] or self.run("apply", self.world, "-", text=WORLD.encode())[1].count(b"accepted") != 3:
             raise Violation("the world was not made")
         self.with_rows(self.world, lambda connection: connection.execute("pragma wal_checkpoint(truncate)").fetchall())
         self.rows = self.rows_of(self.world)
@@ -122,17 +130,17 @@ class Edits:
 
     def edit(self, chance):
         """A statement, and its values."""
-        table = chance.choice(["head", "object", "object", "prop", "slot2", "slot2", "verb"])
+        table = chance.choice(["head", "object", "object", "prop", "slot2", "slot2", "verb", "petition", "petition_head"])
         columns = TABLES[table]
         row = chance.choice(self.rows[table])
-        keys = columns[: 1 if table in ("head", "object", "prop") else 2]
+        keys = columns[: 2 if table in ("slot2", "verb") else 1]
         where = " and ".join(f"{key} = {row[columns.index(key)]}" for key in keys)
         kind = chance.random()
         if kind < 0.1:
             return f"delete from {table} where {where}", []
         if kind < 0.25:
             values, marks = list(row), ["cast(? as text)" if (table, column) in TEXTS else "?" for column in columns]
-            for column in chance.sample(columns, chance.choice([1, 1, 2, 3])):
+            for column in chance.sample(columns, min(len(columns), chance.choice([1, 1, 2, 3]))):
                 values[columns.index(column)] = self.cell(chance, table, column)[0]
             return f"insert or replace into {table} values ({', '.join(marks)})", values
         column = chance.choice(columns)
@@ -168,11 +176,11 @@ class Edits:
         lines = dump.split(b"\n")
         head = rows["head"][0]
         counts = collections.Counter(line.split(b" ")[0] for line in lines)
-        told = (counts[b"object"], counts[b"property"], counts[b"slot"], counts[b"verb"])
+        told = (counts[b"object"], counts[b"property"], counts[b"slot"], counts[b"verb"], counts[b"petition"])
         if status or lines[-2:] != [b"end", b""] or lines[:2] != [b"seq %d" % seq, b"top #%d" % head[3]]:
             raise Violation(f"dump: status {status}, {dump[:200]!r} .. {dump[-200:]!r}")
-        if told != tuple(len(rows[table]) for table in ("object", "prop", "slot2", "verb")) or told[0] != objects or seq != head[2]:
-            raise Violation(f"the dump has {told} objects, properties, slots and verbs, and check says {objects} objects")
+        if told != tuple(len(rows[table]) for table in ("object", "prop", "slot2", "verb", "petition")) or told[0] != objects or seq != head[2]:
+            raise Violation(f"the dump has {told} objects, properties, slots, verbs and petitions, and check says {objects} objects")
         for line in lines[2:-2]:
             if not is_line(line):
                 raise Violation(f"a line of the dump can't be read: {line[:200]!r}")
@@ -193,7 +201,7 @@ class Edits:
         found = re.fullmatch(rb"ok seq (\d+) objects (\d+)\n", line)
         if status == 0 and found:
             self.accepted(rows, int(found[1]), int(found[2]))
-        elif re.fullmatch(rb"moo: (damaged (%s) (head|#-?\d+|p-?\d+|#-?\d+ [pv]-?\d+)|newer version)\n" % "|".join(KINDS).encode(), line):
+        elif re.fullmatch(rb"moo: (damaged (%s) (head|#-?\d+|[pr]-?\d+|#-?\d+ [pv]-?\d+)|newer version)\n" % "|".join(KINDS).encode(), line):
             self.refused(status, line)
             if self.rows_of(self.copy) != rows:
                 raise Violation("a refusal changed a row")
@@ -223,7 +231,7 @@ def value_end(line, at):
 def is_line(line):
     """Whether a line of a dump is a word and one list."""
     word, _, rest = line.partition(b" ")
-    return word in (b"object", b"property", b"slot", b"verb") and rest[:1] == b"{" and value_end(rest, 0) == len(rest)
+    return word in (b"object", b"property", b"slot", b"verb", b"petition") and rest[:1] == b"{" and value_end(rest, 0) == len(rest)
 
 
 def main():

@@ -41,10 +41,21 @@ damaged 'damaged strange-verb #9 v1' 'update head set next_verb = 2' "insert int
 damaged 'newer version' 'update head set version = 3'
 damaged 'damaged bad-head head' 'update head set version = 1'
 damaged 'damaged bad-cell #6 p2' 'update slot2 set bits = 8 where object = 6 and prop = 2'
+damaged 'damaged past-head r9' "insert into petition values (9, 3, '{{\"max_object\"}}')"
+damaged 'damaged bad-cell r1' "insert into petition values (1, 3, '{{1}}')"
+damaged 'damaged bad-cell r0' "insert into petition values (0, 3, '{{\"max_object\"}}')"
+damaged 'damaged bad-head head' 'delete from petition_head'
+damaged 'damaged bad-head head' 'update petition_head set id = 2'
+damaged 'damaged bad-head head' 'insert into petition_head values (2, 1)'
+damaged 'damaged bad-head head' 'update petition_head set next_petition = 0'
+damaged 'damaged bad-head head' 'update petition_head set next_petition = 4294967296'
+damaged 'newer version' 'update head set version = 3' 'delete from petition_head'
 
 # what another spelling or another tool leaves isn't damage
 edit world.db "update object set accept = '{ #1}' where n = 2" "update slot2 set value = ' 021' where object = 6 and prop = 2"
 expect "another spelling of a value is none" 0 'ok seq 1 objects 8\n' '' check world.db
+edit world.db 'update petition_head set next_petition = 2' "insert into petition values (1, 99, '{ {\"sing\"} }')"
+expect "nor is a petition of nobody's for what is no call" 0 'ok seq 1 objects 8\n' '' check world.db
 "$MOO" apply world.db - >/dev/null <<'B'
 batch as #3
 chparent(#5, #7)
@@ -52,6 +63,8 @@ end
 B
 [ "$(python3 -c 'import sqlite3; print(sqlite3.connect("world.db").execute("select accept from object where n = 2").fetchone()[0])')" = '{ #1}' ] &&
     passed "a row that a batch leaves keeps its cells" || failed "a row that a batch leaves keeps its cells" "they were written anew"
+[ "$(python3 -c 'import sqlite3; print(sqlite3.connect("world.db").execute("select * from petition").fetchall())')" = "[(1, 99, '{ {\"sing\"} }')]" ] &&
+    passed "so does a petition" || failed "so does a petition" "it was written anew"
 edit world.db 'vacuum' 2>/dev/null
 expect "a file that was vacuumed is the same world" 0 'ok seq 2 objects 8\n' '' check world.db
 python3 -c '

@@ -36,8 +36,18 @@ rows world.db >before
 expect "what is refused, malformed or truncated" 0 'refused 2 E_PERM\nmalformed 2\nstale 4\ntruncated\n' 'batch as #3\ncreate(#1)\ncreate(#99)\nend\nbatch as #3\ncreat(#1)\nend\nbatch as #3 at 1\ncreate(#1)\nend\nbatch as #3\ncreate(#1)\n' apply world.db -
 unchanged "changes no row" world.db
 
+asked='{{1, #4, {{"create", #1, #4}, {"set", #4, "name", "Lantern"}}}}'
+expect "a petition is kept" 0 'accepted 5\n1\nend\n' 'batch as #4\npetition({{"create", #1, #4}, {"set", #4, "name", "Lantern"}})\nend\n' apply world.db -
+expect "it is there when the file is opened again" 0 "accepted 5\n$asked\nend\n" 'batch as #3\npetitions()\nend\n' ask world.db -
+rows world.db >before
+expect "who may not grant it changes nothing" 0 'refused 1 E_PERM\n' 'batch as #4\ngrant(1)\nend\n' apply world.db -
+unchanged "in any row" world.db
+expect "it is granted" 0 'accepted 6\n0\n#10\n{}\nend\n' 'batch as #3\ngrant(1)\nmax_object()\npetitions()\nend\n' apply world.db -
+expect "and gone when the file is opened again" 0 'accepted 6\n{}\n"Lantern"\n#4\nend\n' 'batch as #3\npetitions()\nget(#4, "name")\nget(#10, "owner")\nend\n' ask world.db -
+expect "its number isn't given again" 0 'accepted 7\n2\nend\n' 'batch as #3\npetition({{"players"}})\nend\n' apply world.db -
+
 cp world.db copy.db
-expect "after a run the file alone is the whole world" 0 'ok seq 4 objects 10\n' '' check copy.db
+expect "after a run the file alone is the whole world" 0 'ok seq 7 objects 11\n' '' check copy.db
 mkdir "a folder"
 expect "a path may hold blanks" 0 'created\n' '' init "a folder/a world.db"
 expect "and be opened again" 0 'ok seq 0 objects 4\n' '' check "a folder/a world.db"

@@ -1,8 +1,8 @@
-"""The cases of cells.sh: single cells, each kind of damage, and several at once. The seventeen edits of damage.sh aren't tried again."""
+"""The cases of cells.sh: single cells, each kind of damage, and several at once. The edits of damage.sh aren't tried again."""
 from program import case, edit
-from worlds import VERBS, copied, make, rows_of, run
+from worlds import ASKED, VERBS, copied, make, rows_of, run
 
-WHOLE = (0, "ok seq 2 objects 8\n")
+WHOLE = (0, "ok seq 3 objects 8\n")
 # Texts with bytes that no text has are put by their bytes.
 NONE = [b"\n", b"\r", b"\x00", b"\x7f", b"\x1f", b"caf\xc3\xa9", b"\xff"]
 WIDE = [2147483648, -2147483649, 2**63 - 1, -(2**63)]
@@ -20,11 +20,23 @@ NO_VALUES = [
 ]
 LISTS = ["", "{}", "{#1}", " {#1}", "{ #1 , #-1 }", "{#99, #2147483647, #99}", "{" + ",".join(["#1"] * 1000) + "}"]
 NO_LISTS = [" ", "0", "#1", "{1}", "{#1, 2}", "{{#1}}", "{#1", "{#1} ", "{#2147483648}", "x", "{" + ",".join(["#1"] * 1001) + "}"]
+# Calls that a petition may hold: each a list that begins with a string, whatever this names.
+ASKS = [
+    '{{"players"}}', ' {{"players"}}', '\t{ { "players" } ,{"PLAYERS",#01 , e_perm} }', '{{"sing"}}', '{{""}}', '{{"grant", 1}}', '{{"petition", {{"players"}}}}',
+    '{{"get", -9223372036854775808, #-2147483648, "\\"", E_FLOAT, {}}}', "{" + ",".join(['{"players"}'] * 64) + "}", '{{"get",' + "{" * 28 + "}" * 28 + "}}",
+    '{{"players"},{"get",{1,' + "{" * 27 + "}" * 27 + "}}}", '{{"' + "x" * 65535 + '"}}', '{{"get",' + "0," * 5000 + "0}}",
+]
+NO_ASKS = [
+    "", " ", "0", "#4", '"players"', "E_PERM", "{}", "{{}}", '{"players"}', '{"players", #1}', "{{1}}", '{{#1, "valid"}}', '{{{"players"}}}', '{{E_PERM}}', '{{"players"}, {}}',
+    '{{"players"}, "players"}', '{{"players"}, 1}', '{{"players"},}', '{{"players",}}', '{{"players"}} ', '{{"players"}}x', '{{"players"}', '{{"players}}', '{{players}}',
+    "{" + ",".join(['{"players"}'] * 65) + "}", '{{"get",' + "{" * 29 + "}" * 29 + "}}", '{{"get",' + "{" * 30 + "}" * 30 + "}}", '{{"get",' + "{" * 31 + "}" * 31 + "}}",
+    '{{"players"},{"get",{1,' + "{" * 28 + "}" * 28 + "}}}", '{{"' + "x" * 65536 + '"}}', '{{"get", 9223372036854775808}}', '{{"get", #2147483648}}', '{{"get", "\n"}}',
+]
 # The table, the column, the row as SQL and as it is told; values that can be read there, and values that can't.
 CELLS = [
     ("head", "id", "1", "head", [1], [0, 2, -1]),
     ("head", "version", "1", "head", [2], [1, 0, -1, -(2**63)]),
-    ("head", "seq", "1", "head", [2], [-1, -(2**63)]),
+    ("head", "seq", "1", "head", [3], [-1, -(2**63)]),
     ("head", "top", "1", "head", [7, 2147483647], [2147483648, -2, 2**63 - 1]),
     ("head", "next_prop", "1", "head", [4, 4294967295], [0, -1, 4294967296]),
     ("head", "next_verb", "1", "head", [4, 4294967295], [0, -1, 4294967296]),
@@ -47,6 +59,10 @@ CELLS = [
     ("verb", "bits", "object = 4 and id = 1", "#4 v1", ["", "r", "w", "x", "d", "rwxd", "DXWR", "ddd"], ["c", "rw ", " ", *NONE]),
     *(("verb", place, "object = 4 and id = 1", "#4 v1", ["this", "any", "none"], ["", "This", "this ", "it", "in"]) for place in ("dobj", "iobj")),
     ("verb", "prep", "object = 4 and id = 1", "#4 v1", PREPOSITIONS, ["", "in", "None", "any ", "using/with", "In/inside/into", "with/using/", "this"]),
+    ("petition", "who", "id = 2", "r2", [4, -1, 99, 2147483647, -2147483648], WIDE),
+    ("petition", "calls", "id = 2", "r2", ASKS, [*NO_ASKS, *NONE]),
+    ("petition_head", "id", "1", "head", [1], [0, 2, -1]),
+    ("petition_head", "next_petition", "1", "head", [3, 4294967295], [0, -1, 4294967296, 2**63 - 1, -(2**63)]),
 ]
 # What is told, and the edits.
 KEYS = [
@@ -63,6 +79,11 @@ KEYS = [
     ("bad-cell #9223372036854775807 v3", "update verb set object = 9223372036854775807 where id = 3"),
     ("bad-cell #5 v0", "update verb set id = 0 where id = 3"),
     ("bad-cell #5 v4294967295", "update verb set id = 4294967295 where id = 3"),
+    ("bad-cell r0", "update petition set id = 0 where id = 2"),
+    ("bad-cell r-1", "update petition set id = -1 where id = 2"),
+    ("bad-cell r4294967295", "update petition set id = 4294967295 where id = 2"),
+    ("bad-cell r4294967296", "update petition set id = 4294967296 where id = 2"),
+    ("bad-cell r-9223372036854775808", "update petition set id = -9223372036854775808 where id = 2"),
     ("past-head #-1", "update object set n = -1 where n = 0"),
     ("past-head #8", "update object set n = 8 where n = 0"),
     ("past-head #-2147483648", "update object set n = -2147483648 where n = 0"),
@@ -70,6 +91,9 @@ KEYS = [
     ("past-head p4294967294", "update prop set id = 4294967294 where id = 3"),
     ("past-head #5 v4", "update verb set id = 4 where id = 3"),
     ("past-head #0 v12", "update verb set object = 0, id = 12 where id = 3"),
+    ("past-head r3", "update petition set id = 3 where id = 2"),
+    ("past-head r4294967294", "update petition set id = 4294967294 where id = 2"),
+    ("past-head r2", "update petition_head set next_petition = 2"),
     ("no-parent #6", "update object set parent = -2 where n = 6"),
     ("no-parent #0", "update object set parent = 2147483647 where n in (0, 6)"),
     ("parent-loop #7", "update object set parent = 7 where n = 7"),
@@ -120,27 +144,43 @@ SEVERAL = [
     ("bad-cell p1", "update prop set name = ''", "update slot2 set bits = 8", "update verb set bits = 'c'"),
     ("bad-cell #4 p1", "update slot2 set bits = 8", "update verb set bits = 'c'"),
     ("bad-cell #4 v2", "update verb set bits = 'c' where id in (2, 3)"),
+    ("bad-cell #5 v3", "update verb set bits = 'c' where id = 3", "update petition set calls = ''"),
+    ("bad-cell r1", "update petition set calls = ''"),
+    ("bad-cell r-7", "update petition set calls = ''", "insert into petition values (-7, 4, '{{\"players\"}}')"),
     ("past-head #7", "update head set top = 6, next_prop = 1, next_verb = 1"),
     ("past-head #0", "update head set top = -1, next_prop = 1, next_verb = 1"),
     ("past-head p1", "update head set next_prop = 1, next_verb = 1"),
     ("past-head #4 v1", "update head set next_verb = 1"),
     ("past-head #4 v2", "update head set next_verb = 2"),
+    ("past-head #4 v1", "update head set next_verb = 1", "update petition_head set next_petition = 1"),
+    ("past-head r1", "update petition_head set next_petition = 1"),
+    ("past-head r2", "update petition_head set next_petition = 2", "update object set parent = 9 where n = 6"),
+    ("bad-cell r2", "update petition_head set next_petition = 1", "update petition set who = 2147483648 where id = 2"),
     ("bad-head head", "insert into head values (2, 2, 2, 7, 4, 4)"),
     ("bad-head head", "update head set id = 2, version = 3"),
     ("bad-head head", "insert into head values (2, 3, 2, 7, 4, 4)", "update head set version = 3 where id = 1"),
+    ("bad-head head", "delete from petition_head", "update object set name = cast(x'0a' as text)"),
+    ("bad-head head", "insert into petition_head values (2, 3)"),
+    ("bad-head head", "insert into petition_head values (0, 3)", "update petition set calls = ''"),
+    ("bad-head head", "delete from petition_head", "insert into petition_head values (-1, 3)"),
 ]
 # Edits that leave a whole world, and how many objects it has.
 HARMLESS = [
     ("the greatest number of batches", 2**63 - 1, 8, "update head set seq = 9223372036854775807"),
     ("no batch", 0, 8, "update head set seq = 0"),
-    ("an object without a parent", 2, 8, "update object set parent = -1 where n = 0"),
-    ("an object more", 2, 9, "update head set top = 8", "insert into object values (8, '', 3, 1, -1, 0, 0, 0, 0, 0, 0, '')"),
-    ("an object less", 2, 7, "delete from object where n = 0"),
-    ("no object", 2, 0, "update head set top = -1", *(f"delete from {table}" for table in ("object", "prop", "slot2", "verb"))),
-    ("the same name in another branch", 2, 8, "update prop set name = 'a' where id = 3"),
-    ("rows that stand in another order", 2, 8, "update slot2 set rowid = -rowid", "update verb set rowid = 9 - rowid"),
+    ("an object without a parent", 3, 8, "update object set parent = -1 where n = 0"),
+    ("an object more", 3, 9, "update head set top = 8", "insert into object values (8, '', 3, 1, -1, 0, 0, 0, 0, 0, 0, '')"),
+    ("an object less", 3, 7, "delete from object where n = 0"),
+    ("no object", 3, 0, "update head set top = -1", *(f"delete from {table}" for table in ("object", "prop", "slot2", "verb"))),
+    ("the same name in another branch", 3, 8, "update prop set name = 'a' where id = 3"),
+    ("rows that stand in another order", 3, 8, "update slot2 set rowid = -rowid", "update verb set rowid = 9 - rowid"),
+    ("no petition", 3, 8, "delete from petition"),
+    ("no petition, and the first number", 3, 8, "delete from petition", "update petition_head set next_petition = 1"),
+    ("the last petition alone", 3, 8, "delete from petition where id = 1"),
+    ("a petition more", 3, 8, "update petition_head set next_petition = 10", "insert into petition values (9, 99, '{{\"sing\"}}')"),
+    ("the greatest number of a petition", 3, 8, "update petition_head set next_petition = 4294967295", "update petition set id = 4294967294 where id = 2"),
     (
-        "the greatest numbers", 2, 8,
+        "the greatest numbers", 3, 8,
         "update head set top = 2147483647, next_prop = 4294967295, next_verb = 4294967295", "update prop set id = 4294967294 where id = 3",
         "update slot2 set prop = 4294967294 where prop = 3", "update verb set id = 4294967294 where id = 3",
     ),
@@ -149,6 +189,7 @@ NEWER = [
     ("a newer version whose counters are none", "update head set version = 3, seq = -1, top = -2, next_prop = 0, next_verb = 0"),
     ("the newest version", "update head set version = 9223372036854775807"),
     ("a newer version of other rows", "update head set version = 3", "delete from object", "update slot2 set bits = 8"),
+    ("a newer version without the number of the next petition", "update head set version = 3", "delete from petition_head", "update petition set calls = ''"),
 ]
 
 
@@ -199,6 +240,6 @@ def harmless():
         case(name, *judged(edited(*statements), "newer version"))
 
 
-make("world.db", VERBS)
+make("world.db", VERBS + ASKED)
 for part in (single_cells, keys, order, harmless):
     part()

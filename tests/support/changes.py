@@ -1,6 +1,6 @@
 """Batches, and the rows that each has to change: for tables.py. The head of a changed world is given, and of each table the rows that go
 and the rows that come; a row that is replaced does both. Nothing else may be written."""
-from worlds import TREE, VERBS
+from worlds import PETITIONS, TREE, VERBS
 
 
 def thing(number, name="", owner=3, parent=1, location=-1, marks=(0, 0, 0, 0, 0, 0), accept=""):
@@ -8,9 +8,10 @@ def thing(number, name="", owner=3, parent=1, location=-1, marks=(0, 0, 0, 0, 0,
     return (number, name, owner, parent, location, *marks, accept)
 
 
-# The tables that are made, and neither read nor written behind that.
-UNREAD = {"slot": [], "petition": [], "petition_head": [(1, 1)]}
-OPENING = UNREAD | {
+# The table that is made, and neither read nor written behind that; and those of petitions where nobody has asked yet.
+UNREAD = {"slot": []}
+NONE_ASKED = {"petition": [], "petition_head": [(1, 1)]}
+OPENING = UNREAD | NONE_ASKED | {
     "head": [(1, 2, 0, 3, 1, 1)],
     "object": [
         thing(0, "System Object"),
@@ -22,7 +23,7 @@ OPENING = UNREAD | {
     "slot2": [],
     "verb": [],
 }
-OF_TREE = UNREAD | {
+OF_TREE = UNREAD | NONE_ASKED | {
     "head": [(1, 2, 1, 7, 4, 1)],
     "object": OPENING["object"] + [thing(4), thing(5, parent=4), thing(6, parent=5), thing(7)],
     "prop": [(1, 4, "a"), (2, 5, "b"), (3, 7, "c")],
@@ -33,6 +34,9 @@ GET_TAKE = (4, 1, "get take", 3, "rd", "any", "in/inside/into", "this")
 LOOK = (4, 2, "l*ook", 3, "rwx", "this", "none", "none")
 PUT = (5, 3, "put", 3, "", "any", "any", "any")
 OF_VERBS = OF_TREE | {"head": [(1, 2, 2, 7, 4, 4)], "verb": [GET_TAKE, LOOK, PUT]}
+TO_CREATE = (1, 4, '{{"create", #1, #4}, {"set_player_flag", #4, 1}}')
+TO_SET = (2, 4, '{{"set", #6, "b", {22, "x\\"y"}}}')
+OF_PETITIONS = OF_TREE | {"head": [(1, 2, 2, 7, 4, 1)], "petition": [TO_CREATE, TO_SET], "petition_head": [(1, 3)]}
 QUOTA = """batch as #3
 add_property(#3, "ownership_quota", 2, {#3, ""})
 move(#2, #0)
@@ -45,7 +49,9 @@ OF_QUOTA = OPENING | {
     "slot2": [(3, 1, 3, 0, "2")],
 }
 # The worlds that batches begin with: the text that makes one, and its rows.
-WORLDS = {"new": ("", OPENING), "tree": (TREE, OF_TREE), "verbs": (VERBS, OF_VERBS), "quota": (QUOTA, OF_QUOTA)}
+WORLDS = {
+    "new": ("", OPENING), "tree": (TREE, OF_TREE), "verbs": (VERBS, OF_VERBS), "quota": (QUOTA, OF_QUOTA), "petitions": (PETITIONS, OF_PETITIONS),
+}
 
 FOUR, FIVE, SIX, SEVEN = OF_TREE["object"][4:]
 A4, A5, B5, A6, B6, C7 = OF_TREE["slot2"]
@@ -168,6 +174,47 @@ CHANGES = [
     ),
     ("a verb that goes leaves the others their numbers", "verbs", ["delete_verb(#4, 1)"], "0", (7, 4, 4), {"verb": [GET_TAKE]}, {}),
     (
+        "a petition is a row, with its calls as the literal that is printed, and the next one's number rises",
+        "tree", ['petition({ {"Create",#1,#04},{"valid",{"x\\"y" ,e_perm,-7}} })'], "1", (7, 4, 1),
+        {"petition_head": [(1, 1)]},
+        {"petition": [(1, 3, '{{"Create", #1, #4}, {"valid", {"x\\"y", E_PERM, -7}}}')], "petition_head": [(1, 2)]},
+    ),
+    (
+        "each petition has its row",
+        "petitions", ['petition({{"players"}})', 'petition({{"max_object"}})'], "3 4", (7, 4, 1),
+        {"petition_head": [(1, 3)]},
+        {"petition": [(3, 3, '{{"players"}}'), (4, 3, '{{"max_object"}}')], "petition_head": [(1, 5)]},
+    ),
+    (
+        "a grant takes its petition's row away, and leaves the number; its calls change what they change by themselves",
+        "petitions", ["grant(1)"], "0", (8, 4, 1),
+        {"petition": [TO_CREATE], "object": [FOUR]},
+        {"object": [thing(4, marks=(1, 0, 0, 0, 0, 0)), thing(8, owner=4)]},
+    ),
+    (
+        "two grants take two",
+        "petitions", ["grant(2)", "grant(1)"], "0 0", (8, 4, 1),
+        {"petition": [TO_CREATE, TO_SET], "object": [FOUR], "slot2": [B6]},
+        {
+            "object": [thing(4, marks=(1, 0, 0, 0, 0, 0)), thing(8, owner=4)],
+            "slot2": [(6, 2, 3, 4, '{22, "x\\"y"}')],
+        },
+    ),
+    ("a petition that is declined goes alone", "petitions", ["decline(1)"], "0", (7, 4, 1), {"petition": [TO_CREATE]}, {}),
+    ("the last of them leaves its number too", "petitions", ["decline(2)", "decline(1)"], "0 0", (7, 4, 1), {"petition": [TO_CREATE, TO_SET]}, {}),
+    (
+        "a petition that came and went leaves its number",
+        "tree", ['petition({{"players"}})', "decline(1)"], "1 0", (7, 4, 1), {"petition_head": [(1, 1)]}, {"petition_head": [(1, 2)]},
+    ),
+    (
+        "so does one that is granted in its own batch",
+        "tree", ['petition({{"move", #4, #2}})', "grant(1)"], "1 0", (7, 4, 1),
+        {"object": [FOUR], "petition_head": [(1, 1)]}, {"object": [thing(4, location=2)], "petition_head": [(1, 2)]},
+    ),
+    ("calls on the world leave the petitions", "petitions", ["create(#1)", "recycle(#4)"], "#8 0", (8, 4, 1),
+        {"object": [FOUR, FIVE], "prop": [(1, 4, "a")], "slot2": [A4, A5, A6]}, {"object": [thing(5), thing(8)]},
+    ),
+    (
         "of each table a row goes, one is replaced and one comes",
         "verbs",
         [
@@ -193,6 +240,18 @@ KEPT = [
     ),
     ("a batch that is refused behind calls that changed all", "tree", "apply", "\n".join(["batch as #3", *FIVE_CALLS, "create(#99)", "end\n"]), "refused 5 E_PERM\n"),
     ("a question of the same", "tree", "ask", "\n".join(["batch as #3", *FIVE_CALLS, "max_object()", "end\n"]), "accepted 1\n#8\n0\n0\n0\n#8\nend\n"),
+    (
+        "a grant that is refused behind calls that changed all",
+        "petitions", "apply", 'batch as #3\npetition({{"create", #6}, {"chparent", #5, #7}, {"recycle", #6}, {"recycle", #6}})\ngrant(2)\ngrant(3)\nend\n',
+        "refused 3 E_INVARG\n",
+    ),
+    ("a question of grants", "petitions", "ask", "batch as #3\ngrant(2)\ngrant(1)\npetitions()\nmax_object()\nend\n", "accepted 2\n0\n0\n{}\n#8\nend\n"),
+    ("a petition that is refused", "petitions", "apply", 'batch as #4\npetition({{"players"}})\npetition({{"grant", 1}})\nend\n', "refused 2 E_INVARG\n"),
+    (
+        "two questions, of which none sees the other's petition",
+        "tree", "ask", 'batch as #3\npetition({{"players"}})\nend\nbatch as #3\ngrant(1)\nend\n', "accepted 1\n1\nend\nrefused 1 E_INVARG\n",
+    ),
+    ("a question of one", "petitions", "ask", 'batch as #4\npetition({{"players"}})\nend\n', "accepted 2\n3\nend\n"),
     ("a batch of another number", "tree", "apply", "batch as #3 at 0\ncreate(#1)\nend\nbatch as #3 at 2\ncreate(#1)\nend\n", "stale 1\nstale 1\n"),
     ("a batch that can't be read", "tree", "apply", "batch as #3\ncreate(#1)\ncreat(#1)\nend\n", "malformed 3\n"),
     ("a batch without its end", "tree", "apply", "batch as #3\ncreate(#1)\n", "truncated\n"),

@@ -1,6 +1,6 @@
 """The tables of a file, in the order in which they are made, and the columns of each, its key first. For the scripts of tests/ and bench/.
 
-The slots are in slot2. The table slot is that of the first version, and empty; of petitions there is only the head.
+The slots are in slot2. The table slot is that of the first version, and empty.
 """
 TABLES = {
     "head": "id version seq top next_prop next_verb".split(),

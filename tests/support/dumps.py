@@ -11,8 +11,8 @@ from notation import tree
 from program import MOO, case, edit, run
 from service import PATIENCE, Service, answer, get
 
-# The columns of each table that are its key. The head has one row.
-KEYS = {"head": 0, "object": 1, "prop": 1, "slot2": 2, "verb": 2}
+# The columns of each table that are its key. The head has one row, and so has that of the petitions.
+KEYS = {"head": 0, "object": 1, "prop": 1, "slot2": 2, "verb": 2, "petition": 1, "petition_head": 0}
 
 OPENING = """object {#0, "System Object", #3, #1, #-1, 0, 0, 0, 0, 0, 0, 0}
 object {#1, "Root Class", #3, #-1, #-1, 0, 0, 0, 0, 0, 1, 0}
@@ -24,12 +24,14 @@ NEW = "max_object()"
 SMALL_TREE = "; ".join(tree().calls)
 WEIGHTS = 'add_property(#1, "weight", 7, {#3, "r"}); add_property(#3, "age", 40, {#3, "r"})'
 VALUED = '; set(#6, "a", 12); set(#6, "b", {1, #2, "x"})'
+ASKED = 'petition({{"create", #1}}); petition({{"max_object"}})'
 
 # Another spelling of each cell that may have one. A row that is written anew has the one that the program prints.
 OTHER_SPELLING = [
     "update object set accept = '{ ' || substr(accept, 2) where accept like '{%'",
     "update slot2 set value = '00' || value where value glob '[0-9]*'",
     "update slot2 set value = '{ ' || substr(value, 2) where value like '{%'",
+    "update petition set calls = '{ ' || substr(calls, 2)",
 ]
 
 # What the world is, in calls; the calls of a batch on it; the rows that come (+), go (-) or differ (~); and the greatest number of an
@@ -84,6 +86,12 @@ CHANGES = [
     ("an equal list is the same value", SMALL_TREE + VALUED, 'set(#6, "b", {}); set(#6, "b", {1, #2, "x"})', "", (7, 4, 1)),
     ("an object isn't its number", SMALL_TREE + VALUED, 'set(#6, "b", {1, 2, "x"})', "~slot2 6 2", (7, 4, 1)),
     ("nor are strings the same in another case", SMALL_TREE + VALUED, 'set(#6, "b", {1, #2, "X"})', "~slot2 6 2", (7, 4, 1)),
+    ("a petition is one change, with the number of the next", NEW, 'petition({{"create", #1}})', "+petition 1, ~petition_head", (3, 1, 1)),
+    ("one that comes and goes changes that number alone", NEW, 'petition({{"create", #1}}); decline(1)', "~petition_head", (3, 1, 1)),
+    ("one that is declined goes alone", ASKED, "decline(2)", "-petition 2", (3, 1, 1)),
+    ("one that is granted goes, with what its calls change", ASKED, "grant(1)", "+object 4, -petition 1", (4, 1, 1)),
+    ("one whose calls read goes alone", ASKED, "grant(2)", "-petition 2", (3, 1, 1)),
+    ("a new petition leaves the others as they stand", ASKED, 'petition({{"max_object"}})', "+petition 3, ~petition_head", (3, 1, 1)),
     ("a new verb is one change", NEW, 'add_verb(#1, {#3, "r", "get"}, {"any", "in", "this"})', "+verb 1 1", (3, 1, 2)),
 ]
 
@@ -155,6 +163,12 @@ UNCHANGED = [
     ("a refused batch", text_of("create(#1); create(#9)"), b"refused 2 E_PERM\n"),
     ("a batch of nobody's", text_of("max_object()", "#9"), b"refused 1 E_PERM\n"),
     ("a stale one", text_of("create(#1)", "#3 at 0"), b"stale 1\n"),
+    ("a petition with a call behind it that fails", text_of('petition({{"max_object"}}); recycle(#9)'), b"refused 2 E_INVARG\n"),
+    (
+        "a grant whose last call fails",
+        text_of('petition({{"create", #1}, {"chparent", #5, #7}, {"recycle", #9}}); grant(1)'),
+        b"refused 2 E_INVARG\n",
+    ),
 ]
 
 
@@ -190,6 +204,25 @@ CHAIN = (
     'add_property(#7, "p7", 7, {#3, ""}); add_property(#1, "p1", 1, {#3, ""})'
 )
 
+# Eleven petitions, of which two are gone again.
+ELEVEN = "; ".join([*(f'petition({{{{"valid", #{number}}}}})' for number in range(1, 12)), "decline(5)", "grant(1)"])
+ELEVEN_LINES = "".join(f'petition {{{number}, #3, {{{{"valid", #{number}}}}}}}\n' for number in (2, 3, 4, 6, 7, 8, 9, 10, 11))
+# Spelled otherwise than it is dumped.
+SPELLED = 'petition({ {"SET" ,#1,"name","a \\"b\\\\"},{"move",#04,#-1,{ {007},e_perm}} }); create(#1)'
+SPELLED_LINES = """object {#4, "", #3, #1, #-1, 0, 0, 0, 0, 0, 0, 0}
+petition {1, #3, {{"SET", #1, "name", "a \\"b\\\\"}, {"move", #4, #-1, {{7}, E_PERM}}}}
+end
+"""
+
+
+def petitions_dumped():
+    case("petitions are dumped behind the objects, by their numbers", dumped(ELEVEN), f"seq 1\ntop #3\n{OPENING}{ELEVEN_LINES}end\n")
+    case("with their calls as literals", dumped(SPELLED), f"seq 1\ntop #4\n{OPENING}{SPELLED_LINES}")
+    run("apply", "dump.db", "-", text=text_of('petition({{"players"}})', "#4"))
+    run("apply", "dump.db", "-", text=text_of("recycle(#4)"))
+    lines = run("dump", "dump.db")[1].decode().split("\n")
+    case("and whoever asked, an object or none", lines[-3:], ['petition {2, #4, {{"players"}}}', "end", ""])
+
 
 def dumps():
     case("a new world is dumped", run("dump", ":memory:"), (0, f"seq 0\ntop #3\n{OPENING}end\n".encode()))
@@ -221,8 +254,9 @@ def dump_with_room(file, room):
 
 
 def cut_off_dumps():
-    whole = dumped(SMALL_TREE)
-    for room in (0, 5, 100, 500):
+    whole = dumped(f"{SMALL_TREE}; {ASKED}")
+    # The last of these ends in the line of a petition.
+    for room in (0, 5, 100, 500, len(whole) - 20):
         case(f"a dump that is cut off behind {room} bytes is its front", dump_with_room("dump.db", room), (1, whole[:room]))
     case("one with room enough is whole", dump_with_room("dump.db", len(whole)), (0, whole))
 
@@ -254,5 +288,5 @@ def looks():
     case("and that was all", service.end(), (0, f"served {len(LOOKS)} failed 0\n"))
 
 
-for part in (changed_rows, unchanged_rows, dumps, cut_off_dumps, looks):
+for part in (changed_rows, unchanged_rows, dumps, petitions_dumped, cut_off_dumps, looks):
     part()

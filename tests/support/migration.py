@@ -42,6 +42,7 @@ def the_tree():
     case("six slots, of which each may be read by all", [row[3] for row in found["slot2"]], [4] * 6)
     case("none is left where they were", found["slot"], [])
     case("its version is 2", found["head"][0][1], 2)
+    case("nobody has asked for anything, and the first petition will have the number 1", (found["petition"], found["petition_head"]), ([], [(1, 1)]))
     case("it is dumped the same again", run("dump", "tree.db"), (0, TREE_DUMP))
     case("and is whole", run("check", "tree.db"), (0, "ok seq 1 objects 8\n"))
     last = text_of(["chparent(#5, #7)", 'get(#6, "b")', 'get(#6, "c")', 'is_clear_property(#6, "c")'], "#3 at 1")
@@ -58,9 +59,21 @@ def one_schema():
     case("and the rows of a new one", rows_of("old.db"), OPENING)
 
 
+def petitions_begin():
+    """Behind a file's migration residents may ask."""
+    make_first("old.db", first_rows(OF_TREE))
+    case("there is no petition at first", run("ask", "old.db", "-", text=text_of(["petitions()"])), (0, accepted(1, "{}")))
+    ran = run("apply", "old.db", "-", text=text_of(['petition({{"create", #1}})', 'petition({{"players"}})'], "#4") + text_of(["grant(1)"]))
+    case("then two are asked for, and one is granted", ran, (0, accepted(2, "1", "2") + accepted(3, "0")))
+    found = rows_of("old.db")
+    case("and they stand in the new tables", (found["petition"], found["petition_head"]), ([(2, 4, '{{"players"}}')], [(1, 3)]))
+
+
 def each_world():
-    """The same world, made by batches and taken over, is dumped in the same bytes."""
+    """The same world, made by batches and taken over, is dumped in the same bytes. The first version has no petitions."""
     for name, (text, rows) in WORLDS.items():
+        if rows["petition"]:
+            continue
         make("own.db", text)
         make_first("old.db", first_rows(rows))
         wanted = run("dump", "own.db")
@@ -259,7 +272,7 @@ def short_of_memory(rows):
     case("with little memory it says so, or takes the file over", (wrong, {0, 4} <= statuses), ([], True))
 
 
-for part in (the_tree, one_schema, each_world, each_command, spellings, every_right_and_value, refusals, full_disks, a_large_world):
+for part in (the_tree, one_schema, petitions_begin, each_world, each_command, spellings, every_right_and_value, refusals, full_disks, a_large_world):
     part()
 LARGE = descendants(3000)
 killed(LARGE, 20)

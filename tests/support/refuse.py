@@ -156,6 +156,10 @@ ONE, TWO = "accepted 1\n#4\nend\n", "stale 1\n"
 BATCH = "batch as #3 at 0\ncreate(#1)\nend\n"
 MOVE = 'batch as #3\nchparent(#5, #7)\nget(#6, "b")\nget(#6, "c")\nis_clear_property(#6, "c")\nend\n'
 MOVED = "accepted 2\n0\n21\n30\n1\nend\n"
+# #4 has asked for an object of its own and a change of parent. The wizard asks for something too, and grants what #4 asked.
+ASKED = 'batch as #4\npetition({{"create", #1, #4}, {"chparent", #5, #7}})\nend\n'
+GRANT = 'batch as #3 at 2\npetition({{"players"}})\ngrant(1)\nmax_object()\npetitions()\nend\n'
+GRANTED, AGAIN = 'accepted 3\n2\n0\n#8\n{{2, #3, {{"players"}}}}\nend\n', "stale 3\n"
 LITERAL = 'batch as #3\nadd_property(#1, "x", {1,{ },"a\\"b\\\\"}, {#3, "r"})\nget(#1, "x")\nend\n'
 SPELLED = 'accepted 0\n0\n{1, {}, "a\\"b\\\\"}\nend\n'
 REQUEST = post("/batch", '{"as":"#3","calls":["create(#1)"]}').decode()
@@ -176,13 +180,13 @@ def fronts(whole, worlds):
     return lambda written, status: worlds if status == 1 and whole.startswith(written) else None
 
 
-def killed(ends):
+def killed(first, ends):
     """A front of the replies where the program was killed; each batch that was acknowledged is there, and at most one more."""
 
     def is_end(written, status):
         if status != -9 or not ends.startswith(written):
             return None
-        return {1} if written.startswith(ONE) else {0, 1}
+        return {1} if written.startswith(first) else {0, 1}
 
     return is_end
 
@@ -193,6 +197,8 @@ def prepare():
     run(["init", "tree.db"], ".")
     with open(f"{HERE}/tree.txt", encoding="utf-8") as text:
         run(["apply", "tree.db", "-"], ".", text.read())
+    shutil.copy("tree.db", "asked.db")
+    run(["apply", "asked.db", "-"], ".", ASKED)
 
 
 def memory():
@@ -221,6 +227,8 @@ def memory():
     case("two batches", batches, fault, opening)
     ends = {(MOVED, 0): {1}, ("nomemory\n", 0): {0}, (NO_MEMORY, 4): {0, 1}, ("fault\n", 1): {0, 1}}
     case("a change of parent", Task("tree.db", ["apply", "w.db", "-"], MOVE, REFUSED | ends), fault, opening)
+    ends = {(GRANTED, 0): {1}, ("nomemory\n", 0): {0}, (NO_MEMORY, 4): {0, 1}, ("fault\n", 1): {0, 1}}
+    case("a grant", Task("asked.db", ["apply", "w.db", "-"], GRANT, REFUSED | ends), fault, opening)
     ends = {(SPELLED, 0): {0}, ("nomemory\n", 0): {0}, (NO_MEMORY, 4): {0}}
     case("a literal that is read and printed", Task("new.db", ["ask", "w.db", "-"], LITERAL, REFUSED | ends), fault, opening)
     ends = {
@@ -260,7 +268,11 @@ def disks():
     ends = {(whole, 0): {1}, (STORE, 1): {0}, ("fault\nclosed\n", 1): {0, 1}}
     case("two batches, on a disk that fails once", Task("new.db", words, text, ends), Fault("file", EIO))
     case("on one that stays full", Task("new.db", words, text, ends), Fault("file", ENOSPC, True))
-    case("killed at each call of the files", Task("new.db", words, text, ends, killed(whole)), Fault("file", KILL))
+    case("killed at each call of the files", Task("new.db", words, text, ends, killed(ONE, whole)), Fault("file", KILL))
+    whole = GRANTED + AGAIN
+    ends = {(whole, 0): {1}, (STORE, 1): {0}, ("fault\nclosed\n", 1): {0, 1}}
+    case("a grant that is sent twice, on a disk that fails once", Task("asked.db", words, GRANT + GRANT, ends), Fault("file", EIO))
+    case("a grant, killed at each call of the files", Task("asked.db", words, GRANT + GRANT, ends, killed(GRANTED, whole)), Fault("file", KILL))
     ends = {(CREATED + SERVED, 0): {1}, (STORE, 1): {0}, (unavailable("fault") + SERVED, 0): {0, 1}}
     case("a POST, on a disk that fails once", Post("new.db", [], REQUEST, ends), Fault("file", EIO))
     case("on one that stays full", Post("new.db", [], REQUEST, ends), Fault("file", ENOSPC, True))

@@ -56,6 +56,47 @@ QUESTIONS = [
     ("they changed nothing", r'{"as":"#3","calls":["max_object()"]}', OK, r'{"answers":["#3"],"seq":0}'),
 ]
 
+# On another world: what residents ask and wizards grant.
+PETITIONS = [
+    ("somebody is made", r'{"as":"#3","calls":["create(#1, #-1)"]}', OK, r'{"answers":["#4"],"seq":1}'),
+    ("none is there", r'{"as":"#4","calls":["petitions()"]}', OK, r'{"answers":["{}"],"seq":2}'),
+    (
+        "a petition",
+        r'{"as":"#4","calls":["petition({{\"create\", #1, #4}, {\"set\", #5, \"name\", \"a \\\"b\\\\\"}})"]}',
+        OK,
+        r'{"answers":["1"],"seq":3}',
+    ),
+    (
+        "it is listed as it stands in a text",
+        r'{"as":"#3","at":3,"calls":["petitions()"]}',
+        OK,
+        r'{"answers":["{{1, #4, {{\"create\", #1, #4}, {\"set\", #5, \"name\", \"a \\\"b\\\\\"}}}}"],"seq":4}',
+    ),
+    ("who is no wizard grants nothing", r'{"as":"#4","calls":["grant(1)"]}', CONFLICT, r'{"call":1,"error":"E_PERM"}'),
+    ("no number", r'{"as":"#3","calls":["grant(\"1\")"]}', CONFLICT, r'{"call":1,"error":"E_TYPE"}'),
+    ("no such petition", r'{"as":"#3","calls":["grant(2)"]}', CONFLICT, r'{"call":1,"error":"E_INVARG"}'),
+    ("a petition for a grant", r'{"as":"#4","calls":["petition({{\"grant\", 1}})"]}', CONFLICT, r'{"call":1,"error":"E_INVARG"}'),
+    ("a petition for nothing that is a call", r'{"as":"#4","calls":["petition({{\"sing\"}})"]}', CONFLICT, r'{"call":1,"error":"E_INVARG"}'),
+    ("a petition that is no value", r'{"as":"#4","calls":["max_object()","petition({{\"create\", #1},})"]}', BAD, r'{"call":2,"error":"malformed"}'),
+    (
+        "its grant, sent with its number",
+        r'{"as":"#3","at":4,"calls":["grant(1)","get(#5, \"name\")","get(#5, \"owner\")"]}',
+        OK,
+        r'{"answers":["0","\"a \\\"b\\\\\"","#4"],"seq":5}',
+    ),
+    ("sent again it doesn't act again", r'{"as":"#3","at":4,"calls":["grant(1)"]}', CONFLICT, r'{"error":"stale","seq":5}'),
+    ("it is gone", r'{"as":"#3","calls":["petitions()"]}', OK, r'{"answers":["{}"],"seq":6}'),
+    ("another, whose second call will fail", r'{"as":"#4","calls":["petition({{\"create\", #1}, {\"recycle\", #99}})"]}', OK, r'{"answers":["2"],"seq":7}'),
+    ("the grant is what is refused", r'{"as":"#3","calls":["max_object()","grant(2)"]}', CONFLICT, r'{"call":2,"error":"E_INVARG"}'),
+    ("nothing of it acted", r'{"as":"#3","calls":["max_object()","decline(2)","petitions()"]}', OK, r'{"answers":["#5","0","{}"],"seq":8}'),
+    ("the next number is another", r'{"as":"#4","calls":["petition({{\"players\"}})"]}', OK, r'{"answers":["3"],"seq":9}'),
+]
+# As questions, which keep nothing.
+ASKED = [
+    ("a petition", r'{"as":"#3","calls":["petition({{\"create\", #1}})","grant(1)","max_object()"]}', OK, r'{"answers":["1","0","#4"],"seq":0}'),
+    ("which isn't there then", r'{"as":"#3","calls":["grant(1)"]}', CONFLICT, r'{"call":1,"error":"E_INVARG"}'),
+]
+
 WIZARD = (
     '{"children":[],"contents":[],"f":0,"location":"#2","name":"Wizard","owner":"#3","parent":"#1","player":1,"programmer":1,'
     '"r":0,"w":0,"wizard":1}'
@@ -92,8 +133,13 @@ def questions():
     in_turn("a question", rows_of("/ask", QUESTIONS))
 
 
+def petitions():
+    in_turn("a petition", rows_of("/batch", PETITIONS))
+    in_turn("a question of petitions", rows_of("/ask", ASKED))
+
+
 def others():
     in_turn("an answer", OTHERS)
 
 
-SCENES = [batches, questions, others]
+SCENES = [batches, questions, petitions, others]

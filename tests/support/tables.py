@@ -165,6 +165,20 @@ def spellings():
     case("writes them anew", cells, [[("{#1}",), ("{#4, #5}",)], [(4, "1"), (4, "21")], [("rd", "any")]])
 
 
+def spelled_petitions():
+    """So it is with petitions, whose rows come and go, and never change."""
+    file = copied("petitions.db")
+    dumped = run("dump", file)
+    calls = '{ {"create" ,#1,\t#04},{ "set_player_flag", #4 , 01 } }'
+    edit(file, ("update petition set calls = ? where id = 1", (calls,)))
+    case("another spelling of a petition is read as what it spells", run("dump", file), dumped)
+    text = text_of(["create(#1)", 'petition({{"players"}})', "decline(2)"])
+    case("a batch beside it", run("apply", file, "-", text=text), (0, accepted(3, "#8", "3", "0")))
+    case("leaves it as it stands", rows_of(file)["petition"], [(1, 4, calls), (3, 3, '{{"players"}}')])
+    case("and it is granted as it is read", run("apply", file, "-", text=text_of(["grant(1)", "is_player(#4)"])), (0, accepted(4, "0", "1")))
+    case("then its row is gone", rows_of(file)["petition"], [(3, 3, '{{"players"}}')])
+
+
 def made_anew(tables, old="", new=""):
     """A copy of a world in which tables were dropped and made again with their rows, the first by its text or one with another word in it."""
     file = copied("verbs.db")
@@ -232,5 +246,5 @@ def strange_tables():
 
 for world, (text, _) in WORLDS.items():
     make(f"{world}.db", text)
-for part in (schema, worlds, changes, kept, opened_again, questions, two_thousand, spellings, strange_tables):
+for part in (schema, worlds, changes, kept, opened_again, questions, two_thousand, spellings, spelled_petitions, strange_tables):
     part()

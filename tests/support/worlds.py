@@ -19,6 +19,13 @@ add_verb(#4, {#3, "rwx", "l*ook"}, {"this", "none", "none"})
 add_verb(#5, {#3, "", "put"}, {"any", "any", "any"})
 end
 """
+# Two petitions of #4's, with the numbers 1 and 2.
+ASKED = """batch as #4
+petition({{"create", #1, #4}, {"set_player_flag", #4, 1}})
+petition({{"set", #6, "b", {22, "x\\"y"}}})
+end
+"""
+PETITIONS = TREE + ASKED
 
 
 def run(*words, text="", memory=None):
