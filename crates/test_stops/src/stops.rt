@@ -106,6 +106,31 @@ fn a_recycling_that_stops_is_there_or_not(rt: HostRuntime) -> Result<(), Fail> {
     Ok(())
 }
 
+/// `#4` asks for an object of its own, and to be a player.
+const ASKED: &str = r#"batch as #3
+create(#1, #-1)
+end
+batch as #4
+petition({{"create", #1, #4}, {"set_player_flag", #4, 1}})
+end
+"#;
+
+/// The stops of a batch that grants a petition: behind each, all of its calls are made and it is gone, or none is and it stands.
+#[test]
+fn a_grant_that_stops_is_there_or_not(rt: HostRuntime) -> Result<(), Fail> {
+    let alloc = rt.alloc();
+    let text = Task::Apply(
+        b"batch as #3\ngrant(1)\nget(#5, \"owner\")\nis_player(#4)\npetitions()\nend\n",
+    );
+    let kept = world_of(alloc, ASKED.as_bytes())?;
+    let run = run_on(alloc, kept, text, b"accepted 3\n0\n#4\n1\n{}\nend\n")?;
+    assert!(rt; str::from_utf8(&run.old)?.contains("petition {1, #4"));
+    assert!(rt; !str::from_utf8(&run.new)?.contains("petition {"));
+    let counts = all_rounds(alloc, &run)?;
+    assert!(rt; are_right(&counts), "{counts:?}");
+    Ok(())
+}
+
 /// The stops of a check, which changes nothing.
 #[test]
 fn a_check_that_stops_changes_nothing(rt: HostRuntime) -> Result<(), Fail> {
