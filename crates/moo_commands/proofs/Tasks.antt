@@ -1,5 +1,5 @@
 -- From what was done to a World to how a task ends.
-use Rattle.std.proofs.Common.{◌≡◌, ◌⊎◌, inl, inr, ℕ, ◌≤◌, Bool, true, false, List, Option, None, Result, Ok, Err, IfOk, IfErr, refl, ap, arith, IsTrue}
+use Rattle.std.proofs.Common.{◌≡◌, ◌⊎◌, inl, inr, ℕ, ◌≤◌, Bool, true, false, List, Option, None, Result, Ok, Err, IfOk, IfErr, refl, sym, ap, subst, arith, IsTrue}
 use Rattle.std.specs.Prelude.{if◌then◌else◌, codes}
 use Rattle.std.specs.Str.{bytes_eq}
 use Rattle.sqlite.specs.State.{State as Database, HasCleanDisk, Survives}
@@ -12,7 +12,7 @@ use Rattle.moo_store.specs.Turns.{Halts}
 use Rattle.moo_store.specs.Text.{Applies, Stops}
 use Rattle.moo_store.specs.World.{store_of, CrashLeaves}
 use Rattle.moo_commands.specs.Lines.{text_failure}
-use Rattle.moo_commands.specs.Run.{given, lost_status, RunsText, Ends}
+use Rattle.moo_commands.specs.Run.{given, lost_status, RunsText, StopsText, Ends}
 use Rattle.moo_commands.specs.declared.failure.Failure.{Failure}
 
 pub given_input : (batches : List ℕ) (input : Option (List ℕ)) → bytes_eq batches (codes "-") ≡ true → given batches input ≡ input
@@ -38,6 +38,15 @@ module _ {S : Type 0} (g : Ghosts S) (known : Bool) (was world : World S) where
 
   pub ends_map : (P Q : Stand → Type 0) → ((end : Stand) → P end → Q end) → Ends g known was world P → Ends g known was world Q
   ends_map P Q f it = record { end = it.end; clean = it.clean; crash = it.crash; ends = f it.end it.ends }
+
+  -- what stops the text that is given stops the text of that name
+  pub text_stops : {A : Type 0} (r : Result A Failure) (s : State) (text named old new : Option (List ℕ)) → named ≡ text
+      → IfErr r (λ failure. Ends g known was world (λ end. (f : TextFault) × (failure ≡ text_failure f) × Halts RunsBatch (Works s) end text old new f))
+      → IfErr r (λ failure. Ends g known was world (λ end. StopsText RunsBatch s end failure named old new))
+  text_stops (Ok a) s text named old new is it = tt
+  text_stops (Err failure) s text named old new is it =
+      ends_map (λ end. (f : TextFault) × (failure ≡ text_failure f) × Halts RunsBatch (Works s) end text old new f) (λ end. StopsText RunsBatch s end failure named old new)
+      (λ end stops. subst (λ t. StopsText RunsBatch s end failure t old new) (sym is) (inl stops)) it
 
   -- a call that commits nothing leaves what a crash could leave before
   pub stays_at : (s : State) (P : Stand → Type 0) → Survives (store_of g was) (store_of g world) (λ _. ⊥) → (IsTrue known → HasCleanDisk (store_of g was) → CrashLeaves (store_of g was) (Works s)) → P (Works s) → Ends g known was world P

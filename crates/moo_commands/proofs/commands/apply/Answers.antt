@@ -1,8 +1,8 @@
-use Rattle.std.proofs.Common.{IfOk, inr, refl, sym, subst, ◌∙◌}
+use Rattle.std.proofs.Common.{IfOk, None, inr, refl, sym, subst, ◌∙◌}
 use Rattle.moo_store.specs.Stand.{Works, RunsBatch}
 use Rattle.moo_commands.specs.declared.failure.Failure.TheVariants.{NoBatches}
 use Rattle.moo_commands.specs.Run.{given, RunsText, StopsText, Ends}
-use Rattle.moo_commands.proofs.Tasks.{given_input, given_none, unchanged}
+use Rattle.moo_commands.proofs.Tasks.{given_input, given_none, text_stops, unchanged}
 use Rattle.moo_commands.proofs.commands.apply.Goals as goal
 
 pub returns-then-eq-clause-done : goal.returns-then-eq-clause-done
@@ -22,3 +22,15 @@ returns-clause-stops g c known s stands =
     let output = g.W.Write.contents c.args.output.now in
     unchanged g.S.Store known c.args.world.now s (λ end. StopsText RunsBatch s end NoBatches (given c.args.batches.now (g.R.Read.remaining c.args.input)) output output)
     (c.leaves.ensures known (Works s) stands) (inr (refl, refl, refl))
+
+pub returns-then-eq-clause-stops : goal.returns-then-eq-clause-stops
+returns-then-eq-clause-stops g c known s stands =
+    let input = g.R.Read.remaining c.args.input in
+    text_stops g.S.Store known c.args.world.now c.run_text.new.world c.run_text.result s input (given c.args.batches.now input) (g.W.Write.contents c.args.output.now) (g.W.Write.contents c.run_text.new.output)
+    (given_input c.args.batches.now input (sym c.eq.ensures ∙ c.if-eq.true)) (c.run_text.ensures.stops known s stands)
+
+pub returns-in-Ok-clause-stops : goal.returns-in-Ok-clause-stops
+returns-in-Ok-clause-stops g c known s stands =
+    let input = g.R.Read.remaining c.args.input in
+    text_stops g.S.Store known c.args.world.now c.run_text-in-Ok.new.world c.run_text-in-Ok.result s None (given c.args.batches.now input) (g.W.Write.contents c.args.output.now) (g.W.Write.contents c.run_text-in-Ok.new.output)
+    (given_none c.args.batches.now input (sym c.eq.ensures ∙ c.if-eq.false)) (c.run_text-in-Ok.ensures.stops known s stands)
