@@ -262,7 +262,7 @@ pairs_in one two more t rows keyed typed present unique =
     let alone = λ (r : Row) (has : Has rows r). not-true _ (and_parts (not (clashes plain (1 ∷ 2 ∷ []) rows r)) true (all_has _ rows r unique has)).0 in
     record { ints = ints; one = one_pair rows keyed alone ints }
 
-slot_pairs : (version : Version) (db : Trees) → IsSound (schema_of version) db → AreKeyed (db (slot_tree version)) → ArePairs (db (slot_tree version))
+pub slot_pairs : (version : Version) (db : Trees) → IsSound (schema_of version) db → AreKeyed (db (slot_tree version)) → ArePairs (db (slot_tree version))
 slot_pairs First db sound keyed = pairs_in (codes "object") (codes "prop") (drop 2 slot_table.columns) slot_table (db 3) keyed (sound.obeys.rules Datatype).1.1.1.0 (sound.obeys.rules NotNull).1.1.1.0 (sound.obeys.rules Unique).1.1.1.0
 slot_pairs Second db sound keyed =
     pairs_in (codes "object") (codes "prop") (drop 2 slot2_table.columns) slot2_table (db 7) keyed (sound.obeys.rules Datatype).1.1.1.1.1.0 (sound.obeys.rules NotNull).1.1.1.1.1.0 (sound.obeys.rules Unique).1.1.1.1.1.0
@@ -271,7 +271,7 @@ slots_stored : (version : Version) (db : Trees) → overlay db [] (slot_tree ver
 slots_stored First db = refl
 slots_stored Second db = refl
 
-verb_pairs : (version : Version) (db : Trees) → IsSound (schema_of version) db → AreKeyed (db 5) → ArePairs (db 5)
+pub verb_pairs : (version : Version) (db : Trees) → IsSound (schema_of version) db → AreKeyed (db 5) → ArePairs (db 5)
 verb_pairs First db sound keyed = pairs_in (codes "object") (codes "id") (drop 2 verb_table.columns) verb_table (db 5) keyed (sound.obeys.rules Datatype).1.1.1.1.0 (sound.obeys.rules NotNull).1.1.1.1.0 (sound.obeys.rules Unique).1.1.1.1.0
 verb_pairs Second db sound keyed = pairs_in (codes "object") (codes "id") (drop 2 verb_table.columns) verb_table (db 5) keyed (sound.obeys.rules Datatype).1.1.1.1.0 (sound.obeys.rules NotNull).1.1.1.1.0 (sound.obeys.rules Unique).1.1.1.1.0
 

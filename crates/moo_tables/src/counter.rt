@@ -22,6 +22,9 @@ pub(crate) fn put_counter<S: Alter>(tx: &mut Transaction<'_, S>, next: u32) -> R
     ensures inside { StaysInside (state S.Store tx.old.conn.now) (state S.Store tx.new.conn.now) }
     ensures put { OnOk result (Changes (with_counter next) (state S.Store tx.old.conn.now) (state S.Store tx.new.conn.now)) }
 {
-    let put = prepare(tx, "INSERT OR REPLACE INTO petition_head VALUES (?1, ?2)")?;
+    let put = prepare(
+        tx,
+        "INSERT INTO petition_head VALUES (?1, ?2) ON CONFLICT (id) DO UPDATE SET next_petition = ?2",
+    )?;
     run_prepared(tx, &put, &counter_values(next))
 }

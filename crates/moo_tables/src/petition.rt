@@ -39,7 +39,7 @@ impl TableRow for PetitionCells {
     ghost with_row = { with_petition };
 
     fn put_text() -> &'static str {
-        "INSERT OR REPLACE INTO petition VALUES (?1, ?2, ?3)"
+        "INSERT INTO petition VALUES (?1, ?2, ?3) ON CONFLICT (id) DO UPDATE SET who = ?2, calls = ?3"
     }
 
     fn remove_text() -> &'static str {
