@@ -1,21 +1,26 @@
 //! The file of a task.
 
-ghost use Rattle.std.specs.Prelude.{◌≡◌, Bool, IsTrue, true, false, MatchResult};
+ghost use Rattle.std.specs.Prelude.{◌≡◌, Bool, IsTrue, true, false, IfOk, IfSome, MatchOption, MatchResult};
 ghost use Rattle.sqlite.specs.State.{HasCleanDisk};
 ghost use Rattle.sqlite.specs.Files.{over_files, file_state};
+ghost use Rattle.sqlite.specs.WalFiles.{image_at};
+ghost use Rattle.moo_rows.specs.Maps.{Maps};
 ghost use Rattle.moo_rows.specs.Opening.{opening_maps};
 ghost use Rattle.moo_world.specs.Rows.{IsGood};
 ghost use Rattle.moo_world.specs.Judge.{State, state_of};
+ghost use Rattle.moo_tables.specs.Tables.{Tables};
+ghost use Rattle.moo_cells.specs.Shows.{ShowsRows};
 ghost use Rattle.moo_store.specs.World.{store_of, CrashLeaves, StandsFor};
-ghost use Rattle.moo_commands.specs.Run.{begins_anew, file_of, IsOpening, IsRefusal, Runs, RunsTask};
+ghost use Rattle.moo_files.specs.Contents.{HoldsTables, HoldsState};
+ghost use Rattle.moo_commands.specs.Run.{begins_anew, file_of, IsOpening, IsRefusal, FailsAtOnce, RefusesFile, Runs, RunsUnseen, RunsTask};
 
 use crate::failure::Failure;
 use crate::output::report;
 use crate::over::{begins_anew, run_in, run_over};
-use moo_files::{create_at, open_at};
+use moo_files::{create_from, open_from};
 use moo_store::{StoreFault, World};
 use moo_words::Task;
-use sqlite::{Connection, Error, ErrorCode, File, FileStore};
+use sqlite::{Connection, Error, ErrorCode, FileFrom, FileStore, Start, Unknown};
 use sqlite_disk::Disk;
 use std::fs;
 use std::io::{Read, Write};
@@ -56,11 +61,16 @@ fn run_in_files<R: Read + Drop, W: Write, D: Disk + Drop>(
     run_in(rt, world, task, input, output, status)
 }
 
-/// Makes a new world in a file.
-fn make(rt: &HostRuntime, file: &str) -> Result<World<FileStore<File>>, Failure>
-    ensures { MatchResult result (λ world. StandsFor over_files true world (state_of opening_maps)) IsOpening }
+/// Makes a new world in a file; none where it holds a world already.
+fn make<T: Start>(
+    rt: &HostRuntime,
+    file: &str,
+    start: T,
+) -> Result<World<FileStore<FileFrom<T>>>, Failure>
+    ensures made { MatchResult result (λ world. StandsFor over_files true world (state_of opening_maps)) IsOpening }
+    ensures taken { (s : State) → HoldsState (image_at T.Start) s → IfOk result (λ world. HasCleanDisk (store_of over_files world) → ⊥) }
 {
-    match create_at(rt, file) {
+    match create_from(rt, file, start) {
         Ok(world) => Ok(world),
         Err(fault) => Err(Failure::from(fault)),
     }
@@ -85,24 +95,74 @@ fn refusal_of(rt: &HostRuntime, file: &str, fault: StoreFault) -> Failure
 }
 
 /// Opens the world that a file holds.
-fn open(rt: &HostRuntime, file: &str) -> Result<World<FileStore<File>>, Failure>
-    ensures { MatchResult result (λ world. IsGood world.rows.maps × StandsFor over_files false world (state_of world.rows.maps)) IsRefusal }
+fn open<T: Start>(
+    rt: &HostRuntime,
+    file: &str,
+    start: T,
+) -> Result<World<FileStore<FileFrom<T>>>, Failure>
+    ensures opened { MatchResult result (λ world. IsGood world.rows.maps × StandsFor over_files false world (state_of world.rows.maps)) IsRefusal }
+    ensures kept { (s : State) → HoldsState (image_at T.Start) s → IfOk result (λ world. HasCleanDisk (store_of over_files world) → StandsFor over_files true world s) }
+    ensures only { (tables : Tables) → HoldsTables (image_at T.Start) tables → IfOk result (λ world. HasCleanDisk (store_of over_files world) → ShowsRows tables world.rows.maps) }
 {
-    match open_at(rt, file) {
+    match open_from(rt, file, start) {
         Ok(world) => Ok(world),
         Err(fault) => Err(refusal_of(rt, file, fault)),
     }
 }
 
 /// The world that a task begins with. Only `init` makes a file.
-fn world_of(rt: &HostRuntime, file: &str, task: Task<'_>) -> Result<World<FileStore<File>>, Failure>
+fn world_of<T: Start>(
+    rt: &HostRuntime,
+    file: &str,
+    start: T,
+    task: Task<'_>,
+) -> Result<World<FileStore<FileFrom<T>>>, Failure>
     ensures anew { begins_anew task.entry ≡ true → MatchResult result (λ world. StandsFor over_files true world (state_of opening_maps)) IsOpening }
+    ensures taken { (s : State) → begins_anew task.entry ≡ true → HoldsState (image_at T.Start) s → IfOk result (λ world. HasCleanDisk (store_of over_files world) → ⊥) }
     ensures opened { begins_anew task.entry ≡ false → MatchResult result (λ world. IsGood world.rows.maps × StandsFor over_files false world (state_of world.rows.maps)) IsRefusal }
+    ensures kept { (s : State) → begins_anew task.entry ≡ false → HoldsState (image_at T.Start) s → IfOk result (λ world. HasCleanDisk (store_of over_files world) → StandsFor over_files true world s) }
+    ensures only { (tables : Tables) → begins_anew task.entry ≡ false → HoldsTables (image_at T.Start) tables → IfOk result (λ world. HasCleanDisk (store_of over_files world) → ShowsRows tables world.rows.maps) }
 {
     if begins_anew(task) {
-        make(rt, file)
+        make(rt, file, start)
     } else {
-        open(rt, file)
+        open(rt, file, start)
+    }
+}
+
+/// Does what a task says over its file, writes the line of a failure, and hands back the connection to the file where a world was
+/// opened or made. The status is that of `run_words`.
+///
+/// `T` stands for what the files hold: it is proved for all contents, and no code reads them. The program calls it for files that
+/// nobody has read.
+pub fn run_from<T: Start, R: Read + Drop, W: Write>(
+    rt: &HostRuntime,
+    file: &str,
+    start: T,
+    task: Task<'_>,
+    input: R,
+    output: &mut W,
+    status: &mut u8,
+) -> Option<Connection<FileStore<FileFrom<T>>>>
+    // A task that begins with a new world runs from the opening world on, and not over another.
+    ensures anew { begins_anew task.entry ≡ true → MatchOption result (FailsAtOnce (W.contents output.old) (W.contents output.new) status.new)
+        (λ conn. Runs task.entry (state_of opening_maps) (R.remaining input) (W.contents output.old) (W.contents output.new) status.new (HasCleanDisk (file_state conn)) (CrashLeaves (file_state conn))) }
+    ensures taken { (s : State) → begins_anew task.entry ≡ true → HoldsState (image_at T.Start) s → IfSome result (λ conn. HasCleanDisk (file_state conn) → ⊥) }
+    // Any other runs from the state on that the files hold, whatever bytes these are, on a disk that returns what was written.
+    ensures kept { (s : State) → begins_anew task.entry ≡ false → HoldsState (image_at T.Start) s → IfSome result (λ conn. HasCleanDisk (file_state conn) →
+        Runs task.entry s (R.remaining input) (W.contents output.old) (W.contents output.new) status.new (HasCleanDisk (file_state conn)) (CrashLeaves (file_state conn))) }
+    // Where they hold tables that show no world, it runs from none.
+    ensures only { (tables : Tables) → begins_anew task.entry ≡ false → HoldsTables (image_at T.Start) tables → IfSome result (λ conn. HasCleanDisk (file_state conn) → (rows : Maps) × IsGood rows × ShowsRows tables rows) }
+    // Whatever they hold, the file is refused, or the task runs from a well formed world on.
+    ensures opened { begins_anew task.entry ≡ false → MatchOption result (RefusesFile (W.contents output.old) (W.contents output.new) status.new)
+        (λ conn. (rows : Maps) × IsGood rows × RunsUnseen task.entry (state_of rows) (R.remaining input) (W.contents output.old) (W.contents output.new) status.new) }
+{
+    match world_of(rt, file, start, task) {
+        Ok(world) => Some(run_in_files(rt, world, task, input, output, status)),
+        Err(failure) => {
+            *status = report(rt, failure, output);
+            None
+        }
     }
 }
 
@@ -123,7 +183,7 @@ fn run_in_memory<R: Read + Drop, W: Write>(
     status
 }
 
-/// Does what a task says over its file.
+/// Does what a task says over its file, and closes it.
 ///
 /// Where the file can't be closed at the end, a part of what was committed stands in its log alone, which the next open reads.
 fn run_in_file<R: Read + Drop, W: Write>(
@@ -135,15 +195,11 @@ fn run_in_file<R: Read + Drop, W: Write>(
 ) -> u8
     ensures { RunsTask task.entry (R.remaining input) (W.contents output.old) (W.contents output.new) result }
 {
-    match world_of(rt, file, task) {
-        Ok(world) => {
-            let mut status = 0;
-            let conn = run_in_files(rt, world, task, input, output, &mut status);
-            let _closed = conn.close();
-            status
-        }
-        Err(failure) => report(rt, failure, output),
+    let mut status = 0;
+    if let Some(conn) = run_from(rt, file, Unknown, task, input, output, &mut status) {
+        let _closed = conn.close();
     }
+    status
 }
 
 /// Does what a task says, and answers the exit status.

@@ -10,6 +10,7 @@ mod run;
 mod standard;
 
 pub use failure::Failure;
+pub use files::run_from;
 pub use output::report;
 pub use over::run_over;
 pub use run::run_words;

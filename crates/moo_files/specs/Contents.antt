@@ -13,7 +13,7 @@ pub record HoldsTables (image : Image) (tables : Tables) : Type 0 where
   pub holds : HoldsDatabase image trees
   pub leaves : Leaves trees tables
 
--- a log and its file hold a database whose tables show good rows of this world and number
+-- a log and its file hold a database whose tables show good rows of this state
 pub record HoldsState (image : Image) (s : State) : Type 0 where
   pub trees : Trees
   pub holds : HoldsDatabase image trees

@@ -22,7 +22,7 @@ pub record LeavesRows (trees : Trees) (rows : Maps) : Type 0 where
   pub leaves : Leaves trees tables
   pub shows : ShowsRows tables rows
 
--- the tables, of the present version, show good rows of this world and number
+-- the tables, of the present version, show good rows of this state
 pub record Keeps (store : Database) (s : State) : Type 0 where
   pub rows : Maps
   pub good : IsGood rows
@@ -38,7 +38,7 @@ pub record ShowsState (store : Database) (s : State) : Type 0 where
   pub good : IsGood rows
   pub state : state_of rows ≡ s
 
--- what a crash left shows good rows of this world and number
+-- what a crash left shows good rows of this state
 pub record LeavesState (trees : Trees) (s : State) : Type 0 where
   pub rows : Maps
   pub good : IsGood rows

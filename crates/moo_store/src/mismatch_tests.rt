@@ -77,6 +77,11 @@ fn a_check_tells_the_first_row_that_differs(rt: HostRuntime) -> Result<(), Fail>
             "add_verb(#2, {#3, \"rd\", \"take\"}, {\"this\", \"none\", \"none\"})",
             "damaged mismatch #2 v1",
         ),
+        (
+            "petition({{\"players\"}})",
+            "petition({{\"max_object\"}})",
+            "damaged mismatch r1",
+        ),
     ];
     for (own, tables, expected) in cases.iter() {
         let (first, second) = said(rt.alloc(), own, tables)?;

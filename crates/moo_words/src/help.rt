@@ -110,7 +110,7 @@ texts; VERB may be a number. A call answers 0 where nothing else is said.
   set_verb_args(O, VERB, {DOBJ, PREP, IOBJ})
   petition({{\"CALL\", V ..}, ..})  asks a wizard to make these calls, and answers the number of the petition
   petitions()                     {N, WHO, CALLS} for each petition of one's own, or for a wizard for each
-  grant(N)                        a wizard makes the calls of petition N, all of them, and it is gone
+  grant(N)                        a wizard makes the calls of petition N, all of them or none, and it is gone
   decline(N)                      petition N is gone; a wizard may say so, and who made it
 PERMS of a property: letters of \"rwc\": r all may read it, w all may write it, c the owner of what is under O
 owns it there. PERMS of a verb: letters of \"rwxd\": r all may read it, w all may change it, x and d are kept.
@@ -124,7 +124,7 @@ Why a call is refused, E_NAME:
   E_PERM     the programmer may not: it has no right there, which a wizard has, or is no object; or nobody
              may: \"location\" and \"contents\" can't be set
   E_INVARG   what must be an object is none, or an owner, a name or letters can't stand there; or there is no
-             petition N, or one can't ask for this: 1 to 64 calls of those above, lists at most 30 deep
+             petition N, or one can't ask for this: 1 to 64 calls but of petitions, lists at most 30 deep
   E_INVIND   get or set of what is no object
   E_PROPNF   O has no such property
   E_VERBNF   O has no such verb

@@ -1,6 +1,6 @@
 //! Drafts over rows, beside rows that take the same steps.
 
-use crate::rows::{asks, petition_row};
+use crate::rows::{asks, links, petition_row};
 use moo_draft::{Changes, Draft, apply_changes};
 use moo_rows::{
     Bits, Flat, Link, ObjRow, PetitionId, PropId, Rows, SlotRow, SlotState, each_slot,
@@ -108,15 +108,19 @@ fn the_changes_of_a_draft_make_the_rows_that_it_showed(rt: HostRuntime) -> Resul
     Ok(())
 }
 
-/// The changes of a draft that puts a row back, puts a new one, and removes some that are there and some that aren't.
-fn few_changes(alloc: Global, base: &Flat) -> Result<Changes, AllocError> {
+/// Puts a row back, puts a new one, and removes some that are there and some that aren't.
+fn change_few(draft: &mut Draft<'_, Flat>) -> Result<(), AllocError> {
     let key = (ObjNo(5), PropId(2));
-    let mut draft = Draft::new(alloc, base);
     draft.remove_slot(key)?;
     draft.put_slot(key, slot(ObjNo(5), 0))?;
     draft.remove_slot((ObjNo(50), PropId(1)))?;
     draft.put_slot((ObjNo(1), PropId(20)), slot(ObjNo(1), 7))?;
-    draft.remove_object(ObjNo(2))?;
+    draft.remove_object(ObjNo(2))
+}
+
+fn few_changes(alloc: Global, base: &Flat) -> Result<Changes, AllocError> {
+    let mut draft = Draft::new(alloc, base);
+    change_few(&mut draft)?;
     draft.into_changes()
 }
 
@@ -135,19 +139,21 @@ fn a_row_put_back_is_no_change(rt: HostRuntime) -> Result<(), Fail> {
     Ok(())
 }
 
+fn remove_two(draft: &mut Draft<'_, Flat>) -> Result<(), AllocError> {
+    draft.remove_object(ObjNo(1))?;
+    draft.remove_object(ObjNo(2))
+}
+
 #[test]
 fn a_removed_object_is_not_next(rt: HostRuntime) -> Result<(), Fail> {
     let flat = opening_world(rt.alloc())?;
     let mut draft = Draft::new(rt.alloc(), &flat);
-    draft.remove_object(ObjNo(1))?;
-    draft.remove_object(ObjNo(2))?;
+    remove_two(&mut draft)?;
     assert!(rt; draft.next_object(Some(ObjNo(0))) == Some(ObjNo(3)));
     assert!(rt; flat.next_object(Some(ObjNo(0))) == Some(ObjNo(1)));
     let child = Link::ChildOf(ObjNo(1));
-    assert!(rt; draft.next_linked(child, ObjNo(-1)) == Some(ObjNo(0)));
-    assert!(rt; draft.next_linked(child, ObjNo(0)) == Some(ObjNo(3)));
-    assert!(rt; draft.next_linked(child, ObjNo(3)).is_none());
-    assert!(rt; flat.next_linked(child, ObjNo(0)) == Some(ObjNo(2)));
+    assert!(rt; links(&draft, child, &[ObjNo(0), ObjNo(3)]));
+    assert!(rt; links(&flat, child, &[ObjNo(0), ObjNo(2), ObjNo(3)]));
     Ok(())
 }
 
@@ -165,25 +171,25 @@ fn changed_objects_are_found_by_their_links(rt: HostRuntime) -> Result<(), Fail>
     let flat = opening_world(rt.alloc())?;
     let mut draft = Draft::new(rt.alloc(), &flat);
     put_two(rt.alloc(), &mut draft)?;
-    for (link, after, next) in [
-        (Link::ChildOf(ObjNo(1)), 3, Some(ObjNo(4))),
-        (Link::ChildOf(ObjNo(1)), 4, None),
-        (Link::ChildOf(ObjNo(0)), -1, Some(ObjNo(5))),
-        (Link::Within(ObjNo(2)), 3, Some(ObjNo(5))),
-        (Link::Within(ObjNo(-1)), 2, Some(ObjNo(4))),
-        (Link::Within(ObjNo(-1)), 4, None),
-    ] {
-        assert!(rt; draft.next_linked(link, ObjNo(after)) == next);
-    }
+    let [zero, one, two, three, four, five] = [0, 1, 2, 3, 4, 5].map(|n| ObjNo(n));
+    assert!(rt; links(&draft, Link::ChildOf(one), &[zero, two, three, four]));
+    assert!(rt; links(&draft, Link::ChildOf(zero), &[five]));
+    assert!(rt; links(&draft, Link::Within(two), &[three, five]));
+    assert!(rt; links(&draft, Link::Within(ObjNo(-1)), &[zero, one, two, four]));
     Ok(())
 }
 
 /// Petitions 1, 2 and 4.
-fn some_petitions(rt: &HostRuntime) -> Result<Flat, Fail> {
-    let mut flat = Flat::new(rt.alloc());
+fn put_some_petitions(rt: &HostRuntime, flat: &mut Flat) -> Result<(), Fail> {
     for id in [4, 1, 2] {
         flat.put_petition(PetitionId(id), petition_row(rt, 3, 5)?)?;
     }
+    Ok(())
+}
+
+fn some_petitions(rt: &HostRuntime) -> Result<Flat, Fail> {
+    let mut flat = Flat::new(rt.alloc());
+    put_some_petitions(rt, &mut flat)?;
     Ok(flat)
 }
 
@@ -198,26 +204,31 @@ fn change_petitions(rt: &HostRuntime, draft: &mut Draft<'_, Flat>) -> Result<(),
     Ok(())
 }
 
+/// Whether rows have these petitions, in this order.
+fn walks<R: Rows>(rows: &R, numbers: &[u32]) -> bool {
+    let mut last = None;
+    for number in numbers {
+        let next = rows.next_petition(last);
+        if next != Some(PetitionId(*number)) {
+            return false;
+        }
+        last = next;
+    }
+    rows.next_petition(last).is_none()
+}
+
 #[test]
 fn a_removed_petition_of_the_base_is_not_shown(rt: HostRuntime) -> Result<(), Fail> {
     let base = some_petitions(&rt)?;
     let mut draft = Draft::new(rt.alloc(), &base);
     change_petitions(&rt, &mut draft)?;
     assert!(rt; draft.petition(PetitionId(2)).is_none());
-    assert!(rt; base.petition(PetitionId(2)).is_some());
     assert!(rt; asks(draft.petition(PetitionId(1)), 3, 5));
     assert!(rt; asks(draft.petition(PetitionId(4)), 7, 5));
+    assert!(rt; walks(&draft, &[1, 3, 4]));
+    assert!(rt; draft.next_petition(Some(PetitionId(2))) == Some(PetitionId(3)));
     assert!(rt; asks(base.petition(PetitionId(4)), 3, 5));
-    for (from, next) in [
-        (0, Some(1)),
-        (1, Some(3)),
-        (2, Some(3)),
-        (3, Some(4)),
-        (4, None),
-    ] {
-        assert!(rt; draft.next_petition(Some(PetitionId(from))) == next.map(|id| PetitionId(id)));
-    }
-    assert!(rt; base.next_petition(Some(PetitionId(1))) == Some(PetitionId(2)));
+    assert!(rt; walks(&base, &[1, 2, 4]));
     Ok(())
 }
 

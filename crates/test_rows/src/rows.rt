@@ -1,9 +1,10 @@
 //! What no clause says: that the definitions mean what the manual means, and that each call succeeds where memory is left.
 ghost use Rattle.std.specs.Iterator.{IsFinite};
 
-use moo_rows::{Flat, Row, Rows, opening_world, *, *};
+use moo_rows::*;
 use moo_value::{MooStr, ObjNo, Value, ValueList};
-use std::test::*;
+use std::alloc::AllocError;
+use std::test::Fail;
 
 const LEAST: ObjNo = ObjNo(-2147483648);
 
@@ -65,6 +66,43 @@ fn walks_give(
         && gives(each_petition(rows), petitions)
 }
 
+/// Whether an object has this name, this owner, parent and place, and is a wizard, or fertile.
+fn is_object(
+    rows: &Flat,
+    number: i32,
+    name: &str,
+    places: [i32; 3],
+    is_wizard: bool,
+    is_fertile: bool,
+) -> bool {
+    let row = match rows.object(ObjNo(number)) {
+        Some(row) => row,
+        None => return false,
+    };
+    row.name.bytes() == name.as_bytes()
+        && [row.owner.0, row.parent.0, row.location.0] == places
+        && [row.player, row.programmer, row.wizard] == [is_wizard; 3]
+        && [row.r, row.w, row.f] == [false, false, is_fertile]
+}
+
+/// The accept list of an object, none where it has none.
+fn accepted(rows: &Flat, number: i32) -> Option<&[ObjNo]> {
+    let list = rows.object(ObjNo(number))?.accept.as_ref()?;
+    Some(list.items())
+}
+
+/// Whether these objects, and no other, have a link, in this order.
+pub(crate) fn links<R: Rows>(rows: &R, link: Link, objects: &[ObjNo]) -> bool {
+    let mut last = ObjNo(-1);
+    for object in objects {
+        if rows.next_linked(link, last) != Some(*object) {
+            return false;
+        }
+        last = *object;
+    }
+    rows.next_linked(link, last).is_none()
+}
+
 #[test]
 fn the_opening_world_is_the_four_objects(rt: HostRuntime) -> Result<(), Fail> {
     let rows = opening_world(rt.alloc())?;
@@ -79,38 +117,23 @@ fn the_opening_world_is_the_four_objects(rt: HostRuntime) -> Result<(), Fail> {
         (2, "The First Room", [3, 1, -1], false, false),
         (3, "Wizard", [3, 1, 2], true, false),
     ] {
-        let row = rows.object(ObjNo(number)).ok_or("no object")?;
-        assert!(rt; row.name.bytes() == name.as_bytes(), "{name}");
-        assert_eq!(rt; [row.owner.0, row.parent.0, row.location.0], places);
-        assert_eq!(rt; [row.player, row.programmer, row.wizard], [is_wizard; 3]);
-        assert_eq!(rt; [row.r, row.w, row.f], [false, false, is_fertile]);
-        assert_eq!(rt; row.accept.is_some(), number == 2);
-        if let Some(list) = &row.accept {
-            assert!(rt; list.items() == [ObjNo(1)].as_slice());
-        }
+        assert!(rt;
+            is_object(&rows, number, name, places, is_wizard, is_fertile),
+            "{name}"
+        );
+        assert_eq!(rt; accepted(&rows, number).is_some(), number == 2);
     }
-    let child = Link::ChildOf(ObjNo(1));
-    assert!(rt; rows.next_linked(child, ObjNo(-1)) == Some(ObjNo(0)));
-    assert!(rt; rows.next_linked(child, ObjNo(0)) == Some(ObjNo(2)));
-    assert!(rt; rows.next_linked(child, ObjNo(2)) == Some(ObjNo(3)));
-    assert!(rt; rows.next_linked(child, ObjNo(3)).is_none());
+    assert!(rt; accepted(&rows, 2) == Some([ObjNo(1)].as_slice()));
     Ok(())
 }
 
 #[test]
-fn links_to_nothing_are_found(rt: HostRuntime) -> Result<(), Fail> {
+fn the_opening_objects_are_found_by_their_links(rt: HostRuntime) -> Result<(), Fail> {
     let rows = opening_world(rt.alloc())?;
-    let (root, nowhere) = (Link::ChildOf(ObjNo(-1)), Link::Within(ObjNo(-1)));
-    for (link, after, next) in [
-        (root, -1, Some(ObjNo(1))),
-        (root, 1, None),
-        (nowhere, -1, Some(ObjNo(0))),
-        (nowhere, 0, Some(ObjNo(1))),
-        (nowhere, 1, Some(ObjNo(2))),
-        (nowhere, 2, None),
-    ] {
-        assert!(rt; rows.next_linked(link, ObjNo(after)) == next);
-    }
+    let (zero, one, two, three) = (ObjNo(0), ObjNo(1), ObjNo(2), ObjNo(3));
+    assert!(rt; links(&rows, Link::ChildOf(one), &[zero, two, three]));
+    assert!(rt; links(&rows, Link::ChildOf(ObjNo(-1)), &[one]));
+    assert!(rt; links(&rows, Link::Within(ObjNo(-1)), &[zero, one, two]));
     Ok(())
 }
 
@@ -216,46 +239,116 @@ fn put_ends(rt: &HostRuntime, rows: &mut Flat) -> Result<(), Fail> {
     Ok(())
 }
 
+fn ends(rt: &HostRuntime) -> Result<Flat, Fail> {
+    let mut rows = Flat::new(rt.alloc());
+    put_ends(rt, &mut rows)?;
+    Ok(rows)
+}
+
+/// Whether the walks over the slots and the verbs of an object, behind this number, give these.
+fn walks_of_give(rows: &Flat, x: ObjNo, last: u32, want: &[(ObjNo, u32)]) -> bool {
+    let slots = each_slot_of(rows, x, PropId(last)).map(|((x, id), row)| ((x, id.0), row));
+    let verbs = each_verb_of(rows, x, VerbId(last)).map(|((x, id), row)| ((x, id.0), row));
+    gives(slots, want) && gives(verbs, want)
+}
+
 #[test]
 fn walks_go_from_end_to_end(rt: HostRuntime) -> Result<(), Fail> {
-    let mut rows = Flat::new(rt.alloc());
-    assert!(rt; walks_give(&rows, &[], &[], &[], &[]));
-    rows.put_object(GREATEST, room(&rt)?)?;
-    assert!(rt; walks_give(&rows, &[GREATEST], &[], &[], &[]));
-    put_ends(&rt, &mut rows)?;
+    let rows = ends(&rt)?;
     assert!(rt; walks_give(&rows, &OBJECTS, &PROPS, &PARTS, &PETITIONS));
     for x in OBJECTS {
-        for (last, want) in [
-            (0, [(x, 1), (x, LAST)].as_slice()),
-            (1, &[(x, LAST)]),
-            (LAST, &[]),
-        ] {
-            let slots = each_slot_of(&rows, x, PropId(last));
-            assert!(rt; gives(slots.map(|((x, id), row)| ((x, id.0), row)), want));
-            let verbs = each_verb_of(&rows, x, VerbId(last));
-            assert!(rt; gives(verbs.map(|((x, id), row)| ((x, id.0), row)), want));
-        }
+        assert!(rt; walks_of_give(&rows, x, 0, &[(x, 1), (x, LAST)]));
+        assert!(rt; walks_of_give(&rows, x, 1, &[(x, LAST)]));
+        assert!(rt; walks_of_give(&rows, x, LAST, &[]));
     }
-    assert!(rt; gives(each_slot_of(&rows, ObjNo(1), PropId(0)), &[]));
-    assert!(rt; gives(each_verb_of(&rows, ObjNo(-1), VerbId(0)), &[]));
+    assert!(rt; walks_of_give(&rows, ObjNo(1), 0, &[]));
     Ok(())
 }
 
 #[test]
-fn copies_keep_what_the_rows_lose(rt: HostRuntime) -> Result<(), Fail> {
+fn walks_over_nothing_give_nothing(rt: HostRuntime) -> Result<(), Fail> {
     let mut rows = Flat::new(rt.alloc());
-    put_ends(&rt, &mut rows)?;
-    let (slot, verb) = ((LEAST, PropId(1)), (LEAST, VerbId(1)));
-    let seven = slot_row(&rt, SlotState::Set(Value::Int(7)))?;
-    rows.put_slot(slot, seven.copy(rt.alloc())?)?;
-    let copy = rows.copy(rt.alloc())?;
+    assert!(rt; walks_give(&rows, &[], &[], &[], &[]));
+    rows.put_object(GREATEST, room(&rt)?)?;
+    assert!(rt; walks_give(&rows, &[GREATEST], &[], &[], &[]));
+    Ok(())
+}
+
+const SLOT: (ObjNo, PropId) = (LEAST, PropId(1));
+
+const VERB: (ObjNo, VerbId) = (LEAST, VerbId(1));
+
+/// Removes the first row of each kind but of slots the first set one, and some that aren't there.
+fn remove_some(rows: &mut Flat) -> Result<(), AllocError> {
     rows.remove_object(LEAST)?;
     rows.remove_prop(PropId(0))?;
-    rows.remove_slot(slot)?;
+    rows.remove_slot(SLOT)?;
     rows.remove_slot((ObjNo(7), PropId(7)))?;
-    rows.remove_verb(verb)?;
+    rows.remove_verb(VERB)?;
     rows.remove_petition(PetitionId(0))?;
-    rows.remove_petition(PetitionId(8))?;
+    rows.remove_petition(PetitionId(8))
+}
+
+/// The rows of `put_ends` with one slot set, behind `remove_some`, and a copy from before it.
+fn kept_and_lost(rt: &HostRuntime) -> Result<(Flat, Flat), Fail> {
+    let mut rows = ends(rt)?;
+    let seven = slot_row(rt, SlotState::Set(Value::Int(7)))?;
+    rows.put_slot(SLOT, seven)?;
+    let copy = rows.copy(rt.alloc())?;
+    remove_some(&mut rows)?;
+    Ok((copy, rows))
+}
+
+/// Whether a slot has the owner and the rights of `slot_row`, and is set to 7, or clear.
+fn is_slot(row: Option<&SlotRow>, is_set: bool) -> bool {
+    let row = match row {
+        Some(row) => row,
+        None => return false,
+    };
+    row.owner == LEAST
+        && row.bits.letters() == "rc"
+        && match &row.state {
+            SlotState::Set(Value::Int(n)) => is_set && *n == 7,
+            SlotState::Set(_) => false,
+            SlotState::Clear => !is_set,
+        }
+}
+
+/// Whether a verb is that of `verb_row`.
+fn is_verb(row: Option<&VerbRow>) -> bool {
+    let row = match row {
+        Some(row) => row,
+        None => return false,
+    };
+    row.names.bytes() == b"get take".as_slice()
+        && row.owner == ObjNo(3)
+        && row.bits.letters() == "rd"
+        && row.args.dobj == Place::This
+        && row.args.prep == Preposition::Set(PrepositionSet::With)
+        && row.args.iobj == Place::Any
+}
+
+/// Whether what `remove_some` removes is gone.
+fn has_lost(rows: &Flat) -> bool {
+    rows.object(LEAST).is_none()
+        && rows.prop(PropId(0)).is_none()
+        && rows.slot(SLOT).is_none()
+        && rows.verb(VERB).is_none()
+        && rows.petition(PetitionId(0)).is_none()
+}
+
+/// Whether it is there.
+fn has_kept(rows: &Flat) -> bool {
+    is_slot(rows.slot(SLOT), true)
+        && is_slot(rows.slot((LEAST, PropId(LAST))), false)
+        && is_verb(rows.verb(VERB))
+        && asks(rows.petition(PetitionId(0)), 3, 4)
+}
+
+#[test]
+fn copies_keep_what_the_rows_lose(rt: HostRuntime) -> Result<(), Fail> {
+    let (copy, rows) = kept_and_lost(&rt)?;
+    assert!(rt; has_lost(&rows));
     assert!(rt;
         walks_give(
             &rows,
@@ -265,14 +358,25 @@ fn copies_keep_what_the_rows_lose(rt: HostRuntime) -> Result<(), Fail> {
             &PETITIONS[1..]
         )
     );
-    assert!(rt; rows.object(LEAST).is_none() && rows.prop(PropId(0)).is_none());
-    assert!(rt; rows.slot(slot).is_none() && rows.verb(verb).is_none());
-    assert!(rt; rows.petition(PetitionId(0)).is_none());
+    assert!(rt; has_kept(&copy));
     assert!(rt; walks_give(&copy, &OBJECTS, &PROPS, &PARTS, &PETITIONS));
-    assert!(rt; copy.slot(slot) == Some(&seven));
-    assert!(rt; copy.slot((LEAST, PropId(LAST))) == Some(&slot_row(&rt, SlotState::Clear)?));
-    assert!(rt; copy.verb(verb) == Some(&verb_row(&rt)?));
-    assert!(rt; asks(copy.petition(PetitionId(0)), 3, 4));
+    Ok(())
+}
+
+/// Whether a walk over petitions gives 2 and 5, from wherever it begins.
+fn two_and_five(rows: &Flat) -> bool {
+    let (two, five) = (PetitionId(2), PetitionId(5));
+    rows.next_petition(None) == Some(two)
+        && rows.next_petition(Some(PetitionId(1))) == Some(two)
+        && rows.next_petition(Some(two)) == Some(five)
+        && rows.next_petition(Some(five)).is_none()
+}
+
+/// Puts petitions 2 and 5, and then another one as 2.
+fn put_two_and_five(rt: &HostRuntime, rows: &mut Flat) -> Result<(), Fail> {
+    rows.put_petition(PetitionId(2), petition_row(rt, 3, 4)?)?;
+    rows.put_petition(PetitionId(5), petition_row(rt, 6, 7)?)?;
+    rows.put_petition(PetitionId(2), petition_row(rt, 3, 8)?)?;
     Ok(())
 }
 
@@ -280,21 +384,12 @@ fn copies_keep_what_the_rows_lose(rt: HostRuntime) -> Result<(), Fail> {
 fn a_petition_is_put_replaced_and_removed(rt: HostRuntime) -> Result<(), Fail> {
     let mut rows = Flat::new(rt.alloc());
     assert!(rt; rows.next_petition(None).is_none());
-    rows.put_petition(PetitionId(2), petition_row(&rt, 3, 4)?)?;
-    rows.put_petition(PetitionId(5), petition_row(&rt, 6, 7)?)?;
+    put_two_and_five(&rt, &mut rows)?;
     // Petitions and properties have numbers of their own.
     assert!(rt; rows.prop(PropId(2)).is_none());
-    rows.put_petition(PetitionId(2), petition_row(&rt, 3, 8)?)?;
     assert!(rt; asks(rows.petition(PetitionId(2)), 3, 8));
     assert!(rt; asks(rows.petition(PetitionId(5)), 6, 7));
-    for (from, next) in [
-        (None, Some(PetitionId(2))),
-        (Some(PetitionId(1)), Some(PetitionId(2))),
-        (Some(PetitionId(2)), Some(PetitionId(5))),
-        (Some(PetitionId(5)), None),
-    ] {
-        assert!(rt; rows.next_petition(from) == next);
-    }
+    assert!(rt; two_and_five(&rows));
     rows.remove_petition(PetitionId(2))?;
     assert!(rt; rows.petition(PetitionId(2)).is_none());
     assert!(rt; rows.next_petition(None) == Some(PetitionId(5)));
