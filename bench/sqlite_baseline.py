@@ -37,8 +37,11 @@ TABLES = FIRST_TABLES + [
     "CREATE TABLE petition_head (id INTEGER NOT NULL PRIMARY KEY, next_petition INTEGER NOT NULL) STRICT",
 ]
 
-PUT_HEAD = "INSERT OR REPLACE INTO head VALUES (?1, ?2, ?3, ?4, ?5, ?6)"
-PUT_OBJECT = "INSERT OR REPLACE INTO object VALUES (?1, ?2, ?3, ?4, ?5, ?6, ?7, ?8, ?9, ?10, ?11, ?12)"
+PUT_HEAD = """INSERT INTO head VALUES (?1, ?2, ?3, ?4, ?5, ?6)
+    ON CONFLICT (id) DO UPDATE SET version = ?2, seq = ?3, top = ?4, next_prop = ?5, next_verb = ?6"""
+PUT_OBJECT = """INSERT INTO object VALUES (?1, ?2, ?3, ?4, ?5, ?6, ?7, ?8, ?9, ?10, ?11, ?12)
+    ON CONFLICT (n) DO UPDATE SET name = ?2, owner = ?3, parent = ?4, location = ?5, player = ?6, programmer = ?7, wizard = ?8,
+    r = ?9, w = ?10, f = ?11, accept = ?12"""
 
 OPENING_OBJECTS = [
     (0, "System Object", 3, 1, -1, 0, 0, 0, 0, 0, 0, ""),
