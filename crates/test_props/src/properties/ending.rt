@@ -1,6 +1,7 @@
 //! The end of an object of the small tree.
 
-use super::steps::{dropped, found, integer};
+use super::counting::{Counts, NONE};
+use super::steps::{dropped, read};
 use super::tree::planted;
 use moo_rows::{PropId, Rows};
 use moo_tree::valid;
@@ -29,11 +30,16 @@ fn an_object_goes_with_all_its_slots_and_its_own_on_descendants(
         panic!(rt; "#6 stays");
     };
     assert!(rt; row.parent == ObjNo(4));
-    assert!(rt; integer(alloc, &rows, 6, b"a")? == Some(10));
-    assert!(rt; found(alloc, &rows, 6, b"b")?.is_none());
-    assert_eq!(rt; counts.objects, (1, 1));
-    assert_eq!(rt; counts.props, (0, 1));
-    assert_eq!(rt; counts.slots, (0, 3));
-    assert_eq!(rt; counts.verbs, (0, 0));
+    assert_eq!(rt;
+        counts,
+        Counts {
+            objects: (1, 1),
+            props: (0, 1),
+            slots: (0, 3),
+            ..NONE
+        }
+    );
+    drop(gone);
+    assert!(rt; read(alloc, &rows, &[(6, "a", Some(10)), (6, "b", None)])?);
     Ok(())
 }

@@ -1,10 +1,16 @@
 //! Changes of parent in the small tree.
 
-use super::counting::NONE;
-use super::steps::{READ, WIZARD, added, found, given, integer, made, moved, set, slot};
+ghost use Rattle.std.specs.Prelude.{OnOk};
+ghost use Rattle.moo_world.specs.Rows.{IsGood};
+
+use super::counting::{Counts, NONE};
+use super::steps::{READ, WIZARD, added, given, made, moved, read, set, slot};
 use super::tree::planted;
-use moo_rows::{Bits, PropId};
+use moo_props::Touched;
+use moo_rows::{Bits, PropId, Rows};
 use moo_value::ObjNo;
+use std::alloc::Global;
+use std::process::Abort;
 use std::test::*;
 
 #[test]
@@ -20,16 +26,23 @@ fn a_subtree_loses_what_it_leaves_and_gains_what_it_comes_under(
     );
     assert!(rt; touched.added.items() == [(ObjNo(5), PropId(3)), (ObjNo(6), PropId(3))].as_slice());
     assert!(rt; touched.relinked.items() == [ObjNo(5)].as_slice());
-    assert!(rt; integer(alloc, &rows, 6, b"b")? == Some(21));
-    assert!(rt; integer(alloc, &rows, 6, b"c")? == Some(30));
+    assert_eq!(rt;
+        counts,
+        Counts {
+            objects: (1, 0),
+            slots: (2, 2),
+            ..NONE
+        }
+    );
+    drop(touched);
+    let readings = [
+        (6, "b", Some(21)),
+        (6, "c", Some(30)),
+        (5, "a", None),
+        (6, "a", None),
+    ];
+    assert!(rt; read(alloc, &rows, &readings)?);
     assert!(rt; slot(alloc, &rows, 6, b"c")? == Some((WIZARD, READ, true)));
-    for x in [5, 6] {
-        assert!(rt; found(alloc, &rows, x, b"a")?.is_none(), "at {x}");
-    }
-    assert_eq!(rt; counts.objects, (1, 0));
-    assert_eq!(rt; counts.props, (0, 0));
-    assert_eq!(rt; counts.slots, (2, 2));
-    assert_eq!(rt; counts.verbs, (0, 0));
     Ok(())
 }
 
@@ -41,7 +54,7 @@ fn what_is_shared_with_a_grandparent_stays(rt: HostRuntime) -> Result<(), Fail> 
     assert!(rt; touched.removed.items() == [(ObjNo(6), PropId(2))].as_slice());
     assert!(rt; touched.added.items().is_empty());
     assert!(rt; touched.relinked.items() == [ObjNo(6)].as_slice());
-    assert!(rt; integer(alloc, &rows, 6, b"a")? == Some(10));
+    assert!(rt; read(alloc, &rows, &[(6, "a", Some(10))])?);
     Ok(())
 }
 
@@ -57,20 +70,47 @@ fn nothing_is_written_under_the_present_parent(rt: HostRuntime) -> Result<(), Fa
     Ok(())
 }
 
+/// Sets a on #6, and puts #5 under #7 and back under #4.
+fn there_and_back<R: Rows>(rt: &impl Abort, alloc: Global, rows: &mut R) -> Result<Touched, Fail>
+    requires { IsGood (R.held rows.old).maps }
+    ensures { OnOk result (IsGood (R.held rows.new).maps) }
+{
+    set(rt, alloc, rows, 6, b"a", 12)?;
+    moved(rt, alloc, rows, 5, 7)?;
+    moved(rt, alloc, rows, 5, 4)
+}
+
 #[test]
 fn a_value_is_gone_after_the_way_there_and_back(rt: HostRuntime) -> Result<(), Fail> {
     let alloc = rt.alloc();
     let mut rows = planted(&rt, alloc)?;
-    set(&rt, alloc, &mut rows, 6, b"a", 12)?;
-    moved(&rt, alloc, &mut rows, 5, 7)?;
-    let touched = moved(&rt, alloc, &mut rows, 5, 4)?;
+    let touched = there_and_back(&rt, alloc, &mut rows)?;
     assert!(rt;
         touched.removed.items() == [(ObjNo(5), PropId(3)), (ObjNo(6), PropId(3))].as_slice()
     );
     assert!(rt; touched.added.items() == [(ObjNo(5), PropId(1)), (ObjNo(6), PropId(1))].as_slice());
     assert!(rt; touched.relinked.items() == [ObjNo(5)].as_slice());
+    drop(touched);
     assert!(rt; slot(alloc, &rows, 6, b"a")? == Some((WIZARD, READ, true)));
-    assert!(rt; integer(alloc, &rows, 6, b"a")? == Some(10));
+    assert!(rt; read(alloc, &rows, &[(6, "a", Some(10))])?);
+    Ok(())
+}
+
+const CHANGEABLE: Bits = Bits {
+    r: true,
+    w: false,
+    c: true,
+};
+
+/// Defines d on #7, with the right c; makes #8 under it, gives d there to #0, without c; and puts #5 under #8.
+fn under_the_eighth<R: Rows>(rt: &impl Abort, alloc: Global, rows: &mut R) -> Result<(), Fail>
+    requires { IsGood (R.held rows.old).maps }
+    ensures { OnOk result (IsGood (R.held rows.new).maps) }
+{
+    added(rt, alloc, rows, 7, b"d", 40, CHANGEABLE)?;
+    assert!(rt; made(rt, alloc, rows, 7)? == ObjNo(8));
+    given(rt, alloc, rows, 8, b"d", ObjNo(0), READ)?;
+    moved(rt, alloc, rows, 5, 8)?;
     Ok(())
 }
 
@@ -78,15 +118,7 @@ fn a_value_is_gone_after_the_way_there_and_back(rt: HostRuntime) -> Result<(), F
 fn a_fresh_slot_is_like_that_of_the_new_parent(rt: HostRuntime) -> Result<(), Fail> {
     let alloc = rt.alloc();
     let mut rows = planted(&rt, alloc)?;
-    let changeable = Bits {
-        r: true,
-        w: false,
-        c: true,
-    };
-    added(&rt, alloc, &mut rows, 7, b"d", 40, changeable)?;
-    assert!(rt; made(&rt, alloc, &mut rows, 7)? == ObjNo(8));
-    given(&rt, alloc, &mut rows, 8, b"d", ObjNo(0), READ)?;
-    moved(&rt, alloc, &mut rows, 5, 8)?;
+    under_the_eighth(&rt, alloc, &mut rows)?;
     for x in [5, 6] {
         assert!(rt;
             slot(alloc, &rows, x, b"d")? == Some((ObjNo(0), READ, true)),

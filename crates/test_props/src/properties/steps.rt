@@ -112,6 +112,21 @@ pub(super) fn integer<R: Rows>(
     })
 }
 
+/// Whether x reads this integer for a name, or has no property of it.
+pub(super) type Reading = (i32, &'static str, Option<i64>);
+
+/// Whether objects read these integers.
+pub(super) fn read<R: Rows>(alloc: Global, rows: &R, want: &[Reading]) -> Result<bool, Fail>
+    requires { IsGood (R.held rows.now).maps }
+{
+    for (x, name, value) in want {
+        if integer(alloc, rows, *x, name.as_bytes())? != *value {
+            return Ok(false);
+        }
+    }
+    Ok(true)
+}
+
 /// The owner and the bits of the property of a name on x, and whether it is clear there.
 pub(super) fn slot<R: Rows>(
     alloc: Global,

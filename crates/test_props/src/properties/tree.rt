@@ -1,17 +1,32 @@
 //! A small tree: #4 under #1 defines a = 10; #5 under #4 defines b = 20; #6 under #5 has b set to 21; #7 under #1 defines
 //! c = 30. The numbers of a, b and c are 1, 2 and 3.
 
-ghost use Rattle.std.specs.Prelude.{IfOk};
+ghost use Rattle.std.specs.Prelude.{IfOk, OnOk};
 ghost use Rattle.moo_world.specs.Rows.{IsGood};
 
 use super::counting::{Counting, NONE};
 use super::steps::{READ, added, made, set};
-use moo_rows::PropId;
+use moo_rows::{PropId, Rows};
 use moo_value::ObjNo;
 use moo_world::good_opening;
 use std::alloc::Global;
 use std::process::Abort;
 use std::test::*;
+
+/// Plants it over any rows that hold the opening world. They are borrowed, so that nothing is let go where this ends early.
+fn plant<R: Rows>(rt: &impl Abort, alloc: Global, rows: &mut R) -> Result<(), Fail>
+    requires { IsGood (R.held rows.old).maps }
+    ensures { OnOk result (IsGood (R.held rows.new).maps) }
+{
+    assert!(rt; made(rt, alloc, rows, 1)? == ObjNo(4));
+    assert!(rt; made(rt, alloc, rows, 4)? == ObjNo(5));
+    assert!(rt; made(rt, alloc, rows, 5)? == ObjNo(6));
+    assert!(rt; made(rt, alloc, rows, 1)? == ObjNo(7));
+    assert!(rt; added(rt, alloc, rows, 4, b"a", 10, READ)? == PropId(1));
+    assert!(rt; added(rt, alloc, rows, 5, b"b", 20, READ)? == PropId(2));
+    assert!(rt; added(rt, alloc, rows, 7, b"c", 30, READ)? == PropId(3));
+    set(rt, alloc, rows, 6, b"b", 21)
+}
 
 pub(super) fn planted(rt: &impl Abort, alloc: Global) -> Result<Counting, Fail>
     ensures { IfOk result (λ rows. IsGood rows.rows.maps) }
@@ -20,14 +35,7 @@ pub(super) fn planted(rt: &impl Abort, alloc: Global) -> Result<Counting, Fail>
         rows: good_opening(alloc)?,
         counts: NONE,
     };
-    assert!(rt; made(rt, alloc, &mut rows, 1)? == ObjNo(4));
-    assert!(rt; made(rt, alloc, &mut rows, 4)? == ObjNo(5));
-    assert!(rt; made(rt, alloc, &mut rows, 5)? == ObjNo(6));
-    assert!(rt; made(rt, alloc, &mut rows, 1)? == ObjNo(7));
-    assert!(rt; added(rt, alloc, &mut rows, 4, b"a", 10, READ)? == PropId(1));
-    assert!(rt; added(rt, alloc, &mut rows, 5, b"b", 20, READ)? == PropId(2));
-    assert!(rt; added(rt, alloc, &mut rows, 7, b"c", 30, READ)? == PropId(3));
-    set(rt, alloc, &mut rows, 6, b"b", 21)?;
+    plant(rt, alloc, &mut rows)?;
     rows.taken();
     Ok(rows)
 }

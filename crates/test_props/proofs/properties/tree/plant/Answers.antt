@@ -1,6 +1,6 @@
 use Rattle.std.specs.Prelude.{refl}
 use Rattle.moo_world.specs.Objects.{same_text, folded}
-use Rattle.test_props.proofs.properties.tree.planted.Goals as goal
+use Rattle.test_props.proofs.properties.tree.plant.Goals as goal
 
 pub added-requires-clause-name : goal.added-requires-clause-name
 unfolding same_text folded
