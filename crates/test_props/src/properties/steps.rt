@@ -81,12 +81,7 @@ pub(super) fn added<R: Rows>(
 }
 
 /// The property of a name that x has.
-pub(super) fn found<R: Rows>(
-    alloc: Global,
-    rows: &R,
-    x: i32,
-    name: &[u8],
-) -> Result<Option<PropId>, Fail>
+fn found<R: Rows>(alloc: Global, rows: &R, x: i32, name: &[u8]) -> Result<Option<PropId>, Fail>
     requires { IsGood (R.held rows.now).maps }
 {
     let name = MooStr::from_bytes(alloc, name)?;
@@ -94,12 +89,7 @@ pub(super) fn found<R: Rows>(
 }
 
 /// The integer that x reads for a name.
-pub(super) fn integer<R: Rows>(
-    alloc: Global,
-    rows: &R,
-    x: i32,
-    name: &[u8],
-) -> Result<Option<i64>, Fail>
+fn integer<R: Rows>(alloc: Global, rows: &R, x: i32, name: &[u8]) -> Result<Option<i64>, Fail>
     requires { IsGood (R.held rows.now).maps }
 {
     let name = MooStr::from_bytes(alloc, name)?;
@@ -121,6 +111,9 @@ pub(super) fn read<R: Rows>(alloc: Global, rows: &R, want: &[Reading]) -> Result
 {
     for (x, name, value) in want {
         if integer(alloc, rows, *x, name.as_bytes())? != *value {
+            return Ok(false);
+        }
+        if value.is_none() && found(alloc, rows, *x, name.as_bytes())?.is_some() {
             return Ok(false);
         }
     }
