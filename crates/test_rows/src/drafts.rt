@@ -226,6 +226,7 @@ fn a_removed_petition_of_the_base_is_not_shown(rt: HostRuntime) -> Result<(), Fa
     assert!(rt; asks(draft.petition(PetitionId(1)), 3, 5));
     assert!(rt; asks(draft.petition(PetitionId(4)), 7, 5));
     assert!(rt; walks(&draft, &[1, 3, 4]));
+    assert!(rt; draft.next_petition(Some(PetitionId(0))) == Some(PetitionId(1)));
     assert!(rt; draft.next_petition(Some(PetitionId(2))) == Some(PetitionId(3)));
     assert!(rt; asks(base.petition(PetitionId(4)), 3, 5));
     assert!(rt; walks(&base, &[1, 2, 4]));

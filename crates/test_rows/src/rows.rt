@@ -221,6 +221,8 @@ fn room(rt: &HostRuntime) -> Result<ObjRow, Fail> {
 }
 
 fn put_ends(rt: &HostRuntime, rows: &mut Flat) -> Result<(), Fail> {
+    // An object is put twice: a taken key is no second one.
+    rows.put_object(GREATEST, room(rt)?)?;
     for key in [GREATEST, ObjNo(0), LEAST] {
         rows.put_object(key, room(rt)?)?;
         for id in [LAST, 1] {
@@ -262,6 +264,7 @@ fn walks_go_from_end_to_end(rt: HostRuntime) -> Result<(), Fail> {
         assert!(rt; walks_of_give(&rows, x, LAST, &[]));
     }
     assert!(rt; walks_of_give(&rows, ObjNo(1), 0, &[]));
+    assert!(rt; walks_of_give(&rows, ObjNo(-1), 0, &[]));
     Ok(())
 }
 
