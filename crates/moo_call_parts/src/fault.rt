@@ -6,9 +6,9 @@ use std::alloc::AllocError;
 /// Why a call comes to nothing.
 #[derive(Clone, Copy, Debug, PartialEq, Eq)]
 pub enum Fault {
-    /// The call's error; the rows are as they were.
+    /// The call's error. The rows are as they were, but for those of a `grant`, which may be half changed.
     Moo(Code),
-    /// No number is left for what the call makes; the rows are as they were.
+    /// No number is left for what the call makes. The rows are as they were, but for those of a `grant`.
     Full,
     /// Want of memory; the rows may be half changed.
     OutOfMemory,

@@ -178,7 +178,7 @@ RunsOpened task input old new status = RefusesFile old new status ⊎ ((rows : M
 
 -- What the words come to. A task that begins with a new world runs from the opening world on, or that world can't be made. Any other
 -- runs from the world on that was found in its file, or the file is refused. (No clause can say what a file holds: that it is the
--- world which the file's tables show, is `run_over`'s to say.)
+-- world which the file's tables show, is `run_from`'s to say.)
 pub record RunsTask (task : Task) (input old new : Option (List ℕ)) (status : ℕ) : Type 0 where
   pub anew : begins_anew task ≡ true → FailsAtOnce old new status ⊎ RunsUnseen task (state_of opening_maps) input old new status
   pub opened : begins_anew task ≡ false → RunsOpened task input old new status

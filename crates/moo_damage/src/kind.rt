@@ -11,7 +11,7 @@ use std::fmt;
 /// A kind of damage. The kinds are looked for in this order, so that only the first that is met is told.
 #[derive(Clone, Copy, Debug, PartialEq, Eq)]
 pub enum Kind {
-    /// The table of the head isn't one row of id 1 with numbers within their limits.
+    /// The table of the head, or that of the next petition, isn't one row of id 1 with numbers within their limits.
     BadHead,
     /// A cell can't be read, or has a number outside its limits.
     BadCell,

@@ -1,18 +1,23 @@
 -- The calls of a petition, one after another.
-use Rattle.std.proofs.Common.{◌≡◌, Bool, true, false, OnOk, List, [], ◌∷◌, ◌++◌, Result, Ok, Err, refl, sym, ap, ◌∙◌, subst}
+use Rattle.std.proofs.Common.{◌≡◌, ℤ, Bool, true, false, OnOk, Option, Some, None, List, [], ◌∷◌, Result, Ok, Err, refl, sym, ap, ◌∙◌, subst}
 use Rattle.std.specs.List.{list_all}
 use Rattle.std.proofs.lemmas.Bool.{and_parts, true≢false}
 use Rattle.moo_value.specs.declared.code.Code.{Code}
 use Rattle.moo_value.specs.declared.value.ObjNo.{ObjNo}
 use Rattle.moo_value.specs.declared.value.Value.{Value}
-use Rattle.moo_rows.specs.Maps.{Maps, Held}
+use Rattle.moo_value.specs.Value.{spread}
+use Rattle.moo_rows.specs.declared.row.PetitionId.{PetitionId}
+use Rattle.moo_rows.specs.declared.row.PetitionRow.{PetitionRow}
+use Rattle.moo_rows.specs.Maps.{Maps, Held, without_petition}
+use Rattle.moo_world.specs.declared.call.Call.{Call}
 use Rattle.moo_world.specs.Answers.{zero}
 use Rattle.moo_world.specs.Arguments.{fits}
-use Rattle.moo_world.specs.Between.{KeepsInTurn}
+use Rattle.moo_world.specs.Between.{HeldCallsLead, GrantLeads, CallKeepsNumbers}
 use Rattle.moo_world.specs.Keeps.{Keeps, beside_world}
+use Rattle.moo_world.specs.Names.{grants, is_grant, petition_call}
 use Rattle.moo_world.specs.Numbers.{KeepsNumbers}
 use Rattle.moo_world.specs.Outcomes.{Outcome, Done, Failed, Full}
-use Rattle.moo_world.specs.Requests.{State, Answered, in_world, held_step, held_steps}
+use Rattle.moo_world.specs.Requests.{State, Answered, in_world, held_step, held_steps, one_integer, petition_at}
 use Rattle.moo_world.specs.Rows.{IsGood}
 use Rattle.moo_world.specs.World.{World}
 use Rattle.moo_call_parts.specs.declared.fault.Fault.{Fault}
@@ -23,20 +28,25 @@ use Rattle.moo_petitions.specs.Outcomes.{state_in, ComesInTurn, KeepInTurn, Keep
 -- all calls come to what those that are left come to
 pub record HaveStepped (before : Held) (p : ObjNo) (all : List Value) (now : Held) (left : List Value) : Type 0 where
   pub steps : held_steps (world_in before) p all ≡ held_steps (world_in now) p left
-  pub kept : KeepInTurn before now
+  pub good : IsGood now.maps
+  pub beside : beside_world now.maps ≡ beside_world before.maps
+  pub base : now.base ≡ before.base
+  pub numbers : (last : Maps) → HeldCallsLead p left now.maps last → HeldCallsLead p all before.maps last
   pub fit : list_all fits left ≡ true
 
 pub stepped-none : (before : Held) (p : ObjNo) (all : List Value) → IsGood before.maps → list_all fits all ≡ true → HaveStepped before p all before all
 stepped-none before p all good fit = record {
   steps = refl;
-  kept = record { good = good; beside = refl; base = refl; numbers = λ first between k. (between, k) };
+  good = good;
+  beside = refl;
+  base = refl;
+  numbers = λ last lead. lead;
   fit = fit;
 }
 
--- one more change behind others
-in_turn_then : (first mid new : Maps) (between : List Maps) → KeepsInTurn first between mid → KeepsNumbers mid new → KeepsInTurn first (between ++ mid ∷ []) new
-in_turn_then first mid new [] k n = (k, n)
-in_turn_then first mid new (m ∷ between) k n = (k.0, in_turn_then m mid new between k.1 n)
+-- the state of rows that differ from others in their world alone
+with_world : (mid new : Held) → beside_world new.maps ≡ beside_world mid.maps → record (state_in mid) { world = world_in new } ≡ state_in new
+with_world mid new same = ap (λ b. record { world = world_in new; petitions = b.1.1; next_petition = b.1.0; seq = b.0 }) (sym same)
 
 -- what the first of some calls makes of them
 first_of : ObjNo → List Value → Outcome → Outcome
@@ -52,12 +62,10 @@ module _ {before : Held} {p : ObjNo} {all : List Value} {now : Held} where
   unfolding first_of
   stepped-one held left v next h done kept = record {
     steps = h.steps ∙ first_is (world_in now) p held left (Done v (world_in next)) done;
-    kept = record {
-      good = kept.good;
-      beside = kept.beside ∙ h.kept.beside;
-      base = kept.base ∙ h.kept.base;
-      numbers = λ first between k. let here = h.kept.numbers first between k in (here.0 ++ now.maps ∷ [], in_turn_then first now.maps next.maps here.0 here.1 kept.numbers);
-    };
+    good = kept.good;
+    beside = kept.beside ∙ h.beside;
+    base = kept.base ∙ h.base;
+    numbers = λ last lead. h.numbers last (v, next.maps, ap (in_world (state_in now)) done ∙ ap (Answered v) (with_world now next kept.beside), kept.good, kept.numbers, lead);
     fit = (and_parts (fits held) (list_all fits left) h.fit).1;
   }
 
@@ -66,6 +74,9 @@ module _ {before : Held} {p : ObjNo} {all : List Value} {now : Held} where
 
   pub stepped-all : HaveStepped before p all now [] → held_steps (world_in before) p all ≡ Done zero (world_in now)
   stepped-all h = h.steps
+
+  pub stepped-kept : HaveStepped before p all now [] → KeepInTurn p all before now
+  stepped-kept h = record { good = h.good; beside = h.beside; base = h.base; numbers = h.numbers now.maps refl }
 
   -- the first that isn't done stops them
   pub stepped-stopped : (held : Value) (left : List Value) (fault : Fault) (new : Held) → HaveStepped before p all now (held ∷ left)
@@ -77,28 +88,24 @@ module _ {before : Held} {p : ObjNo} {all : List Value} {now : Held} where
 
 -- ---- a petition that is granted
 
--- the state of rows that differ from others in their world alone
-with_world : (mid new : Held) → beside_world new.maps ≡ beside_world mid.maps → record (state_in mid) { world = world_in new } ≡ state_in new
-with_world mid new same = ap (λ b. record { world = world_in new; petitions = b.1.1; next_petition = b.1.0; seq = b.0 }) (sym same)
-
 -- the calls were made behind the removal of the petition
-pub granted-reaches : (s : State) (mid new : Held) (o : Outcome) (r : Result Value Fault) → state_in mid ≡ s → ComesInTurn o new r → OnOk r (KeepInTurn mid new) → Reaches (in_world s o) new r
-granted-reaches s mid new o (Ok v) is comes kept =
+pub granted-reaches : (s : State) (p : ObjNo) (helds : List Value) (mid new : Held) (o : Outcome) (r : Result Value Fault)
+    → state_in mid ≡ s → ComesInTurn o new r → OnOk r (KeepInTurn p helds mid new) → Reaches (in_world s o) new r
+granted-reaches s p helds mid new o (Ok v) is comes kept =
     ap (in_world s) comes ∙ ap (λ t. Answered v (record t { world = world_in new })) (sym is) ∙ ap (Answered v) (with_world mid new kept.beside)
-granted-reaches s mid new o (Err (Moo code)) is comes kept = ap (in_world s) comes
-granted-reaches s mid new o (Err none_left) is comes kept = ap (in_world s) comes
-granted-reaches s mid new o (Err OutOfMemory) is comes kept = tt
+granted-reaches s p helds mid new o (Err (Moo code)) is comes kept = ap (in_world s) comes
+granted-reaches s p helds mid new o (Err none_left) is comes kept = ap (in_world s) comes
+granted-reaches s p helds mid new o (Err OutOfMemory) is comes kept = tt
 
-pub granted-keeps : (old mid new : Held) → KeepsRows false old mid → KeepInTurn mid new → KeepsRows true old new
-granted-keeps old mid new removed kept =
-    let first = subst (λ between. KeepsInTurn old.maps between mid.maps) (removed.numbers.1 refl) removed.numbers.2 in
-    let turns = kept.numbers old.maps [] first in
-    record {
-      good = kept.good;
-      seq = ap (λ b. b.0) kept.beside ∙ removed.seq;
-      base = kept.base ∙ removed.base;
-      numbers = (turns.0, λ no. absurd (true≢false no), turns.1);
-    }
+module _ (p : ObjNo) (args : List Value) (n : ℤ) (e : PetitionId × PetitionRow) (old mid new : Held) where
+  pub granted-keeps : one_integer args ≡ Ok n → petition_at (state_in old) n ≡ Some e → mid ≡ without_petition old e.0 → KeepsRows KeepsNumbers old mid
+      → KeepInTurn p (spread e.1.calls) mid new → KeepsRows (GrantLeads p args) old new
+  granted-keeps given found gone removed kept = record {
+    good = kept.good;
+    seq = ap (λ b. b.0) kept.beside ∙ removed.seq;
+    base = kept.base ∙ removed.base;
+    numbers = (n, e, given, found, subst (λ (held : Held). HeldCallsLead p (spread e.1.calls) held.maps new.maps) gone kept.numbers);
+  }
 
 -- ---- a call on the world
 
@@ -106,10 +113,12 @@ pub on_ok : {A E P Q : Type 0} (r : Result A E) → (P → Q) → OnOk r P → O
 on_ok (Ok a) f h = f h
 on_ok (Err e) f h = tt
 
-pub stepped-keeps : (grants : Bool) (old new : Held) → Keeps old new → KeepsRows grants old new
-stepped-keeps grants old new kept = record {
-  good = kept.good;
-  seq = ap (λ b. b.0) kept.beside;
-  base = kept.base;
-  numbers = ([], λ _. refl, kept.numbers);
-}
+-- a call on the world grants nothing
+world-keeps : (grants : Bool) (p : ObjNo) (args : List Value) (old new : Held) → grants ≡ false → Keeps old new → KeepsRows (CallKeepsNumbers grants p args) old new
+world-keeps true p args old new no kept = absurd (true≢false no)
+world-keeps false p args old new no kept = record { good = kept.good; seq = ap (λ b. b.0) kept.beside; base = kept.base; numbers = kept.numbers }
+
+pub stepped-keeps : (call : Call) (p : ObjNo) (old new : Held) → petition_call call.name ≡ None → Keeps old new
+    → KeepsRows (CallKeepsNumbers (is_grant call.name) p call.args) old new
+stepped-keeps call p old new on_world kept =
+    world-keeps (is_grant call.name) p call.args old new (ap (λ o. elim o [ None ↦ false | Some c ↦ grants c ]) on_world) kept

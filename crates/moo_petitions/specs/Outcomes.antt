@@ -1,10 +1,9 @@
 -- What a call of a batch comes to on rows.
-use Rattle.std.specs.Prelude.{◌≡◌, Bool, true, false, List, Result, Ok, Err, ⊤}
+use Rattle.std.specs.Prelude.{◌≡◌, List, Result, Ok, Err, ⊤}
+use Rattle.moo_value.specs.declared.value.ObjNo.{ObjNo}
 use Rattle.moo_value.specs.declared.value.Value.{Value}
 use Rattle.moo_rows.specs.Maps.{Maps, Held}
-use Rattle.moo_world.specs.declared.name.PetitionCall.{PetitionCall}
-use Rattle.moo_world.specs.declared.name.PetitionCall.TheVariants.{Grant}
-use Rattle.moo_world.specs.Between.{KeepsInTurn, CallKeepsNumbers}
+use Rattle.moo_world.specs.Between.{HeldCallsLead}
 use Rattle.moo_world.specs.Keeps.{beside_world}
 use Rattle.moo_world.specs.Outcomes.{Outcome, Done, Failed, Full as none_left}
 use Rattle.moo_world.specs.Requests.{State, Effect, Answered, Erred, NoneLeft, state_of}
@@ -38,21 +37,16 @@ ComesInTurn outcome new (Err (Moo code)) = outcome ≡ Failed code
 ComesInTurn outcome new (Err Full) = outcome ≡ none_left
 ComesInTurn outcome new (Err OutOfMemory) = ⊤
 
--- what they keep: the rows are good ones, what stands beside the world is as it was, and numbers are kept in turn
-pub record KeepInTurn (old new : Held) : Type 0 where
+-- what they keep: the rows are good ones, what stands beside the world is as it was, and each of them kept numbers
+pub record KeepInTurn (p : ObjNo) (helds : List Value) (old new : Held) : Type 0 where
   pub good : IsGood new.maps
   pub beside : beside_world new.maps ≡ beside_world old.maps
   pub base : new.base ≡ old.base
-  pub numbers : (first : Maps) (between : List Maps) → KeepsInTurn first between old.maps → (mids : List Maps) × KeepsInTurn first mids new.maps
+  pub numbers : HeldCallsLead p helds old.maps new.maps
 
-abbrev pub grants : PetitionCall → Bool
-grants Grant = true
-grants call = false
-
--- what a call keeps that is done: the rows are good ones, no batch is counted yet, and what stays keeps its number, by way of the rows
--- between where it grants a petition
-pub record KeepsRows (grants : Bool) (old new : Held) : Type 0 where
+-- what a call keeps that is done: the rows are good ones, no batch is counted yet, and numbers are kept in this way
+pub record KeepsRows (keeps_numbers : Maps → Maps → Type 0) (old new : Held) : Type 0 where
   pub good : IsGood new.maps
   pub seq : new.maps.head.seq ≡ old.maps.head.seq
   pub base : new.base ≡ old.base
-  pub numbers : CallKeepsNumbers grants old.maps new.maps
+  pub numbers : keeps_numbers old.maps new.maps

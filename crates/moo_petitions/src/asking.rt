@@ -4,6 +4,7 @@ ghost use Rattle.std.specs.Prelude.{◌≡◌, true, false, OnOk};
 ghost use Rattle.std.specs.List.{list_all};
 ghost use Rattle.moo_value.specs.declared.value.Value.TheVariants.{List as a_list};
 ghost use Rattle.moo_world.specs.Arguments.{fits};
+ghost use Rattle.moo_world.specs.Numbers.{KeepsNumbers};
 ghost use Rattle.moo_world.specs.Petitions.{petition_fits};
 ghost use Rattle.moo_world.specs.Requests.{ask, may_be_asked, one_list, petition, taking};
 ghost use Rattle.moo_world.specs.Rows.{IsGood};
@@ -40,7 +41,7 @@ fn ask<R: Rows>(rows: &mut R, programmer: ObjNo, calls: ValueList) -> Result<Val
     requires fit { petition_fits (record { who = programmer; calls = calls }) ≡ true }
     ensures reaches { Reaches (ask (state_in (R.held rows.old)) programmer calls) (R.held rows.new) result }
     ensures stays { Stays (R.held rows.old) (R.held rows.new) result }
-    ensures kept { OnOk result (KeepsRows false (R.held rows.old) (R.held rows.new)) }
+    ensures kept { OnOk result (KeepsRows KeepsNumbers (R.held rows.old) (R.held rows.new)) }
 {
     let mut head = rows.head();
     let number = head.next_petition;
@@ -72,7 +73,7 @@ pub(crate) fn petition<R: Rows>(
     requires fit { list_all fits args.now ≡ true }
     ensures reaches { Reaches (taking (one_list args.now) (petition (state_in (R.held rows.old)) programmer)) (R.held rows.new) result }
     ensures stays { Stays (R.held rows.old) (R.held rows.new) result }
-    ensures kept { OnOk result (KeepsRows false (R.held rows.old) (R.held rows.new)) }
+    ensures kept { OnOk result (KeepsRows KeepsNumbers (R.held rows.old) (R.held rows.new)) }
 {
     let calls = one_list(args)?;
     may_be_asked(calls)?;

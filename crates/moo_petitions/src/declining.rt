@@ -1,6 +1,7 @@
 //! `decline`.
 
 ghost use Rattle.std.specs.Prelude.{◌≡◌, ◌||◌, false, OnOk};
+ghost use Rattle.moo_world.specs.Numbers.{KeepsNumbers};
 ghost use Rattle.moo_world.specs.Objects.{same_object};
 ghost use Rattle.moo_world.specs.Requests.{decline, one_integer, taking};
 ghost use Rattle.moo_world.specs.Rights.{is_wizard};
@@ -32,7 +33,7 @@ pub(crate) fn decline<R: Rows>(
     requires good { IsGood (R.held rows.old).maps }
     ensures reaches { Reaches (taking (one_integer args.now) (decline (state_in (R.held rows.old)) programmer)) (R.held rows.new) result }
     ensures stays { Stays (R.held rows.old) (R.held rows.new) result }
-    ensures kept { OnOk result (KeepsRows false (R.held rows.old) (R.held rows.new)) }
+    ensures kept { OnOk result (KeepsRows KeepsNumbers (R.held rows.old) (R.held rows.new)) }
 {
     let number = one_integer(args)?;
     let (id, who) = match petition_at(rows, number) {

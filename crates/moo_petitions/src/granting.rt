@@ -3,6 +3,7 @@
 ghost use Rattle.std.specs.Prelude.{◌≡◌, true, OnOk};
 ghost use Rattle.std.specs.List.{list_all};
 ghost use Rattle.moo_world.specs.Arguments.{fits};
+ghost use Rattle.moo_world.specs.Between.{GrantLeads};
 ghost use Rattle.moo_world.specs.Keeps.{Keeps};
 ghost use Rattle.moo_world.specs.Requests.{grant, held_step, held_steps, one_integer, taking};
 ghost use Rattle.moo_world.specs.Rows.{IsGood};
@@ -47,7 +48,7 @@ fn held_steps<R: Rows>(
     requires good { IsGood (R.held rows.old).maps }
     requires fit { list_all fits helds.now ≡ true }
     ensures comes { ComesInTurn (held_steps (world_in (R.held rows.old)) wizard helds.now) (R.held rows.new) result }
-    ensures kept { OnOk result (KeepInTurn (R.held rows.old) (R.held rows.new)) }
+    ensures kept { OnOk result (KeepInTurn wizard helds.now (R.held rows.old) (R.held rows.new)) }
 {
     for held in helds {
         held_step(rows, alloc, wizard, held)?;
@@ -68,7 +69,7 @@ pub(crate) fn grant<R: Rows>(
 ) -> Result<Value, Fault>
     requires good { IsGood (R.held rows.old).maps }
     ensures reaches { Reaches (taking (one_integer args.now) (grant (state_in (R.held rows.old)) programmer)) (R.held rows.new) result }
-    ensures kept { OnOk result (KeepsRows true (R.held rows.old) (R.held rows.new)) }
+    ensures kept { OnOk result (KeepsRows (GrantLeads programmer args.now) (R.held rows.old) (R.held rows.new)) }
 {
     let number = one_integer(args)?;
     if !is_wizard(rows, programmer) {

@@ -4,6 +4,7 @@ ghost use Rattle.std.specs.Prelude.{◌≡◌, false, map, ◌||◌, IfOk, OnOk}
 ghost use Rattle.std.specs.List.{filter};
 ghost use Rattle.std.specs.FinMap.{entries};
 ghost use Rattle.moo_world.specs.Arguments.{no_values};
+ghost use Rattle.moo_world.specs.Numbers.{KeepsNumbers};
 ghost use Rattle.moo_world.specs.Objects.{same_object};
 ghost use Rattle.moo_world.specs.Requests.{listed, petitions, taking};
 ghost use Rattle.moo_world.specs.Rights.{is_wizard};
@@ -54,7 +55,7 @@ pub(crate) fn petitions<R: Rows>(
 ) -> Result<Value, Fault>
     requires good { IsGood (R.held rows.now).maps }
     ensures reaches { Reaches (taking (no_values args.now) (λ _. petitions (state_in (R.held rows.now)) programmer)) (R.held rows.now) result }
-    ensures kept { OnOk result (KeepsRows false (R.held rows.now) (R.held rows.now)) }
+    ensures kept { OnOk result (KeepsRows KeepsNumbers (R.held rows.now) (R.held rows.now)) }
 {
     no_values(args)?;
     let found = all_listed(rows, alloc, is_wizard(rows, programmer), programmer)?;

@@ -55,6 +55,6 @@ slot_after t x q key =
 abbrev pub row_after : Maps → ObjNo → ObjNo → ObjNo → Option ObjRow
 row_after t x q y = option_map (λ row. if same_object x y then record row { parent = q } else row) (get t.objects y)
 
--- the head, the properties and the verbs are as they were
+-- the head, the properties, the verbs and the petitions are as they were
 abbrev pub IsSameButSlotsAndObjects : Maps → Maps → Type 0
 IsSameButSlotsAndObjects a b = b ≡ record a { objects = b.objects; slots = b.slots }

@@ -1,29 +1,40 @@
 -- The rows between the calls of a batch.
-use Rattle.std.specs.Prelude.{◌≡◌, ◌+◌, Bool, false, List, [], ◌∷◌}
+use Rattle.std.specs.Prelude.{◌≡◌, ◌+◌, Bool, true, false, ℤ, Some, List, [], ◌∷◌, Ok}
+use Rattle.std.specs.FinMap.{remove}
 use Rattle.moo_value.specs.declared.value.ObjNo.{ObjNo}
 use Rattle.moo_value.specs.declared.value.Value.{Value}
+use Rattle.moo_value.specs.Value.{spread}
+use Rattle.moo_rows.specs.declared.row.PetitionId.{PetitionId}
+use Rattle.moo_rows.specs.declared.row.PetitionRow.{PetitionRow}
 use Rattle.moo_rows.specs.Maps.{Maps}
 use Rattle.moo_world.specs.declared.call.Call.{Call}
 use Rattle.moo_world.specs.declared.call.Batch.{Batch}
 use Rattle.moo_world.specs.Numbers.{KeepsNumbers, NumbersStay}
 use Rattle.moo_world.specs.Names.{is_grant}
-use Rattle.moo_world.specs.Requests.{Answered, request, state_of, PetitionsStay}
-use Rattle.moo_world.specs.Rows.{IsGood}
+use Rattle.moo_world.specs.Requests.{Answered, held_step, in_world, one_integer, petition_at, request, state_of, PetitionsStay}
+use Rattle.moo_world.specs.Rows.{IsGood, world_of}
 
--- numbers are kept from rows to rows by way of those between
-abbrev pub KeepsInTurn : Maps → List Maps → Maps → Type 0
-KeepsInTurn old [] new = KeepsNumbers old new
-KeepsInTurn old (mid ∷ between) new = KeepsNumbers old mid × KeepsInTurn mid between new
+-- the calls that a petition holds lead from rows to rows: each is done, leaves good rows, and keeps numbers
+abbrev pub HeldCallsLead : ObjNo → List Value → Maps → Maps → Type 0
+HeldCallsLead p [] old new = new ≡ old
+HeldCallsLead p (held ∷ helds) old new =
+    (answer : Value) × (mid : Maps) × (in_world (state_of old) (held_step (world_of old) p held) ≡ Answered answer (state_of mid)) × IsGood mid × KeepsNumbers old mid × HeldCallsLead p helds mid new
 
--- what a call does to numbers: one change, or, where it grants a petition, one for each call that it makes and one before them
-abbrev pub CallKeepsNumbers : Bool → Maps → Maps → Type 0
-CallKeepsNumbers grants old new = (between : List Maps) × (grants ≡ false → between ≡ []) × KeepsInTurn old between new
+-- the petition goes that is granted, and then the calls that it holds lead on
+abbrev pub GrantLeads : ObjNo → List Value → Maps → Maps → Type 0
+GrantLeads p args old new =
+    (n : ℤ) × (e : PetitionId × PetitionRow) × (one_integer args ≡ Ok n) × (petition_at (state_of old) n ≡ Some e) × HeldCallsLead p (spread e.1.calls) (record old { petitions = remove old.petitions e.0 }) new
+
+-- what a call does to numbers: one change, or, where it grants a petition, one for each call that the petition holds
+abbrev pub CallKeepsNumbers : Bool → ObjNo → List Value → Maps → Maps → Type 0
+CallKeepsNumbers true p args = GrantLeads p args
+CallKeepsNumbers false p args = KeepsNumbers
 
 -- the calls lead from rows to rows: each is done, leaves good rows, and keeps numbers
 abbrev pub CallsLead : ObjNo → List Call → Maps → Maps → Type 0
 CallsLead p [] old new = new ≡ old
 CallsLead p (call ∷ calls) old new =
-    (answer : Value) × (mid : Maps) × (request (state_of old) p call ≡ Answered answer (state_of mid)) × IsGood mid × CallKeepsNumbers (is_grant call.name) old mid × CallsLead p calls mid new
+    (answer : Value) × (mid : Maps) × (request (state_of old) p call ≡ Answered answer (state_of mid)) × IsGood mid × CallKeepsNumbers (is_grant call.name) p call.args old mid × CallsLead p calls mid new
 
 -- the calls of the batch do, and the batch is counted
 abbrev pub BatchLeads : Batch → Maps → Maps → Type 0

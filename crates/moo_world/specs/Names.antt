@@ -64,6 +64,9 @@ petition_call Grant = Some to_grant
 petition_call Decline = Some to_decline
 petition_call name = None
 
+abbrev pub grants : PetitionCall → Bool
+grants to_grant = true
+grants call = false
+
 abbrev pub is_grant : CallName → Bool
-is_grant Grant = true
-is_grant name = false
+is_grant name = elim (petition_call name) [ None ↦ false | Some call ↦ grants call ]

@@ -8,6 +8,8 @@ use Rattle.std.proofs.lemmas.Map.Lookups.{CmpEqualImpliesEq}
 use Rattle.std.proofs.lemmas.Bool.{false≢true}
 use Rattle.std.proofs.lemmas.Option.{none-some, same_Some}
 use Rattle.moo_value.specs.declared.value.ObjNo.{ObjNo}
+use Rattle.moo_value.specs.declared.value.Value.{Value}
+use Rattle.moo_value.specs.Value.{spread}
 use Rattle.moo_rows.specs.declared.row.PropId.{PropId}
 use Rattle.moo_rows.specs.declared.row.PropRow.{PropRow}
 use Rattle.moo_rows.specs.declared.row.VerbId.{VerbId}
@@ -16,7 +18,8 @@ use Rattle.moo_rows.specs.Exact.{prop_exact, verb_exact}
 use Rattle.moo_rows.specs.Maps.{Maps, prop_cmp, verb_cmp}
 use Rattle.moo_rows.proofs.Orders.{prop_total, verb_total}
 use Rattle.moo_world.specs.declared.call.Call.{Call}
-use Rattle.moo_world.specs.Between.{CallsLead, KeepsInTurn, BatchesKeepNumbers}
+use Rattle.moo_world.specs.Between.{CallsLead, HeldCallsLead, CallKeepsNumbers, BatchesKeepNumbers}
+use Rattle.moo_world.specs.Names.{is_grant}
 use Rattle.moo_world.specs.Numbers.{KeepsProps, props_stay, prop_added, prop_renamed, prop_removed, props_dropped, KeepsVerbs, verbs_stay, verb_added, verb_changed, verb_removed, verbs_dropped, KeepsNumbers, IsSameButSlots, NumbersStay, not_of}
 use Rattle.moo_world.specs.Objects.{same_object}
 use Rattle.moo_world.specs.Requests.{PetitionsStay, state_of}
@@ -134,13 +137,19 @@ stay_joined a b c s t = record {
 pub stay_itself : (m : Maps) → NumbersStay m m
 stay_itself m = numbers_stay m m (numbers_same m m refl refl refl refl)
 
-in_turn_stay : (between : List Maps) (old new : Maps) → KeepsInTurn old between new → NumbersStay old new
-in_turn_stay [] old new k = numbers_stay old new k
-in_turn_stay (mid ∷ between) old new k = stay_joined old mid new (numbers_stay old mid k.0) (in_turn_stay between mid new k.1)
+held_calls_stay : (p : ObjNo) (helds : List Value) (old new : Maps) → HeldCallsLead p helds old new → NumbersStay old new
+held_calls_stay p [] old new e = subst (NumbersStay old) (sym e) (stay_itself old)
+held_calls_stay p (held ∷ helds) old new l = stay_joined old l.1 new (numbers_stay old l.1 l.4) (held_calls_stay p helds l.1 new l.5)
+
+call_stays : (grants : Bool) (p : ObjNo) (args : List Value) (old new : Maps) → CallKeepsNumbers grants p args old new → NumbersStay old new
+call_stays true p args old new k =
+    let gone = record old { petitions = remove old.petitions k.1.0 } in
+    stay_joined old gone new (numbers_stay old gone (numbers_same old gone refl refl refl refl)) (held_calls_stay p (spread k.1.1.calls) gone new k.4)
+call_stays false p args old new k = numbers_stay old new k
 
 pub calls_stay : (p : ObjNo) (calls : List Call) (old new : Maps) → CallsLead p calls old new → NumbersStay old new
 calls_stay p [] old new e = subst (NumbersStay old) (sym e) (stay_itself old)
-calls_stay p (call ∷ calls) old new l = stay_joined old l.1 new (in_turn_stay l.4.0 old l.1 l.4.2) (calls_stay p calls l.1 new l.5)
+calls_stay p (call ∷ calls) old new l = stay_joined old l.1 new (call_stays (is_grant call.name) p call.args old l.1 l.4) (calls_stay p calls l.1 new l.5)
 
 pub petitions_stay : (p : ObjNo) (calls : List Call) (old new : Maps) → CallsLead p calls old new → PetitionsStay (state_of old) (state_of new)
 petitions_stay p [] old new e = subst (λ m. PetitionsStay (state_of old) (state_of m)) (sym e) (petitions_same (state_of old) (world_of old))

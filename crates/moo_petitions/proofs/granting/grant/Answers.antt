@@ -11,7 +11,7 @@ use Rattle.moo_world.specs.World.{World}
 use Rattle.moo_world.proofs.Batches.Requested.{found_there}
 use Rattle.moo_world.proofs.Form.Petitions.{held_fit}
 use Rattle.moo_call_parts.specs.Outcomes.{world_in}
-use Rattle.moo_petitions.specs.Outcomes.{state_in, ComesInTurn, Reaches}
+use Rattle.moo_petitions.specs.Outcomes.{state_in, ComesInTurn, KeepInTurn, Reaches}
 use Rattle.moo_petitions.proofs.Beside.{removed-keeps, removed-state}
 use Rattle.moo_petitions.proofs.InTurn.{granted-reaches, granted-keeps, on_ok}
 use Rattle.moo_petitions.proofs.granting.grant.Goals as goal
@@ -46,11 +46,20 @@ returns-clause-reaches g c =
     (sym (ap (λ r. taking r (grant s p)) given
     ∙ ap (λ b. unless_fails b Permission (found_petition (petition_at s n) (λ e. in_world (without e.0 s) (held_steps s.world p (spread e.1.calls))))) wizard
     ∙ ap (λ o. found_petition o (λ e. in_world (without e.0 s) (held_steps s.world p (spread e.1.calls)))) found))
-    (granted-reaches (without c.in-Some.id s) mid new (held_steps s.world p (spread c.in-Some.row.now.calls)) c.held_steps.result is comes c.held_steps.ensures.kept)
+    (granted-reaches (without c.in-Some.id s) p c.items.result.now mid new (held_steps s.world p (spread c.in-Some.row.now.calls)) c.held_steps.result is comes c.held_steps.ensures.kept)
 
 pub returns-clause-kept : goal.returns-clause-kept
 returns-clause-kept g c =
     let old = g.R.Rows.held c.args.rows.now in
     let mid = g.R.Rows.held c.remove_petition.new.self in
+    let new = g.R.Rows.held c.held_steps.new.rows in
+    let p = c.args.programmer in
+    let n = c.in_ok-number.number in
+    let e = (c.in-Some.id, c.in-Some.row.now) in
+    let given : one_integer c.args.args.now ≡ Ok n = search rules in
+    let found : petition_at (state_in old) n ≡ Some e = search rules in
+    let helds : c.items.result.now ≡ spread c.in-Some.row.now.calls = c.items.ensures.plain ∙ ap (λ (r : PetitionRow). spread r.calls) c.in_ok-copy-in-Some.ensures in
     let removed = removed-keeps old mid c.in-Some.id c.in_ok-remove_petition.ensures.ok c.requires.good in
-    on_ok c.held_steps.result (granted-keeps old mid (g.R.Rows.held c.held_steps.new.rows) removed) c.held_steps.ensures.kept
+    on_ok c.held_steps.result
+    (λ kept. granted-keeps p c.args.args.now n e old mid new given found c.in_ok-remove_petition.ensures.ok removed (subst (λ l. KeepInTurn p l mid new) helds kept))
+    c.held_steps.ensures.kept
