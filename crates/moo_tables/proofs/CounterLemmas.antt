@@ -1,8 +1,10 @@
 -- What the statement on petition_head does.
-use Rattle.std.proofs.Common.{◌≡◌, ℕ, ℤ, pos, List, [], ◌∷◌, drop, Option, Some, true, false, ◌&&◌, ◌||◌, Result, Ok, Err, OnOk, IsTrue, refl, ap, subst, ◌∙◌}
+use Rattle.std.proofs.Common.{◌≡◌, ◌⊎◌, inl, inr, ℕ, ℤ, pos, List, [], ◌∷◌, ◌++◌, drop, codes, option_map, Option, Some, Bool, true, false, ◌&&◌, ◌||◌, Result, Ok, Err, OnOk, IsTrue, refl, ap, subst, ◌∙◌}
+use Rattle.std.specs.List.{list_all}
+use Rattle.std.proofs.lemmas.Bool.{and_parts}
 use Rattle.sqlite.specs.declared.types.Value.TheVariants.{Null, Int}
 use Rattle.sqlite.specs.declared.error.Error.{Error}
-use Rattle.sqlite.specs.Order.{Row}
+use Rattle.sqlite.specs.Order.{Row, column}
 use Rattle.sqlite.specs.Ops.{binary, is_true}
 use Rattle.sqlite.specs.Collation.TheVariants.{Binary}
 use Rattle.sqlite_sql.specs.declared.ops.BinaryOp.TheVariants.{Compare}
@@ -10,7 +12,17 @@ use Rattle.sqlite_sql.specs.declared.ops.CompareOp.TheVariants.{Eq}
 use Rattle.sqlite.specs.Edit.{with_rowid}
 use Rattle.sqlite.specs.Cast.{cast_row}
 use Rattle.sqlite.specs.Rowids.TheVariants.{Chosen}
-use Rattle.sqlite.specs.Tree.{rowid, has_rowid, put_row}
+use Rattle.sqlite.specs.Tree.{Trees, rowid, has_rowid, put_row}
+use Rattle.sqlite.specs.Term.{holds}
+use Rattle.sqlite.specs.Rows.{shown}
+use Rattle.sqlite.specs.Effect.{IsDatabase}
+use Rattle.sqlite_catalog.specs.Listing.{IsSound}
+use Rattle.sqlite_schema.specs.Rules.{has_computed, differ}
+use Rattle.sqlite_schema.specs.declared.program.Program.{Program}
+use Rattle.sqlite_schema.specs.declared.schema.Constraint.TheVariants.{Datatype, NotNull}
+use Rattle.sqlite_rules.specs.Lists.{Has}
+use Rattle.sqlite_rules.proofs.ListLemmas.{all_has}
+use Rattle.sqlite_trees.specs.View.{is_int}
 use Rattle.sqlite.specs.Listing.{understood}
 use Rattle.sqlite.specs.State.{State, Executes}
 use Rattle.sqlite.proofs.Callers.{statement_of, runs_as}
@@ -19,13 +31,14 @@ use Rattle.sqlite_value.specs.Keys.{first_key}
 use Rattle.moo_tables.specs.Cells.{petition_head_cells, with_counter}
 use Rattle.moo_tables.specs.Tables.{Tables, second_schema, petition_head_table, cells_at, petition_head_places, numbered_in, numbered_with, same_number}
 use Rattle.moo_tables.specs.Inside.{AreKeyed, Sees, Changes, Ran}
-use Rattle.moo_tables.proofs.TextLemmas.{put_counter_text, put_counter_is, put_counter_plain, counter_terms, counter_over, written_over}
+use Rattle.moo_tables.proofs.TextLemmas.{put_counter_text, put_counter_is, put_counter_plain, counter_terms, counter_filter, counter_over, writes_where}
 use Rattle.moo_tables.proofs.StepLemmas.{cast_null, cast_int}
-use Rattle.moo_tables.proofs.UpsertLemmas.{Settles, upserts}
-use Rattle.moo_tables.proofs.OverLemmas.{number_settles}
+use Rattle.moo_tables.proofs.UpsertLemmas.{Settles, WritesOver, upserts}
+use Rattle.moo_tables.proofs.OverLemmas.{Found, OthersStay, StandsAlone, number_one, picks_given, number_anew, number_found, number_over, number_left}
+use Rattle.moo_tables.proofs.ListingLemmas.{one_int, not_apart, exactly, find_one}
 use Rattle.moo_tables.proofs.KeyLemmas.{after_put, number_exact, number_apart}
 use Rattle.moo_tables.proofs.RowLemmas.{moo_quiet, equal_number, put_keyed, rest, number_free, has_itself}
-use Rattle.moo_tables.proofs.SeenLemmas.{schema_seen, rows_seen, counter_seen, SetsTree, written, kept_head, kept_object, kept_prop, kept_slot, kept_verb, kept_petition, sees_all}
+use Rattle.moo_tables.proofs.SeenLemmas.{schema_seen, sound_seen, rows_seen, counter_seen, SetsTree, written, kept_head, kept_object, kept_prop, kept_slot, kept_verb, kept_petition, sees_all}
 
 sees : (old new : State) (tables : Tables) (key : ℤ) (cells : Option Row) (rows : List Row) → Sees old tables → SetsTree old new 10 rows → AreKeyed rows
     → ((k : ℤ) → numbered_in petition_head_places rows k ≡ numbered_with key cells (numbered_in petition_head_places (old.now.trees 10)) k) → Sees new (record tables { petition_head = numbered_with key cells tables.petition_head })
@@ -50,23 +63,109 @@ meets n tail r =
 kept_over : (next : ℕ) (r : Row) → rowid r ≡ Int (pos 1) → cast_row petition_head_table (rowid r ∷ Null ∷ drop 1 (petition_head_cells next)) ≡ stored next
 kept_over next r is = ap (λ v. cast_row petition_head_table (v ∷ Null ∷ drop 1 (petition_head_cells next))) is ∙ kept next
 
+-- ---- the row of the table, where it is put, written over, or left as it is
+
+-- it has a whole number
+has_number : (db : Trees) → IsSound second_schema db → (r : Row) → Has (db 10) r → IsTrue (is_int (column r 2))
+has_number db sound r in_it =
+    one_int r (codes "id") (codes "next_petition") [] (and_parts _ (has_computed petition_head_table r) (all_has _ (db 10) r (sound.obeys.rules Datatype).1.1.1.1.1.1.1.0 in_it)).0
+    (all_has _ (db 10) r (sound.obeys.rules NotNull).1.1.1.1.1.1.1.0 in_it)
+
+module _ (next : ℕ) (db after : Trees) (keyed : AreKeyed (db 10)) (sound : IsSound second_schema db) where
+  abbrev rows : List Row
+  rows = db 10
+
+  abbrev given : Row
+  given = petition_head_cells next ++ Int (pos 1) ∷ shown petition_head_table (stored next)
+
+  abbrev q : Program
+  q = writes_where 10 counter_filter counter_over
+
+  -- it had this number already
+  abbrev WasSo : Type 0
+  WasSo = (after 10 ≡ rows) × OthersStay 10 db after × (numbered_in petition_head_places rows (pos 1) ≡ Some (petition_head_cells next))
+
+  meets_it : (r : Row) → Has rows r → conflicts (Some (0 ∷ [])) second_schema.indexes petition_head_table (stored next) r ≡ has_rowid (pos 1) r
+  meets_it r in_it = meets (pos 1) (drop 1 (stored next)) r
+
+  tested : (r : Row) → list_all (holds (given ∷ r ∷ [])) counter_filter ≡ (differ (column r 2) (Int (pos next)) && has_rowid (pos 1) r)
+  tested r = ap (λ b. differ (column r 2) (Int (pos next)) && b) (picks_given 2 given (pos 1) refl r)
+
+  module _ (x : Row) (more : List Row) (met : AreConflicts (Some (0 ∷ [])) second_schema.indexes petition_head_table rows (stored next) (x ∷ more)) where
+    found : Found has_rowid (pos 1) rows keyed x
+    found = number_found petition_head_table (pos 1) db after keyed refl (petition_head_cells next) (stored next) counter_filter counter_over meets_it (kept next) x more met
+
+    -- no other row has its number
+    only : (r : Row) → Has rows r → has_rowid (pos 1) r ≡ true → r ≡ found.row
+    only r in_it here = number_one (pos 1) rows keyed r found.row in_it found.in_it here found.here
+
+    module _ (it : WritesOver second_schema petition_head_table db (petition_head_cells next) q (stored next) x after) where
+      over : differ (column found.row 2) (Int (pos next)) ≡ true → StandsAlone (pos 1) (stored next) 10 db after keyed
+      over other =
+          number_over petition_head_table (pos 1) db after keyed refl (petition_head_cells next) (stored next) counter_filter counter_over meets_it (kept next) x more met it
+          (λ r in_it. tested r ∙ picks r in_it (has_rowid (pos 1) r) refl) (λ r. refl) (kept_over next)
+        where
+          picks : (r : Row) → Has rows r → (b : Bool) → has_rowid (pos 1) r ≡ b → (differ (column r 2) (Int (pos next)) && b) ≡ b
+          picks r in_it true here = rw (ap (λ s. differ (column s 2) (Int (pos next))) (only r in_it here) ∙ other) refl
+          picks r in_it false none = elim (differ (column r 2) (Int (pos next))) as (λ b. (b && false) ≡ false) [ true ↦ refl | false ↦ refl ]
+
+      left : differ (column found.row 2) (Int (pos next)) ≡ false → WasSo
+      left same =
+          let kept_as = number_left petition_head_table (pos 1) db after keyed refl (petition_head_cells next) (stored next) counter_filter counter_over meets_it (kept next) x more met it (λ r in_it. tested r ∙ none r in_it (has_rowid (pos 1) r) refl) in
+          let number = not_apart (column found.row 2) (pos next) (has_number db sound found.row found.in_it) same in
+          let one : rowid found.row ≡ Int (pos 1) = exactly (rowid found.row) (pos 1) (all_has (λ r. IsTrue (is_int (rowid r))) rows found.row keyed.1 found.in_it) found.here in
+          let here = find_one (has_rowid (pos 1)) rows found.row found.in_it found.here only in
+          (kept_as.0, kept_as.1, ap (option_map (cells_at petition_head_places)) here ∙ ap (λ v. Some (v ∷ column found.row 2 ∷ [])) one ∙ ap (λ v. Some (Int (pos 1) ∷ v ∷ [])) number)
+        where
+          none : (r : Row) → Has rows r → (b : Bool) → has_rowid (pos 1) r ≡ b → (differ (column r 2) (Int (pos next)) && b) ≡ false
+          none r in_it true here = rw (ap (λ s. differ (column s 2) (Int (pos next))) (only r in_it here) ∙ same) refl
+          none r in_it false other = elim (differ (column r 2) (Int (pos next))) as (λ b. (b && false) ≡ false) [ true ↦ refl | false ↦ refl ]
+
+      over_or_left : (b : Bool) → differ (column found.row 2) (Int (pos next)) ≡ b → StandsAlone (pos 1) (stored next) 10 db after keyed ⊎ WasSo
+      over_or_left true other = inl (over other)
+      over_or_left false same = inr (left same)
+
+  settles : (found : List Row) → AreConflicts (Some (0 ∷ [])) second_schema.indexes petition_head_table rows (stored next) found
+      → Settles second_schema petition_head_table db (petition_head_cells next) q (stored next) found after → StandsAlone (pos 1) (stored next) 10 db after keyed ⊎ WasSo
+  settles [] met it = inl (number_anew petition_head_table (pos 1) db after keyed refl (petition_head_cells next) (stored next) counter_filter counter_over meets_it (kept next) met it)
+  settles (x ∷ more) met it = over_or_left x more met it (differ (column (found x more met).row 2) (Int (pos next))) refl
+
+  -- to put what is there changes nothing
+  so_already : numbered_in petition_head_places rows (pos 1) ≡ Some (petition_head_cells next)
+      → (k : ℤ) → numbered_in petition_head_places rows k ≡ numbered_with (pos 1) (Some (petition_head_cells next)) (numbered_in petition_head_places rows) k
+  so_already there k = go (same_number k (pos 1)) refl
+    where
+      go : (b : Bool) → same_number k (pos 1) ≡ b → numbered_in petition_head_places rows k ≡ numbered_with (pos 1) (Some (petition_head_cells next)) (numbered_in petition_head_places rows) k
+      go true e = rw e (ap (numbered_in petition_head_places rows) (number_exact k (pos 1) e) ∙ there)
+      go false e = rw e refl
+
 puts : (old new : State) (next : ℕ) (count : ℕ) (tables : Tables) → Sees old tables → Executes put_counter_text (petition_head_cells next) old new (Ok count) → IsTrue new.in_transaction → Sees new (with_counter next tables)
 puts old new next count tables seen h inside =
     let has = schema_seen seen in
-    let the_key : ℤ = pos 1 in
     let source = stored next in
     let old_rows = old.now.trees 10 in
     let keyed = counter_seen seen in
     let w = runs_as put_counter_text (petition_head_cells next) old new second_schema has _ put_counter_is put_counter_plain count h in
-    let it = upserts second_schema moo_quiet 7 _ _ _ _ _ _ _ refl old new has (statement_of put_counter_text (understood second_schema put_counter_text)) (petition_head_cells next) count (0 ∷ []) (written_over 10 2 counter_over) counter_terms 3 source refl w in
+    let it = upserts second_schema moo_quiet 7 _ _ _ _ _ _ _ refl old new has (statement_of put_counter_text (understood second_schema put_counter_text)) (petition_head_cells next) count (0 ∷ []) (writes_where 10 counter_filter counter_over) counter_terms 3 source refl w in
     let whole : with_rowid Chosen old_rows (cast_row petition_head_table source) ≡ source = ap (with_rowid Chosen old_rows) (kept next) in
     let met = subst (λ r. AreConflicts (Some (0 ∷ [])) second_schema.indexes petition_head_table old_rows r it.found) whole it.conflicts in
-    let ends = subst (λ r. Settles second_schema petition_head_table old.now.trees (petition_head_cells next) (written_over 10 2 counter_over) r it.found new.now.trees) whole it.settles in
-    let put = number_settles petition_head_table the_key old.now.trees new.now.trees keyed refl (petition_head_cells next) source 2 counter_over (λ r in_it. meets the_key (drop 1 source) r) (kept next) refl (λ r. refl) (kept_over next) it.found met ends in
-    sees old new tables the_key (Some (petition_head_cells next)) (put_row source (rest has_rowid the_key old_rows keyed)) seen
-    (record { schema_is = it.schema_is; sound = w.sound; is_open = w.shown.is_open; inside = inside; rows_are = put.0; others = put.1 })
-    (put_keyed has_rowid the_key old_rows keyed source refl)
-    (after_put same_number has_rowid (cells_at petition_head_places) number_exact number_apart the_key source old_rows (has_itself the_key (drop 1 source)) (number_free the_key source old_rows refl))
+    let ends = subst (λ r. Settles second_schema petition_head_table old.now.trees (petition_head_cells next) (writes_where 10 counter_filter counter_over) r it.found new.now.trees) whole it.settles in
+    by it.schema_is w.sound w.shown.is_open (settles next old.now.trees new.now.trees keyed (sound_seen seen) it.found met ends)
+  where
+    by : new.now.schema ≡ second_schema → IsDatabase new.now → IsTrue new.is_open
+        → StandsAlone (pos 1) (stored next) 10 old.now.trees new.now.trees (counter_seen seen) ⊎ WasSo next old.now.trees new.now.trees (counter_seen seen) (sound_seen seen) → Sees new (with_counter next tables)
+    by schema_is sound is_open (inl put) =
+        let source = stored next in
+        let old_rows = old.now.trees 10 in
+        let keyed = counter_seen seen in
+        sees old new tables (pos 1) (Some (petition_head_cells next)) (put_row source (rest has_rowid (pos 1) old_rows keyed)) seen
+        (record { schema_is = schema_is; sound = sound; is_open = is_open; inside = inside; rows_are = put.0; others = put.1 })
+        (put_keyed has_rowid (pos 1) old_rows keyed source refl)
+        (after_put same_number has_rowid (cells_at petition_head_places) number_exact number_apart (pos 1) source old_rows (has_itself (pos 1) (drop 1 source)) (number_free (pos 1) source old_rows refl))
+    by schema_is sound is_open (inr was) =
+        sees old new tables (pos 1) (Some (petition_head_cells next)) (old.now.trees 10) seen
+        (record { schema_is = schema_is; sound = sound; is_open = is_open; inside = inside; rows_are = was.0; others = was.1 })
+        (counter_seen seen) (so_already next old.now.trees new.now.trees (counter_seen seen) (sound_seen seen) was.2)
 
 pub put : (old new : State) (next : ℕ) (r : Result ℕ Error) → Ran put_counter_text (petition_head_cells next) old new r → OnOk r (Changes (with_counter next) old new)
 put old new next (Err e) ran = tt

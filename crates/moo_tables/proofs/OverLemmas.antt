@@ -1,9 +1,10 @@
 -- The rows of one tree, after an upsert: the row stands in place of the one that has its key, or is put where none has it.
-use Rattle.std.proofs.Common.{◌≡◌, ◌≢◌, ℕ, ℤ, List, [], ◌∷◌, ◌++◌, filter, map, drop, Some, Bool, true, false, ◌&&◌, not, IsTrue, true≢false, refl, sym, ap, subst, ◌∙◌, inl, inr}
+use Rattle.std.proofs.Common.{◌≡◌, ◌≢◌, ℕ, ℤ, List, [], ◌∷◌, ◌++◌, filter, map, drop, Some, Bool, true, false, ◌&&◌, not, IsTrue, true≢false, refl, sym, ap, subst, ◌∙◌, inl, inr, arith}
 use Rattle.std.specs.List.{list_all}
 use Rattle.std.specs.Ordering.{is_eq}
 use Rattle.std.specs.declared.cmp.Ordering.TheVariants.{Less, Equal}
 use Rattle.std.specs.List.Sorted.{IsPermutation}
+use Rattle.std.proofs.lemmas.List.Sorted.{length_permutation}
 use Rattle.std.proofs.lemmas.Bool.{not-true, and_parts}
 use Rattle.std.proofs.lemmas.Cmp.{tied_itself, tied_back}
 use Rattle.sqlite.specs.Order.{Row, column, value_cmp}
@@ -16,6 +17,7 @@ use Rattle.sqlite_sql.specs.declared.ops.CompareOp.TheVariants.{Eq}
 use Rattle.sqlite.specs.Tree.{Trees, rowid, has_rowid, put_row, IsTable}
 use Rattle.sqlite.specs.Rows.{shown}
 use Rattle.sqlite.specs.Program.{overlay}
+use Rattle.sqlite_schema.specs.declared.program.Program.{Program}
 use Rattle.sqlite_rules.specs.Edit.{IsNoIndex}
 use Rattle.sqlite.specs.Edit.{id_in, without_all, put_all, numbered, next_rowid}
 use Rattle.sqlite.specs.Cast.{cast_row}
@@ -30,13 +32,13 @@ use Rattle.sqlite_rules.proofs.ListLemmas.{all_has, has_filtered}
 use Rattle.sqlite_value.proofs.OrderLemmas.{value_cmp_total}
 use Rattle.moo_tables.specs.Tables.{second_schema, has_pair}
 use Rattle.moo_tables.specs.Inside.{AreKeyed}
-use Rattle.moo_tables.proofs.TextLemmas.{by_given, written_over}
+use Rattle.moo_tables.proofs.TextLemmas.{by_given, writes_where, written_over}
 use Rattle.moo_tables.proofs.QueryLemmas.{chosen, shows_all}
 use Rattle.moo_tables.proofs.KeyLemmas.{is_false, both_ways, filter_same, tied_as_equal, one_row, int_value, removed, ties_one}
 use Rattle.moo_tables.proofs.RowLemmas.{equal_number, rest, pair_free}
 use Rattle.moo_tables.proofs.ListingLemmas.{exactly}
 use Rattle.moo_tables.proofs.ReadLemmas.{ArePairs}
-use Rattle.moo_tables.proofs.UpsertLemmas.{Settles, WritesOver}
+use Rattle.moo_tables.proofs.UpsertLemmas.{Settles, PutsIt, WritesOver}
 
 -- two rows that both have a number tie
 pub tie_by : (x y : Row) (id : ℤ) → has_rowid id x ≡ true → has_rowid id y ≡ true → value_cmp (rowid x) (rowid y) ≡ Equal
@@ -55,6 +57,10 @@ none_kept : (test : Row → Bool) (rows : List Row) → ((r : Row) → Has rows 
 none_kept test [] none = refl
 none_kept test (r ∷ rows) none = rw (none r (inl refl)) (none_kept test rows (λ s in_it. none s (inr in_it)))
 
+no_permutation : {X : Type 0} (ys : List X) → IsPermutation [] ys → ys ≡ []
+no_permutation [] h = refl
+no_permutation (y ∷ ys) h = absurd (let e = length_permutation [] (y ∷ ys) h in omega (arith, e))
+
 -- the rows with the number of one of them are that one
 alone : (rows : List Row) (r : Row) (id : ℤ) → IsTable rows → Has rows r → has_rowid id r ≡ true → filter (has_rowid id) rows ≡ r ∷ []
 alone [] r id up in_it here = absurd in_it
@@ -66,7 +72,7 @@ alone (x ∷ rows) r id up (inr in_it) here =
     let other = is_false (has_rowid id x) (λ first. apart x r id (all_has (λ y. value_cmp (rowid x) (rowid y) ≡ Less) rows r up.0 in_it) first here) in
     rw other (alone rows r id up.1 in_it here)
 
-picks_given : (base : ℕ) (given : Row) (id : ℤ) → column given base ≡ Int id → (r : Row) → list_all (holds (given ∷ r ∷ [])) (by_given base) ≡ has_rowid id r
+pub picks_given : (base : ℕ) (given : Row) (id : ℤ) → column given base ≡ Int id → (r : Row) → list_all (holds (given ∷ r ∷ [])) (by_given base) ≡ has_rowid id r
 picks_given base given id there r =
     let plainly : list_all (holds (given ∷ r ∷ [])) (by_given base) ≡ is_true (binary (Compare Eq Binary) (rowid r) (column given base)) = elim (is_true (binary (Compare Eq Binary) (rowid r) (column given base))) as (λ b. (b && true) ≡ b) [ true ↦ refl | false ↦ refl ] in
     plainly ∙ ap (λ v. is_true (binary (Compare Eq Binary) (rowid r) v)) there ∙ equal_number (rowid r) id
@@ -107,10 +113,10 @@ module _ {K : Type 0} (has : K → Row → Bool) (key : K) (rows : List Row) (ke
         numbered_so : (r : Row) → Has rows r → has key r ≡ true → has_rowid f.number r ≡ true
         numbered_so r in_it h = subst (λ x. has_rowid f.number x ≡ true) (sym (one r f.row in_it f.in_it h f.here)) itself
 
-    pub answers_one : (base : ℕ) (project : List Term) (given : Row) (answer : List Row) → column given base ≡ Int f.number → IsPermutation (map (λ r. eval_all project (given ∷ r ∷ [])) (chosen (by_given base) given rows)) answer
-        → answer ≡ eval_all project (given ∷ f.row ∷ []) ∷ []
-    answers_one base project given answer there same =
-        let few : chosen (by_given base) given rows ≡ f.row ∷ [] = filter_same _ _ rows (λ r in_it. picks_given base given f.number there r) ∙ alone rows f.row f.number keyed.0 f.in_it itself in
+    pub answers_one : (tests project : List Term) (given : Row) (answer : List Row) → ((r : Row) → Has rows r → list_all (holds (given ∷ r ∷ [])) tests ≡ has_rowid f.number r)
+        → IsPermutation (map (λ r. eval_all project (given ∷ r ∷ [])) (chosen tests given rows)) answer → answer ≡ eval_all project (given ∷ f.row ∷ []) ∷ []
+    answers_one tests project given answer picks same =
+        let few : chosen tests given rows ≡ f.row ∷ [] = filter_same _ _ rows picks ∙ alone rows f.row f.number keyed.0 f.in_it itself in
         one_permutation _ answer (subst (λ rs. IsPermutation (map (λ r. eval_all project (given ∷ r ∷ [])) rs) answer) few same)
 
     -- the new row takes the place of the one that is there
@@ -131,27 +137,76 @@ module _ {K : Type 0} (has : K → Row → Bool) (key : K) (rows : List Row) (ke
 
 -- ---- an upsert into a table whose rows are found by their number
 
+-- the trees of the other tables are as they were
+abbrev pub OthersStay : ℕ → Trees → Trees → Type 0
+OthersStay tree db next = (t : ℕ) → t ≢ tree → IsNoIndex second_schema t → next t ≡ db t
+
+-- the row stands in its table
+abbrev pub StandsAlone : ℤ → Row → (tree : ℕ) → (db next : Trees) → AreKeyed (db tree) → Type 0
+StandsAlone n row tree db next keyed = (next tree ≡ put_row row (rest has_rowid n (db tree) keyed)) × OthersStay tree db next
+
+module _ (table : Table) (n : ℤ) (db next : Trees) (keyed : AreKeyed (db table.tree)) (stored : overlay db [] table.tree ≡ db table.tree) (params source : Row) (tests project : List Term)
+    (meets : (r : Row) → Has (db table.tree) r → conflicts (Some (0 ∷ [])) second_schema.indexes table source r ≡ has_rowid n r) (kept : cast_row table source ≡ source) where
+  abbrev rows : List Row
+  rows = db table.tree
+
+  abbrev given : Row
+  given = params ++ Int n ∷ shown table source
+
+  abbrev q : Program
+  q = writes_where table.tree tests project
+
+  -- no row has the number
+  pub number_anew : AreConflicts (Some (0 ∷ [])) second_schema.indexes table rows source [] → PutsIt second_schema table db params q source next → StandsAlone n source table.tree db next keyed
+  number_anew met it =
+      (it.rows ∙ ap (λ r. put_row r rows) kept ∙ ap (put_row source) (all_others has_rowid n rows keyed (0 ∷ []) table source met meets), it.others)
+
+  module _ (x : Row) (more : List Row) (met : AreConflicts (Some (0 ∷ [])) second_schema.indexes table rows source (x ∷ more)) where
+    -- the row that has it
+    pub number_found : Found has_rowid n rows keyed x
+    number_found = found_first has_rowid n rows keyed (0 ∷ []) table source x more met meets
+
+    pub number_same : number_found.number ≡ n
+    number_same = ties_one (rowid number_found.row) number_found.number n (itself has_rowid n rows keyed (number_one n rows keyed) x number_found) number_found.here
+
+    module _ (it : WritesOver second_schema table db params q source x next) where
+      at_number : WritesOver second_schema table db params q source (Int n ∷ []) next
+      at_number = subst (λ t. WritesOver second_schema table db params q source t next) (number_found.is ∙ ap (λ m. Int m ∷ []) number_same) it
+
+      shows : IsPermutation (map (λ r. eval_all project (given ∷ r ∷ [])) (chosen tests given rows)) at_number.answer
+      shows =
+          subst (λ rs. IsPermutation (map (λ r. eval_all project (given ∷ r ∷ [])) (chosen tests given rs)) at_number.answer) stored
+          (shows_all table.tree tests project [] (overlay db []) given at_number.answer (at_number.answers.answer Null))
+
+      -- the tests find it by its number, and it is written over
+      pub number_over : ((r : Row) → Has rows r → list_all (holds (given ∷ r ∷ [])) tests ≡ has_rowid n r) → ((r : Row) → rowid (eval_all project (given ∷ r ∷ [])) ≡ rowid r)
+          → ((r : Row) → rowid r ≡ Int n → cast_row table (drop 1 (eval_all project (given ∷ r ∷ []))) ≡ source) → StandsAlone n source table.tree db next keyed
+      number_over picks names over =
+          let f = number_found in
+          let one = number_one n rows keyed in
+          let here = at_number in
+          let answer = answers_one has_rowid n rows keyed one x f tests project given here.answer (λ r in_it. picks r in_it ∙ ap (λ m. has_rowid m r) (sym number_same)) shows in
+          let written = takes_place has_rowid n rows keyed one x f table (eval_all project (given ∷ f.row ∷ [])) here.answer (next table.tree) answer (names f.row ∙ f.numbered) here.applies.rows in
+          (written ∙ ap (λ r. put_row r (rest has_rowid n rows keyed)) (over f.row (f.numbered ∙ ap Int number_same)), here.applies.others)
+
+      -- they leave it out, and nothing is written
+      pub number_left : ((r : Row) → Has rows r → list_all (holds (given ∷ r ∷ [])) tests ≡ false) → (next table.tree ≡ rows) × OthersStay table.tree db next
+      number_left none =
+          let here = at_number in
+          let few : chosen tests given rows ≡ [] = none_kept (λ r. list_all (holds (given ∷ r ∷ [])) tests) rows none in
+          let answer : here.answer ≡ [] = no_permutation here.answer (subst (λ rs. IsPermutation (map (λ r. eval_all project (given ∷ r ∷ [])) rs) here.answer) few shows) in
+          (here.applies.rows ∙ ap (λ a. put_all (without_all rows (ids_of a)) (numbered Given (without_all rows (ids_of a)) (map (λ s. cast_row table (drop 1 s)) a))) answer, here.applies.others)
+
+-- where its number is all that it is found by
 module _ (table : Table) (n : ℤ) (db next : Trees) (keyed : AreKeyed (db table.tree)) (stored : overlay db [] table.tree ≡ db table.tree) (params source : Row) (base : ℕ) (project : List Term)
     (meets : (r : Row) → Has (db table.tree) r → conflicts (Some (0 ∷ [])) second_schema.indexes table source r ≡ has_rowid n r) (kept : cast_row table source ≡ source)
     (there : column (params ++ Int n ∷ shown table source) base ≡ Int n) (names : (r : Row) → rowid (eval_all project ((params ++ Int n ∷ shown table source) ∷ r ∷ [])) ≡ rowid r)
     (over : (r : Row) → rowid r ≡ Int n → cast_row table (drop 1 (eval_all project ((params ++ Int n ∷ shown table source) ∷ r ∷ []))) ≡ source) where
-  abbrev rows : List Row
-  rows = db table.tree
-
-  pub number_settles : (found : List Row) → AreConflicts (Some (0 ∷ [])) second_schema.indexes table rows source found → Settles second_schema table db params (written_over table.tree base project) source found next
-      → (next table.tree ≡ put_row source (rest has_rowid n rows keyed)) × ((t : ℕ) → t ≢ table.tree → IsNoIndex second_schema t → next t ≡ db t)
-  number_settles [] met it =
-      (it.rows ∙ ap (λ r. put_row r rows) kept ∙ ap (put_row source) (all_others has_rowid n rows keyed (0 ∷ []) table source met meets), it.others)
+  pub number_settles : (found : List Row) → AreConflicts (Some (0 ∷ [])) second_schema.indexes table (db table.tree) source found → Settles second_schema table db params (written_over table.tree base project) source found next
+      → StandsAlone n source table.tree db next keyed
+  number_settles [] met it = number_anew table n db next keyed stored params source (by_given base) project meets kept met it
   number_settles (x ∷ more) met it =
-      let f = found_first has_rowid n rows keyed (0 ∷ []) table source x more met meets in
-      let one = number_one n rows keyed in
-      let same : f.number ≡ n = ties_one (rowid f.row) f.number n (itself has_rowid n rows keyed one x f) f.here in
-      let given = params ++ Int n ∷ shown table source in
-      let here = subst (λ t. WritesOver second_schema table db params (written_over table.tree base project) source t next) (f.is ∙ ap (λ m. Int m ∷ []) same) it in
-      let shows = subst (λ rs. IsPermutation (map (λ r. eval_all project (given ∷ r ∷ [])) (chosen (by_given base) given rs)) here.answer) stored (shows_all table.tree (by_given base) project [] (overlay db []) given here.answer (here.answers.answer Null)) in
-      let answer = answers_one has_rowid n rows keyed one x f base project given here.answer (there ∙ ap Int (sym same)) shows in
-      let written = takes_place has_rowid n rows keyed one x f table (eval_all project (given ∷ f.row ∷ [])) here.answer (next table.tree) answer (names f.row ∙ f.numbered) here.applies.rows in
-      (written ∙ ap (λ r. put_row r (rest has_rowid n rows keyed)) (over f.row (f.numbered ∙ ap Int same)), here.applies.others)
+      number_over table n db next keyed stored params source (by_given base) project meets kept x more met it (λ r in_it. picks_given base (params ++ Int n ∷ shown table source) n there r) names over
 
 -- ---- an upsert into a table whose rows are found by two columns
 
@@ -188,7 +243,7 @@ module _ (table : Table) (pair : ℤ × ℤ) (db next : Trees) (keyed : AreKeyed
       let given = cells ++ Int f.number ∷ shown table source in
       let here = subst (λ t. WritesOver second_schema table db cells (written_over table.tree base project) source t next) f.is it in
       let shows = subst (λ rs. IsPermutation (map (λ r. eval_all project (given ∷ r ∷ [])) (chosen (by_given base) given rs)) here.answer) stored (shows_all table.tree (by_given base) project [] (overlay db []) given here.answer (here.answers.answer Null)) in
-      let answer = answers_one has_pair pair old_rows keyed one x f base project given here.answer (there f.number) shows in
+      let answer = answers_one has_pair pair old_rows keyed one x f (by_given base) project given here.answer (λ r in_it. picks_given base given f.number (there f.number) r) shows in
       let written = takes_place has_pair pair old_rows keyed one x f table (eval_all project (given ∷ f.row ∷ [])) here.answer (next table.tree) answer (names f.number f.row ∙ f.numbered) here.applies.rows in
       let ints = pairs.ints f.row f.in_it in
       let ties = and_parts _ _ f.here in
