@@ -1,5 +1,5 @@
 -- Rows with other petitions and another counter of theirs.
-use Rattle.std.proofs.Common.{◌≡◌, ℕ, ◌+◌, ◌<◌, true, refl, sym, ap, ◌∙◌, subst, arith}
+use Rattle.std.proofs.Common.{◌≡◌, ℕ, ◌+◌, ◌<◌, true, refl, sym, ap, ◌∙◌, subst}
 use Rattle.std.specs.FinMap.{FinMap, insert, remove}
 use Rattle.moo_value.specs.declared.value.ObjNo.{ObjNo}
 use Rattle.moo_value.specs.Values.{Values}
@@ -8,7 +8,7 @@ use Rattle.moo_rows.specs.declared.row.PetitionId.{PetitionId}
 use Rattle.moo_rows.specs.declared.row.PetitionRow.{PetitionRow}
 use Rattle.moo_rows.specs.Maps.{Maps, Held, petition_cmp, with_petition, without_petition}
 use Rattle.moo_world.specs.Petitions.{PetitionsStand, petition_fits}
-use Rattle.moo_world.specs.Requests.{State, state_of, asked, petition_id, without}
+use Rattle.moo_world.specs.Requests.{state_of, asked, petition_id, without}
 use Rattle.moo_world.specs.Rows.{IsGood, world_of, world_shown}
 use Rattle.moo_world.specs.World.{IsWellFormed}
 use Rattle.moo_world.specs.Numbers.{KeepsNumbers}

@@ -1,8 +1,7 @@
 -- The calls of a petition, one after another.
-use Rattle.std.proofs.Common.{◌≡◌, ℤ, Bool, true, false, OnOk, Option, Some, None, List, [], ◌∷◌, Result, Ok, Err, refl, sym, ap, ◌∙◌, subst}
+use Rattle.std.proofs.Common.{◌≡◌, ℤ, Bool, true, false, OnOk, Some, None, List, [], ◌∷◌, Result, Ok, Err, refl, sym, ap, ◌∙◌, subst}
 use Rattle.std.specs.List.{list_all}
 use Rattle.std.proofs.lemmas.Bool.{and_parts, true≢false}
-use Rattle.moo_value.specs.declared.code.Code.{Code}
 use Rattle.moo_value.specs.declared.value.ObjNo.{ObjNo}
 use Rattle.moo_value.specs.declared.value.Value.{Value}
 use Rattle.moo_value.specs.Value.{spread}
@@ -115,8 +114,8 @@ on_ok (Err e) f h = tt
 
 -- a call on the world grants nothing
 world-keeps : (grants : Bool) (p : ObjNo) (args : List Value) (old new : Held) → grants ≡ false → Keeps old new → KeepsRows (CallKeepsNumbers grants p args) old new
-world-keeps true p args old new no kept = absurd (true≢false no)
-world-keeps false p args old new no kept = record { good = kept.good; seq = ap (λ b. b.0) kept.beside; base = kept.base; numbers = kept.numbers }
+world-keeps true p args old new none kept = absurd (true≢false none)
+world-keeps false p args old new none kept = record { good = kept.good; seq = ap (λ b. b.0) kept.beside; base = kept.base; numbers = kept.numbers }
 
 pub stepped-keeps : (call : Call) (p : ObjNo) (old new : Held) → petition_call call.name ≡ None → Keeps old new
     → KeepsRows (CallKeepsNumbers (is_grant call.name) p call.args) old new

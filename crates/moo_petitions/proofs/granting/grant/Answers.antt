@@ -3,6 +3,7 @@ use Rattle.std.specs.List.{list_all}
 use Rattle.moo_value.specs.declared.code.Code.TheVariants.{Permission}
 use Rattle.moo_value.specs.declared.value.Value.{Value}
 use Rattle.moo_value.specs.Value.{spread}
+use Rattle.moo_rows.specs.declared.row.PetitionId.{PetitionId}
 use Rattle.moo_rows.specs.declared.row.PetitionRow.{PetitionRow}
 use Rattle.moo_world.specs.Arguments.{fits}
 use Rattle.moo_world.specs.Requests.{State, found_petition, grant, held_steps, in_world, one_integer, petition_at, taking, unless_fails, without}
@@ -55,7 +56,7 @@ returns-clause-kept g c =
     let new = g.R.Rows.held c.held_steps.new.rows in
     let p = c.args.programmer in
     let n = c.in_ok-number.number in
-    let e = (c.in-Some.id, c.in-Some.row.now) in
+    let e : PetitionId × PetitionRow = (c.in-Some.id, c.in-Some.row.now) in
     let given : one_integer c.args.args.now ≡ Ok n = search rules in
     let found : petition_at (state_in old) n ≡ Some e = search rules in
     let helds : c.items.result.now ≡ spread c.in-Some.row.now.calls = c.items.ensures.plain ∙ ap (λ (r : PetitionRow). spread r.calls) c.in_ok-copy-in-Some.ensures in

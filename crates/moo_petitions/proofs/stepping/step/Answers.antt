@@ -1,6 +1,9 @@
+use Rattle.std.proofs.Common.{◌≡◌, None, rules}
+use Rattle.moo_world.specs.Names.{petition_call}
 use Rattle.moo_petitions.proofs.InTurn.{on_ok, stepped-keeps}
 use Rattle.moo_petitions.proofs.stepping.step.Goals as goal
 
 pub returns-in_default-clause-kept : goal.returns-in_default-clause-kept
 returns-in_default-clause-kept g c =
-    on_ok c.step.result (stepped-keeps c.args.call.now c.args.programmer (g.R.Rows.held c.args.rows.now) (g.R.Rows.held c.step.new.rows) c.petition_call.ensures) c.step.ensures.kept
+    let on_world : petition_call c.args.call.now.name ≡ None = search rules in
+    on_ok c.step.result (stepped-keeps c.args.call.now c.args.programmer (g.R.Rows.held c.args.rows.now) (g.R.Rows.held c.step.new.rows) on_world) c.step.ensures.kept
