@@ -42,6 +42,7 @@ def random_call(chance):
     low = lambda: f"#{chance.choice([0, 1, 2, 3, 4, 4, 5, 5, 6, 7, 8, 9, 12, 15, 20])}"
     name = chance.choice(["light", "weight", "key", "Note", "a"])
     value = chance.choice(["0", "-12", '"text"', "{}", "{1, {2, #3}}", "#4", "E_PERM", '"' + "x" * chance.randrange(2000) + '"'])
+    petition = chance.randrange(1, 12)
     return chance.choice(
         [
             f"create({low()})",
@@ -58,6 +59,10 @@ def random_call(chance):
             f"delete_verb({low()}, 1)",
             f"set_accept({low()}, {{#1}})",
             f'set({low()}, "f", {chance.randrange(2)})',
+            f'petition({{{{"set", {low()}, "name", "Wish {chance.randrange(1000)}"}}, {{"create", {low()}}}}})',
+            f"grant({petition})",
+            f"decline({petition})",
+            "petitions()",
             "max_object()",
             f"children({low()})",
         ]

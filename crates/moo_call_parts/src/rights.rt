@@ -5,7 +5,7 @@ ghost use Rattle.moo_world.specs.Objects.{nothing, same_object};
 ghost use Rattle.moo_value.specs.declared.value.ObjNo.{ObjNo};
 ghost use Rattle.moo_world.specs.World.{is_object, row_passes};
 ghost use Rattle.moo_world.specs.Rows.{slot_seen};
-ghost use Rattle.moo_world.specs.Rights.{is_wizard, controls, is_fertile, may_be_parent, may_own, may_name, may_read_object, may_write_object, may_read_slot, may_write_slot, may_read_verb, may_write_verb};
+ghost use Rattle.moo_world.specs.Rights.{is_wizard, controls, may_be_parent, may_own, may_name, may_read_object, may_write_object, may_read_slot, may_write_slot, may_read_verb, may_write_verb};
 ghost use Rattle.moo_call_parts.specs.Outcomes.{world_in};
 
 use moo_rows::{Rows, SlotRow, VerbRow};
@@ -39,23 +39,18 @@ pub fn controls<R: Rows>(rows: &R, programmer: ObjNo, x: ObjNo) -> bool
     }
 }
 
-/// Whether the number is that of an object with the fertile bit.
-pub fn is_fertile<R: Rows>(rows: &R, x: ObjNo) -> bool
-    ensures { result ≡ is_fertile (world_in (R.held rows.now)) x }
-{
-    match rows.object(x) {
-        Some(row) => row.f,
-        None => false,
-    }
-}
-
 /// Whether the programmer may put an object under this parent: `#-1`, or an object that is fertile or that the
 /// programmer controls.
 pub fn may_be_parent<R: Rows>(rows: &R, programmer: ObjNo, parent: ObjNo) -> bool
     ensures { result ≡ may_be_parent (world_in (R.held rows.now)) programmer parent }
 {
-    is_nothing(parent)
-        || (valid(rows, parent) && (is_fertile(rows, parent) || controls(rows, programmer, parent)))
+    if is_nothing(parent) {
+        return true;
+    }
+    match rows.object(parent) {
+        Some(row) => row.f || programmer == row.owner || is_wizard(rows, programmer),
+        None => false,
+    }
 }
 
 /// Whether the programmer may give what it makes, or a verb that it changes, to this owner: itself, or anybody where the

@@ -8,6 +8,7 @@ ghost use Rattle.moo_world.specs.Calls.{create};
 ghost use Rattle.moo_call_parts.specs.Outcomes.{world_in, ComesTo};
 ghost use Rattle.moo_world.specs.Keeps.{Keeps};
 ghost use Rattle.moo_world.specs.Numbers.{IsSameButSlots};
+ghost use Rattle.moo_calls.specs.Quotas.{has_one_left, quota_given};
 
 use moo_call_parts::{Fault, rights};
 use moo_props::{make, quota_of, take_quota};
@@ -35,29 +36,39 @@ fn owner_or_self(x: ObjNo, owner: ObjNo) -> ObjNo
     if is_nothing(owner) { x } else { owner }
 }
 
-/// Whether the owner's quota allows one more object.
-fn may_afford<R: Rows>(rows: &R, owner: ObjNo) -> bool
+/// The quota of the owner given; none where `#-1` was given.
+fn quota_given<R: Rows>(rows: &R, owner: ObjNo) -> Option<i64>
     requires { IsGood (R.held rows.now).maps }
-    ensures { result ≡ may_afford (world_in (R.held rows.now)) owner }
+    ensures quota { result ≡ quota_given (world_in (R.held rows.now)) owner }
+    ensures left { has_one_left result ≡ may_afford (world_in (R.held rows.now)) owner }
 {
     if is_nothing(owner) {
-        return true;
+        None
+    } else {
+        quota_of(rows, owner)
     }
-    match quota_of(rows, owner) {
+}
+
+/// Whether a quota, if there is one, has one left.
+fn has_one_left(quota: Option<i64>) -> bool
+    ensures { result ≡ has_one_left quota }
+{
+    match quota {
         Some(left) => 0 < left,
         None => true,
     }
 }
 
-/// Takes one object from the owner's quota.
-fn charge<R: Rows>(rows: &mut R, owner: ObjNo) -> Result<(), AllocError>
+/// Takes one object from the owner's quota, where there is one.
+fn charge<R: Rows>(rows: &mut R, owner: ObjNo, quota: Option<i64>) -> Result<(), AllocError>
     requires good { IsGood (R.held rows.old).maps }
-    requires left { may_afford (world_in (R.held rows.old)) owner ≡ true }
+    requires quota { quota ≡ quota_given (world_in (R.held rows.old)) owner }
+    requires left { has_one_left quota ≡ true }
     ensures world { OnOk result (world_in (R.held rows.new) ≡ charged (world_in (R.held rows.old)) owner) }
     ensures kept { OnOk result (Keeps (R.held rows.old) (R.held rows.new)) }
     ensures rest { OnOk result (IsSameButSlots (R.held rows.old).maps (R.held rows.new).maps) }
 {
-    if !is_nothing(owner) {
+    if quota.is_some() {
         take_quota(rows, owner)?;
     }
     Ok(())
@@ -88,13 +99,15 @@ pub fn create<R: Rows>(
     if !rights::valid_or_nothing(rows, owner) {
         return Err(Fault::Moo(Code::InvalidArgument));
     }
-    if !may_afford(rows, owner) {
+    // The quota is looked up once: making an object leaves that of its owner as it is.
+    let quota = quota_given(rows, owner);
+    if !has_one_left(quota) {
         return Err(Fault::Moo(Code::Quota));
     }
     let Some(x) = next_object(rows) else {
         return Err(Fault::Full);
     };
     make(alloc, rows, x, parent, owner_or_self(x, owner))?;
-    charge(rows, owner)?;
+    charge(rows, owner, quota)?;
     Ok(Value::Obj(x))
 }

@@ -1,13 +1,12 @@
 use Rattle.std.proofs.Common.{sym, ◌∙◌}
 use Rattle.moo_world.proofs.Shown.NumbersKept.{then_slots}
 use Rattle.moo_call_parts.specs.Outcomes.{world_in}
-use Rattle.moo_calls.proofs.Created.{afford_still}
+use Rattle.moo_calls.proofs.Created.{quota_still}
 use Rattle.moo_calls.proofs.creating.create.Goals as goal
 
-pub charge-requires-clause-left : goal.charge-requires-clause-left
-charge-requires-clause-left g c =
-    afford_still (world_in (g.R.Rows.held c.args.rows.now)) (world_in (g.R.Rows.held c.make.new.rows)) c.args.owner c.in_ok-make.ensures.reads (sym c.valid_or_nothing.ensures ∙ c.if-not-valid_or_nothing.false)
-    (sym c.may_afford.ensures ∙ c.if-not-may_afford.false)
+pub charge-requires-clause-quota : goal.charge-requires-clause-quota
+charge-requires-clause-quota g c =
+    c.quota_given-quota.ensures.quota ∙ quota_still (world_in (g.R.Rows.held c.args.rows.now)) (world_in (g.R.Rows.held c.make.new.rows)) c.args.owner c.in_ok-make.ensures.reads (sym c.valid_or_nothing.ensures ∙ c.if-not-valid_or_nothing.false)
 
 pub returns-clause-kept : goal.returns-clause-kept
 returns-clause-kept g c =

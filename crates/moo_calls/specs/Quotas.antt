@@ -1,0 +1,15 @@
+-- The quota that is asked where an object is made.
+use Rattle.std.specs.Prelude.{ℤ, pos, int_lt, Bool, true, Option, None, unwrap_or, if◌then◌else◌}
+use Rattle.std.specs.Option.{option_map}
+use Rattle.moo_value.specs.declared.value.ObjNo.{ObjNo}
+use Rattle.moo_world.specs.Objects.{nothing, same_object}
+use Rattle.moo_world.specs.Quota.{quota_of}
+use Rattle.moo_world.specs.World.{World}
+
+-- the quota of the owner given; none where #-1 was given
+abbrev pub quota_given : World → ObjNo → Option ℤ
+quota_given w owner = if same_object nothing owner then None else quota_of w owner
+
+-- whether a quota, if there is one, has one left
+abbrev pub has_one_left : Option ℤ → Bool
+has_one_left quota = unwrap_or (option_map (λ k. int_lt (pos 0) k) quota) true
