@@ -11,7 +11,7 @@ use moo_value::ObjNo;
 use std::alloc::AllocError;
 
 /// How many rows were put and removed, of objects, properties, slots, verbs and petitions.
-#[derive(Clone, Copy, Debug, PartialEq, Eq)]
+#[derive(Clone, Copy, PartialEq, Eq)]
 pub(super) struct Counts {
     pub(super) objects: (u32, u32),
     pub(super) props: (u32, u32),

@@ -1,21 +1,19 @@
 //! The end of an object of the small tree.
 
+ghost use Rattle.moo_world.specs.Rows.{IsGood};
+
 use super::counting::{Counts, NONE};
 use super::steps::{dropped, read};
 use super::tree::planted;
+use moo_props::Dropped;
 use moo_rows::{PropId, Rows};
 use moo_tree::valid;
-use moo_value::ObjNo;
-use std::test::*;
+use moo_value::{LiteralFault, ObjNo};
+use std::alloc::Global;
+use std::process::Abort;
 
-#[test]
-fn an_object_goes_with_all_its_slots_and_its_own_on_descendants(
-    rt: HostRuntime,
-) -> Result<(), Fail> {
-    let alloc = rt.alloc();
-    let mut rows = planted(&rt, alloc)?;
-    let gone = dropped(&rt, alloc, &mut rows, 5)?;
-    let counts = rows.taken();
+/// Looks at what goes with #5.
+fn look_at_gone(rt: &impl Abort, gone: &Dropped) {
     let removed = [
         (ObjNo(5), PropId(1)),
         (ObjNo(5), PropId(2)),
@@ -25,21 +23,42 @@ fn an_object_goes_with_all_its_slots_and_its_own_on_descendants(
     assert!(rt; gone.props.items() == [PropId(2)].as_slice());
     assert!(rt; gone.verbs.items().is_empty());
     assert!(rt; gone.relinked.items() == [ObjNo(6)].as_slice());
-    assert!(rt; !valid(&rows, ObjNo(5)));
-    let Some(row) = rows.object(ObjNo(6)) else {
-        panic!(rt; "#6 stays");
-    };
-    assert!(rt; row.parent == ObjNo(4));
-    assert_eq!(rt;
-        counts,
-        Counts {
-            objects: (1, 1),
-            props: (0, 1),
-            slots: (0, 3),
-            ..NONE
-        }
-    );
+}
+
+/// Whether an object is there, and has this parent.
+fn has_parent<R: Rows>(rows: &R, x: ObjNo, parent: ObjNo) -> bool {
+    match rows.object(x) {
+        Some(row) => row.parent == parent,
+        None => false,
+    }
+}
+
+/// Drops #5.
+fn drop_fifth<R: Rows>(rt: &impl Abort, alloc: Global, rows: &mut R) -> Result<(), LiteralFault>
+    requires { IsGood (R.held rows.old).maps }
+{
+    let gone = dropped(rt, alloc, rows, 5)?;
+    look_at_gone(rt, &gone);
     drop(gone);
-    assert!(rt; read(alloc, &rows, &[(6, "a", Some(10)), (6, "b", None)])?);
+    assert!(rt; !valid(rows, ObjNo(5)));
+    assert!(rt; valid(rows, ObjNo(6)), "#6 stays");
+    assert!(rt; has_parent(rows, ObjNo(6), ObjNo(4)));
+    assert!(rt; read(alloc, rows, &[(6, "a", Some(10)), (6, "b", None)])?);
+    Ok(())
+}
+
+#[test]
+fn an_object_goes_with_all_its_slots_and_its_own_on_descendants(
+    rt: HostRuntime,
+) -> Result<(), LiteralFault> {
+    let mut rows = planted(&rt, rt.alloc())?;
+    drop_fifth(&rt, rt.alloc(), &mut rows)?;
+    let counts = Counts {
+        objects: (1, 1),
+        props: (0, 1),
+        slots: (0, 3),
+        ..NONE
+    };
+    assert!(rt; rows.taken() == counts);
     Ok(())
 }

@@ -1,6 +1,7 @@
 //! Calls of this crate that look first whether they may be made.
 
-ghost use Rattle.std.specs.Prelude.{◌≡◌, true, OnOk};
+ghost use Rattle.std.specs.Prelude.{◌≡◌, true, is_some, IfOk, OnOk};
+ghost use Rattle.std.specs.FinMap.{get};
 ghost use Rattle.moo_world.specs.Creation.{next_object};
 ghost use Rattle.moo_world.specs.Rows.{world_of, IsGood};
 ghost use Rattle.moo_world.specs.World.{is_property_name};
@@ -11,10 +12,9 @@ use moo_props::{
 };
 use moo_rows::{Bits, PropId, Rows, SlotState};
 use moo_tree::{is_under, valid};
-use moo_value::{MooStr, ObjNo, Value};
+use moo_value::{LiteralFault, MooStr, ObjNo, Value};
 use std::alloc::Global;
 use std::process::Abort;
-use std::test::*;
 
 /// The wizard of the opening world, who owns what is made here.
 pub(super) const WIZARD: ObjNo = ObjNo(3);
@@ -45,7 +45,7 @@ pub(super) fn made<R: Rows>(
     alloc: Global,
     rows: &mut R,
     parent: i32,
-) -> Result<ObjNo, Fail>
+) -> Result<ObjNo, LiteralFault>
     requires { IsGood (R.held rows.old).maps }
     ensures { OnOk result (IsGood (R.held rows.new).maps) }
 {
@@ -66,7 +66,7 @@ pub(super) fn added<R: Rows>(
     name: &[u8],
     value: i64,
     bits: Bits,
-) -> Result<PropId, Fail>
+) -> Result<PropId, LiteralFault>
     requires good { IsGood (R.held rows.old).maps }
     requires name { is_property_name name.now ≡ true }
     ensures { OnOk result (IsGood (R.held rows.new).maps) }
@@ -81,39 +81,46 @@ pub(super) fn added<R: Rows>(
 }
 
 /// The property of a name that x has.
-fn found<R: Rows>(alloc: Global, rows: &R, x: i32, name: &[u8]) -> Result<Option<PropId>, Fail>
+fn found<R: Rows>(
+    rt: &impl Abort,
+    alloc: Global,
+    rows: &R,
+    x: ObjNo,
+    name: &[u8],
+) -> Result<PropId, LiteralFault>
     requires { IsGood (R.held rows.now).maps }
+    ensures { IfOk result (λ id. is_some (get (R.held rows.now).maps.slots (x, id)) ≡ true) }
 {
     let name = MooStr::from_bytes(alloc, name)?;
-    Ok(find(rows, ObjNo(x), &name))
-}
-
-/// The integer that x reads for a name.
-fn integer<R: Rows>(alloc: Global, rows: &R, x: i32, name: &[u8]) -> Result<Option<i64>, Fail>
-    requires { IsGood (R.held rows.now).maps }
-{
-    let name = MooStr::from_bytes(alloc, name)?;
-    let Some(id) = find(rows, ObjNo(x), &name) else {
-        return Ok(None);
+    let Some(id) = find(rows, x, &name) else {
+        panic!(rt; "no such property");
     };
-    Ok(match value_of(rows, ObjNo(x), id) {
-        Value::Int(value) => Some(*value),
-        _ => None,
-    })
+    Ok(id)
 }
 
 /// Whether x reads this integer for a name, or has no property of it.
+fn reads<R: Rows>(rows: &R, x: ObjNo, name: &MooStr, want: Option<i64>) -> bool
+    requires { IsGood (R.held rows.now).maps }
+{
+    let Some(id) = find(rows, x, name) else {
+        return want.is_none();
+    };
+    match value_of(rows, x, id) {
+        Value::Int(value) => want == Some(*value),
+        _ => false,
+    }
+}
+
+/// An object, a name, and the integer that the object reads for it; none where it has no property of that name.
 pub(super) type Reading = (i32, &'static str, Option<i64>);
 
 /// Whether objects read these integers.
-pub(super) fn read<R: Rows>(alloc: Global, rows: &R, want: &[Reading]) -> Result<bool, Fail>
+pub(super) fn read<R: Rows>(alloc: Global, rows: &R, want: &[Reading]) -> Result<bool, LiteralFault>
     requires { IsGood (R.held rows.now).maps }
 {
     for (x, name, value) in want {
-        if integer(alloc, rows, *x, name.as_bytes())? != *value {
-            return Ok(false);
-        }
-        if value.is_none() && found(alloc, rows, *x, name.as_bytes())?.is_some() {
+        let name = MooStr::from_bytes(alloc, name.as_bytes())?;
+        if !reads(rows, ObjNo(*x), &name, *value) {
             return Ok(false);
         }
     }
@@ -126,7 +133,7 @@ pub(super) fn slot<R: Rows>(
     rows: &R,
     x: i32,
     name: &[u8],
-) -> Result<Option<(ObjNo, Bits, bool)>, Fail>
+) -> Result<Option<(ObjNo, Bits, bool)>, LiteralFault>
     requires { IsGood (R.held rows.now).maps }
 {
     let name = MooStr::from_bytes(alloc, name)?;
@@ -150,14 +157,11 @@ pub(super) fn set<R: Rows>(
     x: i32,
     name: &[u8],
     value: i64,
-) -> Result<(), Fail>
+) -> Result<(), LiteralFault>
     requires { IsGood (R.held rows.old).maps }
     ensures { OnOk result (IsGood (R.held rows.new).maps) }
 {
-    let name = MooStr::from_bytes(alloc, name)?;
-    let Some(id) = find(rows, ObjNo(x), &name) else {
-        panic!(rt; "no such property");
-    };
+    let id = found(rt, alloc, rows, ObjNo(x), name)?;
     set_value(rows, ObjNo(x), id, Value::Int(value))?;
     Ok(())
 }
@@ -171,14 +175,11 @@ pub(super) fn given<R: Rows>(
     name: &[u8],
     owner: ObjNo,
     bits: Bits,
-) -> Result<(), Fail>
+) -> Result<(), LiteralFault>
     requires { IsGood (R.held rows.old).maps }
     ensures { OnOk result (IsGood (R.held rows.new).maps) }
 {
-    let name = MooStr::from_bytes(alloc, name)?;
-    let Some(id) = find(rows, ObjNo(x), &name) else {
-        panic!(rt; "no such property");
-    };
+    let id = found(rt, alloc, rows, ObjNo(x), name)?;
     set_info(alloc, rows, ObjNo(x), id, owner, bits)?;
     Ok(())
 }
@@ -190,7 +191,7 @@ pub(super) fn moved<R: Rows>(
     rows: &mut R,
     x: i32,
     new: i32,
-) -> Result<Touched, Fail>
+) -> Result<Touched, LiteralFault>
     requires { IsGood (R.held rows.old).maps }
     ensures { OnOk result (IsGood (R.held rows.new).maps) }
 {
@@ -208,7 +209,7 @@ pub(super) fn dropped<R: Rows>(
     alloc: Global,
     rows: &mut R,
     x: i32,
-) -> Result<Dropped, Fail>
+) -> Result<Dropped, LiteralFault>
     requires { IsGood (R.held rows.old).maps }
     ensures { OnOk result (IsGood (R.held rows.new).maps) }
 {

@@ -7,14 +7,13 @@ ghost use Rattle.moo_world.specs.Rows.{IsGood};
 use super::counting::{Counting, NONE};
 use super::steps::{READ, added, made, set};
 use moo_rows::{PropId, Rows};
-use moo_value::ObjNo;
+use moo_value::{LiteralFault, ObjNo};
 use moo_world::good_opening;
 use std::alloc::Global;
 use std::process::Abort;
-use std::test::*;
 
 /// Plants it over any rows that hold the opening world. They are borrowed, so that nothing is let go where this ends early.
-fn plant<R: Rows>(rt: &impl Abort, alloc: Global, rows: &mut R) -> Result<(), Fail>
+fn plant<R: Rows>(rt: &impl Abort, alloc: Global, rows: &mut R) -> Result<(), LiteralFault>
     requires { IsGood (R.held rows.old).maps }
     ensures { OnOk result (IsGood (R.held rows.new).maps) }
 {
@@ -28,7 +27,7 @@ fn plant<R: Rows>(rt: &impl Abort, alloc: Global, rows: &mut R) -> Result<(), Fa
     set(rt, alloc, rows, 6, b"b", 21)
 }
 
-pub(super) fn planted(rt: &impl Abort, alloc: Global) -> Result<Counting, Fail>
+pub(super) fn planted(rt: &impl Abort, alloc: Global) -> Result<Counting, LiteralFault>
     ensures { IfOk result (λ rows. IsGood rows.rows.maps) }
 {
     let mut rows = Counting {
