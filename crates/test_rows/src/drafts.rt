@@ -132,7 +132,7 @@ fn change_few<R: Rows>(draft: &mut R) -> Result<(), AllocError> {
     draft.remove_object(ObjNo(2))
 }
 
-fn few_changes(alloc: Global, base: &Flat) -> Result<Changes, AllocError> {
+fn few_changes<B: Rows>(alloc: Global, base: &B) -> Result<Changes, AllocError> {
     let mut draft = Draft::new(alloc, base);
     change_few(&mut draft)?;
     draft.into_changes()
@@ -149,7 +149,7 @@ fn look_at_few_changes(rt: &impl Abort, changes: &Changes) {
     assert!(rt; changes.petitions.items().is_empty());
 }
 
-fn put_back(rt: &impl Abort, alloc: Global, base: &Flat) -> Result<(), AllocError> {
+fn put_back<B: Rows>(rt: &impl Abort, alloc: Global, base: &B) -> Result<(), AllocError> {
     assert!(rt; base.slot((ObjNo(5), PropId(2))).is_some());
     let changes = few_changes(alloc, base)?;
     look_at_few_changes(rt, &changes);
@@ -211,7 +211,7 @@ fn changed_objects_are_found_by_their_links(rt: HostRuntime) -> Result<(), Alloc
 }
 
 /// Puts petitions 1, 2 and 4.
-fn put_some_petitions(alloc: Global, rows: &mut Flat) -> Result<(), AllocError> {
+fn put_some_petitions<R: Rows>(alloc: Global, rows: &mut R) -> Result<(), AllocError> {
     for id in [4, 1, 2] {
         rows.put_petition(PetitionId(id), petition_row(alloc, 3, 5)?)?;
     }
@@ -258,7 +258,11 @@ fn show_petitions<R: Rows>(
 }
 
 /// Changes petitions in a draft over some, which stay.
-fn draft_petitions(rt: &impl Abort, alloc: Global, base: &mut Flat) -> Result<(), AllocError> {
+fn draft_petitions<B: Rows>(
+    rt: &impl Abort,
+    alloc: Global,
+    base: &mut B,
+) -> Result<(), AllocError> {
     put_some_petitions(alloc, base)?;
     show_petitions(rt, alloc, &mut Draft::new(alloc, base))?;
     assert!(rt; asks(base.petition(PetitionId(4)), 3, 5));
@@ -272,7 +276,7 @@ fn a_removed_petition_of_the_base_is_not_shown(rt: HostRuntime) -> Result<(), Al
 }
 
 /// The changes of `change_petitions`.
-fn petition_changes(alloc: Global, base: &Flat) -> Result<Changes, AllocError> {
+fn petition_changes<B: Rows>(alloc: Global, base: &B) -> Result<Changes, AllocError> {
     let mut draft = Draft::new(alloc, base);
     change_petitions(alloc, &mut draft)?;
     draft.into_changes()
@@ -287,7 +291,7 @@ fn look_at_petition_changes(rt: &impl Abort, changes: &Changes) {
 }
 
 /// Changes petitions in a draft over some.
-fn differ(rt: &impl Abort, alloc: Global, rows: &mut Flat) -> Result<(), AllocError> {
+fn differ<R: Rows>(rt: &impl Abort, alloc: Global, rows: &mut R) -> Result<(), AllocError> {
     put_some_petitions(alloc, rows)?;
     let changes = petition_changes(alloc, rows)?;
     look_at_petition_changes(rt, &changes);

@@ -1,7 +1,6 @@
 //! What no clause says: that the definitions mean what the manual means, and that each call succeeds where memory is left.
 //!
-//! Calls that may end early stand in functions that borrow the rows, since each way out of a function is proved with all
-//! that it holds; and what only looks at rows answers yes or no.
+//! Calls that may end early stand in functions that borrow the rows, since each way out is proved with all that is held.
 ghost use Rattle.std.specs.Iterator.{IsFinite};
 
 use moo_rows::*;
@@ -111,7 +110,7 @@ pub(crate) fn links<R: Rows>(rows: &R, link: Link, objects: &[ObjNo]) -> bool {
 }
 
 /// The objects of the opening world: number, name, places, and whether it is a wizard, or fertile.
-const OPENING: [(i32, &str, [i32; 3], bool, bool); 4] = [
+static OPENING: [(i32, &str, [i32; 3], bool, bool); 4] = [
     (0, "System Object", [3, 1, -1], false, false),
     (1, "Root Class", [3, -1, -1], false, true),
     (2, "The First Room", [3, 1, -1], false, false),
@@ -135,10 +134,14 @@ fn look_at_opening(rt: &impl Abort, rows: &Flat) {
     assert!(rt; rows.head() == OPENING_HEAD);
     let objects = [ObjNo(0), ObjNo(1), ObjNo(2), ObjNo(3)];
     assert!(rt; walks_give(rows, &objects, &[], &[], &[], &[]));
-    for (number, name, places, is_wizard, is_fertile) in OPENING {
-        let is_so = is_object(rows, number, name, places, is_wizard, is_fertile);
+    for (number, name, places, is_wizard, is_fertile) in &OPENING {
+        let is_so = is_object(rows, *number, name, *places, *is_wizard, *is_fertile);
         holds(rt, name, is_so);
-        holds(rt, name, accepted(rows, number).is_some() == (number == 2));
+        holds(
+            rt,
+            name,
+            accepted(rows, *number).is_some() == (*number == 2),
+        );
     }
     assert!(rt; accepted(rows, 2) == Some([ObjNo(1)].as_slice()));
 }
@@ -177,7 +180,7 @@ fn of_verb(letters: &MooStr) -> &'static str {
 }
 
 /// Texts of letters, and what they say for a property and for a verb.
-const LETTERS: [(&str, &str, &str); 13] = [
+static LETTERS: [(&str, &str, &str); 13] = [
     ("", "", ""),
     ("r", "r", "r"),
     ("rwc", "rwc", "-"),
@@ -195,10 +198,10 @@ const LETTERS: [(&str, &str, &str); 13] = [
 
 #[test]
 fn letters_in_any_order_and_case_are_rights(rt: HostRuntime) -> Result<(), LiteralFault> {
-    for (letters, property, verb) in LETTERS {
+    for (letters, property, verb) in &LETTERS {
         let text = MooStr::from_bytes(rt.alloc(), letters.as_bytes())?;
-        holds(&rt, letters, of_property(&text) == property);
-        holds(&rt, letters, of_verb(&text) == verb);
+        holds(&rt, letters, of_property(&text) == *property);
+        holds(&rt, letters, of_verb(&text) == *verb);
     }
     Ok(())
 }
