@@ -1,4 +1,6 @@
 //! Drafts over rows, beside rows that take the same steps.
+//!
+//! What makes a draft stands over any rows where it can: over `Flat` its proof takes longer.
 
 ghost use Rattle.std.specs.Prelude.{◌<◌};
 
@@ -65,16 +67,16 @@ fn meet_keys<R: Rows>(rows: &mut R, met: &mut Keys) -> Result<(), AllocError> {
 }
 
 /// Meets keys on a draft over rows, and gives the changes of that draft.
-fn drafted(alloc: Global, base: &Flat, met: &mut Keys) -> Result<Changes, AllocError> {
+fn drafted<B: Rows>(alloc: Global, base: &B, met: &mut Keys) -> Result<Changes, AllocError> {
     let mut draft = Draft::new(alloc, base);
     meet_keys(&mut draft, met)?;
     draft.into_changes()
 }
 
 /// Meets keys on rows behind the changes of a draft over others.
-fn meet_behind_draft(
+fn meet_behind_draft<B: Rows>(
     alloc: Global,
-    base: &Flat,
+    base: &B,
     rows: &mut Flat,
     met: &mut Keys,
 ) -> Result<(), AllocError> {
@@ -177,10 +179,13 @@ fn remove_two<R: Rows, B: Rows>(
     Ok(())
 }
 
+fn remove_in_draft<B: Rows>(rt: &impl Abort, alloc: Global, base: &B) -> Result<(), AllocError> {
+    remove_two(rt, &mut Draft::new(alloc, base), base)
+}
+
 #[test]
 fn a_removed_object_is_not_next(rt: HostRuntime) -> Result<(), AllocError> {
-    let base = opening_world(rt.alloc())?;
-    remove_two(&rt, &mut Draft::new(rt.alloc(), &base), &base)
+    remove_in_draft(&rt, rt.alloc(), &opening_world(rt.alloc())?)
 }
 
 /// Puts `#4` under `#1`, nowhere, and `#5` under `#0`, in `#2`.
@@ -204,10 +209,13 @@ fn link_two<R: Rows>(rt: &impl Abort, alloc: Global, draft: &mut R) -> Result<()
     Ok(())
 }
 
+fn link_in_draft<B: Rows>(rt: &impl Abort, alloc: Global, base: &B) -> Result<(), AllocError> {
+    link_two(rt, alloc, &mut Draft::new(alloc, base))
+}
+
 #[test]
 fn changed_objects_are_found_by_their_links(rt: HostRuntime) -> Result<(), AllocError> {
-    let base = opening_world(rt.alloc())?;
-    link_two(&rt, rt.alloc(), &mut Draft::new(rt.alloc(), &base))
+    link_in_draft(&rt, rt.alloc(), &opening_world(rt.alloc())?)
 }
 
 /// Puts petitions 1, 2 and 4.

@@ -334,7 +334,7 @@ fn walks_of_give<R: Rows>(
         && gives(each_verb_of(rows, object, VerbId(last)), verbs)
 }
 
-fn look_at_walks_of(rt: &impl Abort, rows: &Flat, x: ObjNo) {
+fn look_at_walks_of<R: Rows>(rt: &impl Abort, rows: &R, x: ObjNo) {
     let slots = [(x, PropId(1)), (x, PropId(LAST))];
     let verbs = [(x, VerbId(1)), (x, VerbId(LAST))];
     assert!(rt; walks_of_give(rows, x, 0, &slots, &verbs));
