@@ -1,5 +1,0 @@
-use Rattle.moo_world.specs.Rows.{IsGood}
-use Rattle.bench_memory.proofs.texts.run_text.Given as goal
-
-abbrev pub invariant-loop : goal.invariant-loop
-invariant-loop l = IsGood l.rows.maps
