@@ -184,3 +184,12 @@ module _ {K X : Type 0} {cmp : K → K → Ordering} (total : IsTotalOrder cmp) 
 -- look-ups that are equal have no changes
 pub no-changes : {K X : Type 0} {cmp : K → K → Ordering} (base new : K → Option X) → base ≡ new → IsChanges cmp base new []
 no-changes base new e = record { ascending = tt; listed = λ key row f. absurd (none_some row f); others = λ key f i. e i key }
+
+-- changes of nothing leave each row as it is
+pub nothing-changed : {K X : Type 0} {cmp : K → K → Ordering} → IsTotalOrder cmp → (row_at : K → Option X) (m : BTreeMap K (Option X)) → m.entries ≡ [] → IsChanges cmp row_at (row_over row_at (contents cmp m)) []
+nothing-changed {cmp = cmp} total row_at m e =
+    record {
+      ascending = tt;
+      listed = λ key row f. absurd (none_some row f);
+      others = λ q none. sym (ap (λ o. unwrap_or o (row_at q)) (get-from_entries total m.entries q ∙ ap (find cmp q) e));
+    }

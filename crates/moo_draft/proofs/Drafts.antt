@@ -12,7 +12,7 @@ use Rattle.moo_rows.specs.declared.row.PropRow.{PropRow}
 use Rattle.moo_rows.specs.declared.row.Link.{Link}
 use Rattle.moo_rows.specs.Exact.{object_exact}
 use Rattle.moo_rows.specs.Maps.{object_cmp, prop_cmp, slot_cmp}
-use Rattle.moo_rows.specs.Links.{LinkSets, may_have, is_kept, is_candidate, is_to_nothing, has_link, ties_of, ties_have, row_has, row_defined, AreOfDefiners}
+use Rattle.moo_rows.specs.Links.{is_kept, is_candidate, is_to_nothing, has_link, ties_of, ties_have, row_has, row_defined, AreOfDefiners}
 use Rattle.moo_rows.proofs.Firsts.{or_first, or_second}
 use Rattle.moo_rows.proofs.Linking.{defined-put, defined-remove}
 use Rattle.moo_rows.proofs.Orders.{object_total, prop_total}

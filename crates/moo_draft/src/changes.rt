@@ -76,8 +76,8 @@ fn has_row<V: Row>(held: Option<&V>, row: &Option<V>) -> bool
     }
 }
 
-/// The keys whose rows differ from the base, with their new rows. The only error is want of memory.
-pub(crate) fn changed_rows<'a, K: Key, V: Row + 'a, B: Base<'a, K, V>>(
+/// The keys of these changes whose rows differ from the base, with their new rows. The only error is want of memory.
+fn differing_rows<'a, K: Key, V: Row + 'a, B: Base<'a, K, V>>(
     alloc: Global,
     base: B,
     changes: BTreeMap<K, Option<V>>,
@@ -91,6 +91,21 @@ pub(crate) fn changed_rows<'a, K: Key, V: Row + 'a, B: Base<'a, K, V>>(
         }
     }
     Ok(ChangeList::from_vec(changed))
+}
+
+/// The keys whose rows differ from the base, with their new rows. The only error is want of memory. Most drafts change rows of one
+/// map or two, so that a map without changes isn't gone over.
+pub(crate) fn changed_rows<'a, K: Key, V: Row + 'a, B: Base<'a, K, V>>(
+    alloc: Global,
+    base: B,
+    changes: BTreeMap<K, Option<V>>,
+) -> Result<ChangeList<K, V>, AllocError>
+    ensures { IfOk result (λ list. IsChanges K.cmp (B.row_at base) (row_over (B.row_at base) (contents K.cmp changes)) list) }
+{
+    if changes.is_empty() {
+        return Ok(ChangeList::from_vec(Vec::new(alloc)));
+    }
+    differing_rows(alloc, base, changes)
 }
 
 fn apply_objects<R: Rows>(

@@ -1,4 +1,4 @@
-use Rattle.std.proofs.Common.{◌≡◌, Some, ap, ◌∙◌, rules}
+use Rattle.std.proofs.Common.{◌≡◌, Some, ap, ◌∙◌}
 use Rattle.std.specs.FinMap as map
 use Rattle.moo_rows.specs.Ordered.{contents}
 use Rattle.moo_rows.specs.Maps.{object_cmp}
