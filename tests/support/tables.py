@@ -1,5 +1,5 @@
 """The cases of tables.sh: the tables of a world's file, read by Python's sqlite3."""
-from changes import CHANGES, FIVE_CALLS, KEPT, OPENING, WORLDS
+from changes import CHANGES, FIVE, FIVE_CALLS, KEPT, OPENING, WORLDS, thing
 from columns import TABLES
 from program import case, edit
 from worlds import accepted, copied, make, read, rows_of, run, text_of
@@ -127,8 +127,12 @@ def two_thousand():
     case("two thousand descendants are made", run("apply", file, "-", text=text), (0, made))
     case("each has its slots", counts(), [(1, 2002), (2, 2001), (3, 1)])
     moved = text_of(["chparent(#5, #7)", 'get(#2006, "b")'])
+    before, below = rows_of(file), [5, 6, *range(8, 2007)]
     case("they move at once", run("apply", file, "-", text=moved), (0, accepted(4, "0", "21")))
     case("with their slots", counts(), [(1, 1), (2, 2001), (3, 2002)])
+    gone = {"object": [FIVE], "slot2": [(number, 1, 3, 4, "") for number in below]}
+    come = {"object": [thing(5, parent=7)], "slot2": [(number, 3, 3, 4, "") for number in below]}
+    case("one object and 4,002 slots change, and nothing else", rows_of(file) == changed(before, (2006, 4, 1), gone, come), True)
     case("and are a whole world", run("check", file), (0, "ok seq 4 objects 2007\n"))
 
 
