@@ -3,8 +3,9 @@
 ghost use Rattle.std.specs.Prelude.{◌≡◌, IfOk, IsOk};
 ghost use Rattle.moo_rows.specs.Maps.{no_maps, without_object, without_prop, without_slot, without_verb, without_petition};
 ghost use Rattle.moo_rows.specs.Exact.{object_exact, prop_exact, slot_exact, verb_exact, petition_exact};
-ghost use Rattle.moo_rows.specs.SameClones.{object_clone, prop_clone, slot_clone, verb_clone, petition_clone};
-ghost use Rattle.moo_rows.specs.SameRows.{object_row-exact, prop_row-exact, slot_row-exact, verb_row-exact, petition_row-exact};
+ghost use Rattle.moo_rows.specs.SameClones.{prop_clone, slot_clone, verb_clone, petition_clone};
+ghost use Rattle.moo_rows.specs.ObjectRow.{object_row-exact, object_clone};
+ghost use Rattle.moo_rows.specs.SameRows.{prop_row-exact, slot_row-exact, verb_row-exact, petition_row-exact};
 
 use crate::links::{
     Links, are_same, definer_of, forget_defined, next_defined, row_defined, row_has, ties_of,

@@ -1,7 +1,8 @@
 -- A new object.
 -- LambdaMOO Programmer's Manual, 'Fundamental Operations on Objects': `create`.
-use Rattle.std.specs.Prelude.{pos, ◌+ℤ◌, int_lt, false, [], Option, Some, None, if◌then◌else◌}
+use Rattle.std.specs.Prelude.{pos, ◌+ℤ◌, int_lt, [], Option, Some, None, if◌then◌else◌}
 use Rattle.moo_value.specs.declared.value.ObjNo.{ObjNo}
+use Rattle.moo_rows.specs.PlainRow.{plain_row}
 use Rattle.moo_world.specs.Objects.{nothing, same_object}
 use Rattle.moo_world.specs.World.{World, Record, rebuilt}
 
@@ -16,7 +17,7 @@ owner_or_self x owner = if same_object nothing owner then x else owner
 -- a new object under q
 abbrev pub born : ObjNo → ObjNo → Record
 born q owner = record {
-  row = record { name = []; owner = owner; parent = q; location = nothing; player = false; programmer = false; wizard = false; r = false; w = false; f = false; accept = None };
+  row = plain_row [] owner q;
   defines = [];
   slot = λ n. None;
   verbs = [];

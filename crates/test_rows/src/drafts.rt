@@ -1,14 +1,13 @@
 //! Drafts over rows, beside rows that take the same steps.
 //!
-//! What makes a draft stands over any rows where it can: over `Flat` its proof takes longer.
+//! What makes a draft stands over any rows where it can: over `Flat` its proof takes longer. What rows show by themselves, and what a
+//! draft shows of links and of petitions, the clauses say and the scenes of `tests/` run.
 
 ghost use Rattle.std.specs.Prelude.{◌<◌};
 
-use crate::rows::{asks, links, petition_row};
 use moo_draft::{Changes, Draft, apply_changes};
 use moo_rows::{
-    Bits, Flat, Link, ObjRow, PetitionId, PropId, Rows, SlotRow, SlotState, each_slot,
-    each_slot_of, opening_world,
+    Bits, Flat, PropId, Rows, SlotRow, SlotState, each_slot, each_slot_of, opening_world,
 };
 use moo_value::{ObjNo, Value};
 use std::alloc::{AllocError, Global};
@@ -161,169 +160,4 @@ fn put_back<B: Rows>(rt: &impl Abort, alloc: Global, base: &B) -> Result<(), All
 #[test]
 fn a_row_put_back_is_no_change(rt: HostRuntime) -> Result<(), AllocError> {
     put_back(&rt, rt.alloc(), &some_slots(rt.alloc())?)
-}
-
-/// Removes two objects of the opening world in a draft over it, whose rows stay.
-fn remove_two<R: Rows, B: Rows>(
-    rt: &impl Abort,
-    draft: &mut R,
-    base: &B,
-) -> Result<(), AllocError> {
-    draft.remove_object(ObjNo(1))?;
-    draft.remove_object(ObjNo(2))?;
-    assert!(rt; draft.next_object(Some(ObjNo(0))) == Some(ObjNo(3)));
-    assert!(rt; base.next_object(Some(ObjNo(0))) == Some(ObjNo(1)));
-    let child = Link::ChildOf(ObjNo(1));
-    assert!(rt; links(draft, child, &[ObjNo(0), ObjNo(3)]));
-    assert!(rt; links(base, child, &[ObjNo(0), ObjNo(2), ObjNo(3)]));
-    Ok(())
-}
-
-fn remove_in_draft<B: Rows>(rt: &impl Abort, alloc: Global, base: &B) -> Result<(), AllocError> {
-    remove_two(rt, &mut Draft::new(alloc, base), base)
-}
-
-#[test]
-fn a_removed_object_is_not_next(rt: HostRuntime) -> Result<(), AllocError> {
-    remove_in_draft(&rt, rt.alloc(), &opening_world(rt.alloc())?)
-}
-
-/// Puts `#4` under `#1`, nowhere, and `#5` under `#0`, in `#2`.
-fn put_two<R: Rows>(alloc: Global, draft: &mut R) -> Result<(), AllocError> {
-    let first = ObjRow::plain(alloc, b"", ObjNo(3), ObjNo(1))?;
-    draft.put_object(ObjNo(4), first)?;
-    let mut second = ObjRow::plain(alloc, b"", ObjNo(3), ObjNo(0))?;
-    second.location = ObjNo(2);
-    draft.put_object(ObjNo(5), second)
-}
-
-/// Puts two objects in a draft over the opening world, and looks for them.
-fn link_two<R: Rows>(rt: &impl Abort, alloc: Global, draft: &mut R) -> Result<(), AllocError> {
-    put_two(alloc, draft)?;
-    let (zero, one, two) = (ObjNo(0), ObjNo(1), ObjNo(2));
-    let (three, four, five) = (ObjNo(3), ObjNo(4), ObjNo(5));
-    assert!(rt; links(draft, Link::ChildOf(one), &[zero, two, three, four]));
-    assert!(rt; links(draft, Link::ChildOf(zero), &[five]));
-    assert!(rt; links(draft, Link::Within(two), &[three, five]));
-    assert!(rt; links(draft, Link::Within(ObjNo(-1)), &[zero, one, two, four]));
-    Ok(())
-}
-
-fn link_in_draft<B: Rows>(rt: &impl Abort, alloc: Global, base: &B) -> Result<(), AllocError> {
-    link_two(rt, alloc, &mut Draft::new(alloc, base))
-}
-
-#[test]
-fn changed_objects_are_found_by_their_links(rt: HostRuntime) -> Result<(), AllocError> {
-    link_in_draft(&rt, rt.alloc(), &opening_world(rt.alloc())?)
-}
-
-/// Puts petitions 1, 2 and 4.
-fn put_some_petitions<R: Rows>(alloc: Global, rows: &mut R) -> Result<(), AllocError> {
-    for id in [4, 1, 2] {
-        rows.put_petition(PetitionId(id), petition_row(alloc, 3, 5)?)?;
-    }
-    Ok(())
-}
-
-/// Puts 1 back, removes 2 and 9, which isn't there, puts 3 and replaces 4.
-fn change_petitions<R: Rows>(alloc: Global, draft: &mut R) -> Result<(), AllocError> {
-    draft.remove_petition(PetitionId(1))?;
-    draft.put_petition(PetitionId(1), petition_row(alloc, 3, 5)?)?;
-    draft.remove_petition(PetitionId(2))?;
-    draft.remove_petition(PetitionId(9))?;
-    draft.put_petition(PetitionId(3), petition_row(alloc, 3, 6)?)?;
-    draft.put_petition(PetitionId(4), petition_row(alloc, 7, 5)?)
-}
-
-/// Whether rows have these petitions, in this order.
-fn walks<R: Rows>(rows: &R, numbers: &[u32]) -> bool {
-    let mut last = None;
-    for number in numbers {
-        let next = rows.next_petition(last);
-        if next != Some(PetitionId(*number)) {
-            return false;
-        }
-        last = next;
-    }
-    rows.next_petition(last).is_none()
-}
-
-/// Changes petitions in a draft over those of `put_some_petitions`, and looks at them.
-fn show_petitions<R: Rows>(
-    rt: &impl Abort,
-    alloc: Global,
-    draft: &mut R,
-) -> Result<(), AllocError> {
-    change_petitions(alloc, draft)?;
-    assert!(rt; draft.petition(PetitionId(2)).is_none());
-    assert!(rt; asks(draft.petition(PetitionId(1)), 3, 5));
-    assert!(rt; asks(draft.petition(PetitionId(4)), 7, 5));
-    assert!(rt; walks(draft, &[1, 3, 4]));
-    assert!(rt; draft.next_petition(Some(PetitionId(0))) == Some(PetitionId(1)));
-    assert!(rt; draft.next_petition(Some(PetitionId(2))) == Some(PetitionId(3)));
-    Ok(())
-}
-
-/// Changes petitions in a draft over some, which stay.
-fn draft_petitions<B: Rows>(
-    rt: &impl Abort,
-    alloc: Global,
-    base: &mut B,
-) -> Result<(), AllocError> {
-    put_some_petitions(alloc, base)?;
-    show_petitions(rt, alloc, &mut Draft::new(alloc, base))?;
-    assert!(rt; asks(base.petition(PetitionId(4)), 3, 5));
-    assert!(rt; walks(base, &[1, 2, 4]));
-    Ok(())
-}
-
-#[test]
-fn a_removed_petition_of_the_base_is_not_shown(rt: HostRuntime) -> Result<(), AllocError> {
-    draft_petitions(&rt, rt.alloc(), &mut Flat::new(rt.alloc()))
-}
-
-/// The changes of `change_petitions`.
-fn petition_changes<B: Rows>(alloc: Global, base: &B) -> Result<Changes, AllocError> {
-    let mut draft = Draft::new(alloc, base);
-    change_petitions(alloc, &mut draft)?;
-    draft.into_changes()
-}
-
-fn look_at_petition_changes(rt: &impl Abort, changes: &Changes) {
-    let items = changes.petitions.items();
-    assert!(rt; items.len() == 3);
-    assert!(rt; items[0].0 == PetitionId(2) && items[0].1.is_none());
-    assert!(rt; items[1].0 == PetitionId(3) && asks(items[1].1.as_ref(), 3, 6));
-    assert!(rt; items[2].0 == PetitionId(4) && asks(items[2].1.as_ref(), 7, 5));
-}
-
-/// Changes petitions in a draft over some.
-fn differ<R: Rows>(rt: &impl Abort, alloc: Global, rows: &mut R) -> Result<(), AllocError> {
-    put_some_petitions(alloc, rows)?;
-    let changes = petition_changes(alloc, rows)?;
-    look_at_petition_changes(rt, &changes);
-    Ok(())
-}
-
-#[test]
-fn the_changes_of_petitions_are_those_that_differ(rt: HostRuntime) -> Result<(), AllocError> {
-    differ(&rt, rt.alloc(), &mut Flat::new(rt.alloc()))
-}
-
-/// Makes the changes of a draft over some petitions in these.
-fn make_changes(rt: &impl Abort, alloc: Global, rows: &mut Flat) -> Result<(), AllocError> {
-    put_some_petitions(alloc, rows)?;
-    apply_changes(rows, petition_changes(alloc, rows)?)?;
-    assert!(rt; asks(rows.petition(PetitionId(1)), 3, 5));
-    assert!(rt; rows.petition(PetitionId(2)).is_none());
-    assert!(rt; asks(rows.petition(PetitionId(3)), 3, 6));
-    assert!(rt; asks(rows.petition(PetitionId(4)), 7, 5));
-    assert!(rt; rows.next_petition(Some(PetitionId(4))).is_none());
-    Ok(())
-}
-
-#[test]
-fn changes_of_petitions_are_made(rt: HostRuntime) -> Result<(), AllocError> {
-    make_changes(&rt, rt.alloc(), &mut Flat::new(rt.alloc()))
 }

@@ -1,7 +1,5 @@
-//! Tests of rows, and of drafts over rows, by what they show to others.
+//! Tests of drafts over rows, by what they show to others.
 #![tactic(auto)]
 
 #[cfg(test)]
 mod drafts;
-#[cfg(test)]
-mod rows;

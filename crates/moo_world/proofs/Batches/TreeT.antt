@@ -22,6 +22,7 @@ use Rattle.moo_world.specs.ObjectLists.{subtree_of, children_of}
 use Rattle.moo_world.specs.Outcomes.{Failed}
 use Rattle.moo_world.specs.Recycling.{recycled}
 use Rattle.moo_world.specs.Step.{step}
+use Rattle.moo_rows.specs.PlainRow.{plain_row}
 use Rattle.moo_world.specs.Requests.{request}
 use Rattle.moo_world.specs.Judge.{Verdict, Accepted, Refused, NoRoom, Stale, judge}
 use Rattle.moo_world.specs.Rows.{LookUps, world_shown}
@@ -30,7 +31,7 @@ abbrev pub no : ℕ → ObjNo
 no n = record { 0 = pos n }
 
 abbrev pub row : ObjNo → ObjRow
-row parent = record { name = []; owner = no 3; parent = parent; location = nothing; player = false; programmer = false; wizard = false; r = false; w = false; f = false; accept = None }
+row parent = plain_row [] (no 3) parent
 
 abbrev pub reading : Bits
 reading = record { r = true; w = false; c = false }

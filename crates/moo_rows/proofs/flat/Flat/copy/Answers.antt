@@ -10,7 +10,8 @@ use Rattle.moo_rows.specs.declared.row.PropId.{PropId}
 use Rattle.moo_rows.specs.declared.row.VerbId.{VerbId}
 use Rattle.moo_rows.specs.declared.row.PetitionId.{PetitionId}
 use Rattle.moo_rows.specs.Maps.{Held, object_cmp, prop_cmp, slot_cmp}
-use Rattle.moo_rows.specs.SameClones.{object_clone, prop_clone, slot_clone, verb_clone, petition_clone}
+use Rattle.moo_rows.specs.ObjectRow.{object_clone}
+use Rattle.moo_rows.specs.SameClones.{prop_clone, slot_clone, verb_clone, petition_clone}
 use Rattle.moo_rows.proofs.flat.Flat.copy.Goals as goal
 
 -- clones of equal keys and rows leave equal maps
