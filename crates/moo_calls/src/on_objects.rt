@@ -9,7 +9,7 @@ ghost use Rattle.moo_world.specs.Calls.{valid, parent, children, is_player, play
 ghost use Rattle.moo_world.specs.Keeps.{Keeps};
 ghost use Rattle.moo_world.specs.Outcomes.{given};
 ghost use Rattle.moo_world.specs.Rows.{IsGood};
-ghost use Rattle.moo_world.specs.Step.{named_call};
+ghost use Rattle.moo_world.specs.Calls.{named_call};
 ghost use Rattle.moo_world.specs.declared.name.CallName.TheVariants.{Create, Chparent, Recycle, Move, SetPlayerFlag, SetAccept};
 
 use crate::{changing, creating, moving, parents, reading, recycling};

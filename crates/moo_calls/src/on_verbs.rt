@@ -5,7 +5,7 @@ ghost use Rattle.std.specs.Prelude.{OnOk};
 ghost use Rattle.moo_call_parts.specs.Outcomes.{world_in, ComesTo, Answers};
 ghost use Rattle.moo_world.specs.Keeps.{Keeps};
 ghost use Rattle.moo_world.specs.Rows.{IsGood};
-ghost use Rattle.moo_world.specs.Step.{named_call};
+ghost use Rattle.moo_world.specs.Calls.{named_call};
 ghost use Rattle.moo_world.specs.declared.name.CallName.TheVariants.{Verbs, VerbInfo, VerbArgs, AddVerb, DeleteVerb, SetVerbInfo, SetVerbArgs};
 
 use moo_call_parts::{Fault, new_verb, new_verb_args, new_verb_info, object_and_desc, one_object};

@@ -6,7 +6,7 @@ ghost use Rattle.moo_call_parts.specs.Outcomes.{world_in, ComesTo};
 ghost use Rattle.moo_world.specs.Arguments.{fits};
 ghost use Rattle.moo_world.specs.Keeps.{Keeps};
 ghost use Rattle.moo_world.specs.Rows.{IsGood};
-ghost use Rattle.moo_world.specs.Step.{step, named_call};
+ghost use Rattle.moo_world.specs.Calls.{step, named_call};
 
 use crate::{on_objects, on_properties, on_verbs};
 use moo_call_parts::Fault;

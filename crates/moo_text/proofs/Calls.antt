@@ -14,7 +14,7 @@ use Rattle.moo_value.proofs.Tokens.{word_parts, word_again}
 use Rattle.moo_value.proofs.Literals.{blanks_taken, blanks_skipped}
 use Rattle.moo_world.specs.Objects.{folded}
 use Rattle.moo_world.specs.declared.call.Call.{Call}
-use Rattle.moo_world.proofs.Batches.Naming.{spelled_is}
+use Rattle.moo_world.specs.Names.{spelled_is}
 use Rattle.moo_text.specs.Line.{is_short, is_all_blank}
 use Rattle.moo_text.specs.Grammar.{ClosesCall, SpellsArguments, SpellsCall}
 use Rattle.moo_text.specs.LineReading.{found, front_of, behind_mark, after_mark, closed, behind_value, values_at, arguments_of, call_name, call_behind, call_of}

@@ -15,7 +15,7 @@ use Rattle.moo_world.specs.Arguments.{fits}
 use Rattle.moo_world.specs.Objects.{folded}
 use Rattle.moo_world.specs.Names.{spelling}
 use Rattle.moo_world.specs.declared.name.CallName.{CallName}
-use Rattle.moo_world.proofs.Batches.Naming.{spelled_is}
+use Rattle.moo_world.specs.Names.{spelled_is}
 use Rattle.moo_text.specs.Line.{is_all_blank}
 use Rattle.moo_text.specs.LineReading.{found, front_of, behind_value, values_at, behind_mark, after_mark, call_name}
 

@@ -1,5 +1,4 @@
 -- Runs of batches, names of calls, and worked rows.
-pub mod Naming
 pub mod Judging
 pub mod Requested
 pub mod PetitionNumbers

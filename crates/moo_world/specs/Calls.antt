@@ -1,4 +1,5 @@
--- What each call on objects comes to: its checks, in their order, and then its answer and the world that it leaves.
+-- What each call on objects comes to: its checks, in their order, and then its answer and the world that it leaves. At the end, each
+-- call by its name, those on properties and on verbs too.
 -- LambdaMOO Programmer's Manual, 'Fundamental Operations on Objects', 'Object Movement' and 'Operations on Player Objects' in the
 -- part on built-in functions. The order of the checks, accept lists, and E_RECMOVE for a parent that is the object itself or under
 -- it are this server's own.
@@ -12,7 +13,7 @@ use Rattle.moo_value.specs.Value.{is_true}
 use Rattle.moo_world.specs.declared.change.Change.TheVariants as to
 use Rattle.moo_world.specs.Objects.{nothing, same_object, is_among}
 use Rattle.moo_world.specs.World.{World, is_object, row_of, row_passes, owner_of, parent_of, chain, reparented}
-use Rattle.moo_world.specs.Outcomes.{Outcome, Done, Failed, check, with_next}
+use Rattle.moo_world.specs.Outcomes.{Outcome, Done, Failed, check, given, with_next}
 use Rattle.moo_world.specs.Answers.{zero, flag, object_list}
 use Rattle.moo_world.specs.ObjectLists.{children_of, players_of, meets}
 use Rattle.moo_world.specs.Rights.{is_wizard, controls, may_be_parent, may_own, accepts, is_within}
@@ -20,6 +21,12 @@ use Rattle.moo_world.specs.Quota.{may_afford, charged, quota_returned}
 use Rattle.moo_world.specs.Creation.{next_object, owner_or_self, created}
 use Rattle.moo_world.specs.Recycling.{recycled}
 use Rattle.moo_world.specs.Fields.{field_changed}
+use Rattle.moo_world.specs.declared.call.Call.{Call}
+use Rattle.moo_world.specs.declared.name.CallName.{CallName}
+use Rattle.moo_world.specs.declared.name.CallName.TheVariants.{Valid, Parent, Children, IsPlayer, Players, MaxObject, Get, Properties, PropertyInfo, IsClearProperty, Verbs, VerbInfo, VerbArgs, AcceptList, Create, Chparent, Recycle, Move, SetPlayerFlag, Set, AddProperty, DeleteProperty, SetPropertyInfo, ClearProperty, AddVerb, DeleteVerb, SetVerbInfo, SetVerbArgs, SetAccept, Petition, Petitions, Grant, Decline}
+use Rattle.moo_world.specs.Arguments.{no_values, one_object, two_objects, object_and_text, object_and_value, object_text_and_value, parent_and_owner, object_and_accept, new_property, new_property_info, object_and_desc, new_verb, new_verb_info, new_verb_args}
+use Rattle.moo_world.specs.PropertyCalls.{get, properties, property_info, is_clear_property, set, add_property, delete_property, set_property_info, clear_property}
+use Rattle.moo_world.specs.VerbCalls.{verbs, verb_info, verb_args, add_verb, delete_verb, set_verb_info, set_verb_args}
 
 -- ---- the calls that only read
 
@@ -105,3 +112,46 @@ set_accept w p x list =
     (check (controls w p x) (Failed Permission)
     (check (nat_le (length (unwrap_or list [])) 1000) (Failed InvalidArgument)
     (Done zero (field_changed w x (to.Accept list)))))
+
+-- ---- each call by its name
+
+-- each call by its name, with what it is given
+abbrev pub named_call : World → ObjNo → CallName → List Value → Outcome
+named_call w p Valid args = given (one_object args) (valid w)
+named_call w p Parent args = given (one_object args) (parent w)
+named_call w p Children args = given (one_object args) (children w)
+named_call w p IsPlayer args = given (one_object args) (is_player w)
+named_call w p Players args = given (no_values args) (λ _. players w)
+named_call w p MaxObject args = given (no_values args) (λ _. max_object w)
+named_call w p Get args = given (object_and_text args) (λ a. get w p a.0 a.1)
+named_call w p Properties args = given (one_object args) (properties w p)
+named_call w p PropertyInfo args = given (object_and_text args) (λ a. property_info w p a.0 a.1)
+named_call w p IsClearProperty args = given (object_and_text args) (λ a. is_clear_property w p a.0 a.1)
+named_call w p Verbs args = given (one_object args) (verbs w p)
+named_call w p VerbInfo args = given (object_and_desc args) (λ a. verb_info w p a.0 a.1)
+named_call w p VerbArgs args = given (object_and_desc args) (λ a. verb_args w p a.0 a.1)
+named_call w p AcceptList args = given (one_object args) (accept_list w)
+named_call w p Create args = given (parent_and_owner p args) (λ a. create w p a.0 a.1)
+named_call w p Chparent args = given (two_objects args) (λ a. chparent w p a.0 a.1)
+named_call w p Recycle args = given (one_object args) (recycle w p)
+named_call w p Move args = given (two_objects args) (λ a. move w p a.0 a.1)
+named_call w p SetPlayerFlag args = given (object_and_value args) (λ a. set_player_flag w p a.0 a.1)
+named_call w p Set args = given (object_text_and_value args) (λ a. set w p a.0 a.1 a.2)
+named_call w p AddProperty args = given (new_property args) (λ a. add_property w p a.0 a.1.0 a.1.1 a.1.2)
+named_call w p DeleteProperty args = given (object_and_text args) (λ a. delete_property w p a.0 a.1)
+named_call w p SetPropertyInfo args = given (new_property_info args) (λ a. set_property_info w p a.0 a.1.0 a.1.1.0 a.1.1.1)
+named_call w p ClearProperty args = given (object_and_text args) (λ a. clear_property w p a.0 a.1)
+named_call w p AddVerb args = given (new_verb args) (λ a. add_verb w p a.0 a.1.0.0 a.1.0.1 a.1.1)
+named_call w p DeleteVerb args = given (object_and_desc args) (λ a. delete_verb w p a.0 a.1)
+named_call w p SetVerbInfo args = given (new_verb_info args) (λ a. set_verb_info w p a.0 a.1.0 a.1.1.0 a.1.1.1)
+named_call w p SetVerbArgs args = given (new_verb_args args) (λ a. set_verb_args w p a.0 a.1.0 a.1.1)
+named_call w p SetAccept args = given (object_and_accept args) (λ a. set_accept w p a.0 a.1)
+-- petitions stand beside the world: what their calls come to, `request` says, which asks for no step of theirs
+named_call w p Petition args = Failed InvalidArgument
+named_call w p Petitions args = Failed InvalidArgument
+named_call w p Grant args = Failed InvalidArgument
+named_call w p Decline args = Failed InvalidArgument
+
+-- the programmer has to be an object
+unfoldable pub step : World → ObjNo → Call → Outcome
+step w p call = check (is_object w p) (Failed Permission) (named_call w p call.name call.args)

@@ -12,7 +12,7 @@ use Rattle.moo_world.specs.Arguments.{is_text, fits}
 use Rattle.moo_world.specs.Judge.{after}
 use Rattle.moo_world.specs.Outcomes.{Done}
 use Rattle.moo_world.specs.Requests.{State, Answered, IsFormed, request}
-use Rattle.moo_world.specs.Step.{step}
+use Rattle.moo_world.specs.Calls.{step}
 use Rattle.moo_world.specs.World.{World, IsWellFormed}
 
 -- in each value that the call is given lists nest at most 32 deep, integers have 64 bits, the numbers of objects 32, and strings are texts

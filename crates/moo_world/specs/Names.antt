@@ -1,7 +1,9 @@
 -- The names of the calls.
-use Rattle.std.specs.Prelude.{ℕ, Bool, true, false, List, [], ◌∷◌, Option, Some, None, codes}
+use Rattle.std.specs.Prelude.{ℕ, Bool, true, false, cond, List, [], ◌∷◌, Option, Some, None, codes, ◌≡◌, ◌↔◌, refl}
 use Rattle.std.specs.List.{find}
-use Rattle.moo_world.specs.Objects.{same_text, folded}
+use Rattle.std.proofs.Common.{ap, subst, ◌∙◌}
+use Rattle.std.proofs.lemmas.Option.{none-some, same_Some}
+use Rattle.moo_world.specs.Objects.{same_text, same_text-Decides, folded}
 use Rattle.moo_world.specs.declared.name.CallName.{CallName}
 use Rattle.moo_world.specs.declared.name.PetitionCall.{PetitionCall}
 use Rattle.moo_world.specs.declared.name.PetitionCall.TheVariants.{Petition as to_petition, Petitions as to_list, Grant as to_grant, Decline as to_decline}
@@ -55,6 +57,61 @@ all_names =
 -- the call that the bytes name, in any case
 abbrev pub named : List ℕ → Option CallName
 named bytes = find (λ name. same_text (folded bytes) (spelling name)) all_names
+
+-- ---- a call is found by its name
+
+-- what is found passes
+pub find_passes : {X : Type 0} (p : X → Bool) (xs : List X) (x : X) → find p xs ≡ Some x → p x ≡ true
+find_passes p [] x e = absurd (none-some x e)
+find_passes p (y ∷ xs) x e = by (p y) refl e (find_passes p xs x)
+  where
+    by : (b : Bool) → p y ≡ b → cond b (Some y) (find p xs) ≡ Some x → (find p xs ≡ Some x → p x ≡ true) → p x ≡ true
+    by true h e r = subst (λ z. p z ≡ true) (same_Some y x e) h
+    by false h e r = r e
+
+abbrev spelled : List ℕ → Option CallName
+spelled bytes = find (λ name. same_text bytes (spelling name)) all_names
+
+spelled-spelling : (name : CallName) → spelled (spelling name) ≡ Some name
+unfolding same_text
+spelled-spelling Valid = refl
+spelled-spelling Parent = refl
+spelled-spelling Children = refl
+spelled-spelling IsPlayer = refl
+spelled-spelling Players = refl
+spelled-spelling MaxObject = refl
+spelled-spelling Get = refl
+spelled-spelling Properties = refl
+spelled-spelling PropertyInfo = refl
+spelled-spelling IsClearProperty = refl
+spelled-spelling Verbs = refl
+spelled-spelling VerbInfo = refl
+spelled-spelling VerbArgs = refl
+spelled-spelling AcceptList = refl
+spelled-spelling Create = refl
+spelled-spelling Chparent = refl
+spelled-spelling Recycle = refl
+spelled-spelling Move = refl
+spelled-spelling SetPlayerFlag = refl
+spelled-spelling Set = refl
+spelled-spelling AddProperty = refl
+spelled-spelling DeleteProperty = refl
+spelled-spelling SetPropertyInfo = refl
+spelled-spelling ClearProperty = refl
+spelled-spelling AddVerb = refl
+spelled-spelling DeleteVerb = refl
+spelled-spelling SetVerbInfo = refl
+spelled-spelling SetVerbArgs = refl
+spelled-spelling SetAccept = refl
+spelled-spelling Petition = refl
+spelled-spelling Petitions = refl
+spelled-spelling Grant = refl
+spelled-spelling Decline = refl
+
+pub spelled_is : (bytes : List ℕ) (name : CallName) → (spelled bytes ≡ Some name) ↔ (bytes ≡ spelling name)
+spelled_is bytes name = (λ e. (same_text-Decides bytes (spelling name)).0 (find_passes (λ n. same_text bytes (spelling n)) all_names name e), λ e. ap spelled e ∙ spelled-spelling name)
+
+-- ---- petitions
 
 -- which call of petitions a name is: none where it is a call on the world
 abbrev pub petition_call : CallName → Option PetitionCall

@@ -16,7 +16,7 @@ use Rattle.moo_world.specs.Recycling.{recycled}
 use Rattle.moo_world.specs.Rights.{is_wizard}
 use Rattle.moo_world.specs.Names.{petition_call}
 use Rattle.moo_world.specs.Requests.{State, Answered, request}
-use Rattle.moo_world.specs.Step.{step}
+use Rattle.moo_world.specs.Calls.{step}
 
 -- owner, player flag, programmer and wizard bits
 abbrev pub SameRights : World → World → ObjNo → Type 0

@@ -25,7 +25,7 @@ use Rattle.moo_world.specs.Outcomes.{Outcome, Done, Failed, Full}
 use Rattle.moo_world.specs.Petitions.{is_named, are_few, are_shallow, PetitionsStand}
 use Rattle.moo_world.specs.Rights.{is_wizard}
 use Rattle.moo_world.specs.Rows.{world_of}
-use Rattle.moo_world.specs.Step.{step}
+use Rattle.moo_world.specs.Calls.{step}
 use Rattle.moo_world.specs.World.{World, is_object, IsWellFormed}
 
 -- the whole database: the world, the petitions with the number of the next one, and how many batches were accepted

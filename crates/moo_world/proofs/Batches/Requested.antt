@@ -26,7 +26,7 @@ use Rattle.moo_world.specs.Outcomes.{Outcome, Done, Failed, Full}
 use Rattle.moo_world.specs.Petitions.{is_named, are_few, are_shallow}
 use Rattle.moo_world.specs.Requests.{State, Effect, Answered, Erred, NoneLeft, unless_fails, taking, in_world, found_petition, one_list, one_integer, petition_id, petition_at, without, held_call, held_steps, last_petition, asked, may_be_asked, petition, grant, decline, petition_call_by, request}
 use Rattle.moo_world.specs.Rights.{is_wizard}
-use Rattle.moo_world.specs.Step.{step}
+use Rattle.moo_world.specs.Calls.{step}
 use Rattle.moo_world.specs.World.{World, is_object}
 
 -- an answered call leaves a state that is so; an error leaves none

@@ -21,7 +21,7 @@ use Rattle.moo_world.specs.Calls.{chparent}
 use Rattle.moo_world.specs.ObjectLists.{subtree_of, children_of}
 use Rattle.moo_world.specs.Outcomes.{Failed}
 use Rattle.moo_world.specs.Recycling.{recycled}
-use Rattle.moo_world.specs.Step.{step}
+use Rattle.moo_world.specs.Calls.{step}
 use Rattle.moo_rows.specs.PlainRow.{plain_row}
 use Rattle.moo_world.specs.Requests.{request}
 use Rattle.moo_world.specs.Judge.{Verdict, Accepted, Refused, NoRoom, Stale, judge}

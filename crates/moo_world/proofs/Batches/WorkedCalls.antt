@@ -17,7 +17,7 @@ use Rattle.moo_world.specs.Rows.{LookUps, world_shown}
 use Rattle.moo_world.specs.Answers.{zero, list_of, object_list, text_list}
 use Rattle.moo_world.specs.Matching.{matches}
 use Rattle.moo_world.specs.VerbReading.{prep_of}
-use Rattle.moo_world.specs.Step.{step}
+use Rattle.moo_world.specs.Calls.{step}
 use Rattle.moo_world.specs.Requests.{State, request}
 use Rattle.moo_world.specs.Judge.{Ran, Through, FailedAt, FullAt, run_calls}
 use Rattle.moo_world.proofs.Batches.TreeT.{no, row, T as world_T}

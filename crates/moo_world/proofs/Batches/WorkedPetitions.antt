@@ -10,7 +10,7 @@ use Rattle.moo_world.specs.Objects.{nothing, same_object, same_text, same_pair, 
 use Rattle.moo_world.specs.World.{chain, rebuilt}
 use Rattle.moo_world.specs.Rows.{world_shown}
 use Rattle.moo_world.specs.Answers.{list_of}
-use Rattle.moo_world.specs.Step.{step}
+use Rattle.moo_world.specs.Calls.{step}
 use Rattle.moo_world.specs.Requests.{request}
 use Rattle.moo_world.specs.Judge.{Ran, Through, FailedAt, FullAt, run_calls}
 use Rattle.moo_world.proofs.Batches.TreeT.{no}

@@ -38,7 +38,7 @@ use Rattle.moo_world.specs.Ownership.{KeepsOwnership, NoWizardKeepsOwnership, na
 use Rattle.moo_world.specs.PropertyCalls.{get, change_of, may_set, names_object, set_built_in, set, defines, may_define, add_property, delete_property, may_rename, renamed_to, set_property_info, clear_property}
 use Rattle.moo_world.specs.Recycling.{recycled}
 use Rattle.moo_world.specs.Rights.{is_wizard, controls, may_be_parent, may_own, may_read_object, may_write_object, may_read_slot, may_write_slot, may_read_verb, may_write_verb, accepts, is_within}
-use Rattle.moo_world.specs.Step.{named_call, step}
+use Rattle.moo_world.specs.Calls.{named_call, step}
 use Rattle.moo_world.specs.VerbCalls.{add_verb, delete_verb, set_verb_info, set_verb_args}
 use Rattle.moo_world.specs.VerbReading.{args_of}
 use Rattle.moo_world.specs.World.{World, Slot, IsWellFormed, is_object, owner_of, slot_of, chain, has_word, is_property_name, verb_fits, state_fits}

@@ -25,7 +25,7 @@ use Rattle.moo_world.specs.Names.{named, petition_call}
 use Rattle.moo_world.specs.Outcomes.{Outcome, Done, Failed, Full}
 use Rattle.moo_world.specs.Petitions.{PetitionsStand, petition_fits, is_named, are_few, are_shallow}
 use Rattle.moo_world.specs.Requests.{State, Answered, IsFormed, petition_id, without, call_in, held_call, held_step, held_steps, last_petition, asked, request}
-use Rattle.moo_world.specs.Step.{step}
+use Rattle.moo_world.specs.Calls.{step}
 use Rattle.moo_world.specs.World.{World, IsWellFormed, is_object}
 use Rattle.moo_world.proofs.Batches.Requested.{Led, of_answered, request_leaves}
 use Rattle.moo_world.proofs.Form.Calls.{calls_keep_form}

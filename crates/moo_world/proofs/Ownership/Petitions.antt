@@ -13,7 +13,7 @@ use Rattle.moo_world.specs.Objects.{same_object}
 use Rattle.moo_world.specs.Ownership.{PetitionsLeaveTheWorld}
 use Rattle.moo_world.specs.Requests.{State, in_world, last_petition, may_be_asked, one_integer, one_list, petition_at, petition_call_by, request, unless_fails}
 use Rattle.moo_world.specs.Rights.{is_wizard}
-use Rattle.moo_world.specs.Step.{step}
+use Rattle.moo_world.specs.Calls.{step}
 use Rattle.moo_world.specs.World.{is_object}
 use Rattle.moo_world.proofs.Batches.Requested.{Leaves, of_answered, on_answer, on_check, on_left, on_petition, on_taken}
 

@@ -1,5 +1,5 @@
 use Rattle.moo_world.specs.Objects.{folded}
-use Rattle.moo_world.proofs.Batches.Naming.{spelled_is}
+use Rattle.moo_world.specs.Names.{spelled_is}
 use Rattle.moo_world.proofs.name.CallName.read.Goals as goal
 
 pub returns-clause-one : goal.returns-clause-one
