@@ -71,9 +71,9 @@ lists() {
     [ -z "$lacking" ] && passed "$name" || failed "$name" "it lacks$lacking"
 }
 "$MOO" apply --help >help
-lists "help has every call" '(^|[ ,])%\(' valid parent children is_player players max_object get properties property_info \
-    is_clear_property verbs verb_info verb_args accept_list create chparent recycle move set_player_flag set add_property \
-    delete_property set_property_info clear_property add_verb delete_verb set_verb_info set_verb_args set_accept petition petitions grant decline
+calls=$(sed -n 's/^| `\([a-z_]*\)(.*/\1/p' "$here/../docs/CALLS.md")
+# shellcheck disable=SC2086
+lists "help has every call that CALLS.md has" '(^|[ ,])%\(' ${calls:-none}
 lists "help has every reply" '[ `]%[ `]' accepted refused full stale malformed truncated nomemory fault closed
 lists "help has every reason" '^  %  ' E_PERM E_INVARG E_INVIND E_PROPNF E_VERBNF E_ARGS E_TYPE E_QUOTA E_RECMOVE E_NACC
 says "help has the fields of an object" 0 'object {number, name, owner, parent, location, player, programmer, wizard, r, w, f, accept list or 0}' dump --help
