@@ -1,5 +1,5 @@
 -- What the statement on petition_head does.
-use Rattle.std.proofs.Common.{◌≡◌, ◌⊎◌, inl, inr, ℕ, ℤ, pos, List, [], ◌∷◌, ◌++◌, drop, codes, option_map, Option, Some, Bool, true, false, ◌&&◌, ◌||◌, Result, Ok, Err, OnOk, IsTrue, refl, ap, subst, ◌∙◌}
+use Rattle.std.proofs.Common.{◌≡◌, ◌⊎◌, inl, inr, ℕ, ℤ, pos, List, [], ◌∷◌, ◌++◌, drop, codes, option_map, Some, Bool, true, false, ◌&&◌, ◌||◌, Result, Ok, Err, OnOk, IsTrue, refl, ap, subst, ◌∙◌}
 use Rattle.std.specs.List.{list_all}
 use Rattle.std.proofs.lemmas.Bool.{and_parts}
 use Rattle.sqlite.specs.declared.types.Value.TheVariants.{Null, Int}

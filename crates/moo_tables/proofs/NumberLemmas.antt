@@ -85,7 +85,7 @@ module _ {K C : Type 0} (at : ℕ) (name : List ℕ) (tree : ℕ) (columns : Lis
   -- the rows of the table are told by their numbers, and only this table is changed
   module _ (With : ℤ → Option Row → Tables → Tables) (keyed_seen : (s : State) (tables : Tables) → Sees s tables → AreKeyed (s.now.trees tree))
       (sees : (old new : State) (tables : Tables) (key : ℤ) (shown : Option Row) (rows : List Row) → Sees old tables → SetsTree old new tree rows → AreKeyed rows
-          → ((k : ℤ) → numbered_in places rows k ≡ numbered_with key shown (numbered_in places (old.now.trees tree)) k) → Sees new (With key shown tables)) where
+      → ((k : ℤ) → numbered_in places rows k ≡ numbered_with key shown (numbered_in places (old.now.trees tree)) k) → Sees new (With key shown tables)) where
     puts : (old new : State) (key : K) (row : C) (count : ℕ) (tables : Tables) → Sees old tables → Executes (put_text t) (cells key row) old new (Ok count) → IsTrue new.in_transaction → Sees new (With (number key) (Some (cells key row)) tables)
     puts old new key row count tables seen h inside =
         let has = schema_seen seen in
@@ -105,7 +105,7 @@ module _ {K C : Type 0} (at : ℕ) (name : List ℕ) (tree : ℕ) (columns : Lis
         (record { schema_is = it.schema_is; sound = w.sound; is_open = w.shown.is_open; inside = inside; rows_are = put.0; others = put.1 })
         (put_keyed has_rowid n old_rows keyed source refl)
         (λ k. after_put same_number has_rowid (cells_at places) number_exact number_apart n source old_rows (has_itself n (drop 1 source)) (number_free n source old_rows refl) k
-            ∙ ap (λ shown. numbered_with n (Some shown) (numbered_in places old_rows) k) (it_has.placed key row))
+        ∙ ap (λ shown. numbered_with n (Some shown) (numbered_in places old_rows) k) (it_has.placed key row))
 
     removes : (old new : State) (key : K) (count : ℕ) (tables : Tables) → Sees old tables → Executes (remove_text t) (Int (number key) ∷ []) old new (Ok count) → IsTrue new.in_transaction → Sees new (With (number key) None tables)
     removes old new key count tables seen h inside =

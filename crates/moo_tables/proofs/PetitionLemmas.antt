@@ -1,5 +1,5 @@
 -- What the statements on petitions do.
-use Rattle.std.proofs.Common.{◌≡◌, ℕ, ℤ, pos, List, [], ◌∷◌, Option, Some, None, Result, OnOk, refl}
+use Rattle.std.proofs.Common.{ℕ, ℤ, pos, [], ◌∷◌, Option, Some, None, Result, OnOk, refl}
 use Rattle.sqlite.specs.declared.types.Value.TheVariants.{Int}
 use Rattle.sqlite.specs.declared.error.Error.{Error}
 use Rattle.sqlite.specs.Order.{Row}
