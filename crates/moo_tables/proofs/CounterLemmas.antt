@@ -1,14 +1,10 @@
 -- What the statement on petition_head does.
-use Rattle.std.proofs.Common.{◌≡◌, ◌⊎◌, inl, inr, ℕ, ℤ, pos, List, [], ◌∷◌, ◌++◌, drop, codes, option_map, Some, Bool, true, false, ◌&&◌, ◌||◌, Result, Ok, Err, OnOk, IsTrue, refl, ap, subst, ◌∙◌}
+use Rattle.std.proofs.Common.{◌≡◌, ◌⊎◌, inl, inr, ℕ, ℤ, pos, List, [], ◌∷◌, ◌++◌, drop, codes, option_map, Some, Bool, true, false, ◌&&◌, Result, Ok, Err, OnOk, IsTrue, refl, ap, subst, ◌∙◌}
 use Rattle.std.specs.List.{list_all}
 use Rattle.std.proofs.lemmas.Bool.{and_parts}
-use Rattle.sqlite.specs.declared.types.Value.TheVariants.{Null, Int}
+use Rattle.sqlite.specs.declared.types.Value.TheVariants.{Int}
 use Rattle.sqlite.specs.declared.error.Error.{Error}
 use Rattle.sqlite.specs.Order.{Row, column}
-use Rattle.sqlite.specs.Ops.{binary, is_true}
-use Rattle.sqlite.specs.Collation.TheVariants.{Binary}
-use Rattle.sqlite_sql.specs.declared.ops.BinaryOp.TheVariants.{Compare}
-use Rattle.sqlite_sql.specs.declared.ops.CompareOp.TheVariants.{Eq}
 use Rattle.sqlite.specs.Edit.{with_rowid}
 use Rattle.sqlite.specs.Cast.{cast_row}
 use Rattle.sqlite.specs.Rowids.TheVariants.{Chosen}
@@ -27,36 +23,35 @@ use Rattle.sqlite.specs.Listing.{understood}
 use Rattle.sqlite.specs.State.{State, Executes}
 use Rattle.sqlite.proofs.Callers.{statement_of, runs_as}
 use Rattle.sqlite_rules.specs.Keys.{AreConflicts, conflicts}
-use Rattle.sqlite_value.specs.Keys.{first_key}
 use Rattle.moo_tables.specs.Cells.{petition_head_cells, with_counter}
 use Rattle.moo_tables.specs.Tables.{Tables, second_schema, petition_head_table, cells_at, petition_head_places, numbered_in, numbered_with, same_number}
 use Rattle.moo_tables.specs.Texts.{put_counter_text}
 use Rattle.moo_tables.specs.Inside.{AreKeyed, Sees, Changes, Ran}
 use Rattle.moo_tables.proofs.TextLemmas.{put_counter_is, put_counter_plain, number_terms, number_overwrite, counter_filter, writes_where}
-use Rattle.moo_tables.proofs.StepLemmas.{cast_null, cast_int}
+use Rattle.moo_tables.proofs.NumberLemmas as number
+use Rattle.moo_tables.proofs.NumberLemmas.{HasNumbers, stored_at}
 use Rattle.moo_tables.proofs.UpsertLemmas.{Settles, WritesOver, upserts}
 use Rattle.moo_tables.proofs.OverLemmas.{Found, OthersStay, StandsAlone, number_one, picks_given, number_anew, number_found, number_over, number_left}
 use Rattle.moo_tables.proofs.ListingLemmas.{one_int, not_apart, exactly, find_one}
 use Rattle.moo_tables.proofs.KeyLemmas.{after_put, number_exact, number_apart}
-use Rattle.moo_tables.proofs.RowLemmas.{moo_quiet, equal_number, put_keyed, rest, number_free, has_itself}
+use Rattle.moo_tables.proofs.RowLemmas.{moo_quiet, put_keyed, rest, number_free, has_itself}
 use Rattle.moo_tables.proofs.SeenLemmas.{schema_seen, sound_seen, counter_seen, sees_counter}
 
--- a row of whole numbers and texts is stored as it is
+-- its one row has the number 1
+abbrev number_of : Unit {0} → ℤ
+number_of _ = pos 1
+
+abbrev cells : Unit {0} → ℕ → Row
+cells _ next = petition_head_cells next
+
+has_numbers : HasNumbers petition_head_table number_of cells
+has_numbers = record { stored = λ db. refl; fitting = λ key row. refl; placed = λ key row. refl; alone = λ key row. refl; there = λ key row. refl; over = λ key row r. refl; conflicting = λ new r. refl }
+
 abbrev stored : ℕ → Row
-stored next = Int (pos 1) ∷ Null ∷ drop 1 (petition_head_cells next)
+stored next = stored_at (pos 1) (petition_head_cells next)
 
 kept : (next : ℕ) → cast_row petition_head_table (stored next) ≡ stored next
-kept next = rw (cast_null, cast_int (pos 1), cast_int (pos next))
-
-meets : (n : ℤ) (tail r : Row) → conflicts (Some (0 ∷ [])) second_schema.indexes petition_head_table (Int n ∷ tail) r ≡ has_rowid n r
-unfolding first_key
-meets n tail r =
-    let plainly : conflicts (Some (0 ∷ [])) second_schema.indexes petition_head_table (Int n ∷ tail) r ≡ is_true (binary (Compare Eq Binary) (rowid r) (Int n)) = elim (is_true (binary (Compare Eq Binary) (rowid r) (Int n))) as (λ b. ((b && true) || false) ≡ b) [ true ↦ refl | false ↦ refl ] in
-    plainly ∙ equal_number (rowid r) n
-
--- and so is a row that is written over
-kept_over : (next : ℕ) (r : Row) → rowid r ≡ Int (pos 1) → cast_row petition_head_table (rowid r ∷ Null ∷ drop 1 (petition_head_cells next)) ≡ stored next
-kept_over next r is = ap (λ v. cast_row petition_head_table (v ∷ Null ∷ drop 1 (petition_head_cells next))) is ∙ kept next
+kept next = number.kept _ 10 _ number_of cells has_numbers tt next
 
 -- ---- the row of the table, where it is put, written over, or left as it is
 
@@ -81,7 +76,7 @@ module _ (next : ℕ) (db after : Trees) (keyed : AreKeyed (db 10)) (sound : IsS
   WasSo = (after 10 ≡ rows) × OthersStay 10 db after × (numbered_in petition_head_places rows (pos 1) ≡ Some (petition_head_cells next))
 
   meets_it : (r : Row) → Has rows r → conflicts (Some (0 ∷ [])) second_schema.indexes petition_head_table (stored next) r ≡ has_rowid (pos 1) r
-  meets_it r in_it = meets (pos 1) (drop 1 (stored next)) r
+  meets_it r in_it = number.meets _ 10 _ number_of cells has_numbers tt next r
 
   tested : (r : Row) → list_all (holds (given ∷ r ∷ [])) counter_filter ≡ (differ (column r 2) (Int (pos next)) && has_rowid (pos 1) r)
   tested r = ap (λ b. differ (column r 2) (Int (pos next)) && b) (picks_given 2 given (pos 1) refl r)
@@ -98,7 +93,7 @@ module _ (next : ℕ) (db after : Trees) (keyed : AreKeyed (db 10)) (sound : IsS
       over : differ (column found.row 2) (Int (pos next)) ≡ true → StandsAlone (pos 1) (stored next) 10 db after keyed
       over other =
           number_over petition_head_table (pos 1) db after keyed refl (petition_head_cells next) (stored next) counter_filter (number_overwrite petition_head_table) meets_it (kept next) x more met it
-          (λ r in_it. tested r ∙ picks r in_it (has_rowid (pos 1) r) refl) (λ r. refl) (kept_over next)
+          (λ r in_it. tested r ∙ picks r in_it (has_rowid (pos 1) r) refl) (λ r. refl) (number.kept_over _ 10 _ number_of cells has_numbers tt next)
         where
           picks : (r : Row) → Has rows r → (b : Bool) → has_rowid (pos 1) r ≡ b → (differ (column r 2) (Int (pos next)) && b) ≡ b
           picks r in_it true here = rw (ap (λ s. differ (column s 2) (Int (pos next))) (only r in_it here) ∙ other) refl

@@ -41,13 +41,15 @@ use Rattle.moo_tables.proofs.SeenLemmas.{schema_seen, SetsTree}
 abbrev pub stored_at : ℤ → Row → Row
 stored_at n cells = Int n ∷ Null ∷ drop 1 cells
 
--- The rows of the table have these cells. Whatever the columns are, each of these facts is computed.
+-- The rows of the table have these cells. Each of these facts is computed, whatever the columns are.
 pub record HasNumbers {K C : Type 0} (t : Table) (number : K → ℤ) (cells : K → C → Row) : Type 0 where
   pub stored : (db : Trees) → overlay db [] t.tree ≡ db t.tree
   pub fitting : (key : K) (row : C) → fit t.columns (Null ∷ drop 1 (cells key row)) ≡ true
+  -- what the tree has shows the cells, and the values of the statement give it
   pub placed : (key : K) (row : C) → cells_at (number_places t) (stored_at (number key) (cells key row)) ≡ cells key row
   pub alone : (key : K) (row : C) → value_rows (cells key row ++ []) (length t.columns + 1) (length (number_terms t) / (length t.columns + 1)) (number_terms t) ≡ stored_at (number key) (cells key row) ∷ []
   pub there : (key : K) (row : C) → column (cells key row ++ Int (number key) ∷ shown t (stored_at (number key) (cells key row))) (length t.columns) ≡ Int (number key)
+  -- a row that is there gets the new values
   pub over : (key : K) (row : C) (r : Row)
       → eval_all (number_overwrite t) ((cells key row ++ Int (number key) ∷ shown t (stored_at (number key) (cells key row))) ∷ r ∷ []) ≡ rowid r ∷ rowid r ∷ Null ∷ drop 1 (cells key row)
   -- under no index can a row conflict
@@ -61,8 +63,7 @@ numbers_agree : (n : ℤ) (tail r : Row) → (agree plain (0 ∷ []) r (0 ∷ []
 unfolding first_key
 numbers_agree n tail r = same_or_not (is_true (binary (Compare Eq Binary) (rowid r) (Int n))) ∙ equal_number (rowid r) n
 
-module _ {K C : Type 0} (at : ℕ) (name : List ℕ) (tree : ℕ) (columns : List Column) (number : K → ℤ) (cells : K → C → Row) (is : slice_get second_schema.tables at ≡ Some (numbered name tree columns))
-    (writes : WritesByNumber at (numbered name tree columns)) (it_has : HasNumbers (numbered name tree columns) number cells) where
+module _ {K C : Type 0} (name : List ℕ) (tree : ℕ) (columns : List Column) (number : K → ℤ) (cells : K → C → Row) (it_has : HasNumbers (numbered name tree columns) number cells) where
   abbrev t : Table
   t = numbered name tree columns
 
@@ -72,18 +73,19 @@ module _ {K C : Type 0} (at : ℕ) (name : List ℕ) (tree : ℕ) (columns : Lis
   abbrev stored : K → C → Row
   stored key row = stored_at (number key) (cells key row)
 
-  kept : (key : K) (row : C) → cast_row t (stored key row) ≡ stored key row
+  -- a row of whole numbers and texts is stored as it is
+  pub kept : (key : K) (row : C) → cast_row t (stored key row) ≡ stored key row
   kept key row = ap (λ v. v ∷ cast_all columns (Null ∷ drop 1 (cells key row))) (cast_int (number key)) ∙ ap (λ vs. Int (number key) ∷ vs) (kept_all columns (Null ∷ drop 1 (cells key row)) (it_has.fitting key row))
 
   -- and so is a row that is written over
-  kept_over : (key : K) (row : C) (r : Row) → rowid r ≡ Int (number key) → cast_row t (drop 1 (eval_all (number_overwrite t) ((cells key row ++ Int (number key) ∷ shown t (stored key row)) ∷ r ∷ []))) ≡ stored key row
+  pub kept_over : (key : K) (row : C) (r : Row) → rowid r ≡ Int (number key) → cast_row t (drop 1 (eval_all (number_overwrite t) ((cells key row ++ Int (number key) ∷ shown t (stored key row)) ∷ r ∷ []))) ≡ stored key row
   kept_over key row r named = ap (λ vs. cast_row t (drop 1 vs)) (it_has.over key row r) ∙ ap (λ v. cast_row t (v ∷ Null ∷ drop 1 (cells key row))) named ∙ kept key row
 
-  meets : (key : K) (row : C) (r : Row) → conflicts (Some (0 ∷ [])) second_schema.indexes t (stored key row) r ≡ has_rowid (number key) r
+  pub meets : (key : K) (row : C) (r : Row) → conflicts (Some (0 ∷ [])) second_schema.indexes t (stored key row) r ≡ has_rowid (number key) r
   meets key row r = it_has.conflicting (stored key row) r ∙ numbers_agree (number key) (Null ∷ drop 1 (cells key row)) r
 
-  -- the rows of the table are told by their numbers, and only this table is changed
-  module _ (With : ℤ → Option Row → Tables → Tables) (keyed_seen : (s : State) (tables : Tables) → Sees s tables → AreKeyed (s.now.trees tree))
+  -- the table stands at this place of the schema, and a change of its tree changes this one of the tables
+  module _ (at : ℕ) (is : slice_get second_schema.tables at ≡ Some (numbered name tree columns)) (writes : WritesByNumber at (numbered name tree columns)) (With : ℤ → Option Row → Tables → Tables) (keyed_seen : (s : State) (tables : Tables) → Sees s tables → AreKeyed (s.now.trees tree))
       (sees : (old new : State) (tables : Tables) (key : ℤ) (shown : Option Row) (rows : List Row) → Sees old tables → SetsTree old new tree rows → AreKeyed rows
       → ((k : ℤ) → numbered_in places rows k ≡ numbered_with key shown (numbered_in places (old.now.trees tree)) k) → Sees new (With key shown tables)) where
     puts : (old new : State) (key : K) (row : C) (count : ℕ) (tables : Tables) → Sees old tables → Executes (put_text t) (cells key row) old new (Ok count) → IsTrue new.in_transaction → Sees new (With (number key) (Some (cells key row)) tables)

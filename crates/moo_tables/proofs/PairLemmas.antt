@@ -38,14 +38,16 @@ use Rattle.moo_tables.proofs.KeyLemmas.{after_put, after_removal, pair_exact, pa
 use Rattle.moo_tables.proofs.RowLemmas.{moo_quiet, equal_number, put_keyed, rest_keyed, rest, went_out, pair_has, picks_pair}
 use Rattle.moo_tables.proofs.SeenLemmas.{schema_seen, SetsTree}
 
--- The rows of the table have these cells. Whatever the columns are, each of these facts is computed.
+-- The rows of the table have these cells. Each of these facts is computed, whatever the columns are.
 pub record HasPairs {K C : Type 0} (t : Table) (pair : K → ℤ × ℤ) (cells : K → C → Row) : Type 0 where
   pub stored : (db : Trees) → overlay db [] t.tree ≡ db t.tree
   pub begins : (key : K) (row : C) → cells key row ≡ Int (pair key).0 ∷ Int (pair key).1 ∷ drop 2 (cells key row)
   pub fitting : (key : K) (row : C) → fit t.columns (cells key row) ≡ true
+  -- what the tree has shows the cells, and the values of the statement give it
   pub placed : (id : ℤ) (key : K) (row : C) → cells_at (pair_places t) (Int id ∷ cells key row) ≡ cells key row
   pub alone : (key : K) (row : C) → value_rows (cells key row ++ []) (length t.columns + 1) (length (pair_terms t) / (length t.columns + 1)) (pair_terms t) ≡ (Null ∷ cells key row) ∷ []
   pub there : (next id : ℤ) (key : K) (row : C) → column (cells key row ++ Int id ∷ shown t (Int next ∷ cells key row)) (length t.columns) ≡ Int id
+  -- a row that is there gets the new values
   pub over : (next id : ℤ) (key : K) (row : C) (r : Row) → eval_all (pair_overwrite t) ((cells key row ++ Int id ∷ shown t (Int next ∷ cells key row)) ∷ r ∷ []) ≡ rowid r ∷ rowid r ∷ column r 1 ∷ column r 2 ∷ drop 2 (cells key row)
   -- under these two columns no other key is looked at
   pub conflicting : (new r : Row) → conflicts (Some (1 ∷ 2 ∷ [])) second_schema.indexes t new r ≡ (agree plain (1 ∷ 2 ∷ []) r (1 ∷ 2 ∷ []) new || false)
@@ -60,14 +62,14 @@ unfolding first_key
 pairs_agree id m n tail r =
     same_or_not (is_true (binary (Compare Eq Binary) (column r 1) (Int m))) (is_true (binary (Compare Eq Binary) (column r 2) (Int n))) ∙ rw (equal_number (column r 1) m, equal_number (column r 2) n)
 
-module _ {K C : Type 0} (at : ℕ) (name : List ℕ) (tree : ℕ) (columns : List Column) (pair : K → ℤ × ℤ) (cells : K → C → Row) (is : slice_get second_schema.tables at ≡ Some (paired name tree columns))
-    (writes : WritesByPair at (paired name tree columns)) (it_has : HasPairs (paired name tree columns) pair cells) where
+module _ {K C : Type 0} (name : List ℕ) (tree : ℕ) (columns : List Column) (pair : K → ℤ × ℤ) (cells : K → C → Row) (it_has : HasPairs (paired name tree columns) pair cells) where
   abbrev t : Table
   t = paired name tree columns
 
   abbrev places : List ℕ
   places = pair_places t
 
+  -- a row of whole numbers and texts is stored as it is
   kept : (id : ℤ) (key : K) (row : C) → cast_row t (Int id ∷ cells key row) ≡ Int id ∷ cells key row
   kept id key row = ap (λ v. v ∷ cast_all columns (cells key row)) (cast_int id) ∙ ap (λ vs. Int id ∷ vs) (kept_all columns (cells key row) (it_has.fitting key row))
 
@@ -91,8 +93,8 @@ module _ {K C : Type 0} (at : ℕ) (name : List ℕ) (tree : ℕ) (columns : Lis
   has_its_pair : (id : ℤ) (key : K) (row : C) → has_pair (pair key) (Int id ∷ cells key row) ≡ true
   has_its_pair id key row = ap (λ vs. has_pair (pair key) (Int id ∷ vs)) (it_has.begins key row) ∙ pair_has (pair key) (drop 2 (cells key row)) id
 
-  -- the rows of the table are told by their pairs, and only this table is changed
-  module _ (With : ℤ × ℤ → Option Row → Tables → Tables) (keyed_seen : (s : State) (tables : Tables) → Sees s tables → AreKeyed (s.now.trees tree)) (pairs_seen : (s : State) (tables : Tables) → Sees s tables → ArePairs (s.now.trees tree))
+  -- the table stands at this place of the schema, and a change of its tree changes this one of the tables
+  module _ (at : ℕ) (is : slice_get second_schema.tables at ≡ Some (paired name tree columns)) (writes : WritesByPair at (paired name tree columns)) (With : ℤ × ℤ → Option Row → Tables → Tables) (keyed_seen : (s : State) (tables : Tables) → Sees s tables → AreKeyed (s.now.trees tree)) (pairs_seen : (s : State) (tables : Tables) → Sees s tables → ArePairs (s.now.trees tree))
       (sees : (old new : State) (tables : Tables) (key : ℤ × ℤ) (shown : Option Row) (rows : List Row) → Sees old tables → SetsTree old new tree rows → AreKeyed rows
       → ((k : ℤ × ℤ) → paired_in places rows k ≡ paired_with key shown (paired_in places (old.now.trees tree)) k) → Sees new (With key shown tables)) where
     puts : (old new : State) (key : K) (row : C) (count : ℕ) (tables : Tables) → Sees old tables → Executes (put_text t) (cells key row) old new (Ok count) → IsTrue new.in_transaction → Sees new (With (pair key) (Some (cells key row)) tables)

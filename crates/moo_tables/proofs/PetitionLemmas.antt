@@ -25,7 +25,7 @@ abbrev With : ℤ → Option Row → Tables → Tables
 With key cells tables = record tables { petition = numbered_with key cells tables.petition }
 
 pub remove : (old new : State) (id : PetitionId) (r : Result ℕ Error) → Ran remove_petition_text (Int (pos id.0) ∷ []) old new r → OnOk r (Changes (with_petition id None) old new)
-remove = number.remove 6 _ 9 _ number_of petition_cells refl petition_writes has_numbers With (λ s tables seen. petitions_seen seen) sees_petition
+remove = number.remove _ 9 _ number_of petition_cells has_numbers 6 refl petition_writes With (λ s tables seen. petitions_seen seen) sees_petition
 
 pub put : (old new : State) (id : PetitionId) (row : PetitionCells) (r : Result ℕ Error) → Ran put_petition_text (petition_cells id row) old new r → OnOk r (Changes (with_petition id (Some row)) old new)
-put = number.put 6 _ 9 _ number_of petition_cells refl petition_writes has_numbers With (λ s tables seen. petitions_seen seen) sees_petition
+put = number.put _ 9 _ number_of petition_cells has_numbers 6 refl petition_writes With (λ s tables seen. petitions_seen seen) sees_petition
