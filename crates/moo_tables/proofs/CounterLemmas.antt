@@ -1,14 +1,10 @@
 -- What the statement on petition_head does.
-use Rattle.std.proofs.Common.{◌≡◌, ◌⊎◌, inl, inr, ℕ, ℤ, pos, List, [], ◌∷◌, ◌++◌, drop, codes, option_map, Option, Some, Bool, true, false, ◌&&◌, ◌||◌, Result, Ok, Err, OnOk, IsTrue, refl, ap, subst, ◌∙◌}
+use Rattle.std.proofs.Common.{◌≡◌, ◌⊎◌, inl, inr, ℕ, ℤ, pos, List, [], ◌∷◌, ◌++◌, drop, codes, option_map, Some, Bool, true, false, ◌&&◌, Result, Ok, Err, OnOk, IsTrue, refl, ap, subst, ◌∙◌}
 use Rattle.std.specs.List.{list_all}
 use Rattle.std.proofs.lemmas.Bool.{and_parts}
-use Rattle.sqlite.specs.declared.types.Value.TheVariants.{Null, Int}
+use Rattle.sqlite.specs.declared.types.Value.TheVariants.{Int}
 use Rattle.sqlite.specs.declared.error.Error.{Error}
 use Rattle.sqlite.specs.Order.{Row, column}
-use Rattle.sqlite.specs.Ops.{binary, is_true}
-use Rattle.sqlite.specs.Collation.TheVariants.{Binary}
-use Rattle.sqlite_sql.specs.declared.ops.BinaryOp.TheVariants.{Compare}
-use Rattle.sqlite_sql.specs.declared.ops.CompareOp.TheVariants.{Eq}
 use Rattle.sqlite.specs.Edit.{with_rowid}
 use Rattle.sqlite.specs.Cast.{cast_row}
 use Rattle.sqlite.specs.Rowids.TheVariants.{Chosen}
@@ -27,41 +23,35 @@ use Rattle.sqlite.specs.Listing.{understood}
 use Rattle.sqlite.specs.State.{State, Executes}
 use Rattle.sqlite.proofs.Callers.{statement_of, runs_as}
 use Rattle.sqlite_rules.specs.Keys.{AreConflicts, conflicts}
-use Rattle.sqlite_value.specs.Keys.{first_key}
 use Rattle.moo_tables.specs.Cells.{petition_head_cells, with_counter}
 use Rattle.moo_tables.specs.Tables.{Tables, second_schema, petition_head_table, cells_at, petition_head_places, numbered_in, numbered_with, same_number}
+use Rattle.moo_tables.specs.Texts.{put_counter_text}
 use Rattle.moo_tables.specs.Inside.{AreKeyed, Sees, Changes, Ran}
-use Rattle.moo_tables.proofs.TextLemmas.{put_counter_text, put_counter_is, put_counter_plain, counter_terms, counter_filter, counter_over, writes_where}
-use Rattle.moo_tables.proofs.StepLemmas.{cast_null, cast_int}
+use Rattle.moo_tables.proofs.TextLemmas.{put_counter_is, put_counter_plain, number_terms, number_overwrite, counter_filter, writes_where}
+use Rattle.moo_tables.proofs.NumberLemmas as number
+use Rattle.moo_tables.proofs.NumberLemmas.{HasNumbers, stored_at}
 use Rattle.moo_tables.proofs.UpsertLemmas.{Settles, WritesOver, upserts}
 use Rattle.moo_tables.proofs.OverLemmas.{Found, OthersStay, StandsAlone, number_one, picks_given, number_anew, number_found, number_over, number_left}
 use Rattle.moo_tables.proofs.ListingLemmas.{one_int, not_apart, exactly, find_one}
 use Rattle.moo_tables.proofs.KeyLemmas.{after_put, number_exact, number_apart}
-use Rattle.moo_tables.proofs.RowLemmas.{moo_quiet, equal_number, put_keyed, rest, number_free, has_itself}
-use Rattle.moo_tables.proofs.SeenLemmas.{schema_seen, sound_seen, rows_seen, counter_seen, SetsTree, written, kept_head, kept_object, kept_prop, kept_slot, kept_verb, kept_petition, sees_all}
+use Rattle.moo_tables.proofs.RowLemmas.{moo_quiet, put_keyed, rest, number_free, has_itself}
+use Rattle.moo_tables.proofs.SeenLemmas.{schema_seen, sound_seen, counter_seen, sees_counter}
 
-sees : (old new : State) (tables : Tables) (key : ℤ) (cells : Option Row) (rows : List Row) → Sees old tables → SetsTree old new 10 rows → AreKeyed rows
-    → ((k : ℤ) → numbered_in petition_head_places rows k ≡ numbered_with key cells (numbered_in petition_head_places (old.now.trees 10)) k) → Sees new (record tables { petition_head = numbered_with key cells tables.petition_head })
-sees old new tables key cells rows seen it keyed at_keys =
-    sees_all it (record tables { petition_head = numbered_with key cells tables.petition_head }) seen.current
-    (kept_head it tables seen (λ e. cc)) (kept_object it tables seen (λ e. cc)) (kept_prop it tables seen (λ e. cc)) (kept_slot it tables seen (λ e. cc)) (kept_verb it tables seen (λ e. cc)) (kept_petition it tables seen (λ e. cc)) (written it (numbered_in petition_head_places) (numbered_with key cells) tables.petition_head (ap (λ (t : Tables). t.petition_head) (rows_seen seen)) keyed at_keys)
+-- its one row has the number 1
+abbrev number_of : Unit {0} → ℤ
+number_of _ = pos 1
 
--- a row of whole numbers and texts is stored as it is
+abbrev cells : Unit {0} → ℕ → Row
+cells _ next = petition_head_cells next
+
+has_numbers : HasNumbers petition_head_table number_of cells
+has_numbers = record { stored = λ db. refl; fitting = λ key row. refl; placed = λ key row. refl; alone = λ key row. refl; there = λ key row. refl; over = λ key row r. refl; conflicting = λ new r. refl }
+
 abbrev stored : ℕ → Row
-stored next = Int (pos 1) ∷ Null ∷ drop 1 (petition_head_cells next)
+stored next = stored_at (pos 1) (petition_head_cells next)
 
 kept : (next : ℕ) → cast_row petition_head_table (stored next) ≡ stored next
-kept next = rw (cast_null, cast_int (pos 1), cast_int (pos next))
-
-meets : (n : ℤ) (tail r : Row) → conflicts (Some (0 ∷ [])) second_schema.indexes petition_head_table (Int n ∷ tail) r ≡ has_rowid n r
-unfolding first_key
-meets n tail r =
-    let plainly : conflicts (Some (0 ∷ [])) second_schema.indexes petition_head_table (Int n ∷ tail) r ≡ is_true (binary (Compare Eq Binary) (rowid r) (Int n)) = elim (is_true (binary (Compare Eq Binary) (rowid r) (Int n))) as (λ b. ((b && true) || false) ≡ b) [ true ↦ refl | false ↦ refl ] in
-    plainly ∙ equal_number (rowid r) n
-
--- and so is a row that is written over
-kept_over : (next : ℕ) (r : Row) → rowid r ≡ Int (pos 1) → cast_row petition_head_table (rowid r ∷ Null ∷ drop 1 (petition_head_cells next)) ≡ stored next
-kept_over next r is = ap (λ v. cast_row petition_head_table (v ∷ Null ∷ drop 1 (petition_head_cells next))) is ∙ kept next
+kept next = number.kept _ 10 _ number_of cells has_numbers tt next
 
 -- ---- the row of the table, where it is put, written over, or left as it is
 
@@ -79,21 +69,21 @@ module _ (next : ℕ) (db after : Trees) (keyed : AreKeyed (db 10)) (sound : IsS
   given = petition_head_cells next ++ Int (pos 1) ∷ shown petition_head_table (stored next)
 
   abbrev q : Program
-  q = writes_where 10 counter_filter counter_over
+  q = writes_where 10 counter_filter (number_overwrite petition_head_table)
 
   -- it had this number already
   abbrev WasSo : Type 0
   WasSo = (after 10 ≡ rows) × OthersStay 10 db after × (numbered_in petition_head_places rows (pos 1) ≡ Some (petition_head_cells next))
 
   meets_it : (r : Row) → Has rows r → conflicts (Some (0 ∷ [])) second_schema.indexes petition_head_table (stored next) r ≡ has_rowid (pos 1) r
-  meets_it r in_it = meets (pos 1) (drop 1 (stored next)) r
+  meets_it r in_it = number.meets _ 10 _ number_of cells has_numbers tt next r
 
   tested : (r : Row) → list_all (holds (given ∷ r ∷ [])) counter_filter ≡ (differ (column r 2) (Int (pos next)) && has_rowid (pos 1) r)
   tested r = ap (λ b. differ (column r 2) (Int (pos next)) && b) (picks_given 2 given (pos 1) refl r)
 
   module _ (x : Row) (more : List Row) (met : AreConflicts (Some (0 ∷ [])) second_schema.indexes petition_head_table rows (stored next) (x ∷ more)) where
     found : Found has_rowid (pos 1) rows keyed x
-    found = number_found petition_head_table (pos 1) db after keyed refl (petition_head_cells next) (stored next) counter_filter counter_over meets_it (kept next) x more met
+    found = number_found petition_head_table (pos 1) db after keyed refl (petition_head_cells next) (stored next) counter_filter (number_overwrite petition_head_table) meets_it (kept next) x more met
 
     -- no other row has its number
     only : (r : Row) → Has rows r → has_rowid (pos 1) r ≡ true → r ≡ found.row
@@ -102,8 +92,8 @@ module _ (next : ℕ) (db after : Trees) (keyed : AreKeyed (db 10)) (sound : IsS
     module _ (it : WritesOver second_schema petition_head_table db (petition_head_cells next) q (stored next) x after) where
       over : differ (column found.row 2) (Int (pos next)) ≡ true → StandsAlone (pos 1) (stored next) 10 db after keyed
       over other =
-          number_over petition_head_table (pos 1) db after keyed refl (petition_head_cells next) (stored next) counter_filter counter_over meets_it (kept next) x more met it
-          (λ r in_it. tested r ∙ picks r in_it (has_rowid (pos 1) r) refl) (λ r. refl) (kept_over next)
+          number_over petition_head_table (pos 1) db after keyed refl (petition_head_cells next) (stored next) counter_filter (number_overwrite petition_head_table) meets_it (kept next) x more met it
+          (λ r in_it. tested r ∙ picks r in_it (has_rowid (pos 1) r) refl) (λ r. refl) (number.kept_over _ 10 _ number_of cells has_numbers tt next)
         where
           picks : (r : Row) → Has rows r → (b : Bool) → has_rowid (pos 1) r ≡ b → (differ (column r 2) (Int (pos next)) && b) ≡ b
           picks r in_it true here = rw (ap (λ s. differ (column s 2) (Int (pos next))) (only r in_it here) ∙ other) refl
@@ -111,7 +101,7 @@ module _ (next : ℕ) (db after : Trees) (keyed : AreKeyed (db 10)) (sound : IsS
 
       left : differ (column found.row 2) (Int (pos next)) ≡ false → WasSo
       left same =
-          let kept_as = number_left petition_head_table (pos 1) db after keyed refl (petition_head_cells next) (stored next) counter_filter counter_over meets_it (kept next) x more met it (λ r in_it. tested r ∙ none r in_it (has_rowid (pos 1) r) refl) in
+          let kept_as = number_left petition_head_table (pos 1) db after keyed refl (petition_head_cells next) (stored next) counter_filter (number_overwrite petition_head_table) meets_it (kept next) x more met it (λ r in_it. tested r ∙ none r in_it (has_rowid (pos 1) r) refl) in
           let number = not_apart (column found.row 2) (pos next) (has_number db sound found.row found.in_it) same in
           let one : rowid found.row ≡ Int (pos 1) = exactly (rowid found.row) (pos 1) (all_has (λ r. IsTrue (is_int (rowid r))) rows found.row keyed.1 found.in_it) found.here in
           let here = find_one (has_rowid (pos 1)) rows found.row found.in_it found.here only in
@@ -127,7 +117,7 @@ module _ (next : ℕ) (db after : Trees) (keyed : AreKeyed (db 10)) (sound : IsS
 
   settles : (found : List Row) → AreConflicts (Some (0 ∷ [])) second_schema.indexes petition_head_table rows (stored next) found
       → Settles second_schema petition_head_table db (petition_head_cells next) q (stored next) found after → StandsAlone (pos 1) (stored next) 10 db after keyed ⊎ WasSo
-  settles [] met it = inl (number_anew petition_head_table (pos 1) db after keyed refl (petition_head_cells next) (stored next) counter_filter counter_over meets_it (kept next) met it)
+  settles [] met it = inl (number_anew petition_head_table (pos 1) db after keyed refl (petition_head_cells next) (stored next) counter_filter (number_overwrite petition_head_table) meets_it (kept next) met it)
   settles (x ∷ more) met it = over_or_left x more met it (differ (column (found x more met).row 2) (Int (pos next))) refl
 
   -- to put what is there changes nothing
@@ -146,10 +136,10 @@ puts old new next count tables seen h inside =
     let old_rows = old.now.trees 10 in
     let keyed = counter_seen seen in
     let w = runs_as put_counter_text (petition_head_cells next) old new second_schema has _ put_counter_is put_counter_plain count h in
-    let it = upserts second_schema moo_quiet 7 _ _ _ _ _ _ _ refl old new has (statement_of put_counter_text (understood second_schema put_counter_text)) (petition_head_cells next) count (0 ∷ []) (writes_where 10 counter_filter counter_over) counter_terms 3 source refl w in
+    let it = upserts second_schema moo_quiet 7 _ _ _ _ _ _ _ refl old new has (statement_of put_counter_text (understood second_schema put_counter_text)) (petition_head_cells next) count (0 ∷ []) (writes_where 10 counter_filter (number_overwrite petition_head_table)) (number_terms petition_head_table) 3 source refl w in
     let whole : with_rowid Chosen old_rows (cast_row petition_head_table source) ≡ source = ap (with_rowid Chosen old_rows) (kept next) in
     let met = subst (λ r. AreConflicts (Some (0 ∷ [])) second_schema.indexes petition_head_table old_rows r it.found) whole it.conflicts in
-    let ends = subst (λ r. Settles second_schema petition_head_table old.now.trees (petition_head_cells next) (writes_where 10 counter_filter counter_over) r it.found new.now.trees) whole it.settles in
+    let ends = subst (λ r. Settles second_schema petition_head_table old.now.trees (petition_head_cells next) (writes_where 10 counter_filter (number_overwrite petition_head_table)) r it.found new.now.trees) whole it.settles in
     by it.schema_is w.sound w.shown.is_open (settles next old.now.trees new.now.trees keyed (sound_seen seen) it.found met ends)
   where
     by : new.now.schema ≡ second_schema → IsDatabase new.now → IsTrue new.is_open
@@ -158,12 +148,12 @@ puts old new next count tables seen h inside =
         let source = stored next in
         let old_rows = old.now.trees 10 in
         let keyed = counter_seen seen in
-        sees old new tables (pos 1) (Some (petition_head_cells next)) (put_row source (rest has_rowid (pos 1) old_rows keyed)) seen
+        sees_counter old new tables (pos 1) (Some (petition_head_cells next)) (put_row source (rest has_rowid (pos 1) old_rows keyed)) seen
         (record { schema_is = schema_is; sound = sound; is_open = is_open; inside = inside; rows_are = put.0; others = put.1 })
         (put_keyed has_rowid (pos 1) old_rows keyed source refl)
         (after_put same_number has_rowid (cells_at petition_head_places) number_exact number_apart (pos 1) source old_rows (has_itself (pos 1) (drop 1 source)) (number_free (pos 1) source old_rows refl))
     by schema_is sound is_open (inr was) =
-        sees old new tables (pos 1) (Some (petition_head_cells next)) (old.now.trees 10) seen
+        sees_counter old new tables (pos 1) (Some (petition_head_cells next)) (old.now.trees 10) seen
         (record { schema_is = schema_is; sound = sound; is_open = is_open; inside = inside; rows_are = was.0; others = was.1 })
         (counter_seen seen) (so_already next old.now.trees new.now.trees (counter_seen seen) (sound_seen seen) was.2)
 

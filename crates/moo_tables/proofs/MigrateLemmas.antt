@@ -11,7 +11,7 @@ use Rattle.sqlite.proofs.Callers.{statement_of, runs_as}
 use Rattle.moo_value.specs.declared.value.ObjNo.{ObjNo}
 use Rattle.moo_rows.specs.declared.row.Head.{Head}
 use Rattle.moo_rows.specs.declared.row.PropId.{PropId}
-use Rattle.moo_tables.specs.declared.cells.SlotCells.{SlotCells}
+use Rattle.moo_tables.specs.declared.slot.SlotCells.{SlotCells}
 use Rattle.moo_tables.specs.declared.version.Version.TheVariants.{First}
 use Rattle.moo_tables.specs.Tables.{Tables, second_schema}
 use Rattle.moo_tables.specs.Cells.{with_each, with_head, with_slot, migrated}

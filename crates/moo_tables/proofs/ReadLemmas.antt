@@ -39,11 +39,12 @@ use Rattle.sqlite_keyed.proofs.SortLemmas.{sorted_is-sort_by, IsPermutation-sort
 use Rattle.sqlite_keyed.proofs.ListLemmas.{ascending-map, ascending_from_map, ascending_weaker, all_map}
 use Rattle.moo_tables.specs.declared.version.Version.{Version}
 use Rattle.moo_tables.specs.declared.version.Version.TheVariants.{First, Second}
-use Rattle.moo_tables.specs.Tables.{Tables, required, schema_of, slot_tree, slot_table, slot2_table, verb_table, has_pair, cells_at, found_in, numbered_in, paired_in, head_places, object_places, prop_places, slot_places, verb_places, petition_places, petition_head_places, second_schema, in_second}
+use Rattle.moo_tables.specs.Tables.{Tables, required, schema_of, slot_tree, head_table, object_table, prop_table, petition_table, petition_head_table, slot_table, slot2_table, verb_table, has_pair, cells_at, found_in, numbered_in, paired_in, head_places, object_places, prop_places, slot_places, verb_places, petition_places, petition_head_places, second_schema, in_second}
+use Rattle.moo_tables.specs.Texts.{select_text}
 use Rattle.moo_tables.specs.Inside.{AreKeyed, Holds, Rests, HasTables, Reads, FailsToRead}
 use Rattle.moo_tables.specs.Listing.{ListsNumbers, ListsPairs, IsBelow, begins_with}
 use Rattle.moo_tables.proofs.TextLemmas.{plain_query, in_order, number_order, pair_order}
-use Rattle.moo_tables.proofs.SelectLemmas.{IsSelect, select_head_text, head_columns, select_head, select_object_text, object_columns, select_object, select_prop_text, prop_columns, select_prop, select_slot_text, slot_columns, select_slot, select_verb_text, verb_columns, select_verb, select_petition_text, petition_columns, select_petition, select_counter_text, counter_columns, select_counter}
+use Rattle.moo_tables.proofs.SelectLemmas.{IsSelect, number_columns, pair_columns, slots_table, select_head, select_object, select_prop, select_slot, select_verb, select_petition, select_counter}
 use Rattle.moo_tables.proofs.InsideLemmas.{clean_before}
 use Rattle.moo_tables.proofs.QueryLemmas.{chosen, Selects, selects, shows_in_order, shown_rows}
 use Rattle.moo_tables.proofs.SortLemmas.{rises-sort_by}
@@ -280,41 +281,41 @@ sound_in db tables holds = subst (λ s. IsSound s db.trees) holds.schema holds.s
 
 -- ---- what each query lists
 
-pub head_lists : (old new : State) (rows : List Row) (tables : Tables) → Holds old.now tables → Shown select_head_text [] old new rows → ListsNumbers rows tables.head
+pub head_lists : (old new : State) (rows : List Row) (tables : Tables) → Holds old.now tables → Shown (select_text head_table) [] old new rows → ListsNumbers rows tables.head
 head_lists old new rows tables holds h =
-    subst (ListsNumbers rows) (ap (λ (t : Tables). t.head) holds.rows) (numbers_listed (schema_of tables.version) select_head_text 0 head_columns _ (drop 1 head_places) old new rows holds.schema holds.heads refl h (select_head tables.version) (λ r. refl))
+    subst (ListsNumbers rows) (ap (λ (t : Tables). t.head) holds.rows) (numbers_listed (schema_of tables.version) (select_text head_table) 0 (number_columns head_table) _ (drop 1 head_places) old new rows holds.schema holds.heads refl h (select_head tables.version) (λ r. refl))
 
-pub object_lists : (old new : State) (rows : List Row) (tables : Tables) → Holds old.now tables → Shown select_object_text [] old new rows → ListsNumbers rows tables.object
+pub object_lists : (old new : State) (rows : List Row) (tables : Tables) → Holds old.now tables → Shown (select_text object_table) [] old new rows → ListsNumbers rows tables.object
 object_lists old new rows tables holds h =
-    subst (ListsNumbers rows) (ap (λ (t : Tables). t.object) holds.rows) (numbers_listed (schema_of tables.version) select_object_text 1 object_columns _ (drop 1 object_places) old new rows holds.schema holds.objects refl h (select_object tables.version) (λ r. refl))
+    subst (ListsNumbers rows) (ap (λ (t : Tables). t.object) holds.rows) (numbers_listed (schema_of tables.version) (select_text object_table) 1 (number_columns object_table) _ (drop 1 object_places) old new rows holds.schema holds.objects refl h (select_object tables.version) (λ r. refl))
 
-pub prop_lists : (old new : State) (rows : List Row) (tables : Tables) → Holds old.now tables → Shown select_prop_text [] old new rows → ListsNumbers rows tables.prop
+pub prop_lists : (old new : State) (rows : List Row) (tables : Tables) → Holds old.now tables → Shown (select_text prop_table) [] old new rows → ListsNumbers rows tables.prop
 prop_lists old new rows tables holds h =
-    subst (ListsNumbers rows) (ap (λ (t : Tables). t.prop) holds.rows) (numbers_listed (schema_of tables.version) select_prop_text 2 prop_columns _ (drop 1 prop_places) old new rows holds.schema holds.props refl h (select_prop tables.version) (λ r. refl))
+    subst (ListsNumbers rows) (ap (λ (t : Tables). t.prop) holds.rows) (numbers_listed (schema_of tables.version) (select_text prop_table) 2 (number_columns prop_table) _ (drop 1 prop_places) old new rows holds.schema holds.props refl h (select_prop tables.version) (λ r. refl))
 
-pub slot_lists : (version : Version) (old new : State) (rows : List Row) (tables : Tables) → Holds old.now tables → Shown (select_slot_text version) [] old new rows → tables.version ≡ version → ListsPairs rows tables.slot
+pub slot_lists : (version : Version) (old new : State) (rows : List Row) (tables : Tables) → Holds old.now tables → Shown (select_text (slots_table version)) [] old new rows → tables.version ≡ version → ListsPairs rows tables.slot
 slot_lists version old new rows tables holds h is =
-    let shown = subst (λ v. Shown (select_slot_text v) [] old new rows) (sym is) h in
+    let shown = subst (λ v. Shown (select_text (slots_table v)) [] old new rows) (sym is) h in
     let pairs = slot_pairs tables.version old.now.trees (sound_in old.now tables holds) holds.slots in
     subst (ListsPairs rows) (ap (λ (t : Tables). t.slot) holds.rows)
-    (pairs_listed (schema_of tables.version) (select_slot_text tables.version) (slot_tree tables.version) slot_columns _ (drop 2 slot_places) old new rows holds.schema holds.slots (slots_stored tables.version old.now.trees) shown (select_slot tables.version) (λ r. refl) pairs)
+    (pairs_listed (schema_of tables.version) (select_text (slots_table tables.version)) (slot_tree tables.version) (pair_columns slot2_table) _ (drop 2 slot_places) old new rows holds.schema holds.slots (slots_stored tables.version old.now.trees) shown (select_slot tables.version) (λ r. refl) pairs)
 
-pub verb_lists : (old new : State) (rows : List Row) (tables : Tables) → Holds old.now tables → Shown select_verb_text [] old new rows → ListsPairs rows tables.verb
+pub verb_lists : (old new : State) (rows : List Row) (tables : Tables) → Holds old.now tables → Shown (select_text verb_table) [] old new rows → ListsPairs rows tables.verb
 verb_lists old new rows tables holds h =
     let pairs = verb_pairs tables.version old.now.trees (sound_in old.now tables holds) holds.verbs in
-    subst (ListsPairs rows) (ap (λ (t : Tables). t.verb) holds.rows) (pairs_listed (schema_of tables.version) select_verb_text 5 verb_columns _ (drop 2 verb_places) old new rows holds.schema holds.verbs refl h (select_verb tables.version) (λ r. refl) pairs)
+    subst (ListsPairs rows) (ap (λ (t : Tables). t.verb) holds.rows) (pairs_listed (schema_of tables.version) (select_text verb_table) 5 (pair_columns verb_table) _ (drop 2 verb_places) old new rows holds.schema holds.verbs refl h (select_verb tables.version) (λ r. refl) pairs)
 
-pub petition_lists : (old new : State) (rows : List Row) (tables : Tables) → Holds old.now tables → Shown select_petition_text [] old new rows → tables.version ≡ Second → ListsNumbers rows tables.petition
+pub petition_lists : (old new : State) (rows : List Row) (tables : Tables) → Holds old.now tables → Shown (select_text petition_table) [] old new rows → tables.version ≡ Second → ListsNumbers rows tables.petition
 petition_lists old new rows tables holds h is =
     let stored = old.now.trees 9 in
     subst (ListsNumbers rows) (ap (λ v. numbered_in petition_places (in_second v stored)) (sym is) ∙ ap (λ (t : Tables). t.petition) holds.rows)
-    (numbers_listed second_schema select_petition_text 9 petition_columns _ (drop 1 petition_places) old new rows (holds.schema ∙ ap schema_of is) (subst (λ v. AreKeyed (in_second v stored)) is holds.petitions) refl h select_petition (λ r. refl))
+    (numbers_listed second_schema (select_text petition_table) 9 (number_columns petition_table) _ (drop 1 petition_places) old new rows (holds.schema ∙ ap schema_of is) (subst (λ v. AreKeyed (in_second v stored)) is holds.petitions) refl h select_petition (λ r. refl))
 
-pub counter_lists : (old new : State) (rows : List Row) (tables : Tables) → Holds old.now tables → Shown select_counter_text [] old new rows → tables.version ≡ Second → ListsNumbers rows tables.petition_head
+pub counter_lists : (old new : State) (rows : List Row) (tables : Tables) → Holds old.now tables → Shown (select_text petition_head_table) [] old new rows → tables.version ≡ Second → ListsNumbers rows tables.petition_head
 counter_lists old new rows tables holds h is =
     let stored = old.now.trees 10 in
     subst (ListsNumbers rows) (ap (λ v. numbered_in petition_head_places (in_second v stored)) (sym is) ∙ ap (λ (t : Tables). t.petition_head) holds.rows)
-    (numbers_listed second_schema select_counter_text 10 counter_columns _ (drop 1 petition_head_places) old new rows (holds.schema ∙ ap schema_of is) (subst (λ v. AreKeyed (in_second v stored)) is holds.petition_heads) refl h select_counter (λ r. refl))
+    (numbers_listed second_schema (select_text petition_head_table) 10 (number_columns petition_head_table) _ (drop 1 petition_head_places) old new rows (holds.schema ∙ ap schema_of is) (subst (λ v. AreKeyed (in_second v stored)) is holds.petition_heads) refl h select_counter (λ r. refl))
 
 -- the first version has no petition, and no number for the next
 pub none_listed : (db : Database) (tables : Tables) → Holds db tables → tables.version ≡ First → ListsNumbers [] tables.petition × ListsNumbers [] tables.petition_head

@@ -1,14 +1,34 @@
-//! The row of the table `petition_head`.
+//! The table `petition_head`: its making, writing and reading, and the test of its columns.
 
-ghost use Rattle.std.specs.Prelude.{◌≡◌, OnOk};
+ghost use Rattle.std.specs.Prelude.{◌≡◌, ◌∷◌, [], IsTrue, IfOk, OnOk, OnErr, false};
 ghost use Rattle.sqlite.specs.Held.{state};
+ghost use Rattle.sqlite.specs.State.{HasCleanDisk};
 ghost use Rattle.sqlite.specs.Values.{bound};
-ghost use Rattle.moo_tables.specs.Cells.{petition_head_cells, with_counter};
-ghost use Rattle.moo_tables.specs.Inside.{StaysInside, Changes};
+ghost use Rattle.moo_tables.specs.Cells.{with_counter};
+ghost use Rattle.moo_tables.specs.Head.{petition_head_table, petition_head_cells};
+ghost use Rattle.moo_tables.specs.Inside.{StaysInside, Changes, Holds, Sees, Rests, Reads, FailsToRead, IsGrown, grown};
+ghost use Rattle.moo_tables.specs.Listing.{ListsNumbers};
+ghost use Rattle.moo_tables.specs.Tables.{petition_schema, second_schema};
+ghost use Rattle.moo_tables.specs.declared.version.Version.TheVariants.{First, Second};
 
-use crate::statement::{counter_value, prepare, run_prepared};
-use sqlite::{Alter, Error, Transaction};
+use crate::columns::is_number;
+use crate::statement::{counter_value, prepare, run, run_prepared};
+use sqlite::{Alter, Connection, Error, Row, Transaction};
+use sqlite_schema::schema::Column;
 use sqlite_value::value::ValueRef;
+
+/// Makes the table `petition_head`, the last.
+pub(crate) fn create_petition_head<S: Alter>(tx: &mut Transaction<'_, S>) -> Result<usize, Error>
+    ensures same_reference { tx.new.conn.ghost_name ≡ tx.old.conn.ghost_name }
+    ensures inside { StaysInside (state S.Store tx.old.conn.now) (state S.Store tx.new.conn.now) }
+    ensures made { OnOk result (HasCleanDisk (state S.Store tx.new.conn.now) → (base : _) → IsGrown base petition_schema (7 ∷ 9 ∷ []) (state S.Store tx.old.conn.now).now → (tables : _) → Holds base tables → tables.version ≡ First → Sees (state S.Store tx.new.conn.now) (grown tables)) }
+{
+    run(
+        tx,
+        "CREATE TABLE petition_head (id INTEGER NOT NULL PRIMARY KEY, next_petition INTEGER NOT NULL) STRICT",
+        &[],
+    )
+}
 
 fn counter_values(next: u32) -> [ValueRef<'static>; 2]
     ensures { bound result ≡ petition_head_cells next }
@@ -27,4 +47,28 @@ pub(crate) fn put_counter<S: Alter>(tx: &mut Transaction<'_, S>, next: u32) -> R
         "INSERT INTO petition_head VALUES (?1, ?2) ON CONFLICT (id) DO UPDATE SET next_petition = ?2 WHERE next_petition <> ?2",
     )?;
     run_prepared(tx, &put, &counter_values(next))
+}
+
+/// The row of `petition_head`. The first version has no such table.
+pub(crate) fn counter_cells_of<S: Alter>(conn: &mut Connection<S>) -> Result<Vec<Row>, Error>
+    ensures outside { (state S.Store conn.old).in_transaction ≡ false → (state S.Store conn.new).in_transaction ≡ false }
+    ensures read { OnOk result (Reads second_schema (state S.Store conn.old) (state S.Store conn.new)) }
+    ensures listed { HasCleanDisk (state S.Store conn.new) → IfOk result (λ rows. (tables : _) → Rests (state S.Store conn.old) tables → tables.version ≡ Second → ListsNumbers rows.items tables.petition_head) }
+    ensures failed { OnErr result (FailsToRead second_schema (state S.Store conn.old) (state S.Store conn.new)) }
+{
+    conn.query_all(
+        "SELECT id, next_petition FROM petition_head ORDER BY id",
+        &[],
+    )
+}
+
+pub(crate) fn are_petition_head_columns(columns: &[Column]) -> bool
+    ensures { IsTrue result → columns.now ≡ petition_head_table.columns }
+{
+    match columns {
+        [id, next_petition] => {
+            is_number(id, b"id") && is_number(next_petition, b"next_petition")
+        }
+        _ => false,
+    }
 }

@@ -9,8 +9,8 @@ ghost use Rattle.moo_tables.specs.Inside.{AreKeyed, StaysInside, Holds, Sees, Ch
 ghost use Rattle.moo_tables.specs.Tables.{first_schema, second_schema};
 
 use crate::adding::add_tables;
-use crate::cells::SlotCells;
 use crate::head::put_head;
+use crate::slot::SlotCells;
 use crate::statement::run;
 use crate::writing::write_rows;
 use moo_rows::{Head, PropId};

@@ -5,10 +5,13 @@ ghost use Rattle.sqlite_value.specs.Keys.{plain};
 ghost use Rattle.moo_tables.specs.Tables.{head_table, object_table, prop_table, slot_table, verb_table, slot2_table, petition_table, petition_head_table, key_index, first_schema, second_schema, schema_of};
 ghost use Rattle.moo_tables.specs.Ours.{HasNoRules, IsNumbered, IsPaired};
 
-use crate::columns::{
-    are_head_columns, are_object_columns, are_petition_columns, are_petition_head_columns,
-    are_prop_columns, are_slot_columns, are_slot2_columns, are_verb_columns,
-};
+use crate::counter::are_petition_head_columns;
+use crate::head::are_head_columns;
+use crate::object::are_object_columns;
+use crate::petition::are_petition_columns;
+use crate::prop::are_prop_columns;
+use crate::slot::{are_slot_columns, are_slot2_columns};
+use crate::verb::are_verb_columns;
 use crate::version::Version;
 use sqlite_items::Items;
 use sqlite_schema::code::Terms;

@@ -1,17 +1,47 @@
-//! The rows of the table `petition`.
+//! The table `petition`: its making, writing and reading, and the test of its columns.
 
-ghost use Rattle.std.specs.Prelude.{◌≡◌, ◌∷◌, [], pos};
+ghost use Rattle.std.specs.Prelude.{◌≡◌, ◌∷◌, [], pos, IsTrue, IfOk, OnOk, OnErr, false};
+ghost use Rattle.sqlite.specs.Held.{state};
+ghost use Rattle.sqlite.specs.State.{HasCleanDisk};
 ghost use Rattle.sqlite.specs.Values.{bound};
 ghost use Rattle.sqlite.specs.declared.types.Value.TheVariants.{Int};
-ghost use Rattle.moo_tables.specs.Cells.{petition_cells, with_petition};
+ghost use Rattle.moo_tables.specs.Cells.{with_petition};
+ghost use Rattle.moo_tables.specs.Inside.{StaysInside, Rests, Reads, FailsToRead, IsGrown};
+ghost use Rattle.moo_tables.specs.Listing.{ListsNumbers};
+ghost use Rattle.moo_tables.specs.Petition.{petition_table, petition_cells};
+ghost use Rattle.moo_tables.specs.Tables.{slot2_schema, petition_schema, second_schema};
 ghost use Rattle.moo_tables.specs.Texts.{put_petition_text, remove_petition_text};
+ghost use Rattle.moo_tables.specs.declared.version.Version.TheVariants.{Second};
 
-use crate::cells::PetitionCells;
-use crate::statement::{counter_value, object_value, run_prepared, text_value};
+use crate::columns::{is_number, is_text};
+use crate::statement::{counter_value, object_value, run, run_prepared, text_value};
 use crate::table_row::TableRow;
 use moo_rows::PetitionId;
-use sqlite::{Alter, Error, Statement, Transaction};
+use moo_value::ObjNo;
+use sqlite::{Alter, Connection, Error, Row, Statement, Transaction};
+use sqlite_schema::schema::Column;
 use sqlite_value::value::ValueRef;
+
+/// A row of the table `petition`, without its key.
+#[derive(Drop)]
+pub struct PetitionCells {
+    pub who: ObjNo,
+    /// A literal list.
+    pub calls: Vec<u8>,
+}
+
+/// Makes the table `petition`.
+pub(crate) fn create_petition<S: Alter>(tx: &mut Transaction<'_, S>) -> Result<usize, Error>
+    ensures same_reference { tx.new.conn.ghost_name ≡ tx.old.conn.ghost_name }
+    ensures inside { StaysInside (state S.Store tx.old.conn.now) (state S.Store tx.new.conn.now) }
+    ensures made { OnOk result (HasCleanDisk (state S.Store tx.new.conn.now) → (base : _) → IsGrown base slot2_schema (7 ∷ []) (state S.Store tx.old.conn.now).now → IsGrown base petition_schema (7 ∷ 9 ∷ []) (state S.Store tx.new.conn.now).now) }
+{
+    run(
+        tx,
+        "CREATE TABLE petition (id INTEGER NOT NULL PRIMARY KEY, who INTEGER NOT NULL, calls TEXT NOT NULL) STRICT",
+        &[],
+    )
+}
 
 fn petition_values(id: PetitionId, row: &PetitionCells) -> [ValueRef<'_>; 3]
     ensures { bound result ≡ petition_cells id row.now }
@@ -61,5 +91,26 @@ impl TableRow for PetitionCells {
         id: PetitionId,
     ) -> Result<usize, Error> {
         run_prepared(tx, statement, &petition_key(id))
+    }
+}
+
+/// The rows of `petition`, in the order of their numbers. The first version has no such table.
+pub(crate) fn petition_cells_of<S: Alter>(conn: &mut Connection<S>) -> Result<Vec<Row>, Error>
+    ensures outside { (state S.Store conn.old).in_transaction ≡ false → (state S.Store conn.new).in_transaction ≡ false }
+    ensures read { OnOk result (Reads second_schema (state S.Store conn.old) (state S.Store conn.new)) }
+    ensures listed { HasCleanDisk (state S.Store conn.new) → IfOk result (λ rows. (tables : _) → Rests (state S.Store conn.old) tables → tables.version ≡ Second → ListsNumbers rows.items tables.petition) }
+    ensures failed { OnErr result (FailsToRead second_schema (state S.Store conn.old) (state S.Store conn.new)) }
+{
+    conn.query_all("SELECT id, who, calls FROM petition ORDER BY id", &[])
+}
+
+pub(crate) fn are_petition_columns(columns: &[Column]) -> bool
+    ensures { IsTrue result → columns.now ≡ petition_table.columns }
+{
+    match columns {
+        [id, who, calls] => {
+            is_number(id, b"id") && is_number(who, b"who") && is_text(calls, b"calls")
+        }
+        _ => false,
     }
 }

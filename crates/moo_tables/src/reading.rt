@@ -1,14 +1,19 @@
 //! The rows of the tables, each table's in the order of its keys.
 
-ghost use Rattle.std.specs.Prelude.{◌≡◌, ◌⊎◌, false, IfOk, OnOk, OnErr};
-ghost use Rattle.sqlite.specs.State.{HasCleanDisk};
+ghost use Rattle.std.specs.Prelude.{◌≡◌, IfOk, OnOk, OnErr, false, ◌⊎◌};
 ghost use Rattle.sqlite.specs.Held.{state};
-ghost use Rattle.moo_tables.specs.declared.version.Version.{Version};
-ghost use Rattle.moo_tables.specs.declared.version.Version.TheVariants.{Second};
-ghost use Rattle.moo_tables.specs.Tables.{schema_of, second_schema};
+ghost use Rattle.sqlite.specs.State.{HasCleanDisk};
 ghost use Rattle.moo_tables.specs.Inside.{Rests, Reads, FailsToRead};
-ghost use Rattle.moo_tables.specs.Listing.{ListsNumbers, ListsPairs, ListsTables};
+ghost use Rattle.moo_tables.specs.Listing.{ListsNumbers, ListsTables};
+ghost use Rattle.moo_tables.specs.Tables.{schema_of};
 
+use crate::counter::counter_cells_of;
+use crate::head::head_cells_of;
+use crate::object::object_cells_of;
+use crate::petition::petition_cells_of;
+use crate::prop::prop_cells_of;
+use crate::slot::slot_cells_of;
+use crate::verb::verb_cells_of;
 use crate::version::Version;
 use sqlite::{Alter, Connection, Error, Row};
 use std::alloc::Global;
@@ -27,97 +32,6 @@ pub struct CellLists {
     pub petition: Vec<Row>,
     /// The row with the number of the next petition, none in the first version.
     pub petition_head: Vec<Row>,
-}
-
-/// The row of the head.
-fn head_cells_of<S: Alter>(conn: &mut Connection<S>) -> Result<Vec<Row>, Error>
-    ensures outside { (state S.Store conn.old).in_transaction ≡ false → (state S.Store conn.new).in_transaction ≡ false }
-    ensures read { (version : Version) → OnOk result (Reads (schema_of version) (state S.Store conn.old) (state S.Store conn.new)) }
-    ensures listed { HasCleanDisk (state S.Store conn.new) → IfOk result (λ rows. (tables : _) → Rests (state S.Store conn.old) tables → ListsNumbers rows.items tables.head) }
-    ensures failed { (version : Version) → OnErr result (FailsToRead (schema_of version) (state S.Store conn.old) (state S.Store conn.new)) }
-{
-    conn.query_all(
-        "SELECT id, version, seq, top, next_prop, next_verb FROM head ORDER BY id",
-        &[],
-    )
-}
-
-/// The rows of `object`, in the order of their numbers.
-fn object_cells_of<S: Alter>(conn: &mut Connection<S>) -> Result<Vec<Row>, Error>
-    ensures outside { (state S.Store conn.old).in_transaction ≡ false → (state S.Store conn.new).in_transaction ≡ false }
-    ensures read { (version : Version) → OnOk result (Reads (schema_of version) (state S.Store conn.old) (state S.Store conn.new)) }
-    ensures listed { HasCleanDisk (state S.Store conn.new) → IfOk result (λ rows. (tables : _) → Rests (state S.Store conn.old) tables → ListsNumbers rows.items tables.object) }
-    ensures failed { (version : Version) → OnErr result (FailsToRead (schema_of version) (state S.Store conn.old) (state S.Store conn.new)) }
-{
-    conn.query_all(
-        "SELECT n, name, owner, parent, location, player, programmer, wizard, r, w, f, accept FROM object ORDER BY n",
-        &[],
-    )
-}
-
-/// The rows of `prop`, in the order of their numbers.
-fn prop_cells_of<S: Alter>(conn: &mut Connection<S>) -> Result<Vec<Row>, Error>
-    ensures outside { (state S.Store conn.old).in_transaction ≡ false → (state S.Store conn.new).in_transaction ≡ false }
-    ensures read { (version : Version) → OnOk result (Reads (schema_of version) (state S.Store conn.old) (state S.Store conn.new)) }
-    ensures listed { HasCleanDisk (state S.Store conn.new) → IfOk result (λ rows. (tables : _) → Rests (state S.Store conn.old) tables → ListsNumbers rows.items tables.prop) }
-    ensures failed { (version : Version) → OnErr result (FailsToRead (schema_of version) (state S.Store conn.old) (state S.Store conn.new)) }
-{
-    conn.query_all("SELECT id, definer, name FROM prop ORDER BY id", &[])
-}
-
-/// The rows of the slots, in the order of their objects, then of their properties.
-fn slot_cells_of<S: Alter>(conn: &mut Connection<S>, version: Version) -> Result<Vec<Row>, Error>
-    ensures outside { (state S.Store conn.old).in_transaction ≡ false → (state S.Store conn.new).in_transaction ≡ false }
-    ensures read { OnOk result (Reads (schema_of version) (state S.Store conn.old) (state S.Store conn.new)) }
-    ensures listed { HasCleanDisk (state S.Store conn.new) → IfOk result (λ rows. (tables : _) → Rests (state S.Store conn.old) tables → tables.version ≡ version → ListsPairs rows.items tables.slot) }
-    ensures failed { OnErr result (FailsToRead (schema_of version) (state S.Store conn.old) (state S.Store conn.new)) }
-{
-    match version {
-        Version::First => conn.query_all(
-            "SELECT object, prop, owner, bits, value FROM slot ORDER BY object, prop",
-            &[],
-        ),
-        Version::Second => conn.query_all(
-            "SELECT object, prop, owner, bits, value FROM slot2 ORDER BY object, prop",
-            &[],
-        ),
-    }
-}
-
-/// The rows of `verb`, in the order of their objects, then of their numbers.
-fn verb_cells_of<S: Alter>(conn: &mut Connection<S>) -> Result<Vec<Row>, Error>
-    ensures outside { (state S.Store conn.old).in_transaction ≡ false → (state S.Store conn.new).in_transaction ≡ false }
-    ensures read { (version : Version) → OnOk result (Reads (schema_of version) (state S.Store conn.old) (state S.Store conn.new)) }
-    ensures listed { HasCleanDisk (state S.Store conn.new) → IfOk result (λ rows. (tables : _) → Rests (state S.Store conn.old) tables → ListsPairs rows.items tables.verb) }
-    ensures failed { (version : Version) → OnErr result (FailsToRead (schema_of version) (state S.Store conn.old) (state S.Store conn.new)) }
-{
-    conn.query_all(
-        "SELECT object, id, names, owner, bits, dobj, prep, iobj FROM verb ORDER BY object, id",
-        &[],
-    )
-}
-
-/// The rows of `petition`, in the order of their numbers. The first version has no such table.
-fn petition_cells_of<S: Alter>(conn: &mut Connection<S>) -> Result<Vec<Row>, Error>
-    ensures outside { (state S.Store conn.old).in_transaction ≡ false → (state S.Store conn.new).in_transaction ≡ false }
-    ensures read { OnOk result (Reads second_schema (state S.Store conn.old) (state S.Store conn.new)) }
-    ensures listed { HasCleanDisk (state S.Store conn.new) → IfOk result (λ rows. (tables : _) → Rests (state S.Store conn.old) tables → tables.version ≡ Second → ListsNumbers rows.items tables.petition) }
-    ensures failed { OnErr result (FailsToRead second_schema (state S.Store conn.old) (state S.Store conn.new)) }
-{
-    conn.query_all("SELECT id, who, calls FROM petition ORDER BY id", &[])
-}
-
-/// The row of `petition_head`. The first version has no such table.
-fn counter_cells_of<S: Alter>(conn: &mut Connection<S>) -> Result<Vec<Row>, Error>
-    ensures outside { (state S.Store conn.old).in_transaction ≡ false → (state S.Store conn.new).in_transaction ≡ false }
-    ensures read { OnOk result (Reads second_schema (state S.Store conn.old) (state S.Store conn.new)) }
-    ensures listed { HasCleanDisk (state S.Store conn.new) → IfOk result (λ rows. (tables : _) → Rests (state S.Store conn.old) tables → tables.version ≡ Second → ListsNumbers rows.items tables.petition_head) }
-    ensures failed { OnErr result (FailsToRead second_schema (state S.Store conn.old) (state S.Store conn.new)) }
-{
-    conn.query_all(
-        "SELECT id, next_petition FROM petition_head ORDER BY id",
-        &[],
-    )
 }
 
 /// The rows of `petition` and of `petition_head`, of both none in the first version, where nothing is asked.

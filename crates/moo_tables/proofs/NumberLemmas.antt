@@ -1,0 +1,134 @@
+-- What the statements do that write a table with a number as its key, whichever it is.
+use Rattle.std.proofs.Common.{◌≡◌, ◌+◌, ◌/◌, ℕ, ℤ, List, [], ◌∷◌, ◌++◌, drop, map, length, slice_get, Option, Some, None, true, false, ◌&&◌, ◌||◌, Bool, Result, Ok, Err, OnOk, IsTrue, refl, ap, subst, ◌∙◌}
+use Rattle.std.specs.List.Sorted.{IsPermutation}
+use Rattle.sqlite.specs.declared.types.Value.TheVariants.{Null, Int}
+use Rattle.sqlite.specs.declared.error.Error.{Error}
+use Rattle.sqlite.specs.Order.{Row, column}
+use Rattle.sqlite.specs.Ops.{binary, is_true}
+use Rattle.sqlite.specs.Term.{col, eval_all}
+use Rattle.sqlite.specs.Collation.TheVariants.{Binary}
+use Rattle.sqlite_sql.specs.declared.ops.BinaryOp.TheVariants.{Compare}
+use Rattle.sqlite_sql.specs.declared.ops.CompareOp.TheVariants.{Eq}
+use Rattle.sqlite.specs.Edit.{with_rowid}
+use Rattle.sqlite.specs.Cast.{cast_all, cast_row}
+use Rattle.sqlite.specs.Rowids.TheVariants.{Chosen}
+use Rattle.sqlite.specs.Rows.{shown}
+use Rattle.sqlite.specs.Table.{Table}
+use Rattle.sqlite.specs.Tree.{Trees, rowid, has_rowid, put_row}
+use Rattle.sqlite.specs.Program.{overlay}
+use Rattle.sqlite.specs.Effect.{value_rows}
+use Rattle.sqlite.specs.Listing.{understood}
+use Rattle.sqlite.specs.State.{State, Executes}
+use Rattle.sqlite.proofs.Callers.{statement_of, runs_as}
+use Rattle.sqlite_rules.specs.Keys.{AreConflicts, conflicts}
+use Rattle.sqlite_schema.specs.Rules.{agree}
+use Rattle.sqlite_schema.specs.declared.schema.Column.{Column}
+use Rattle.sqlite_value.specs.Keys.{first_key, plain}
+use Rattle.moo_tables.specs.Tables.{Tables, second_schema, numbered, number_places, cells_at, numbered_in, numbered_with, same_number}
+use Rattle.moo_tables.specs.Texts.{put_text, remove_text}
+use Rattle.moo_tables.specs.Inside.{AreKeyed, Sees, Changes, Ran}
+use Rattle.moo_tables.proofs.TextLemmas.{WritesByNumber, number_terms, number_overwrite, written_over, by_number, rowids_where}
+use Rattle.moo_tables.proofs.CastLemmas.{fit, kept_all}
+use Rattle.moo_tables.proofs.StepLemmas.{cast_int, deletes}
+use Rattle.moo_tables.proofs.UpsertLemmas.{Settles, upserts}
+use Rattle.moo_tables.proofs.OverLemmas.{number_settles}
+use Rattle.moo_tables.proofs.QueryLemmas.{chosen, shows_all}
+use Rattle.moo_tables.proofs.KeyLemmas.{after_put, after_removal, number_exact, number_apart}
+use Rattle.moo_tables.proofs.RowLemmas.{moo_quiet, equal_number, put_keyed, rest_keyed, rest, went_out, number_free, has_itself, picks_number}
+use Rattle.moo_tables.proofs.SeenLemmas.{schema_seen, SetsTree}
+
+-- a row as its tree has it: the number, and the first column empty
+abbrev pub stored_at : ℤ → Row → Row
+stored_at n cells = Int n ∷ Null ∷ drop 1 cells
+
+-- The rows of the table have these cells. Each of these facts is computed, whatever the columns are.
+pub record HasNumbers {K C : Type 0} (t : Table) (number : K → ℤ) (cells : K → C → Row) : Type 0 where
+  pub stored : (db : Trees) → overlay db [] t.tree ≡ db t.tree
+  pub fitting : (key : K) (row : C) → fit t.columns (Null ∷ drop 1 (cells key row)) ≡ true
+  -- what the tree has shows the cells, and the values of the statement give it
+  pub placed : (key : K) (row : C) → cells_at (number_places t) (stored_at (number key) (cells key row)) ≡ cells key row
+  pub alone : (key : K) (row : C) → value_rows (cells key row ++ []) (length t.columns + 1) (length (number_terms t) / (length t.columns + 1)) (number_terms t) ≡ stored_at (number key) (cells key row) ∷ []
+  pub there : (key : K) (row : C) → column (cells key row ++ Int (number key) ∷ shown t (stored_at (number key) (cells key row))) (length t.columns) ≡ Int (number key)
+  -- a row that is there gets the new values
+  pub over : (key : K) (row : C) (r : Row)
+      → eval_all (number_overwrite t) ((cells key row ++ Int (number key) ∷ shown t (stored_at (number key) (cells key row))) ∷ r ∷ []) ≡ rowid r ∷ rowid r ∷ Null ∷ drop 1 (cells key row)
+  -- under no index can a row conflict
+  pub conflicting : (new r : Row) → conflicts (Some (0 ∷ [])) second_schema.indexes t new r ≡ (agree plain (0 ∷ []) r (0 ∷ []) new || false)
+
+same_or_not : (b : Bool) → ((b && true) || false) ≡ b
+same_or_not true = refl
+same_or_not false = refl
+
+numbers_agree : (n : ℤ) (tail r : Row) → (agree plain (0 ∷ []) r (0 ∷ []) (Int n ∷ tail) || false) ≡ has_rowid n r
+unfolding first_key
+numbers_agree n tail r = same_or_not (is_true (binary (Compare Eq Binary) (rowid r) (Int n))) ∙ equal_number (rowid r) n
+
+module _ {K C : Type 0} (name : List ℕ) (tree : ℕ) (columns : List Column) (number : K → ℤ) (cells : K → C → Row) (it_has : HasNumbers (numbered name tree columns) number cells) where
+  abbrev t : Table
+  t = numbered name tree columns
+
+  abbrev places : List ℕ
+  places = number_places t
+
+  abbrev stored : K → C → Row
+  stored key row = stored_at (number key) (cells key row)
+
+  -- a row of whole numbers and texts is stored as it is
+  pub kept : (key : K) (row : C) → cast_row t (stored key row) ≡ stored key row
+  kept key row = ap (λ v. v ∷ cast_all columns (Null ∷ drop 1 (cells key row))) (cast_int (number key)) ∙ ap (λ vs. Int (number key) ∷ vs) (kept_all columns (Null ∷ drop 1 (cells key row)) (it_has.fitting key row))
+
+  -- and so is a row that is written over
+  pub kept_over : (key : K) (row : C) (r : Row) → rowid r ≡ Int (number key) → cast_row t (drop 1 (eval_all (number_overwrite t) ((cells key row ++ Int (number key) ∷ shown t (stored key row)) ∷ r ∷ []))) ≡ stored key row
+  kept_over key row r named = ap (λ vs. cast_row t (drop 1 vs)) (it_has.over key row r) ∙ ap (λ v. cast_row t (v ∷ Null ∷ drop 1 (cells key row))) named ∙ kept key row
+
+  pub meets : (key : K) (row : C) (r : Row) → conflicts (Some (0 ∷ [])) second_schema.indexes t (stored key row) r ≡ has_rowid (number key) r
+  meets key row r = it_has.conflicting (stored key row) r ∙ numbers_agree (number key) (Null ∷ drop 1 (cells key row)) r
+
+  -- the table stands at this place of the schema, and a change of its tree changes this one of the tables
+  module _ (at : ℕ) (is : slice_get second_schema.tables at ≡ Some (numbered name tree columns)) (writes : WritesByNumber at (numbered name tree columns)) (With : ℤ → Option Row → Tables → Tables) (keyed_seen : (s : State) (tables : Tables) → Sees s tables → AreKeyed (s.now.trees tree))
+      (sees : (old new : State) (tables : Tables) (key : ℤ) (shown : Option Row) (rows : List Row) → Sees old tables → SetsTree old new tree rows → AreKeyed rows
+      → ((k : ℤ) → numbered_in places rows k ≡ numbered_with key shown (numbered_in places (old.now.trees tree)) k) → Sees new (With key shown tables)) where
+    puts : (old new : State) (key : K) (row : C) (count : ℕ) (tables : Tables) → Sees old tables → Executes (put_text t) (cells key row) old new (Ok count) → IsTrue new.in_transaction → Sees new (With (number key) (Some (cells key row)) tables)
+    puts old new key row count tables seen h inside =
+        let has = schema_seen seen in
+        let n = number key in
+        let source = stored key row in
+        let params = cells key row in
+        let old_rows = old.now.trees tree in
+        let keyed = keyed_seen old tables seen in
+        let update = written_over tree (length columns) (number_overwrite t) in
+        let w = runs_as (put_text t) params old new second_schema has _ writes.put writes.put_plain count h in
+        let it = upserts second_schema moo_quiet at _ _ _ _ _ _ _ is old new has (statement_of (put_text t) (understood second_schema (put_text t))) params count (0 ∷ []) update (number_terms t) (length columns + 1) source (it_has.alone key row) w in
+        let whole : with_rowid Chosen old_rows (cast_row t source) ≡ source = ap (with_rowid Chosen old_rows) (kept key row) in
+        let met = subst (λ r. AreConflicts (Some (0 ∷ [])) second_schema.indexes t old_rows r it.found) whole it.conflicts in
+        let ends = subst (λ r. Settles second_schema t old.now.trees params update r it.found new.now.trees) whole it.settles in
+        let put = number_settles t n old.now.trees new.now.trees keyed (it_has.stored old.now.trees) params source (length columns) (number_overwrite t) (λ r in_it. meets key row r) (kept key row) (it_has.there key row) (λ r. refl) (kept_over key row) it.found met ends in
+        sees old new tables n (Some params) (put_row source (rest has_rowid n old_rows keyed)) seen
+        (record { schema_is = it.schema_is; sound = w.sound; is_open = w.shown.is_open; inside = inside; rows_are = put.0; others = put.1 })
+        (put_keyed has_rowid n old_rows keyed source refl)
+        (λ k. after_put same_number has_rowid (cells_at places) number_exact number_apart n source old_rows (has_itself n (drop 1 source)) (number_free n source old_rows refl) k
+        ∙ ap (λ shown. numbered_with n (Some shown) (numbered_in places old_rows) k) (it_has.placed key row))
+
+    removes : (old new : State) (key : K) (count : ℕ) (tables : Tables) → Sees old tables → Executes (remove_text t) (Int (number key) ∷ []) old new (Ok count) → IsTrue new.in_transaction → Sees new (With (number key) None tables)
+    removes old new key count tables seen h inside =
+        let has = schema_seen seen in
+        let n = number key in
+        let params : Row = Int n ∷ [] in
+        let old_rows = old.now.trees tree in
+        let keyed = keyed_seen old tables seen in
+        let w = runs_as (remove_text t) params old new second_schema has _ writes.remove writes.remove_plain count h in
+        let it = deletes second_schema moo_quiet at _ _ _ _ _ _ _ is old new has (statement_of (remove_text t) (understood second_schema (remove_text t))) params count (rowids_where tree by_number) w in
+        let shown = subst (λ rows. IsPermutation (map (λ r. rowid r ∷ []) (chosen by_number params rows)) it.0) (it_has.stored old.now.trees) (shows_all tree by_number (col 1 0 ∷ []) [] (overlay old.now.trees []) params it.0 (it.1.answer Null)) in
+        let left = it.2.applies.rows ∙ went_out has_rowid n old_rows keyed by_number params [] it.0 shown (picks_number n) in
+        sees old new tables n None (rest has_rowid n old_rows keyed) seen
+        (record { schema_is = it.2.schema_is; sound = w.sound; is_open = w.shown.is_open; inside = inside; rows_are = left; others = it.2.applies.others })
+        (rest_keyed has_rowid n old_rows keyed)
+        (after_removal same_number has_rowid (cells_at places) number_exact number_apart n old_rows)
+
+    pub remove : (old new : State) (key : K) (r : Result ℕ Error) → Ran (remove_text t) (Int (number key) ∷ []) old new r → OnOk r (Changes (With (number key) None) old new)
+    remove old new key (Err e) ran = tt
+    remove old new key (Ok count) ran = λ clean tables seen. let it = ran clean in removes old new key count tables seen it.1 it.0
+
+    pub put : (old new : State) (key : K) (row : C) (r : Result ℕ Error) → Ran (put_text t) (cells key row) old new r → OnOk r (Changes (With (number key) (Some (cells key row))) old new)
+    put old new key row (Err e) ran = tt
+    put old new key row (Ok count) ran = λ clean tables seen. let it = ran clean in puts old new key row count tables seen it.1 it.0

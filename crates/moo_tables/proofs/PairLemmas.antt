@@ -1,0 +1,144 @@
+-- What the statements do that write a table with two columns as its key, whichever it is.
+use Rattle.std.proofs.Common.{◌≡◌, ◌+◌, ◌/◌, ℕ, ℤ, List, [], ◌∷◌, ◌++◌, drop, map, length, slice_get, Option, Some, None, true, false, ◌&&◌, ◌||◌, Bool, Result, Ok, Err, OnOk, IsTrue, refl, sym, ap, subst, ◌∙◌}
+use Rattle.std.specs.List.Sorted.{IsPermutation}
+use Rattle.sqlite.specs.declared.types.Value.TheVariants.{Null, Int}
+use Rattle.sqlite.specs.declared.error.Error.{Error}
+use Rattle.sqlite.specs.Order.{Row, column}
+use Rattle.sqlite.specs.Ops.{binary, is_true}
+use Rattle.sqlite.specs.Term.{col, eval_all}
+use Rattle.sqlite.specs.Collation.TheVariants.{Binary}
+use Rattle.sqlite_sql.specs.declared.ops.BinaryOp.TheVariants.{Compare}
+use Rattle.sqlite_sql.specs.declared.ops.CompareOp.TheVariants.{Eq}
+use Rattle.sqlite.specs.Edit.{with_rowid, next_rowid}
+use Rattle.sqlite.specs.Cast.{cast_all, cast_row}
+use Rattle.sqlite.specs.Rowids.TheVariants.{Chosen}
+use Rattle.sqlite.specs.Rows.{shown}
+use Rattle.sqlite.specs.Table.{Table}
+use Rattle.sqlite.specs.Tree.{Trees, rowid, put_row}
+use Rattle.sqlite.specs.Program.{overlay}
+use Rattle.sqlite.specs.Effect.{value_rows}
+use Rattle.sqlite.specs.Listing.{understood}
+use Rattle.sqlite.specs.State.{State, Executes}
+use Rattle.sqlite.proofs.Callers.{statement_of, runs_as}
+use Rattle.sqlite_rules.specs.Keys.{AreConflicts, conflicts}
+use Rattle.sqlite_schema.specs.Rules.{agree}
+use Rattle.sqlite_schema.specs.declared.schema.Column.{Column}
+use Rattle.sqlite_value.specs.Keys.{first_key, plain}
+use Rattle.moo_tables.specs.Tables.{Tables, second_schema, paired, pair_places, has_pair, cells_at, paired_in, paired_with, same_pair}
+use Rattle.moo_tables.specs.Texts.{put_text, remove_text}
+use Rattle.moo_tables.specs.Inside.{AreKeyed, Sees, Changes, Ran}
+use Rattle.moo_tables.proofs.TextLemmas.{WritesByPair, pair_terms, pair_overwrite, written_over, by_pair, rowids_where}
+use Rattle.moo_tables.proofs.CastLemmas.{fit, kept_all}
+use Rattle.moo_tables.proofs.StepLemmas.{cast_null, cast_int, deletes}
+use Rattle.moo_tables.proofs.UpsertLemmas.{Settles, upserts}
+use Rattle.moo_tables.proofs.OverLemmas.{pair_settles}
+use Rattle.moo_tables.proofs.ReadLemmas.{ArePairs}
+use Rattle.moo_tables.proofs.QueryLemmas.{chosen, shows_all}
+use Rattle.moo_tables.proofs.KeyLemmas.{after_put, after_removal, pair_exact, pair_apart}
+use Rattle.moo_tables.proofs.RowLemmas.{moo_quiet, equal_number, put_keyed, rest_keyed, rest, went_out, pair_has, picks_pair}
+use Rattle.moo_tables.proofs.SeenLemmas.{schema_seen, SetsTree}
+
+-- The rows of the table have these cells. Each of these facts is computed, whatever the columns are.
+pub record HasPairs {K C : Type 0} (t : Table) (pair : K → ℤ × ℤ) (cells : K → C → Row) : Type 0 where
+  pub stored : (db : Trees) → overlay db [] t.tree ≡ db t.tree
+  pub begins : (key : K) (row : C) → cells key row ≡ Int (pair key).0 ∷ Int (pair key).1 ∷ drop 2 (cells key row)
+  pub fitting : (key : K) (row : C) → fit t.columns (cells key row) ≡ true
+  -- what the tree has shows the cells, and the values of the statement give it
+  pub placed : (id : ℤ) (key : K) (row : C) → cells_at (pair_places t) (Int id ∷ cells key row) ≡ cells key row
+  pub alone : (key : K) (row : C) → value_rows (cells key row ++ []) (length t.columns + 1) (length (pair_terms t) / (length t.columns + 1)) (pair_terms t) ≡ (Null ∷ cells key row) ∷ []
+  pub there : (next id : ℤ) (key : K) (row : C) → column (cells key row ++ Int id ∷ shown t (Int next ∷ cells key row)) (length t.columns) ≡ Int id
+  -- a row that is there gets the new values
+  pub over : (next id : ℤ) (key : K) (row : C) (r : Row) → eval_all (pair_overwrite t) ((cells key row ++ Int id ∷ shown t (Int next ∷ cells key row)) ∷ r ∷ []) ≡ rowid r ∷ rowid r ∷ column r 1 ∷ column r 2 ∷ drop 2 (cells key row)
+  -- under these two columns no other key is looked at
+  pub conflicting : (new r : Row) → conflicts (Some (1 ∷ 2 ∷ [])) second_schema.indexes t new r ≡ (agree plain (1 ∷ 2 ∷ []) r (1 ∷ 2 ∷ []) new || false)
+
+same_or_not : (a b : Bool) → ((a && (b && true)) || false) ≡ (a && b)
+same_or_not true true = refl
+same_or_not true false = refl
+same_or_not false b = refl
+
+pairs_agree : (id m n : ℤ) (tail r : Row) → (agree plain (1 ∷ 2 ∷ []) r (1 ∷ 2 ∷ []) (Int id ∷ Int m ∷ Int n ∷ tail) || false) ≡ has_pair (m, n) r
+unfolding first_key
+pairs_agree id m n tail r =
+    same_or_not (is_true (binary (Compare Eq Binary) (column r 1) (Int m))) (is_true (binary (Compare Eq Binary) (column r 2) (Int n))) ∙ rw (equal_number (column r 1) m, equal_number (column r 2) n)
+
+module _ {K C : Type 0} (name : List ℕ) (tree : ℕ) (columns : List Column) (pair : K → ℤ × ℤ) (cells : K → C → Row) (it_has : HasPairs (paired name tree columns) pair cells) where
+  abbrev t : Table
+  t = paired name tree columns
+
+  abbrev places : List ℕ
+  places = pair_places t
+
+  -- a row of whole numbers and texts is stored as it is
+  kept : (id : ℤ) (key : K) (row : C) → cast_row t (Int id ∷ cells key row) ≡ Int id ∷ cells key row
+  kept id key row = ap (λ v. v ∷ cast_all columns (cells key row)) (cast_int id) ∙ ap (λ vs. Int id ∷ vs) (kept_all columns (cells key row) (it_has.fitting key row))
+
+  -- a new row gets the next number
+  fresh : (rows : List Row) (key : K) (row : C) → with_rowid Chosen rows (cast_row t (Null ∷ cells key row)) ≡ Int (next_rowid rows) ∷ cells key row
+  fresh rows key row = ap (λ v. with_rowid Chosen rows (v ∷ cast_all columns (cells key row))) cast_null ∙ ap (λ vs. Int (next_rowid rows) ∷ vs) (kept_all columns (cells key row) (it_has.fitting key row))
+
+  meets : (id : ℤ) (key : K) (row : C) (r : Row) → conflicts (Some (1 ∷ 2 ∷ [])) second_schema.indexes t (Int id ∷ cells key row) r ≡ has_pair (pair key) r
+  meets id key row r =
+      it_has.conflicting (Int id ∷ cells key row) r ∙ ap (λ vs. agree plain (1 ∷ 2 ∷ []) r (1 ∷ 2 ∷ []) (Int id ∷ vs) || false) (it_has.begins key row)
+      ∙ pairs_agree id (pair key).0 (pair key).1 (drop 2 (cells key row)) r
+
+  -- a row that is written over keeps its number and its key
+  over : (next : ℤ) (key : K) (row : C) (id : ℤ) (r : Row) → rowid r ≡ Int id → column r 1 ≡ Int (pair key).0 → column r 2 ≡ Int (pair key).1
+      → drop 1 (eval_all (pair_overwrite t) ((cells key row ++ Int id ∷ shown t (Int next ∷ cells key row)) ∷ r ∷ [])) ≡ Int id ∷ cells key row
+  over next key row id r number first second =
+      let tail = drop 2 (cells key row) in
+      ap (drop 1) (it_has.over next id key row r) ∙ ap (λ v. v ∷ column r 1 ∷ column r 2 ∷ tail) number ∙ ap (λ v. Int id ∷ v ∷ column r 2 ∷ tail) first ∙ ap (λ v. Int id ∷ Int (pair key).0 ∷ v ∷ tail) second
+      ∙ ap (λ vs. Int id ∷ vs) (sym (it_has.begins key row))
+
+  has_its_pair : (id : ℤ) (key : K) (row : C) → has_pair (pair key) (Int id ∷ cells key row) ≡ true
+  has_its_pair id key row = ap (λ vs. has_pair (pair key) (Int id ∷ vs)) (it_has.begins key row) ∙ pair_has (pair key) (drop 2 (cells key row)) id
+
+  -- the table stands at this place of the schema, and a change of its tree changes this one of the tables
+  module _ (at : ℕ) (is : slice_get second_schema.tables at ≡ Some (paired name tree columns)) (writes : WritesByPair at (paired name tree columns)) (With : ℤ × ℤ → Option Row → Tables → Tables) (keyed_seen : (s : State) (tables : Tables) → Sees s tables → AreKeyed (s.now.trees tree)) (pairs_seen : (s : State) (tables : Tables) → Sees s tables → ArePairs (s.now.trees tree))
+      (sees : (old new : State) (tables : Tables) (key : ℤ × ℤ) (shown : Option Row) (rows : List Row) → Sees old tables → SetsTree old new tree rows → AreKeyed rows
+      → ((k : ℤ × ℤ) → paired_in places rows k ≡ paired_with key shown (paired_in places (old.now.trees tree)) k) → Sees new (With key shown tables)) where
+    puts : (old new : State) (key : K) (row : C) (count : ℕ) (tables : Tables) → Sees old tables → Executes (put_text t) (cells key row) old new (Ok count) → IsTrue new.in_transaction → Sees new (With (pair key) (Some (cells key row)) tables)
+    puts old new key row count tables seen h inside =
+        let has = schema_seen seen in
+        let two = pair key in
+        let params = cells key row in
+        let old_rows = old.now.trees tree in
+        let next = next_rowid old_rows in
+        let keyed = keyed_seen old tables seen in
+        let update = written_over tree (length columns) (pair_overwrite t) in
+        let w = runs_as (put_text t) params old new second_schema has _ writes.put writes.put_plain count h in
+        let it = upserts second_schema moo_quiet at _ _ _ _ _ _ _ is old new has (statement_of (put_text t) (understood second_schema (put_text t))) params count (1 ∷ 2 ∷ []) update (pair_terms t) (length columns + 1) (Null ∷ params) (it_has.alone key row) w in
+        let whole = fresh old_rows key row in
+        let met = subst (λ r. AreConflicts (Some (1 ∷ 2 ∷ [])) second_schema.indexes t old_rows r it.found) whole it.conflicts in
+        let ends = subst (λ r. Settles second_schema t old.now.trees params update r it.found new.now.trees) whole it.settles in
+        let put = pair_settles t two old.now.trees new.now.trees keyed (pairs_seen old tables seen) (it_has.stored old.now.trees) params (length columns) (pair_overwrite t) (λ r in_it. meets next key row r) (λ id. kept id key row) (λ id. it_has.there next id key row) (λ id r. refl) (over next key row) it.found met ends in
+        let number = put.0.number in
+        sees old new tables two (Some params) (put_row (Int number ∷ params) (rest has_pair two old_rows keyed)) seen
+        (record { schema_is = it.schema_is; sound = w.sound; is_open = w.shown.is_open; inside = inside; rows_are = put.0.rows_are; others = put.1 })
+        (put_keyed has_pair two old_rows keyed (Int number ∷ params) refl)
+        (λ k. after_put same_pair has_pair (cells_at places) pair_exact pair_apart two (Int number ∷ params) old_rows (has_its_pair number key row) put.0.free k
+        ∙ ap (λ shown. paired_with two (Some shown) (paired_in places old_rows) k) (it_has.placed number key row))
+
+    removes : (old new : State) (key : K) (count : ℕ) (tables : Tables) → Sees old tables → Executes (remove_text t) (Int (pair key).0 ∷ Int (pair key).1 ∷ []) old new (Ok count) → IsTrue new.in_transaction → Sees new (With (pair key) None tables)
+    removes old new key count tables seen h inside =
+        let has = schema_seen seen in
+        let two = pair key in
+        let params : Row = Int two.0 ∷ Int two.1 ∷ [] in
+        let old_rows = old.now.trees tree in
+        let keyed = keyed_seen old tables seen in
+        let w = runs_as (remove_text t) params old new second_schema has _ writes.remove writes.remove_plain count h in
+        let it = deletes second_schema moo_quiet at _ _ _ _ _ _ _ is old new has (statement_of (remove_text t) (understood second_schema (remove_text t))) params count (rowids_where tree by_pair) w in
+        let shown = subst (λ rows. IsPermutation (map (λ r. rowid r ∷ []) (chosen by_pair params rows)) it.0) (it_has.stored old.now.trees) (shows_all tree by_pair (col 1 0 ∷ []) [] (overlay old.now.trees []) params it.0 (it.1.answer Null)) in
+        let left = it.2.applies.rows ∙ went_out has_pair two old_rows keyed by_pair params [] it.0 shown (picks_pair two) in
+        sees old new tables two None (rest has_pair two old_rows keyed) seen
+        (record { schema_is = it.2.schema_is; sound = w.sound; is_open = w.shown.is_open; inside = inside; rows_are = left; others = it.2.applies.others })
+        (rest_keyed has_pair two old_rows keyed)
+        (after_removal same_pair has_pair (cells_at places) pair_exact pair_apart two old_rows)
+
+    pub remove : (old new : State) (key : K) (r : Result ℕ Error) → Ran (remove_text t) (Int (pair key).0 ∷ Int (pair key).1 ∷ []) old new r → OnOk r (Changes (With (pair key) None) old new)
+    remove old new key (Err e) ran = tt
+    remove old new key (Ok count) ran = λ clean tables seen. let it = ran clean in removes old new key count tables seen it.1 it.0
+
+    pub put : (old new : State) (key : K) (row : C) (r : Result ℕ Error) → Ran (put_text t) (cells key row) old new r → OnOk r (Changes (With (pair key) (Some (cells key row))) old new)
+    put old new key row (Err e) ran = tt
+    put old new key row (Ok count) ran = λ clean tables seen. let it = ran clean in puts old new key row count tables seen it.1 it.0

@@ -1,0 +1,22 @@
+use Rattle.std.proofs.Common.{◌≡◌}
+use Rattle.sqlite.specs.Held.{state}
+use Rattle.moo_tables.specs.declared.version.Version.TheVariants.{Second}
+use Rattle.moo_tables.specs.Tables.{second_schema, petition_head_table}
+use Rattle.moo_tables.specs.Texts.{select_text}
+use Rattle.moo_tables.specs.Listing.{ListsNumbers}
+use Rattle.moo_tables.proofs.SelectLemmas.{select_counter}
+use Rattle.moo_tables.proofs.ReadLemmas.{reads, fails, lists, counter_lists}
+use Rattle.moo_tables.proofs.counter.counter_cells_of.Goals as goal
+
+pub returns-clause-read : goal.returns-clause-read
+returns-clause-read g c =
+    reads second_schema (select_text petition_head_table) select_counter.plain (state g.S.Store c.args.conn.now) (state g.S.Store c.query_all.new.self) c.query_all.result c.query_all.ensures.survives c.query_all.ensures.ok
+
+pub returns-clause-listed : goal.returns-clause-listed
+returns-clause-listed g c =
+    lists (select_text petition_head_table) (state g.S.Store c.args.conn.now) (state g.S.Store c.query_all.new.self) c.query_all.result
+    (λ rows tables. tables.version ≡ Second → ListsNumbers rows tables.petition_head) (counter_lists (state g.S.Store c.args.conn.now) (state g.S.Store c.query_all.new.self)) c.query_all.ensures.ok
+
+pub returns-clause-failed : goal.returns-clause-failed
+returns-clause-failed g c =
+    fails second_schema (select_text petition_head_table) select_counter.plain (state g.S.Store c.args.conn.now) (state g.S.Store c.query_all.new.self) c.query_all.result c.query_all.ensures.survives c.query_all.ensures.err

@@ -1,0 +1,20 @@
+use Rattle.sqlite.specs.Held.{state}
+use Rattle.moo_tables.specs.Tables.{schema_of, prop_table}
+use Rattle.moo_tables.specs.Texts.{select_text}
+use Rattle.moo_tables.specs.Listing.{ListsNumbers}
+use Rattle.moo_tables.proofs.SelectLemmas.{select_prop}
+use Rattle.moo_tables.proofs.ReadLemmas.{reads, fails, lists, prop_lists}
+use Rattle.moo_tables.proofs.prop.prop_cells_of.Goals as goal
+
+pub returns-clause-read : goal.returns-clause-read
+returns-clause-read g c version =
+    reads (schema_of version) (select_text prop_table) (select_prop version).plain (state g.S.Store c.args.conn.now) (state g.S.Store c.query_all.new.self) c.query_all.result c.query_all.ensures.survives c.query_all.ensures.ok
+
+pub returns-clause-listed : goal.returns-clause-listed
+returns-clause-listed g c =
+    lists (select_text prop_table) (state g.S.Store c.args.conn.now) (state g.S.Store c.query_all.new.self) c.query_all.result
+    (λ rows tables. ListsNumbers rows tables.prop) (prop_lists (state g.S.Store c.args.conn.now) (state g.S.Store c.query_all.new.self)) c.query_all.ensures.ok
+
+pub returns-clause-failed : goal.returns-clause-failed
+returns-clause-failed g c version =
+    fails (schema_of version) (select_text prop_table) (select_prop version).plain (state g.S.Store c.args.conn.now) (state g.S.Store c.query_all.new.self) c.query_all.result c.query_all.ensures.survives c.query_all.ensures.err

@@ -1,0 +1,45 @@
+use Rattle.std.proofs.Common.{◌≡◌, sym, subst, ◌∙◌}
+use Rattle.sqlite.specs.Held.{state}
+use Rattle.sqlite.specs.Listing.{understood}
+use Rattle.sqlite.proofs.Callers.{IsPlain}
+use Rattle.moo_tables.specs.declared.version.Version.{Version}
+use Rattle.moo_tables.specs.declared.version.Version.TheVariants.{First, Second}
+use Rattle.moo_tables.specs.Tables.{schema_of}
+use Rattle.moo_tables.specs.Texts.{select_text}
+use Rattle.moo_tables.specs.Listing.{ListsPairs}
+use Rattle.moo_tables.proofs.SelectLemmas.{slots_table, select_slot}
+use Rattle.moo_tables.proofs.ReadLemmas.{reads, fails, lists, slot_lists}
+use Rattle.moo_tables.proofs.slot.slot_cells_of.Goals as goal
+
+plain_at : (arm version : Version) → version ≡ arm → IsPlain (understood (schema_of version) (select_text (slots_table arm)))
+plain_at arm version is = subst (λ v. IsPlain (understood (schema_of v) (select_text (slots_table arm)))) (sym is) (select_slot arm).plain
+
+pub returns-in-First-clause-read : goal.returns-in-First-clause-read
+returns-in-First-clause-read g c =
+    reads (schema_of c.args.version) (select_text (slots_table First)) (plain_at First _ c.in-First.is) (state g.S.Store c.args.conn.now) (state g.S.Store c.query_all.new.self) c.query_all.result c.query_all.ensures.survives c.query_all.ensures.ok
+
+pub returns-in-First-clause-listed : goal.returns-in-First-clause-listed
+returns-in-First-clause-listed g c =
+    let old = state g.S.Store c.args.conn.now in
+    let new = state g.S.Store c.query_all.new.self in
+    lists (select_text (slots_table First)) old new c.query_all.result (λ rows tables. tables.version ≡ c.args.version → ListsPairs rows tables.slot)
+    (λ rows tables holds shown at. slot_lists First old new rows tables holds shown (at ∙ c.in-First.is)) c.query_all.ensures.ok
+
+pub returns-in-First-clause-failed : goal.returns-in-First-clause-failed
+returns-in-First-clause-failed g c =
+    fails (schema_of c.args.version) (select_text (slots_table First)) (plain_at First _ c.in-First.is) (state g.S.Store c.args.conn.now) (state g.S.Store c.query_all.new.self) c.query_all.result c.query_all.ensures.survives c.query_all.ensures.err
+
+pub returns-in-Second-clause-read : goal.returns-in-Second-clause-read
+returns-in-Second-clause-read g c =
+    reads (schema_of c.args.version) (select_text (slots_table Second)) (plain_at Second _ c.in-Second.is) (state g.S.Store c.args.conn.now) (state g.S.Store c.query_all-in-Second.new.self) c.query_all-in-Second.result c.query_all-in-Second.ensures.survives c.query_all-in-Second.ensures.ok
+
+pub returns-in-Second-clause-listed : goal.returns-in-Second-clause-listed
+returns-in-Second-clause-listed g c =
+    let old = state g.S.Store c.args.conn.now in
+    let new = state g.S.Store c.query_all-in-Second.new.self in
+    lists (select_text (slots_table Second)) old new c.query_all-in-Second.result (λ rows tables. tables.version ≡ c.args.version → ListsPairs rows tables.slot)
+    (λ rows tables holds shown at. slot_lists Second old new rows tables holds shown (at ∙ c.in-Second.is)) c.query_all-in-Second.ensures.ok
+
+pub returns-in-Second-clause-failed : goal.returns-in-Second-clause-failed
+returns-in-Second-clause-failed g c =
+    fails (schema_of c.args.version) (select_text (slots_table Second)) (plain_at Second _ c.in-Second.is) (state g.S.Store c.args.conn.now) (state g.S.Store c.query_all-in-Second.new.self) c.query_all-in-Second.result c.query_all-in-Second.ensures.survives c.query_all-in-Second.ensures.err

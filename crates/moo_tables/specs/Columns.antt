@@ -1,0 +1,63 @@
+-- Tables of the store and their columns, as the schema has them, and the cells of their rows.
+use Rattle.std.specs.Prelude.{Bool, true, false, if◌then◌else◌, map, length, ◌-◌, [], ◌∷◌, Option, Some, None, List, ℕ, pos}
+use Rattle.std.specs.List.{range_with_len}
+use Rattle.sqlite.specs.Collation.TheVariants.{Binary}
+use Rattle.sqlite.specs.declared.types.Value.{Value}
+use Rattle.sqlite.specs.declared.types.Value.TheVariants.{Null, Int}
+use Rattle.sqlite.specs.Order.{Row, column}
+use Rattle.sqlite.specs.Table.{Table}
+use Rattle.sqlite.specs.Kind.{Kind}
+use Rattle.sqlite.specs.Kind.TheVariants.{Integer, Text}
+use Rattle.sqlite_value.specs.Keys.{plain}
+use Rattle.sqlite_value.specs.declared.keys.Order.{Order}
+use Rattle.sqlite_schema.specs.declared.schema.Column.{Column}
+
+-- a column that is never empty
+abbrev pub required : Kind → List ℕ → Column
+required kind name = record { name = name; kind = kind; is_strict = true; not_null = true; default = Null; collation = Binary }
+
+abbrev pub number : List ℕ → Column
+number = required Integer
+
+abbrev pub text : List ℕ → Column
+text = required Text
+
+-- a STRICT table with this primary key and no other constraint
+abbrev pub table_of : List ℕ → ℕ → List Column → Option ℕ → List ℕ → List (List ℕ) → List Order → Table
+table_of name tree columns key primary uniques orders = record {
+  name = name;
+  tree = tree;
+  columns = columns;
+  key = key;
+  primary = primary;
+  uniques = uniques;
+  orders = orders;
+  checks = [];
+  references = [];
+  computed = [];
+  stamps = record { places = []; terms = []; formats = [] };
+  is_counted = false;
+}
+
+-- the first column is the row's number
+abbrev pub numbered : List ℕ → ℕ → List Column → Table
+numbered name tree columns = table_of name tree columns (Some 0) (0 ∷ []) [] []
+
+-- the first two columns are the key, which the tree behind it has as an index
+abbrev pub paired : List ℕ → ℕ → List Column → Table
+paired name tree columns = table_of name tree columns None (1 ∷ 2 ∷ []) ((1 ∷ 2 ∷ []) ∷ []) (plain ∷ [])
+
+-- A row of a tree begins with its number. Where that is the first column, the column itself is kept empty.
+abbrev pub cells_at : List ℕ → Row → Row
+cells_at places row = map (column row) places
+
+-- where the cells of a row stand in its tree
+abbrev pub number_places : Table → List ℕ
+number_places t = 0 ∷ range_with_len 2 (length t.columns - 1)
+
+abbrev pub pair_places : Table → List ℕ
+pair_places t = range_with_len 1 (length t.columns)
+
+-- the cell of a flag
+abbrev pub flag : Bool → Value
+flag b = Int (if b then pos 1 else pos 0)

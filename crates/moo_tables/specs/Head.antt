@@ -1,0 +1,22 @@
+-- The tables of one row, `head` and `petition_head`: their columns, and the cells of that row.
+use Rattle.std.specs.Prelude.{[], ◌∷◌, codes, pos, ℕ}
+use Rattle.sqlite.specs.Order.{Row}
+use Rattle.sqlite.specs.Table.{Table}
+use Rattle.sqlite.specs.declared.types.Value.TheVariants.{Int}
+use Rattle.moo_rows.specs.declared.row.Head.{Head}
+use Rattle.moo_tables.specs.declared.version.Version.{Version}
+use Rattle.moo_tables.specs.Version.{version_number}
+use Rattle.moo_tables.specs.Columns.{numbered, number}
+
+abbrev pub head_table : Table
+head_table = numbered (codes "head") 0 (number (codes "id") ∷ number (codes "version") ∷ number (codes "seq") ∷ number (codes "top") ∷ number (codes "next_prop") ∷ number (codes "next_verb") ∷ [])
+
+abbrev pub head_cells : Version → Head → Row
+head_cells version head = Int (pos 1) ∷ Int (version_number version) ∷ Int (pos head.seq) ∷ Int head.top ∷ Int (pos head.next_prop) ∷ Int (pos head.next_verb) ∷ []
+
+abbrev pub petition_head_table : Table
+petition_head_table = numbered (codes "petition_head") 10 (number (codes "id") ∷ number (codes "next_petition") ∷ [])
+
+-- with the number of the next petition
+abbrev pub petition_head_cells : ℕ → Row
+petition_head_cells next = Int (pos 1) ∷ Int (pos next) ∷ []
