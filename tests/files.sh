@@ -4,11 +4,6 @@
 here=$(cd "$(dirname "$0")" && pwd)
 . "$here/support/expect.sh"
 
-# dumped NAME: what a world is dumped as
-dumped() {
-    PYTHONDONTWRITEBYTECODE=1 python3 "$here/support/dumped.py" "$1"
-}
-
 tree=$(cat "$here/support/tree.txt")
 made='batch as #3\ncreate(#1)\nend\n'
 

@@ -1,8 +1,10 @@
-"""What worlds are dumped as, the lines of their objects from rows. `python3 dumped.py NAME` writes OPENING or TREE, for scripts of the shell."""
+"""What worlds are dumped as, the lines of their objects from rows. For the shell, `python3 dumped.py NAME` writes one of these texts."""
 import sys
 
-from columns import OPENING_OBJECTS, object_line, thing
+from columns import OPENING_OBJECTS, TABLES, object_line, thing
 
+# The fields of an object, as the help names them.
+FIELDS = ", ".join({"n": "number", "accept": "accept list or 0"}.get(column, column) for column in TABLES["object"])
 # The objects of a new world.
 OPENING = "".join(f"{object_line(row)}\n" for row in OPENING_OBJECTS)
 # The world of tree.txt.
@@ -25,4 +27,4 @@ end
 """
 
 if __name__ == "__main__":
-    sys.stdout.write({"OPENING": OPENING, "TREE": TREE}[sys.argv[1]])
+    sys.stdout.write({"FIELDS": FIELDS, "OPENING": OPENING, "TREE": TREE}[sys.argv[1]])
