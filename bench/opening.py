@@ -20,7 +20,9 @@ import sys
 import tempfile
 import time
 
-from sqlite_baseline import FIRST_TABLES, OPENING_OBJECTS, PRAGMAS, TABLES
+from sqlite_baseline import FIRST_TABLES, PRAGMAS, TABLES  # which also leads to columns
+
+from columns import OPENING_OBJECTS, first_objects, thing
 
 CLASSES = 200
 VERBS_OF_CLASS = 50
@@ -38,7 +40,7 @@ READS = [
 
 
 def object_row(number, parent, location, fertile):
-    return (number, f"Thing {number}", 3, parent, location, 0, 0, 0, 1, 0, fertile, "")
+    return thing(number, f"Thing {number}", parent=parent, location=location, r=1, f=fertile)
 
 
 def broad(rows):
@@ -98,6 +100,7 @@ def make(path, rows, version=2):
     for table in TABLES if version == 2 else FIRST_TABLES:
         connection.execute(table)
     held = ("slot2", numbered(slots)) if version == 2 else ("slot", slots)
+    objects = objects if version == 2 else first_objects(objects)
     petitions = [("petition_head", [(1, 1)])] if version == 2 else []
     head = (1, version, 0, max(row[0] for row in objects), len(props) + 1, len(verbs) + 1)
     for table, part in [("head", [head]), ("object", objects), ("prop", props), held, ("verb", verbs), *petitions]:

@@ -6,9 +6,14 @@ Each batch is one transaction that replaces the row of #4 and the row of the hea
 those of the sqlite crate: a write-ahead log with one sync a commit, pages of 4,096 bytes, a checkpoint past 1,000 pages of log,
 and the file locked for one program.
 """
+import os
 import sqlite3
 import sys
 import time
+
+sys.dont_write_bytecode = True
+sys.path.insert(0, os.path.join(os.path.dirname(os.path.abspath(__file__)), "..", "tests", "support"))
+from columns import OPENING_OBJECTS, PLAIN, thing  # noqa: E402
 
 PRAGMAS = [
     "PRAGMA page_size = 4096",
@@ -30,7 +35,13 @@ FIRST_TABLES = [
     "CREATE TABLE verb (object INTEGER NOT NULL, id INTEGER NOT NULL, names TEXT NOT NULL, owner INTEGER NOT NULL,"
     " bits TEXT NOT NULL, dobj TEXT NOT NULL, prep TEXT NOT NULL, iobj TEXT NOT NULL, PRIMARY KEY (object, id)) STRICT",
 ]
-TABLES = FIRST_TABLES + [
+OBJECT_COLUMNS = [f"{column} {'TEXT' if isinstance(cell, str) else 'INTEGER'} NOT NULL" for column, cell in PLAIN.items()]
+OBJECT_COLUMNS[0] += " PRIMARY KEY"
+FIRST_HEAD, _, *FIRST_OTHERS = FIRST_TABLES
+TABLES = [
+    FIRST_HEAD,
+    f"CREATE TABLE object ({', '.join(OBJECT_COLUMNS)}) STRICT",
+    *FIRST_OTHERS,
     "CREATE TABLE slot2 (object INTEGER NOT NULL, prop INTEGER NOT NULL, owner INTEGER NOT NULL, bits INTEGER NOT NULL,"
     " value TEXT NOT NULL, PRIMARY KEY (object, prop)) STRICT",
     "CREATE TABLE petition (id INTEGER NOT NULL PRIMARY KEY, who INTEGER NOT NULL, calls TEXT NOT NULL) STRICT",
@@ -39,24 +50,12 @@ TABLES = FIRST_TABLES + [
 
 PUT_HEAD = """INSERT INTO head VALUES (?1, ?2, ?3, ?4, ?5, ?6)
     ON CONFLICT (id) DO UPDATE SET version = ?2, seq = ?3, top = ?4, next_prop = ?5, next_verb = ?6"""
-PUT_OBJECT = """INSERT INTO object VALUES (?1, ?2, ?3, ?4, ?5, ?6, ?7, ?8, ?9, ?10, ?11, ?12)
-    ON CONFLICT (n) DO UPDATE SET name = ?2, owner = ?3, parent = ?4, location = ?5, player = ?6, programmer = ?7, wizard = ?8,
-    r = ?9, w = ?10, f = ?11, accept = ?12"""
-
-OPENING_OBJECTS = [
-    (0, "System Object", 3, 1, -1, 0, 0, 0, 0, 0, 0, ""),
-    (1, "Root Class", 3, -1, -1, 0, 0, 0, 0, 0, 1, ""),
-    (2, "The First Room", 3, 1, -1, 0, 0, 0, 0, 0, 0, "{#1}"),
-    (3, "Wizard", 3, 1, 2, 1, 1, 1, 0, 0, 0, ""),
-]
+PUT_OBJECT = f"""INSERT INTO object VALUES ({', '.join(f"?{at + 1}" for at in range(len(PLAIN)))})
+    ON CONFLICT (n) DO UPDATE SET {', '.join(f"{column} = ?{at + 1}" for at, column in enumerate(PLAIN) if at > 0)}"""
 
 
 def head(seq, top):
     return (1, 2, seq, top, 1, 1)
-
-
-def lantern(name):
-    return (4, name, 3, 1, -1, 0, 0, 0, 0, 0, 0, "")
 
 
 def put(connection, head_row, object_rows):
@@ -74,7 +73,7 @@ def make(connection):
         connection.execute(table)
     connection.execute("COMMIT")
     put(connection, head(0, 3), OPENING_OBJECTS)
-    put(connection, head(1, 4), [lantern("")])
+    put(connection, head(1, 4), [thing(4)])
 
 
 def main():
@@ -83,7 +82,7 @@ def main():
     make(connection)
     start = time.perf_counter()
     for number in range(count):
-        put(connection, head(number + 2, 4), [lantern(f"Lantern {number}")])
+        put(connection, head(number + 2, 4), [thing(4, f"Lantern {number}")])
     taken = round((time.perf_counter() - start) * 1_000_000)
     connection.close()
     print(f"{count} batches in {taken} us, {count * 1_000_000 // max(taken, 1)} a second", file=sys.stderr)

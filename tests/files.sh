@@ -4,17 +4,16 @@
 here=$(cd "$(dirname "$0")" && pwd)
 . "$here/support/expect.sh"
 
-opening='object {#0, "System Object", #3, #1, #-1, 0, 0, 0, 0, 0, 0, 0}\nobject {#1, "Root Class", #3, #-1, #-1, 0, 0, 0, 0, 0, 1, 0}\nobject {#2, "The First Room", #3, #1, #-1, 0, 0, 0, 0, 0, 0, {#1}}\nobject {#3, "Wizard", #3, #1, #2, 1, 1, 1, 0, 0, 0, 0}\nend\n'
 tree=$(cat "$here/support/tree.txt")
 made='batch as #3\ncreate(#1)\nend\n'
 
 expect "a new world is made" 0 'created\n' '' init world.db
 says_nothing "what succeeds says nothing on standard error"
 expect "a new world is whole" 0 'ok seq 0 objects 4\n' '' check world.db
-expect "the opening world is dumped" 0 "seq 0\ntop #3\n$opening" '' dump world.db
+expect "the opening world is dumped" 0 "seq 0\ntop #3\n$(dumped OPENING)\nend\n" '' dump world.db
 
 expect "a batch changes the file" 0 'accepted 1\n#4\n0\n#5\n0\n#6\n0\n#7\n0\nend\n' "$tree\n" apply world.db -
-expect "it is there when the file is opened again" 0 "$(cat "$here/support/tree.dump")\n" '' dump world.db
+expect "it is there when the file is opened again" 0 "$(dumped TREE)\n" '' dump world.db
 printf "$made" >batches.txt
 expect "batches are read from a file" 0 'accepted 2\n#8\nend\n' '' apply world.db batches.txt
 expect "a move of a class reaches what is under it" 0 'accepted 3\n0\n21\n30\n1\nend\n' 'batch as #3\nchparent(#5, #7)\nget(#6, "b")\nget(#6, "c")\nis_clear_property(#6, "c")\nend\n' apply world.db -

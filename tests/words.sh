@@ -1,5 +1,6 @@
 #!/bin/sh
 # The words of the command line: help, the version, and mistakes.
+# needs: python3
 here=$(cd "$(dirname "$0")" && pwd)
 . "$here/support/expect.sh"
 
@@ -76,7 +77,7 @@ calls=$(sed -n 's/^| `\([a-z_]*\)(.*/\1/p' "$here/../docs/CALLS.md")
 lists "help has every call that CALLS.md has" '(^|[ ,])%\(' ${calls:-none}
 lists "help has every reply" '[ `]%[ `]' accepted refused full stale malformed truncated nomemory fault closed
 lists "help has every reason" '^  %  ' E_PERM E_INVARG E_INVIND E_PROPNF E_VERBNF E_ARGS E_TYPE E_QUOTA E_RECMOVE E_NACC
-says "help has the fields of an object" 0 'object {number, name, owner, parent, location, player, programmer, wizard, r, w, f, accept list or 0}' dump --help
+says "help has the fields of an object" 0 "object {$(dumped FIELDS)}" dump --help
 says "and those of a slot" 0 'slot {object, definer, name, owner, perms, 1, value}' dump --help
 says "and those of a petition" 0 'petition {number, who' dump --help
 for word in '' init apply ask dump check serve; do

@@ -1,4 +1,5 @@
 """The cases of cells.sh: single cells, each kind of damage, and several at once. The edits of damage.sh aren't tried again."""
+from columns import FLAGS, inserted, thing
 from program import case, edit
 from worlds import ASKED, VERBS, copied, make, rows_of, run
 
@@ -44,7 +45,7 @@ CELLS = [
     ("object", "owner", "n = 7", "#7", [7, -1, 99, 2147483647, -2147483648], WIDE),
     ("object", "parent", "n = 7", "#7", [-1, 0, 1], WIDE),
     ("object", "location", "n = 7", "#7", [-1, 0, 3], WIDE),
-    *(("object", mark, "n = 7", "#7", [0, 1], [2, -1, 2147483648]) for mark in ("player", "programmer", "wizard", "r", "w", "f")),
+    *(("object", flag, "n = 7", "#7", [0, 1], [2, -1, 2147483648]) for flag in FLAGS),
     ("object", "accept", "n = 7", "#7", LISTS, [*NO_LISTS, *NONE]),
     ("prop", "definer", "id = 3", "p3", [7], WIDE),
     (
@@ -169,7 +170,7 @@ HARMLESS = [
     ("the greatest number of batches", 2**63 - 1, 8, "update head set seq = 9223372036854775807"),
     ("no batch", 0, 8, "update head set seq = 0"),
     ("an object without a parent", 3, 8, "update object set parent = -1 where n = 0"),
-    ("an object more", 3, 9, "update head set top = 8", "insert into object values (8, '', 3, 1, -1, 0, 0, 0, 0, 0, 0, '')"),
+    ("an object more", 3, 9, "update head set top = 8", inserted("object", thing(8))),
     ("an object less", 3, 7, "delete from object where n = 0"),
     ("no object", 3, 0, "update head set top = -1", *(f"delete from {table}" for table in ("object", "prop", "slot2", "verb"))),
     ("the same name in another branch", 3, 8, "update prop set name = 'a' where id = 3"),

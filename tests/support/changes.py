@@ -1,24 +1,14 @@
 """Batches, and the rows that each has to change: for tables.py. The head of a changed world is given, and of each table the rows that go
 and the rows that come; a row that is replaced does both. Nothing else may be written."""
+from columns import FLAGS, OPENING_OBJECTS, thing
 from worlds import PETITIONS, TREE, VERBS
-
-
-def thing(number, name="", owner=3, parent=1, location=-1, marks=(0, 0, 0, 0, 0, 0), accept=""):
-    """A row of an object; its marks are player, programmer, wizard, r, w and f."""
-    return (number, name, owner, parent, location, *marks, accept)
-
 
 # The table that is made, and neither read nor written behind that; and those of petitions where nobody has asked yet.
 UNREAD = {"slot": []}
 NONE_ASKED = {"petition": [], "petition_head": [(1, 1)]}
 OPENING = UNREAD | NONE_ASKED | {
     "head": [(1, 2, 0, 3, 1, 1)],
-    "object": [
-        thing(0, "System Object"),
-        thing(1, "Root Class", parent=-1, marks=(0, 0, 0, 0, 0, 1)),
-        thing(2, "The First Room", accept="{#1}"),
-        thing(3, "Wizard", location=2, marks=(1, 1, 1, 0, 0, 0)),
-    ],
+    "object": OPENING_OBJECTS,
     "prop": [],
     "slot2": [],
     "verb": [],
@@ -107,13 +97,11 @@ CHANGES = [
     ("a name that it has changes the head alone", "tree", ['set(#4, "name", "")', 'set(#6, "b", 21)'], "0 0", (7, 4, 1), {}, {}),
     ("an owner is set", "tree", ['set(#4, "owner", #5)'], "0", (7, 4, 1), {"object": [FOUR]}, {"object": [thing(4, owner=5)]}),
     ("a place is changed", "tree", ["move(#4, #2)"], "0", (7, 4, 1), {"object": [FOUR]}, {"object": [thing(4, location=2)]}),
-    ("a player is marked", "tree", ["set_player_flag(#4, 1)"], "0", (7, 4, 1), {"object": [FOUR]}, {"object": [thing(4, marks=(1, 0, 0, 0, 0, 0))]}),
+    ("a player is marked", "tree", ["set_player_flag(#4, 1)"], "0", (7, 4, 1), {"object": [FOUR]}, {"object": [thing(4, player=1)]}),
     *(
-        (f"the mark {mark} is set", "tree", [f'set(#4, "{mark}", 1)'], "0", (7, 4, 1), {"object": [FOUR]}, {"object": [thing(4, marks=marks)]})
-        for mark, marks in [
-            ("programmer", (0, 1, 0, 0, 0, 0)), ("wizard", (0, 0, 1, 0, 0, 0)),
-            ("r", (0, 0, 0, 1, 0, 0)), ("w", (0, 0, 0, 0, 1, 0)), ("f", (0, 0, 0, 0, 0, 1)),
-        ]
+        (f"the mark {flag} is set", "tree", [f'set(#4, "{flag}", 1)'], "0", (7, 4, 1), {"object": [FOUR]}, {"object": [thing(4, **{flag: 1})]})
+        for flag in FLAGS
+        if flag != "player"
     ),
     ("an accept list is set", "tree", ["set_accept(#4, {#1,#5})"], "0", (7, 4, 1), {"object": [FOUR]}, {"object": [thing(4, accept="{#1, #5}")]}),
     ("an empty one is none but a list", "tree", ["set_accept(#4, {})"], "0", (7, 4, 1), {"object": [FOUR]}, {"object": [thing(4, accept="{}")]}),
@@ -189,14 +177,14 @@ CHANGES = [
         "a grant takes its petition's row away, and leaves the number; its calls change what they change by themselves",
         "petitions", ["grant(1)"], "0", (8, 4, 1),
         {"petition": [TO_CREATE], "object": [FOUR]},
-        {"object": [thing(4, marks=(1, 0, 0, 0, 0, 0)), thing(8, owner=4)]},
+        {"object": [thing(4, player=1), thing(8, owner=4)]},
     ),
     (
         "two grants take two",
         "petitions", ["grant(2)", "grant(1)"], "0 0", (8, 4, 1),
         {"petition": [TO_CREATE, TO_SET], "object": [FOUR], "slot2": [B6]},
         {
-            "object": [thing(4, marks=(1, 0, 0, 0, 0, 0)), thing(8, owner=4)],
+            "object": [thing(4, player=1), thing(8, owner=4)],
             "slot2": [(6, 2, 3, 4, '{22, "x\\"y"}')],
         },
     ),

@@ -1,10 +1,14 @@
-"""The tables of a file, in the order in which they are made, and the columns of each, its key first. For the scripts of tests/ and bench/.
+"""The tables of a file, in the order in which they are made, and the columns of each, its key first; rows of the table of objects, and how
+they are told in a dump. For the scripts of tests/ and bench/.
 
 The slots are in slot2. The table slot is that of the first version, and empty.
 """
+FLAGS = "player programmer wizard r w f".split()
+# A plain object's cells: one of #3's under #1, in no place.
+PLAIN = {"n": 0, "name": "", "owner": 3, "parent": 1, "location": -1} | dict.fromkeys(FLAGS, 0) | {"accept": ""}
 TABLES = {
     "head": "id version seq top next_prop next_verb".split(),
-    "object": "n name owner parent location player programmer wizard r w f accept".split(),
+    "object": list(PLAIN),
     "prop": "id definer name".split(),
     "slot": "object prop owner bits value".split(),
     "verb": "object id names owner bits dobj prep iobj".split(),
@@ -12,3 +16,46 @@ TABLES = {
     "petition": "id who calls".split(),
     "petition_head": "id next_petition".split(),
 }
+# The columns of objects in the first version, for ever.
+FIRST_OBJECT = "n name owner parent location player programmer wizard r w f accept".split()
+
+
+def thing(number, name="", **cells):
+    """The row of an object that is plain but for these cells."""
+    row = PLAIN | {"n": number, "name": name} | cells
+    if len(row) > len(PLAIN):
+        raise ValueError(f"{cells} has no column of object")
+    return tuple(row.values())
+
+
+# The objects of a new world.
+OPENING_OBJECTS = [
+    thing(0, "System Object"),
+    thing(1, "Root Class", parent=-1, f=1),
+    thing(2, "The First Room", accept="{#1}"),
+    thing(3, "Wizard", location=2, player=1, programmer=1, wizard=1),
+]
+
+
+def first_objects(rows):
+    """The rows of objects in the first version."""
+    return [tuple(dict(zip(PLAIN, row))[column] for column in FIRST_OBJECT) for row in rows]
+
+
+def inserted(table, row):
+    """A statement that puts a row into a table, with its values."""
+    return f"insert into {table} values ({', '.join('?' * len(row))})", row
+
+
+def told(column, cell):
+    """A cell of an object as a dump tells it. The accept list is one that moo spelled."""
+    if column in ("n", "owner", "parent", "location"):
+        return f"#{cell}"
+    if column == "name":
+        return '"' + cell.replace("\\", "\\\\").replace('"', '\\"') + '"'
+    return str(cell) or "0"
+
+
+def object_line(row):
+    """The line of an object in a dump."""
+    return "object {" + ", ".join(told(*pair) for pair in zip(PLAIN, row)) + "}"

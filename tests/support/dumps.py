@@ -1,24 +1,19 @@
 """The cases of dumps.sh: the rows of a file before a batch and behind it, dumps, and objects over HTTP."""
 import os
-import pathlib
 import resource
 import shutil
 import sqlite3
 import subprocess
 import tempfile
 
+from columns import object_line, thing
+from dumped import OPENING, TREE
 from notation import tree
 from program import MOO, case, edit, run
 from service import PATIENCE, Service, answer, get
 
 # The columns of each table that are its key. The head has one row, and so has that of the petitions.
 KEYS = {"head": 0, "object": 1, "prop": 1, "slot2": 2, "verb": 2, "petition": 1, "petition_head": 0}
-
-OPENING = """object {#0, "System Object", #3, #1, #-1, 0, 0, 0, 0, 0, 0, 0}
-object {#1, "Root Class", #3, #-1, #-1, 0, 0, 0, 0, 0, 1, 0}
-object {#2, "The First Room", #3, #1, #-1, 0, 0, 0, 0, 0, 0, {#1}}
-object {#3, "Wizard", #3, #1, #2, 1, 1, 1, 0, 0, 0, 0}
-"""
 
 NEW = "max_object()"
 SMALL_TREE = "; ".join(tree().calls)
@@ -193,10 +188,10 @@ VERBS = (
     'add_verb(#0, {#3, "dxr", "l*ook say\\"s"}, {"this", "on", "any"}); '
     'add_verb(#0, {#2, "", "stop"}, {"none", "none", "this"}); recycle(#1)'
 )
-VERB_LINES = """object {#0, "System Object", #3, #-1, #-1, 0, 0, 0, 0, 0, 0, 0}
-verb {#0, "l*ook say\\"s", #3, "rxd", "this", "on top of/on/onto/upon", "any"}
-verb {#0, "stop", #2, "", "none", "none", "this"}
-object {#2, """
+VERB_LINES = f"""{object_line(thing(0, "System Object", parent=-1))}
+verb {{#0, "l*ook say\\"s", #3, "rxd", "this", "on top of/on/onto/upon", "any"}}
+verb {{#0, "stop", #2, "", "none", "none", "this"}}
+object {{#2, """
 # #4 is under #7, which is under #5, and #6 under #4: chains that don't go by numbers.
 CHAIN = (
     "create(#1); create(#1); create(#4); create(#5); chparent(#4, #7); "
@@ -209,7 +204,7 @@ ELEVEN = "; ".join([*(f'petition({{{{"valid", #{number}}}}})' for number in rang
 ELEVEN_LINES = "".join(f'petition {{{number}, #3, {{{{"valid", #{number}}}}}}}\n' for number in (2, 3, 4, 6, 7, 8, 9, 10, 11))
 # Spelled otherwise than it is dumped.
 SPELLED = 'petition({ {"SET" ,#1,"name","a \\"b\\\\"},{"move",#04,#-1,{ {007},e_perm}} }); create(#1)'
-SPELLED_LINES = """object {#4, "", #3, #1, #-1, 0, 0, 0, 0, 0, 0, 0}
+SPELLED_LINES = object_line(thing(4)) + """
 petition {1, #3, {{"SET", #1, "name", "a \\"b\\\\"}, {"move", #4, #-1, {{7}, E_PERM}}}}
 end
 """
@@ -227,8 +222,7 @@ def petitions_dumped():
 def dumps():
     case("a new world is dumped", run("dump", ":memory:"), (0, f"seq 0\ntop #3\n{OPENING}end\n".encode()))
     # The slots of #6 stand by definers up its chain there, which is not the order of their numbers.
-    wanted = (pathlib.Path(__file__).parent / "tree.dump").read_text()
-    case("slots are dumped by definers up the chain", dumped(SMALL_TREE), wanted)
+    case("slots are dumped by definers up the chain", dumped(SMALL_TREE), TREE)
     case("verbs are dumped in the order of the directory", VERB_LINES in dumped(VERBS), True)
     slots = [line.split(", ")[1] for line in dumped(CHAIN).split("\n") if line.startswith("slot {#6,")]
     case("a chain goes up by parents, and not by numbers", slots, ["#6", "#4", "#7", "#5", "#1"])

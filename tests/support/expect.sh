@@ -47,6 +47,11 @@ says_nothing() {
     fi
 }
 
+# dumped NAME: what a world is dumped as, or the fields of an object there; 'here' is the folder of tests/.
+dumped() {
+    PYTHONDONTWRITEBYTECODE=1 python3 "$here/support/dumped.py" "$1"
+}
+
 # rows FILE: every row of every table, as text, so that files can be compared by what they hold. It reads a copy, so that FILE
 # and its log stay as the program left them.
 rows() {

@@ -1,6 +1,7 @@
 """Files of the first version: five tables, made by SQLite itself, with rows that are given."""
 import sqlite3
 
+from columns import first_objects, inserted
 from worlds import remove
 
 FIRST = [
@@ -26,7 +27,7 @@ def first_rows(rows):
     """The rows of the first version for those of the second."""
     ((number, _, *head),) = rows["head"]
     slots = [(*row[:3], letters(row[3]), row[4]) for row in rows["slot2"]]
-    return {"head": [(number, 1, *head)], "object": rows["object"], "prop": rows["prop"], "slot": slots, "verb": rows["verb"]}
+    return {"head": [(number, 1, *head)], "object": first_objects(rows["object"]), "prop": rows["prop"], "slot": slots, "verb": rows["verb"]}
 
 
 def make_first(file, rows):
@@ -37,6 +38,6 @@ def make_first(file, rows):
         connection.execute(statement)
     for table, part in rows.items():
         for row in part:
-            connection.execute(f"insert into {table} values ({', '.join('?' * len(row))})", row)
+            connection.execute(*inserted(table, row))
     connection.commit()
     connection.close()

@@ -5,15 +5,15 @@ import signal
 import sqlite3
 import subprocess
 import time
-from pathlib import Path
 
-from changes import OF_TREE, OF_VERBS, OPENING, WORLDS, thing
+from changes import OF_TREE, OF_VERBS, OPENING, WORLDS
+from columns import OPENING_OBJECTS, first_objects, thing
+from dumped import TREE
 from first import first_rows, letters, make_first
 from program import MOO, case, edit
 from service import Service, answer, get
 from worlds import accepted, copied, make, read, rows_of, run, text_of
 
-TREE_DUMP = Path(__file__).with_name("tree.dump").read_text()
 SCHEMA = "select type, name, tbl_name, rootpage > 0, sql from sqlite_schema order by rowid"
 
 
@@ -36,14 +36,14 @@ def the_tree():
     rows = first_rows(OF_TREE)
     make_first("tree.db", rows)
     case("a file of the first version has five tables", list(held("tree.db")), ["head", "object", "prop", "slot", "verb"])
-    case("it is dumped as the world that it holds", run("dump", "tree.db"), (0, TREE_DUMP))
+    case("it is dumped as the world that it holds", run("dump", "tree.db"), (0, TREE))
     found = rows_of("tree.db")
     case("then it has the rows of the second version", found, OF_TREE)
     case("six slots, of which each may be read by all", [row[3] for row in found["slot2"]], [4] * 6)
     case("none is left where they were", found["slot"], [])
     case("its version is 2", found["head"][0][1], 2)
     case("nobody has asked for anything, and the first petition will have the number 1", (found["petition"], found["petition_head"]), ([], [(1, 1)]))
-    case("it is dumped the same again", run("dump", "tree.db"), (0, TREE_DUMP))
+    case("it is dumped the same again", run("dump", "tree.db"), (0, TREE))
     case("and is whole", run("check", "tree.db"), (0, "ok seq 1 objects 8\n"))
     last = text_of(["chparent(#5, #7)", 'get(#6, "b")', 'get(#6, "c")', 'is_clear_property(#6, "c")'], "#3 at 1")
     case("it goes on where it stood", run("apply", "tree.db", "-", text=last), (0, accepted(2, "0", "21", "30", "1")))
@@ -145,7 +145,7 @@ def every_right_and_value():
         wanted += [(4, number, 3, rights, "1"), (5, number, 7, rights, printed or "")]
         shown = "0" if printed is None else f"1, {printed}"
         lines.append(f'slot {{#5, #4, "{name}", #7, "{letters(rights)}", {shown}}}')
-    objects = OPENING["object"] + [thing(4), thing(5, parent=4)]
+    objects = first_objects([*OPENING_OBJECTS, thing(4), thing(5, parent=4)])
     make_first("old.db", {"head": [(1, 1, 5, 5, len(props) + 1, 1)], "object": objects, "prop": props, "slot": slots, "verb": []})
     status, dump = run("dump", "old.db")
     shown = [line for line in dump.split("\n") if line.startswith("slot {#5")]
@@ -207,8 +207,8 @@ def full_disks():
         if (status, said) not in [(0, "ok seq 1 objects 8\n"), (1, "moo: store fault\n")] or (status == 0) > (tables == 8):
             case(f"a file may grow to {room} bytes", (status, said, tables), None)
         dumped = run("dump", "old.db")
-        if dumped != (0, TREE_DUMP):
-            case(f"what was found behind a limit of {room} bytes", dumped, (0, TREE_DUMP))
+        if dumped != (0, TREE):
+            case(f"what was found behind a limit of {room} bytes", dumped, (0, TREE))
     case("on a disk that is full the file stays of the first version", (1, 5) in left, True)
     case("with room enough it is taken over", (0, 8) in left, True)
 
@@ -216,7 +216,7 @@ def full_disks():
 def a_large_world():
     """Ten thousand slots."""
     count = 10000
-    objects = OPENING["object"] + [(4, "", 3, 1, -1, 0, 0, 0, 0, 0, 0, "")]
+    objects = first_objects([*OPENING_OBJECTS, thing(4)])
     props = [(number, 4, f"p{number}") for number in range(1, count + 1)]
     slots = [(4, number, 3, "rc", str(number)) for number in range(1, count + 1)]
     make_first("old.db", {"head": [(1, 1, 5, 4, count + 1, 1)], "object": objects, "prop": props, "slot": slots, "verb": []})
@@ -226,7 +226,7 @@ def a_large_world():
 
 def descendants(count):
     """The rows of the first version of a world with so many objects under #4, which defines three properties."""
-    objects = OPENING["object"] + [thing(4)] + [thing(5 + at, parent=4) for at in range(count)]
+    objects = first_objects([*OPENING_OBJECTS, thing(4), *(thing(5 + at, parent=4) for at in range(count))])
     slots = [(4, number, 3, "rc", f'"{number}"') for number in (1, 2, 3)]
     for number in range(5, 5 + count):
         slots += [(number, 1, 3, "rc", ""), (number, 2, 3, "rc", str(number)), (number, 3, number, "w", '"x"')]

@@ -1,6 +1,6 @@
 """The cases of tables.sh: the tables of a world's file, read by Python's sqlite3."""
-from changes import CHANGES, FIVE, FIVE_CALLS, KEPT, OPENING, WORLDS, thing
-from columns import TABLES
+from changes import CHANGES, FIVE, FIVE_CALLS, KEPT, OPENING, WORLDS
+from columns import TABLES, inserted, object_line, thing
 from program import case, edit
 from worlds import accepted, copied, make, read, rows_of, run, text_of
 
@@ -148,8 +148,7 @@ SPELLINGS = [
 def spellings():
     """Another spelling of a cell is no damage. It stays until its row changes, and then the row is written as moo spells it."""
     file = copied("verbs.db")
-    seven = 'object {#7, "", #3, #1, #-1, 0, 0, 0, 0, 0, 0, '
-    dumped = run("dump", file)[1].replace(seven + "0}", seven + "{#4, #5}}")
+    dumped = run("dump", file)[1].replace(object_line(thing(7)), object_line(thing(7, accept="{#4, #5}")))
     edit(file, *SPELLINGS)
     spelled = rows_of(file)
     case("other spellings of cells are read as what they spell", run("dump", file), (0, dumped))
@@ -191,8 +190,7 @@ def made_anew(tables, old="", new=""):
         rows, ((text,),) = read(file, f"select * from {table}", f"select sql from sqlite_schema where name = '{table}'")
         if table == tables[0] and old not in text:
             raise SystemExit(f"FAILED {old!r} stands nowhere in {text!r}")
-        marks = ", ".join("?" * len(TABLES[table]))
-        made += [text.replace(old, new, 1) if table == tables[0] else text, *((f"insert into {table} values ({marks})", row) for row in rows)]
+        made += [text.replace(old, new, 1) if table == tables[0] else text, *(inserted(table, row) for row in rows)]
     edit(file, *(f"drop table {table}" for table in tables), *made)
     return file
 

@@ -7,6 +7,8 @@ pub mod Keys
 pub mod HeadLemmas
 pub mod RowsLemmas
 pub mod Compared
+pub mod OneCells
+pub mod ObjectLemmas
 pub mod OneRows
 pub mod GoodRows
 pub mod CellsLemmas

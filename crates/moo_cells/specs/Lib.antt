@@ -1,3 +1,4 @@
+pub mod Object
 pub mod Shows
 pub mod Reading
 pub mod Columns

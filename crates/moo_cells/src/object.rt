@@ -1,7 +1,7 @@
 //! Rows of the table of objects.
 
 ghost use Rattle.std.specs.Prelude.{◌≡◌, IfOk, IfErr};
-ghost use Rattle.moo_cells.specs.Columns.{HasFlags};
+ghost use Rattle.moo_cells.specs.Object.{HasFlags};
 ghost use Rattle.moo_cells.specs.Reading.{ReadsObject, IsRead};
 ghost use Rattle.moo_cells.specs.declared.fault.RowFault.TheVariants.{Unreadable};
 ghost use Rattle.moo_cells.specs.declared.object.Flags.{Flags};
@@ -33,19 +33,13 @@ fn flags_of(cells: &Row) -> Result<Flags, RowFault>
     ensures ok { IfOk result (λ flags. HasFlags cells.now flags) }
     ensures err { IfErr result (λ _. (flags : Flags) → ¬ (HasFlags cells.now flags)) }
 {
-    let player = flag_at(cells, 5)?;
-    let programmer = flag_at(cells, 6)?;
-    let wizard = flag_at(cells, 7)?;
-    let r = flag_at(cells, 8)?;
-    let w = flag_at(cells, 9)?;
-    let f = flag_at(cells, 10)?;
     Ok(Flags {
-        player,
-        programmer,
-        wizard,
-        r,
-        w,
-        f,
+        player: flag_at(cells, 5)?,
+        programmer: flag_at(cells, 6)?,
+        wizard: flag_at(cells, 7)?,
+        r: flag_at(cells, 8)?,
+        w: flag_at(cells, 9)?,
+        f: flag_at(cells, 10)?,
     })
 }
 

@@ -2,7 +2,7 @@ use Rattle.std.proofs.Common.{◌≡◌, ℤ, length, [], ◌∷◌, ap, sym, su
 use Rattle.std.proofs.lemmas.Int.{to_z-of_z}
 use Rattle.sqlite.specs.declared.types.Value.{Value}
 use Rattle.sqlite.specs.declared.types.Value.TheVariants.{Int as Number}
-use Rattle.moo_cells.proofs.Columns.{six}
+use Rattle.moo_cells.proofs.Columns.{all_columns}
 use Rattle.moo_cells.proofs.head.numbers_of.Goals as goal
 
 -- the number as a field keeps it
@@ -18,7 +18,7 @@ returns-clause-ok c =
     let top = kept _ _ c.in_ok-top.ensures.ok c.in_ok-top.ensures.fits in
     let next_prop = kept _ _ c.in_ok-next_prop.ensures.ok c.in_ok-next_prop.ensures.fits in
     let next_verb = kept _ _ c.in_ok-next_verb.ensures.ok c.in_ok-next_verb.ensures.fits in
-    six c.args.cells.now long ∙ (λ i. id i ∷ version i ∷ seq i ∷ top i ∷ next_prop i ∷ next_verb i ∷ [])
+    all_columns 6 c.args.cells.now long ∙ (λ i. id i ∷ version i ∷ seq i ∷ top i ∷ next_prop i ∷ next_verb i ∷ [])
 
 -- a field keeps a number of 64 bits
 fits_kept : (n : ℤ) → FitsSigned w64 n → FitsSigned w64 (to_z w64 (of_z w64 n))

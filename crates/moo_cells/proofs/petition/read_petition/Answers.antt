@@ -4,7 +4,7 @@ use Rattle.std.proofs.lemmas.Result.{err_from_is_err_and}
 use Rattle.sqlite.specs.Order.{Row, column}
 use Rattle.moo_world.specs.Arguments.{is_number}
 use Rattle.moo_cells.specs.Reading.{calls_fit}
-use Rattle.moo_cells.proofs.Columns.{three}
+use Rattle.moo_cells.proofs.Columns.{all_columns}
 use Rattle.moo_cells.proofs.petition.read_petition.Goals as goal
 
 pub returns-in_err-id-clause-err : goal.returns-in_err-id-clause-err
@@ -29,7 +29,7 @@ returns-clause-ok c =
       (
         calls.0,
         calls.1,
-        three c.args.cells.now long ∙ (λ i. c.in_ok-id.ensures.ok i ∷ c.in_ok-who.ensures.ok i ∷ calls.2 i ∷ []),
+        all_columns 3 c.args.cells.now long ∙ (λ i. c.in_ok-id.ensures.ok i ∷ c.in_ok-who.ensures.ok i ∷ calls.2 i ∷ []),
       ),
       record {
         number = c.in_ok-id.ensures.fits;

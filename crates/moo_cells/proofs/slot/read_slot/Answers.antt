@@ -3,7 +3,7 @@ use Rattle.std.proofs.lemmas.Result.{err_from_is_err_and}
 use Rattle.sqlite.specs.declared.types.Value.{Value}
 use Rattle.sqlite.specs.Order.{Row, column}
 use Rattle.moo_cells.specs.Shows.{ShowsBits}
-use Rattle.moo_cells.proofs.Columns.{five}
+use Rattle.moo_cells.proofs.Columns.{all_columns}
 use Rattle.moo_cells.proofs.slot.read_slot.Goals as goal
 
 pub returns-in_err-object-clause-err : goal.returns-in_err-object-clause-err
@@ -40,7 +40,7 @@ returns-clause-ok c =
         state.0,
         c.in_ok-bits.ensures.ok,
         state.1,
-        five c.args.cells.now long ∙ (λ i. c.in_ok-object.ensures.ok i ∷ c.in_ok-prop.ensures.ok i ∷ c.in_ok-owner.ensures.ok i ∷ column c.args.cells.now 3 ∷ state.2 i ∷ []),
+        all_columns 5 c.args.cells.now long ∙ (λ i. c.in_ok-object.ensures.ok i ∷ c.in_ok-prop.ensures.ok i ∷ c.in_ok-owner.ensures.ok i ∷ column c.args.cells.now 3 ∷ state.2 i ∷ []),
       ),
       record {
         object = c.in_ok-object.ensures.fits;

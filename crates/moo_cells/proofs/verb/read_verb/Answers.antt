@@ -2,7 +2,7 @@ use Rattle.std.proofs.Common.{◌≡◌, length, [], ◌∷◌, ap, sym, ◌∙�
 use Rattle.std.proofs.lemmas.Bool.{and_parts, and_from}
 use Rattle.std.proofs.lemmas.Result.{err_from_is_err_and}
 use Rattle.sqlite.specs.Order.{Row, column}
-use Rattle.moo_cells.proofs.Columns.{eight}
+use Rattle.moo_cells.proofs.Columns.{all_columns}
 use Rattle.moo_cells.proofs.Texts.{has_a_word}
 use Rattle.moo_cells.proofs.verb.read_verb.Goals as goal
 
@@ -45,7 +45,7 @@ returns-clause-ok c =
       (
         bits.0,
         bits.1,
-        eight c.args.cells.now long
+        all_columns 8 c.args.cells.now long
             ∙ (λ i. c.in_ok-object.ensures.ok i ∷ c.in_ok-id.ensures.ok i ∷ c.in_ok-names.ensures.ok i ∷ c.in_ok-owner.ensures.ok i ∷ bits.2 i ∷ args.dobj i ∷ args.prep i ∷ args.iobj i ∷ []),
       ),
       record {

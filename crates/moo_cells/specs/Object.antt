@@ -1,0 +1,39 @@
+-- The columns of the table of objects.
+use Rattle.std.specs.Prelude.{◌≡◌, ℕ, List, [], ◌∷◌, map, Option, Some, None}
+use Rattle.sqlite.specs.Order.{Row, column}
+use Rattle.sqlite.specs.declared.types.Value.TheVariants.{Int as Number, Text}
+use Rattle.moo_value.specs.declared.value.ObjNo.{ObjNo}
+use Rattle.moo_value.specs.declared.value.Value.{Value}
+use Rattle.moo_value.specs.declared.value.Value.TheVariants.{Obj, List as a_list}
+use Rattle.moo_value.specs.Value.{gather}
+use Rattle.moo_value.specs.Literal.{Spells}
+use Rattle.moo_rows.specs.declared.row.ObjRow.{ObjRow}
+use Rattle.moo_tables.specs.Cells.{flag}
+use Rattle.moo_cells.specs.declared.object.Flags.{Flags}
+
+-- a list of objects, as a value
+abbrev pub object_list : List ObjNo → Value
+object_list objects = a_list (gather (map Obj objects))
+
+-- the cell of an accept list: empty for none, else a literal of the list
+abbrev pub ShowsAccept : List ℕ → Option (List ObjNo) → Type 0
+ShowsAccept text None = text ≡ []
+ShowsAccept text (Some objects) = Spells (object_list objects) text
+
+-- the cells of a row, in the order of the columns, with a text for its accept list
+abbrev pub object_row_cells : ObjNo → ObjRow → List ℕ → Row
+object_row_cells n row accept =
+    Number n.0 ∷ Text row.name ∷ Number row.owner.0 ∷ Number row.parent.0 ∷ Number row.location.0 ∷ flag row.player ∷ flag row.programmer ∷ flag row.wizard ∷ flag row.r ∷ flag row.w ∷ flag row.f ∷ Text accept ∷ []
+
+-- the cells show the row
+abbrev pub ShowsObject : ObjNo → Row → ObjRow → Type 0
+ShowsObject n cells row = (accept : List ℕ) × ShowsAccept accept row.accept × (cells ≡ object_row_cells n row accept)
+
+-- these flags stand in their columns
+pub record HasFlags (cells : Row) (flags : Flags) : Type 0 where
+  pub player : column cells 5 ≡ flag flags.player
+  pub programmer : column cells 6 ≡ flag flags.programmer
+  pub wizard : column cells 7 ≡ flag flags.wizard
+  pub r : column cells 8 ≡ flag flags.r
+  pub w : column cells 9 ≡ flag flags.w
+  pub f : column cells 10 ≡ flag flags.f
