@@ -21,9 +21,10 @@ use Rattle.moo_store.specs.declared.fault.StoreFault.TheVariants.{Store, Damaged
 use Rattle.moo_store.proofs.Asking.{asked_one}
 use Rattle.moo_request.specs.declared.asked.Asked.TheVariants.{Calls, Seq, Object}
 use Rattle.moo_request.specs.declared.asked.Mode.TheVariants.{Run, Ask}
-use Rattle.moo_http.specs.declared.outcome.Outcome.{Outcome}
-use Rattle.moo_http.specs.declared.outcome.Outcome.TheVariants as outcome
-use Rattle.moo_http.specs.Answers.{Answers, looked}
+use Rattle.moo_responses.specs.declared.outcome.Outcome.{Outcome}
+use Rattle.moo_responses.specs.declared.outcome.Outcome.TheVariants as outcome
+use Rattle.moo_responses.specs.Outcomes.{looked}
+use Rattle.moo_http.specs.Answers.{Answers}
 use Rattle.moo_http.specs.Settled.{Settles, lost_by}
 
 -- ---- where a World stands, by whether it failed

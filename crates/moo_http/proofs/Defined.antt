@@ -9,10 +9,11 @@ use Rattle.moo_store.specs.Stand.{Stand, Works, state_at, Leaves, RunsBatch, Ask
 use Rattle.moo_request.specs.declared.asked.Asked.{Asked}
 use Rattle.moo_request.specs.declared.asked.Asked.TheVariants.{Refused, Calls, Seq, Object}
 use Rattle.moo_request.specs.declared.asked.Mode.TheVariants.{Run, Ask}
-use Rattle.moo_http.specs.declared.outcome.Outcome.{Outcome}
-use Rattle.moo_http.specs.declared.outcome.Outcome.TheVariants as outcome
-use Rattle.moo_http.specs.Answers.{Answers, Comes, outcome_of, answer}
-use Rattle.moo_http.specs.Responses.{response_of}
+use Rattle.moo_responses.specs.declared.outcome.Outcome.{Outcome}
+use Rattle.moo_responses.specs.declared.outcome.Outcome.TheVariants as outcome
+use Rattle.moo_responses.specs.Outcomes.{outcome_of}
+use Rattle.moo_responses.specs.Responses.{response_of}
+use Rattle.moo_http.specs.Answers.{Answers, Comes, answer}
 
 leaves : (s : State) (v : model.Verdict) (new : Stand) → Leaves s v new → state_at new ≡ left_by s v
 leaves s (model.Accepted answers next) new left = elim left [ inl e ↦ ap state_at e | inr e ↦ ap state_at e ]

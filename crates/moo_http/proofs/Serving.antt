@@ -13,10 +13,10 @@ use Rattle.moo_request.specs.declared.fault.ReadFault.TheVariants as read
 use Rattle.moo_request.specs.declared.request.Received.TheVariants.{Nothing, Request}
 use Rattle.moo_http.specs.declared.fault.ServeFault.{ServeFault}
 use Rattle.moo_http.specs.declared.fault.ServeFault.TheVariants.{Read, Write, OutOfMemory}
-use Rattle.moo_http.specs.declared.outcome.Outcome.{Outcome}
+use Rattle.moo_responses.specs.declared.outcome.Outcome.{Outcome}
 use Rattle.moo_http.specs.Answers.{Consulted}
 use Rattle.moo_http.specs.Faults.{fault_of}
-use Rattle.moo_http.specs.Responses.{response_of, response_text}
+use Rattle.moo_responses.specs.Responses.{response_of, response_text}
 use Rattle.moo_http.specs.Serves.{Serves, Stays, Written, Served}
 
 pub appends_nothing : (before : Option (List ℕ)) → Appends before before []

@@ -1,11 +1,9 @@
 -- What is answered at a state, and what a World that is asked answers and does.
-use Rattle.std.specs.Prelude.{◌≡◌, ◌⊎◌, Option, Some, None, ⊤, Bool, IsTrue}
+use Rattle.std.specs.Prelude.{◌≡◌, ◌⊎◌, ⊤, Bool, IsTrue}
 use Rattle.sqlite.specs.State.{HasCleanDisk}
 use Rattle.sqlite.specs.Store.{Ghosts}
 use Rattle.moo_text.specs.declared.reply.Answer.{Answer}
-use Rattle.moo_text.specs.declared.reply.Answer.TheVariants as answered
 use Rattle.moo_world.specs.Judge.{State, judge}
-use Rattle.moo_dump.specs.declared.seen.Look.{Look}
 use Rattle.moo_dump.specs.Look.{look_of}
 use Rattle.moo_store.specs.Answered.{reply_of, answer_of, next_of}
 use Rattle.moo_store.specs.Stand.{Stand, Works, Failed, StoreFailed, RunsBatch, AsksBatch}
@@ -14,13 +12,9 @@ use Rattle.moo_store.specs.World.{store_of, CrashLeaves, StandsAt}
 use Rattle.moo_request.specs.declared.asked.Asked.{Asked}
 use Rattle.moo_request.specs.declared.asked.Asked.TheVariants.{Refused, Calls, Seq, Object}
 use Rattle.moo_request.specs.declared.asked.Mode.TheVariants.{Run, Ask}
-use Rattle.moo_request.specs.declared.asked.Refusal.TheVariants.{BadRequest, Malformed}
-use Rattle.moo_http.specs.declared.outcome.Outcome.{Outcome}
-use Rattle.moo_http.specs.declared.outcome.Outcome.TheVariants as outcome
-
-abbrev pub looked : Option Look → Outcome
-looked None = outcome.NoObject
-looked (Some look) = outcome.Object look
+use Rattle.moo_responses.specs.declared.outcome.Outcome.{Outcome}
+use Rattle.moo_responses.specs.declared.outcome.Outcome.TheVariants as outcome
+use Rattle.moo_responses.specs.Outcomes.{looked, outcome_of}
 
 -- what comes of what is asked at a state, and the state that it leaves
 abbrev pub answer : State → Asked → Outcome × State
@@ -31,14 +25,6 @@ answer s Seq = (outcome.Seq s.seq, s)
 answer s (Object n) = (looked (look_of s.world n), s)
 
 -- ---- a World that stands somewhere
-
--- what comes of a batch by its answer
-abbrev pub outcome_of : Answer → Outcome
-outcome_of (answered.Replied reply) = outcome.Replied reply
-outcome_of answered.Fault = outcome.Fault
-outcome_of answered.Closed = outcome.Closed
-outcome_of (answered.Malformed number) = outcome.Refused (Malformed number)
-outcome_of answered.Truncated = outcome.Refused BadRequest
 
 -- a World that works tells what holds at its state; one that failed is closed
 abbrev pub tell : (State → Outcome) → Stand → Outcome

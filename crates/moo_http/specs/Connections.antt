@@ -7,7 +7,7 @@ use Rattle.moo_store.specs.Stand.{Stand}
 use Rattle.moo_store.specs.Kept.{World}
 use Rattle.moo_store.specs.World.{store_of, CrashLeaves, StandsAt}
 use Rattle.moo_request.specs.declared.asked.Asked.{Asked}
-use Rattle.moo_http.specs.declared.outcome.Outcome.{Outcome}
+use Rattle.moo_responses.specs.declared.outcome.Outcome.{Outcome}
 use Rattle.moo_http.specs.declared.service.ServiceFault.{ServiceFault}
 use Rattle.moo_http.specs.declared.service.ServiceFault.TheVariants.{Port}
 use Rattle.moo_http.specs.Answers.{Answers}

@@ -1,8 +1,3 @@
-pub mod Bodies
-pub mod Fields
-pub mod Bytes
-pub mod Responses
-pub mod Shown
 pub mod Faults
 pub mod Answers
 pub mod Settled

@@ -11,9 +11,9 @@ use Rattle.moo_request.specs.declared.request.Received.{Received}
 use Rattle.moo_request.specs.declared.request.Received.TheVariants.{Nothing, Request}
 use Rattle.moo_http.specs.declared.fault.ServeFault.{ServeFault}
 use Rattle.moo_http.specs.declared.fault.ServeFault.TheVariants.{Read, Write, OutOfMemory}
-use Rattle.moo_http.specs.declared.outcome.Outcome.{Outcome}
+use Rattle.moo_responses.specs.declared.outcome.Outcome.{Outcome}
 use Rattle.moo_http.specs.Answers.{Answers}
-use Rattle.moo_http.specs.Responses.{response_of, response_text}
+use Rattle.moo_responses.specs.Responses.{response_of, response_text}
 
 -- the answer to what is received: nothing where nothing came
 abbrev pub Gets : Stand → Received → List ℕ → Stand → Type 0

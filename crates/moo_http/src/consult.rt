@@ -4,12 +4,13 @@ ghost use Rattle.std.specs.Prelude.{◌≡◌, ◌∷◌, [], length, OnOk, Bool
 ghost use Rattle.moo_store.specs.Stand.{Stand};
 ghost use Rattle.sqlite.specs.State.{HasCleanDisk};
 ghost use Rattle.moo_store.specs.World.{store_of, StandsAt};
-ghost use Rattle.moo_http.specs.Answers.{Answers, Consulted, looked};
+ghost use Rattle.moo_responses.specs.Outcomes.{looked};
+ghost use Rattle.moo_http.specs.Answers.{Answers, Consulted};
 ghost use Rattle.moo_http.specs.Settled.{Settles, lost_by};
 
-use crate::outcome::Outcome;
 use moo_dump::Look;
 use moo_request::{Asked, Mode};
+use moo_responses::Outcome;
 use moo_store::{StoreFault, World};
 use moo_text::Reply;
 use moo_value::ObjNo;

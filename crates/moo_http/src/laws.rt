@@ -4,9 +4,9 @@ ghost use Rattle.std.specs.Prelude.{◌≡◌, ◌≢◌};
 ghost use Rattle.moo_world.specs.Judge.{State};
 ghost use Rattle.moo_store.specs.Stand.{Stand, Works, state_at};
 ghost use Rattle.moo_request.specs.declared.asked.Asked.{Asked};
-ghost use Rattle.moo_http.specs.declared.outcome.Outcome.{Outcome};
+ghost use Rattle.moo_responses.specs.declared.outcome.Outcome.{Outcome};
 ghost use Rattle.moo_http.specs.Answers.{Answers, answer};
-ghost use Rattle.moo_http.specs.Responses.{response_of};
+ghost use Rattle.moo_responses.specs.Responses.{response_of};
 
 /// Whatever a World that works answers but 503, is the defined answer at its state, and leaves the defined next state.
 pub fn answers_are_defined()

@@ -1,16 +1,10 @@
-//! The service over HTTP: one request a connection, and one answer, as JSON.
+//! The service over HTTP: one request a connection, asked of the World and answered.
 #![tactic(auto)]
 
-mod bodies;
 mod consult;
 mod fault;
 mod laws;
-mod limits;
 mod listen;
-mod look_body;
-mod outcome;
-mod respond;
-mod response;
 mod serve;
 mod service;
 mod write;
@@ -18,6 +12,5 @@ mod write;
 pub use fault::ServeFault;
 pub use laws::answers_are_defined;
 pub use listen::{Served, serve_on};
-pub use outcome::Outcome;
 pub use serve::serve_one;
 pub use service::{ServiceFault, serve_port};

@@ -1,33 +1,23 @@
 //! One request, answered.
 
-ghost use Rattle.std.specs.Prelude.{◌≡◌, ◌≢◌, IfOk, IfErr, string_bytes, Bool};
+ghost use Rattle.std.specs.Prelude.{◌≡◌, ◌≢◌, IfErr, Bool};
 ghost use Rattle.moo_store.specs.Stand.{Stand};
 ghost use Rattle.sqlite.specs.State.{HasCleanDisk};
 ghost use Rattle.moo_store.specs.World.{store_of, StandsAt};
-ghost use Rattle.moo_http.specs.declared.outcome.Outcome.{Outcome as AnOutcome};
+ghost use Rattle.moo_responses.specs.declared.outcome.Outcome.{Outcome};
 ghost use Rattle.moo_http.specs.Answers.{Consulted};
-ghost use Rattle.moo_http.specs.Responses.{response_of, response_text};
+ghost use Rattle.moo_responses.specs.Responses.{response_of, response_text};
 ghost use Rattle.moo_http.specs.Serves.{Written, Served};
 
 use crate::consult::consult;
 use crate::fault::ServeFault;
-use crate::outcome::Outcome;
-use crate::respond::respond;
-use crate::response::print_response;
 use crate::write::write_out;
 use moo_request::{Asked, Received, Routes, read_request};
+use moo_responses::answer_text;
 use moo_store::World;
 use sqlite::Alter;
-use std::alloc::{AllocError, Global};
+use std::alloc::Global;
 use std::io::{Read, Write};
-
-/// The bytes of the answer.
-fn answer_text(alloc: Global, outcome: &Outcome, is_head: bool) -> Result<String, AllocError>
-    ensures { IfOk result (λ text. string_bytes text ≡ response_text is_head (response_of outcome.now)) }
-{
-    let response = respond(alloc, outcome)?;
-    print_response(alloc, &response, is_head)
-}
 
 /// Does what is asked, and writes the answer.
 fn serve_asked<S: Alter + Drop, W: Write>(
@@ -37,7 +27,7 @@ fn serve_asked<S: Alter + Drop, W: Write>(
     writer: &mut W,
     world: &mut World<S>,
 ) -> Result<(), ServeFault>
-    ensures answered { (known : Bool) (stand : Stand) → StandsAt S.Store known world.old stand → (o : AnOutcome) × Consulted S.Store known stand world.new asked.now o
+    ensures answered { (known : Bool) (stand : Stand) → StandsAt S.Store known world.old stand → (o : Outcome) × Consulted S.Store known stand world.new asked.now o
         × Written result (W.contents writer.old) (W.contents writer.new) (response_text is_head (response_of o)) }
     ensures unwritten { IfErr result (λ fault. fault ≢ ServeFault.Write → writer.new ≡ writer.old) }
     ensures fault { IfErr result (λ fault. fault ≢ ServeFault.Read) }

@@ -1,0 +1,8 @@
+use Rattle.std.proofs.Common.{◌≡◌, map, take}
+use Rattle.serde_json.specs.Data.{string}
+use Rattle.serde_json.specs.View.{view}
+use Rattle.moo_responses.specs.Bodies.{object_text}
+use Rattle.moo_responses.proofs.look_body.objects_in.Given as goal
+
+abbrev pub invariant-loop-x : goal.invariant-loop-x
+invariant-loop-x l = map view l.list.items ≡ map string (map object_text (take l.x-index l.objects))

@@ -1,0 +1,6 @@
+pub mod Bodies
+pub mod Fields
+pub mod Bytes
+pub mod Outcomes
+pub mod Responses
+pub mod Shown

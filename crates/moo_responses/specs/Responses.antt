@@ -1,0 +1,56 @@
+-- The status and the body of each answer.
+use Rattle.std.specs.Prelude.{ℕ, List, Bool, Option, Some, None, codes}
+use Rattle.serde_json.specs.Data.{Data}
+use Rattle.serde_json.specs.Written.{compact_text}
+use Rattle.moo_value.specs.Literal.{name}
+use Rattle.moo_text.specs.declared.reply.Reply.{Reply}
+use Rattle.moo_text.specs.declared.reply.Reply.TheVariants as reply
+use Rattle.moo_request.specs.declared.asked.Method.{Method}
+use Rattle.moo_request.specs.declared.asked.Method.TheVariants.{Get, Post}
+use Rattle.moo_request.specs.declared.asked.Refusal.{Refusal}
+use Rattle.moo_request.specs.declared.asked.Refusal.TheVariants.{BadRequest, NotFound, NotAllowed, TooLarge, Malformed}
+use Rattle.moo_responses.specs.declared.outcome.Outcome.{Outcome}
+use Rattle.moo_responses.specs.declared.outcome.Outcome.TheVariants.{Refused, Closed, Fault, NoMemory, NoObject, Replied, Seq, Object}
+use Rattle.moo_responses.specs.Bodies.{error_body, call_body, stale_body, seq_body, accepted_body, look_body}
+use Rattle.moo_responses.specs.Bytes.{text_of}
+
+-- a status, the method to name in a line `allow`, and a body
+pub record Response : Type 0 where
+  pub status : ℕ
+  pub allow : Option (List ℕ)
+  pub body : Data
+
+abbrev pub plain : ℕ → Data → Response
+plain status body = record { status = status; allow = None; body = body }
+
+abbrev pub method_name : Method → List ℕ
+method_name Get = codes "GET"
+method_name Post = codes "POST"
+
+abbrev pub refusal_response : Refusal → Response
+refusal_response BadRequest = plain 400 (error_body (codes "bad request"))
+refusal_response NotFound = plain 404 (error_body (codes "not found"))
+refusal_response (NotAllowed method) = record { status = 405; allow = Some (method_name method); body = error_body (codes "method not allowed") }
+refusal_response TooLarge = plain 413 (error_body (codes "too large"))
+refusal_response (Malformed call) = plain 400 (call_body call (codes "malformed"))
+
+abbrev pub reply_response : Reply → Response
+reply_response reply.NoMemory = plain 503 (error_body (codes "nomemory"))
+reply_response (reply.Stale seq) = plain 409 (stale_body seq)
+reply_response (reply.Refused call code) = plain 409 (call_body call (name code))
+reply_response (reply.Full call) = plain 409 (call_body call (codes "full"))
+reply_response (reply.Accepted seq answers) = plain 200 (accepted_body answers seq)
+
+abbrev pub response_of : Outcome → Response
+response_of (Refused refusal) = refusal_response refusal
+response_of Closed = plain 503 (error_body (codes "closed"))
+response_of Fault = plain 503 (error_body (codes "fault"))
+response_of NoMemory = plain 503 (error_body (codes "nomemory"))
+response_of NoObject = plain 404 (error_body (codes "E_INVARG"))
+response_of (Replied reply) = reply_response reply
+response_of (Seq seq) = plain 200 (seq_body seq)
+response_of (Object look) = plain 200 (look_body look)
+
+-- the bytes of a response; to HEAD the body is left off
+abbrev pub response_text : Bool → Response → List ℕ
+response_text is_head r = text_of is_head r.status r.allow (compact_text r.body)

@@ -1,0 +1,141 @@
+//! The status and the body of what came of a request.
+
+ghost use Rattle.std.specs.Prelude.{◌≡◌, None, IfOk};
+ghost use Rattle.moo_responses.specs.Responses.{plain, method_name, refusal_response, reply_response, response_of};
+ghost use Rattle.moo_responses.specs.Bodies.{error_body, call_body, stale_body, seq_body, accepted_body, look_body};
+ghost use Rattle.moo_responses.specs.Shown.{Shows};
+
+use crate::bodies::{accepted_text, call_text, error_text, seq_text, stale_text};
+use crate::look_body::look_text;
+use crate::outcome::Outcome;
+use crate::response::Response;
+use http::StatusCode;
+use moo_dump::Look;
+use moo_request::{Method, Refusal};
+use moo_text::Reply;
+use moo_world::Answers;
+use std::alloc::{AllocError, Global};
+
+fn name_of(method: Method) -> &'static str
+    ensures { result.now ≡ method_name method }
+{
+    match method {
+        Method::Get => "GET",
+        Method::Post => "POST",
+    }
+}
+
+/// A response that names no method.
+fn with_body(status: StatusCode, body: String) -> Response
+    ensures status { result.status ≡ status }
+    ensures allow { result.allow ≡ None }
+    ensures body { result.body ≡ body }
+{
+    Response {
+        status,
+        allow: None,
+        body,
+    }
+}
+
+/// A word under `error`.
+fn error(alloc: Global, status: StatusCode, word: &str) -> Result<Response, AllocError>
+    ensures { IfOk result (λ r. Shows r (plain status (error_body word.now))) }
+{
+    let body = error_text(alloc, word)?;
+    Ok(with_body(status, body))
+}
+
+/// A call, and what befell it.
+fn call_error(
+    alloc: Global,
+    status: StatusCode,
+    call: u32,
+    word: &str,
+) -> Result<Response, AllocError>
+    ensures { IfOk result (λ r. Shows r (plain status (call_body call word.now))) }
+{
+    let body = call_text(alloc, call, word)?;
+    Ok(with_body(status, body))
+}
+
+fn stale(alloc: Global, seq: u64) -> Result<Response, AllocError>
+    ensures { IfOk result (λ r. Shows r (plain 409 (stale_body seq))) }
+{
+    let body = stale_text(alloc, seq)?;
+    Ok(with_body(StatusCode::CONFLICT, body))
+}
+
+fn number(alloc: Global, seq: u64) -> Result<Response, AllocError>
+    ensures { IfOk result (λ r. Shows r (plain 200 (seq_body seq))) }
+{
+    let body = seq_text(alloc, seq)?;
+    Ok(with_body(StatusCode::OK, body))
+}
+
+fn accepted(alloc: Global, answers: &Answers, seq: u64) -> Result<Response, AllocError>
+    ensures { IfOk result (λ r. Shows r (plain 200 (accepted_body answers.now seq))) }
+{
+    let body = accepted_text(alloc, answers.items(), seq)?;
+    Ok(with_body(StatusCode::OK, body))
+}
+
+fn object(alloc: Global, look: &Look) -> Result<Response, AllocError>
+    ensures { IfOk result (λ r. Shows r (plain 200 (look_body look.now))) }
+{
+    let body = look_text(alloc, look)?;
+    Ok(with_body(StatusCode::OK, body))
+}
+
+fn not_allowed(alloc: Global, method: Method) -> Result<Response, AllocError>
+    ensures { IfOk result (λ r. Shows r (refusal_response (Refusal.NotAllowed method))) }
+{
+    let body = error_text(alloc, "method not allowed")?;
+    Ok(Response {
+        status: StatusCode::METHOD_NOT_ALLOWED,
+        allow: Some(name_of(method)),
+        body,
+    })
+}
+
+fn refuse(alloc: Global, refusal: Refusal) -> Result<Response, AllocError>
+    ensures { IfOk result (λ r. Shows r (refusal_response refusal)) }
+{
+    match refusal {
+        Refusal::BadRequest => error(alloc, StatusCode::BAD_REQUEST, "bad request"),
+        Refusal::NotFound => error(alloc, StatusCode::NOT_FOUND, "not found"),
+        Refusal::NotAllowed(method) => not_allowed(alloc, method),
+        Refusal::TooLarge => error(alloc, StatusCode::PAYLOAD_TOO_LARGE, "too large"),
+        Refusal::Malformed(call) => call_error(alloc, StatusCode::BAD_REQUEST, call, "malformed"),
+    }
+}
+
+fn reply_to(alloc: Global, reply: &Reply) -> Result<Response, AllocError>
+    ensures { IfOk result (λ r. Shows r (reply_response reply.now)) }
+{
+    match reply {
+        Reply::NoMemory => error(alloc, StatusCode::SERVICE_UNAVAILABLE, "nomemory"),
+        Reply::Stale { seq } => stale(alloc, *seq),
+        Reply::Refused { call, code } => {
+            call_error(alloc, StatusCode::CONFLICT, *call, code.name())
+        }
+        Reply::Full { call } => call_error(alloc, StatusCode::CONFLICT, *call, "full"),
+        Reply::Accepted { seq, answers } => accepted(alloc, answers, *seq),
+    }
+}
+
+/// The response to what came of a request.
+pub(crate) fn respond(alloc: Global, outcome: &Outcome) -> Result<Response, AllocError>
+    ensures { IfOk result (λ r. Shows r (response_of outcome.now)) }
+{
+    match outcome {
+        Outcome::Refused(refusal) => refuse(alloc, *refusal),
+        Outcome::Closed => error(alloc, StatusCode::SERVICE_UNAVAILABLE, "closed"),
+        Outcome::Fault => error(alloc, StatusCode::SERVICE_UNAVAILABLE, "fault"),
+        Outcome::NoMemory => error(alloc, StatusCode::SERVICE_UNAVAILABLE, "nomemory"),
+        Outcome::NoObject => error(alloc, StatusCode::NOT_FOUND, "E_INVARG"),
+        Outcome::Replied(reply) => reply_to(alloc, reply),
+        Outcome::Seq(seq) => number(alloc, *seq),
+        Outcome::Object(look) => object(alloc, look),
+    }
+}
