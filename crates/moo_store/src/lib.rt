@@ -13,8 +13,6 @@ mod fault;
 pub mod laws;
 mod looking;
 mod migrating;
-#[cfg(test)]
-mod mismatch_tests;
 mod output;
 mod printing;
 mod reading;

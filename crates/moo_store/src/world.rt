@@ -59,8 +59,9 @@ impl<S: Alter + Drop> World<S> {
     ghost use Rattle.moo_store.specs.World.{store_of, ShowsItsRows, IsAt, StandsFor, StandsAt, CrashLeaves, Left, LeftOrNext, MatchStore};
     ghost use Rattle.moo_store.specs.declared.fault.StoreFault.TheVariants.{Store, OutOfMemory, Closed};
 
-    /// The World of good rows. It stands for them where the tables of the connection show them.
-    pub(crate) fn over(alloc: Global, connection: Connection<S>, rows: Flat) -> World<S>
+    /// The World of good rows, over a connection in no transaction. It stands for them where the tables of the connection
+    /// show them, which `check` asks: nothing is read or written here. `create_in` and `adopt` make Worlds whose tables do.
+    pub fn over(alloc: Global, connection: Connection<S>, rows: Flat) -> World<S>
         requires outside { connection.in_transaction ≡ false }
         requires good { IsGood rows.maps }
         ensures connection { result.connection ≡ connection }

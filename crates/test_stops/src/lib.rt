@@ -6,6 +6,8 @@ mod files;
 #[cfg(test)]
 mod migration;
 #[cfg(test)]
+mod mismatch;
+#[cfg(test)]
 mod rounds;
 #[cfg(test)]
 mod stops;
