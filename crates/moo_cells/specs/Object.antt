@@ -8,7 +8,7 @@ use Rattle.moo_value.specs.declared.value.Value.TheVariants.{Obj, List as a_list
 use Rattle.moo_value.specs.Value.{gather}
 use Rattle.moo_value.specs.Literal.{Spells}
 use Rattle.moo_rows.specs.declared.row.ObjRow.{ObjRow}
-use Rattle.moo_tables.specs.Cells.{flag}
+use Rattle.moo_tables.specs.Cells.{flag, object_row_cells}
 use Rattle.moo_cells.specs.declared.object.Flags.{Flags}
 
 -- a list of objects, as a value
@@ -19,11 +19,6 @@ object_list objects = a_list (gather (map Obj objects))
 abbrev pub ShowsAccept : List ℕ → Option (List ObjNo) → Type 0
 ShowsAccept text None = text ≡ []
 ShowsAccept text (Some objects) = Spells (object_list objects) text
-
--- the cells of a row, in the order of the columns, with a text for its accept list
-abbrev pub object_row_cells : ObjNo → ObjRow → List ℕ → Row
-object_row_cells n row accept =
-    Number n.0 ∷ Text row.name ∷ Number row.owner.0 ∷ Number row.parent.0 ∷ Number row.location.0 ∷ flag row.player ∷ flag row.programmer ∷ flag row.wizard ∷ flag row.r ∷ flag row.w ∷ flag row.f ∷ Text accept ∷ []
 
 -- the cells show the row
 abbrev pub ShowsObject : ObjNo → Row → ObjRow → Type 0

@@ -6,7 +6,7 @@ use Rattle.moo_value.specs.declared.value.ObjNo.{ObjNo}
 use Rattle.moo_rows.specs.declared.row.Head.{Head}
 use Rattle.moo_rows.specs.declared.row.PropId.{PropId}
 use Rattle.moo_rows.specs.Maps.{Maps}
-use Rattle.moo_tables.specs.declared.cells.SlotCells.{SlotCells}
+use Rattle.moo_tables.specs.declared.slot.SlotCells.{SlotCells}
 use Rattle.moo_tables.specs.declared.version.Version.TheVariants.{First}
 use Rattle.moo_tables.specs.Tables.{Tables, tables_in, first_schema}
 use Rattle.moo_tables.specs.Cells.{migrated}

@@ -23,7 +23,7 @@ use Rattle.moo_tables.specs.Tables.{Tables, same_number, same_pair, numbered_wit
 use Rattle.moo_tables.specs.Cells.{head_cells, object_cells, prop_cells, slot_cells, verb_cells, petition_cells, petition_head_cells, tables_with, migrated}
 use Rattle.moo_tables.specs.Inside.{IsCurrent}
 use Rattle.moo_tables.specs.declared.cells.CellChanges.{CellChanges}
-use Rattle.moo_tables.specs.declared.cells.SlotCells.{SlotCells}
+use Rattle.moo_tables.specs.declared.slot.SlotCells.{SlotCells}
 use Rattle.moo_draft.specs.declared.changes.Changes.{Changes}
 use Rattle.moo_draft.specs.Changes.{AreChanges}
 use Rattle.moo_cells.specs.Shows.{ShowsObject, ShowsProp, ShowsSlot, ShowsVerb, ShowsPetition, ShowsOrNone, ShowsCounter, ShowsMaps, ShowsRows}

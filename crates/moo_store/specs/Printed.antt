@@ -11,11 +11,11 @@ use Rattle.moo_rows.specs.declared.row.VerbId.{VerbId}
 use Rattle.moo_rows.specs.declared.row.VerbRow.{VerbRow}
 use Rattle.moo_rows.specs.declared.row.PetitionId.{PetitionId}
 use Rattle.moo_rows.specs.declared.row.PetitionRow.{PetitionRow}
-use Rattle.moo_tables.specs.declared.cells.ObjectCells.{ObjectCells}
-use Rattle.moo_tables.specs.declared.cells.PropCells.{PropCells}
-use Rattle.moo_tables.specs.declared.cells.SlotCells.{SlotCells}
-use Rattle.moo_tables.specs.declared.cells.VerbCells.{VerbCells}
-use Rattle.moo_tables.specs.declared.cells.PetitionCells.{PetitionCells}
+use Rattle.moo_tables.specs.declared.object.ObjectCells.{ObjectCells}
+use Rattle.moo_tables.specs.declared.prop.PropCells.{PropCells}
+use Rattle.moo_tables.specs.declared.slot.SlotCells.{SlotCells}
+use Rattle.moo_tables.specs.declared.verb.VerbCells.{VerbCells}
+use Rattle.moo_tables.specs.declared.petition.PetitionCells.{PetitionCells}
 use Rattle.moo_tables.specs.declared.cells.CellChanges.{CellChanges}
 use Rattle.moo_tables.specs.declared.version.Version.TheVariants.{Second}
 use Rattle.moo_tables.specs.Cells.{object_cells, prop_cells, slot_cells, verb_cells, petition_cells}

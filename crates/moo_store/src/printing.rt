@@ -7,8 +7,8 @@ ghost use Rattle.moo_store.specs.Printed.{PrintEach, PrintsSlot, Prints, all_of}
 
 use moo_draft::{ChangeList, Changes};
 use moo_rows::{
-    Flat, ObjList, ObjRow, PetitionId, PetitionRow, PropId, PropRow, SlotRow, SlotState, VerbId,
-    VerbRow, each_slot,
+    Flat, ObjList, ObjRow, PetitionId, PetitionRow, PropId, PropRow, Row, SlotRow, SlotState,
+    VerbId, VerbRow, each_slot,
 };
 use moo_tables::{CellChanges, ObjectCells, PetitionCells, PropCells, SlotCells, VerbCells};
 use moo_value::{MooStr, ObjNo, Value, ValueList, print_literal};
@@ -77,21 +77,9 @@ impl Print<ObjNo, ObjectCells> for ObjRow {
     ghost prints = { PrintsObject };
 
     fn cells(&self, alloc: Global) -> Result<ObjectCells, AllocError> {
-        let name = text_cell(alloc, &self.name)?;
         let accept = accept_cell(alloc, &self.accept)?;
-        Ok(ObjectCells {
-            name,
-            owner: self.owner,
-            parent: self.parent,
-            location: self.location,
-            player: self.player,
-            programmer: self.programmer,
-            wizard: self.wizard,
-            r: self.r,
-            w: self.w,
-            f: self.f,
-            accept,
-        })
+        let row = self.copy(alloc)?;
+        Ok(ObjectCells { row, accept })
     }
 }
 
