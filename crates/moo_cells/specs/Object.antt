@@ -1,7 +1,6 @@
 -- The columns of the table of objects.
-use Rattle.std.specs.Prelude.{◌≡◌, ℕ, List, [], ◌∷◌, map, Option, Some, None}
+use Rattle.std.specs.Prelude.{◌≡◌, ℕ, List, [], map, Option, Some, None}
 use Rattle.sqlite.specs.Order.{Row, column}
-use Rattle.sqlite.specs.declared.types.Value.TheVariants.{Int as Number, Text}
 use Rattle.moo_value.specs.declared.value.ObjNo.{ObjNo}
 use Rattle.moo_value.specs.declared.value.Value.{Value}
 use Rattle.moo_value.specs.declared.value.Value.TheVariants.{Obj, List as a_list}
