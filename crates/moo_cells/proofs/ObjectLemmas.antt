@@ -7,7 +7,8 @@ use Rattle.moo_value.specs.declared.value.ObjNo.{ObjNo}
 use Rattle.moo_rows.specs.declared.row.ObjRow.{ObjRow}
 use Rattle.moo_world.specs.World.{row_fits}
 use Rattle.moo_cells.specs.declared.object.Flags.{Flags}
-use Rattle.moo_cells.specs.Object.{HasFlags, ShowsAccept, ShowsObject, object_row_cells}
+use Rattle.moo_cells.specs.Object.{HasFlags, ShowsAccept, ShowsObject}
+use Rattle.moo_tables.specs.Object.{object_row_cells}
 use Rattle.moo_cells.specs.Reading.{IsRead, ReadsObject}
 use Rattle.moo_cells.proofs.Columns.{all_columns}
 use Rattle.moo_cells.proofs.OneCells.{flag_inj, accept_one, text_at}

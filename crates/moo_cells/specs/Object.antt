@@ -7,7 +7,8 @@ use Rattle.moo_value.specs.declared.value.Value.TheVariants.{Obj, List as a_list
 use Rattle.moo_value.specs.Value.{gather}
 use Rattle.moo_value.specs.Literal.{Spells}
 use Rattle.moo_rows.specs.declared.row.ObjRow.{ObjRow}
-use Rattle.moo_tables.specs.Cells.{flag, object_row_cells}
+use Rattle.moo_tables.specs.Cells.{flag}
+use Rattle.moo_tables.specs.Object.{object_row_cells}
 use Rattle.moo_cells.specs.declared.object.Flags.{Flags}
 
 -- a list of objects, as a value
