@@ -70,7 +70,7 @@ fn named_call<R: Rows>(
 /// One call on the world, of the programmer's. E_PERM where the programmer is no object; then E_ARGS and E_TYPE; then the errors of the
 /// call. At an error, and where a number is wanted and none is left (Full), the rows are as they were. After want of memory they may be
 /// half changed, and the caller drops them.
-#[tactic(auto, unfolding(moo_world::specs::Step::step))]
+#[tactic(auto, unfolding(moo_world::specs::Calls::step))]
 pub fn step<R: Rows>(
     rows: &mut R,
     alloc: Global,
@@ -85,7 +85,7 @@ pub fn step<R: Rows>(
 }
 
 /// The same of a call whose name and arguments stand apart.
-#[tactic(auto, unfolding(moo_world::specs::Step::step))]
+#[tactic(auto, unfolding(moo_world::specs::Calls::step))]
 pub fn step_named<R: Rows>(
     rows: &mut R,
     alloc: Global,
