@@ -4,7 +4,7 @@
 here=$(cd "$(dirname "$0")" && pwd)
 . "$here/support/expect.sh"
 
-# says NAME STATUS TEXT WORDS..: TEXT stands in what is written
+# says NAME STATUS TEXT WORDS..: TEXT stands in what is written, wherever its lines are broken
 says() {
     name=$1 wanted_status=$2 text=$3
     shift 3
@@ -12,7 +12,7 @@ says() {
     status=$?
     if [ "$status" -ne "$wanted_status" ]; then
         failed "$name" "status $status and not $wanted_status"
-    elif ! grep -qF -- "$text" written; then
+    elif ! tr -s ' \n' ' ' <written | grep -qF -- "$text"; then
         failed "$name" "it wrote $(head -c 300 written)"
     else
         passed "$name"

@@ -1,6 +1,6 @@
 """Batches, and the rows that each has to change: for tables.py. The head of a changed world is given, and of each table the rows that go
 and the rows that come; a row that is replaced does both. Nothing else may be written."""
-from columns import FLAGS, OPENING_OBJECTS, thing
+from columns import OPENING_OBJECTS, thing
 from worlds import PETITIONS, TREE, VERBS
 
 # The table that is made, and neither read nor written behind that; and those of petitions where nobody has asked yet.
@@ -100,8 +100,7 @@ CHANGES = [
     ("a player is marked", "tree", ["set_player_flag(#4, 1)"], "0", (7, 4, 1), {"object": [FOUR]}, {"object": [thing(4, player=1)]}),
     *(
         (f"the mark {flag} is set", "tree", [f'set(#4, "{flag}", 1)'], "0", (7, 4, 1), {"object": [FOUR]}, {"object": [thing(4, **{flag: 1})]})
-        for flag in FLAGS
-        if flag != "player"
+        for flag in ("programmer", "wizard", "r", "w", "f")
     ),
     ("an accept list is set", "tree", ["set_accept(#4, {#1,#5})"], "0", (7, 4, 1), {"object": [FOUR]}, {"object": [thing(4, accept="{#1, #5}")]}),
     ("an empty one is none but a list", "tree", ["set_accept(#4, {})"], "0", (7, 4, 1), {"object": [FOUR]}, {"object": [thing(4, accept="{}")]}),
