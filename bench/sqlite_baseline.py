@@ -13,7 +13,7 @@ import time
 
 sys.dont_write_bytecode = True
 sys.path.insert(0, os.path.join(os.path.dirname(os.path.abspath(__file__)), "..", "tests", "support"))
-from columns import OPENING_OBJECTS, PLAIN, thing  # noqa: E402
+from columns import FIRST_TABLES, OPENING_OBJECTS, PLAIN, object_table, thing  # noqa: E402
 
 PRAGMAS = [
     "PRAGMA page_size = 4096",
@@ -23,24 +23,10 @@ PRAGMAS = [
     "PRAGMA wal_autocheckpoint = 1000",
 ]
 
-FIRST_TABLES = [
-    "CREATE TABLE head (id INTEGER NOT NULL PRIMARY KEY, version INTEGER NOT NULL, seq INTEGER NOT NULL, top INTEGER NOT NULL,"
-    " next_prop INTEGER NOT NULL, next_verb INTEGER NOT NULL) STRICT",
-    "CREATE TABLE object (n INTEGER NOT NULL PRIMARY KEY, name TEXT NOT NULL, owner INTEGER NOT NULL, parent INTEGER NOT NULL,"
-    " location INTEGER NOT NULL, player INTEGER NOT NULL, programmer INTEGER NOT NULL, wizard INTEGER NOT NULL,"
-    " r INTEGER NOT NULL, w INTEGER NOT NULL, f INTEGER NOT NULL, accept TEXT NOT NULL) STRICT",
-    "CREATE TABLE prop (id INTEGER NOT NULL PRIMARY KEY, definer INTEGER NOT NULL, name TEXT NOT NULL) STRICT",
-    "CREATE TABLE slot (object INTEGER NOT NULL, prop INTEGER NOT NULL, owner INTEGER NOT NULL, bits TEXT NOT NULL,"
-    " value TEXT NOT NULL, PRIMARY KEY (object, prop)) STRICT",
-    "CREATE TABLE verb (object INTEGER NOT NULL, id INTEGER NOT NULL, names TEXT NOT NULL, owner INTEGER NOT NULL,"
-    " bits TEXT NOT NULL, dobj TEXT NOT NULL, prep TEXT NOT NULL, iobj TEXT NOT NULL, PRIMARY KEY (object, id)) STRICT",
-]
-OBJECT_COLUMNS = [f"{column} {'TEXT' if isinstance(cell, str) else 'INTEGER'} NOT NULL" for column, cell in PLAIN.items()]
-OBJECT_COLUMNS[0] += " PRIMARY KEY"
 FIRST_HEAD, _, *FIRST_OTHERS = FIRST_TABLES
 TABLES = [
     FIRST_HEAD,
-    f"CREATE TABLE object ({', '.join(OBJECT_COLUMNS)}) STRICT",
+    object_table(PLAIN),
     *FIRST_OTHERS,
     "CREATE TABLE slot2 (object INTEGER NOT NULL, prop INTEGER NOT NULL, owner INTEGER NOT NULL, bits INTEGER NOT NULL,"
     " value TEXT NOT NULL, PRIMARY KEY (object, prop)) STRICT",

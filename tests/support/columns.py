@@ -20,6 +20,25 @@ TABLES = {
 FIRST_OBJECT = "n name owner parent location player programmer wizard r w f accept".split()
 
 
+def object_table(columns):
+    """The statement that makes a table of objects with these columns."""
+    key, *others = [f"{column} {'TEXT' if column in ('name', 'accept') else 'INTEGER'} NOT NULL" for column in columns]
+    return f"CREATE TABLE object ({', '.join([f'{key} PRIMARY KEY', *others])}) STRICT"
+
+
+# What makes the tables of the first version.
+FIRST_TABLES = [
+    "CREATE TABLE head (id INTEGER NOT NULL PRIMARY KEY, version INTEGER NOT NULL, seq INTEGER NOT NULL, top INTEGER NOT NULL, "
+    "next_prop INTEGER NOT NULL, next_verb INTEGER NOT NULL) STRICT",
+    object_table(FIRST_OBJECT),
+    "CREATE TABLE prop (id INTEGER NOT NULL PRIMARY KEY, definer INTEGER NOT NULL, name TEXT NOT NULL) STRICT",
+    "CREATE TABLE slot (object INTEGER NOT NULL, prop INTEGER NOT NULL, owner INTEGER NOT NULL, bits TEXT NOT NULL, value TEXT NOT NULL, "
+    "PRIMARY KEY (object, prop)) STRICT",
+    "CREATE TABLE verb (object INTEGER NOT NULL, id INTEGER NOT NULL, names TEXT NOT NULL, owner INTEGER NOT NULL, bits TEXT NOT NULL, "
+    "dobj TEXT NOT NULL, prep TEXT NOT NULL, iobj TEXT NOT NULL, PRIMARY KEY (object, id)) STRICT",
+]
+
+
 def thing(number, name="", **cells):
     """The row of an object that is plain but for these cells."""
     row = PLAIN | {"n": number, "name": name} | cells

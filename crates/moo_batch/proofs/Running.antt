@@ -10,7 +10,7 @@ use Rattle.moo_world.specs.Rows.{IsGood}
 use Rattle.moo_world.specs.Requests.{State, Effect, Answered, Erred, NoneLeft, request}
 use Rattle.moo_world.specs.Judge.{Ran, Through, FailedAt, FullAt, after_one, run_calls}
 use Rattle.moo_world.specs.Names.{is_grant}
-use Rattle.moo_petitions.specs.Outcomes.{state_in, KeepsRows}
+use Rattle.moo_petitions.specs.Outcomes.{state_in, KeepsGoodRows}
 use Rattle.moo_batch.specs.Judge.{HaveKept}
 
 -- answers, and then what the later calls come to
@@ -60,7 +60,7 @@ first_is s p call calls o e = ap (first_of s p calls) e
 
 module _ {before : Held} {p : ObjNo} {all : List Call} {answers : List Value} {now : Held} where
   pub run-one_more : (call : Call) (left : List Call) (v : Value) (more : List Value) (next : Held) → more ≡ answers ++ v ∷ [] → HaveRunSoFar before p all answers now (call ∷ left)
-      → request (state_in now) p call ≡ Answered v (state_in next) → KeepsRows (CallKeepsNumbers (is_grant call.name) p call.args) now next → HaveRunSoFar before p all more next left
+      → request (state_in now) p call ≡ Answered v (state_in next) → KeepsGoodRows (CallKeepsNumbers (is_grant call.name) p call.args) now next → HaveRunSoFar before p all more next left
   unfolding first_of
   run-one_more call left v more next e h done kept = record {
     run = h.run ∙ ap (after_all answers) (first_is (state_in now) p call left (Answered v (state_in next)) done)

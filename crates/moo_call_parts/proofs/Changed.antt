@@ -6,18 +6,18 @@ use Rattle.moo_value.specs.declared.value.ObjNo.{ObjNo}
 use Rattle.moo_rows.specs.declared.row.ObjRow.{ObjRow}
 use Rattle.moo_rows.specs.Maps.{Maps, Held, wrote}
 use Rattle.moo_world.specs.Objects.{same_object}
-use Rattle.moo_world.specs.Rows.{LookUps, world_shown, look_ups, with_row as with_row_put, AreSound, IsSound, IsGood}
+use Rattle.moo_world.specs.Rows.{LookUps, world_shown, look_ups, with_object_row as with_row_put, AreSound, IsSound, IsGood}
 use Rattle.moo_world.specs.World.{IsWellFormed}
 use Rattle.moo_world.specs.Fields.{with_row}
-use Rattle.moo_world.proofs.Shown.RowLaws.{world_shown-with_row}
+use Rattle.moo_world.proofs.Shown.RowLaws.{world_shown-with_object_row}
 use Rattle.moo_world.proofs.Shown.MapLaws.{look_ups-put_object}
 use Rattle.moo_call_parts.specs.Outcomes.{world_in}
 use Rattle.moo_world.specs.Keeps.{Keeps, beside_world}
 use Rattle.moo_world.proofs.Shown.Beside.{petitions_stay}
 use Rattle.moo_world.proofs.Shown.NumbersKept.{numbers_same}
 
-AreSound-with_row : (m : LookUps) (x : ObjNo) (row : ObjRow) → AreSound m → AreSound (with_row_put m x row)
-AreSound-with_row m x row s = record {
+AreSound-with_object_row : (m : LookUps) (x : ObjNo) (row : ObjRow) → AreSound m → AreSound (with_row_put m x row)
+AreSound-with_object_row m x row s = record {
   props_below = s.props_below;
   definers = λ id p e. still p.definer (s.definers id p e);
   slots = λ y id e. (still y (s.slots y id e).0, (s.slots y id e).1);
@@ -33,7 +33,7 @@ AreSound-with_row m x row s = record {
         by false = e
 
 IsSound-put : (m : Maps) (x : ObjNo) (row : ObjRow) → IsSound m → IsSound (record m { objects = insert m.objects x row })
-IsSound-put m x row s = subst AreSound (sym (look_ups-put_object m x row)) (AreSound-with_row (look_ups m) x row s)
+IsSound-put m x row s = subst AreSound (sym (look_ups-put_object m x row)) (AreSound-with_object_row (look_ups m) x row s)
 
 module _ (old new : Held) (x : ObjNo) (row put : ObjRow) (change : ObjRow → ObjRow) (here : get old.maps.objects x ≡ Some row) (changed : put ≡ change row) (is_put : new ≡ wrote old (record (old.maps) { objects = insert old.maps.objects x put })) where
   -- where a changed row was put for its object, the world is the one with that row changed
@@ -41,7 +41,7 @@ module _ (old new : Held) (x : ObjNo) (row put : ObjRow) (change : ObjRow → Ob
   world_in-changed =
       ap world_in is_put
       ∙ ap world_shown (look_ups-put_object old.maps x put ∙ ap (with_row_put (look_ups old.maps) x) changed)
-      ∙ world_shown-with_row (look_ups old.maps) x row change here
+      ∙ world_shown-with_object_row (look_ups old.maps) x row change here
 
   -- and the rows are good ones, where that world is well formed
   beside : beside_world new.maps ≡ beside_world old.maps

@@ -1,7 +1,7 @@
 //! Writing one field of an object.
 
 ghost use Rattle.std.specs.Prelude.{◌≡◌, true, OnOk};
-ghost use Rattle.moo_world.specs.Fields.{field_changed, is_allowed};
+ghost use Rattle.moo_world.specs.Fields.{field_changed, is_allowed_change};
 ghost use Rattle.moo_world.specs.Keeps.{Keeps};
 ghost use Rattle.moo_world.specs.Rows.{IsGood};
 ghost use Rattle.moo_world.specs.World.{is_object};
@@ -24,7 +24,7 @@ pub fn change_row<R: Rows>(
 ) -> Result<(), AllocError>
     requires good { IsGood (R.held rows.old).maps }
     requires there { is_object (world_in (R.held rows.old)) x ≡ true }
-    requires allowed { is_allowed (world_in (R.held rows.old)) x change ≡ true }
+    requires allowed { is_allowed_change (world_in (R.held rows.old)) x change ≡ true }
     ensures world { OnOk result (world_in (R.held rows.new) ≡ field_changed (world_in (R.held rows.old)) x change) }
     ensures kept { OnOk result (Keeps (R.held rows.old) (R.held rows.new)) }
 {

@@ -30,7 +30,7 @@ use Rattle.moo_props.proofs.Walked.{slot_here}
 use Rattle.moo_props.specs.Names.{name_of}
 use Rattle.moo_damage.specs.declared.trees.Link.{Link}
 use Rattle.moo_damage.specs.declared.trees.Link.TheVariants.{Parent, Place}
-use Rattle.moo_damage.specs.Damage.{next_of, link_of, Ends}
+use Rattle.moo_damage.specs.Damage.{next_of, link_of, HasEnd}
 use Rattle.moo_damage.specs.Limits.{AreWithin}
 use Rattle.moo_damage.proofs.Clean.{clean}
 use Rattle.moo_cells.specs.Head.{HeadFits, IsCounter}
@@ -96,7 +96,7 @@ module _ (m : Maps) (good : IsGood m) where
       go None e is = absurd (none_some climbs.1 (ap (option_map (link_of link)) (sym e) ∙ is))
       go (Some row) e is = object_number x row e
 
-  link_number : (link : Link) (x : ObjNo) (row : ObjRow) → get m.objects x ≡ Some row → Ends link m x → is_number (link_of link row) ≡ true
+  link_number : (link : Link) (x : ObjNo) (row : ObjRow) → get m.objects x ≡ Some row → HasEnd link m x → is_number (link_of link row) ≡ true
   link_number link x row e ends = go ends.0 ends.1
     where
       go : (l : List ObjNo) → Climbs (next_of link m) x l → is_number (link_of link row) ≡ true

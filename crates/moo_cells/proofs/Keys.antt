@@ -12,7 +12,7 @@ use Rattle.sqlite.specs.Order.{Row, column, value_cmp}
 use Rattle.sqlite.specs.Tree.{rowid, has_rowid}
 use Rattle.sqlite_value.proofs.OrderLemmas.{value_cmp_total, value_cmp-Int}
 use Rattle.moo_tables.specs.declared.version.Version.{Version}
-use Rattle.moo_tables.specs.Listing.{begins_with, IsBelow}
+use Rattle.moo_tables.specs.Listing.{has_key_pair, IsRowBelow}
 use Rattle.moo_cells.specs.Reading.{ReadsObject, ReadsProp, ReadsSlot, ReadsVerb, ReadsPetition}
 use Rattle.moo_cells.specs.Holding.{object_number, prop_number, slot_number, verb_number, petition_number, IsLess, IsPairLess}
 use Rattle.moo_cells.proofs.Table.{Bears, tied}
@@ -94,7 +94,7 @@ petitions_bear = record {
 
 -- ---- two numbers
 
-pair_ties : (r s : Row) (j k : ℤ × ℤ) → begins_with j r ≡ true → begins_with k s ≡ true → ordering_then (int_cmp j.0 k.0) (int_cmp j.1 k.1) ≡ ordering_then (value_cmp (column r 0) (column s 0)) (value_cmp (column r 1) (column s 1))
+pair_ties : (r s : Row) (j k : ℤ × ℤ) → has_key_pair j r ≡ true → has_key_pair k s ≡ true → ordering_then (int_cmp j.0 k.0) (int_cmp j.1 k.1) ≡ ordering_then (value_cmp (column r 0) (column s 0)) (value_cmp (column r 1) (column s 1))
 pair_ties r s j k p q =
     let a = and_parts _ _ p in
     let b = and_parts _ _ q in
@@ -121,32 +121,32 @@ pair_irreflexive : (j k : ℤ × ℤ) → IsPairLess j k → j.0 ≡ k.0 → j.1
 pair_irreflexive j k (inl h) e f = irreflexive j.0 k.0 h e
 pair_irreflexive j k (inr h) e f = irreflexive j.1 k.1 h.1 f
 
-pair_apart : (j : ℤ × ℤ) (r s : Row) → IsBelow r s → begins_with j r ≡ true → begins_with j s ≡ true → ⊥
+pair_apart : (j : ℤ × ℤ) (r s : Row) → IsRowBelow r s → has_key_pair j r ≡ true → has_key_pair j s ≡ true → ⊥
 pair_apart j r s up p q = pair_irreflexive j j (then_less j j (pair_ties r s j j p q ∙ up)) refl refl
 
-pair_above : (j k : ℤ × ℤ) (r s : Row) → IsBelow r s → begins_with k r ≡ true → begins_with j s ≡ true → IsPairLess j k → ⊥
+pair_above : (j k : ℤ × ℤ) (r s : Row) → IsRowBelow r s → has_key_pair k r ≡ true → has_key_pair j s ≡ true → IsPairLess j k → ⊥
 pair_above j k r s up p q under = pair_asymmetric j k under (then_less k j (pair_ties r s k j p q ∙ up))
 
 same_tie : (v : Value) (m n : ℤ) → is_eq (value_cmp v (Int m)) ≡ true → is_eq (value_cmp v (Int n)) ≡ true → m ≡ n
 same_tie v m n p q = int_ranked m n Equal (sym (sym (ties v v m n (tied _ p) (tied _ q)) ∙ tied_itself value_cmp_total v))
 
-pair_same : (j k : ℤ × ℤ) (r : Row) → begins_with j r ≡ true → begins_with k r ≡ true → IsPairLess j k → ⊥
+pair_same : (j k : ℤ × ℤ) (r : Row) → has_key_pair j r ≡ true → has_key_pair k r ≡ true → IsPairLess j k → ⊥
 pair_same j k r p q under =
     let a = and_parts _ _ p in
     let b = and_parts _ _ q in
     pair_irreflexive j k under (same_tie (column r 0) j.0 k.0 a.0 b.0) (same_tie (column r 1) j.1 k.1 a.1 b.1)
 
-pub pair_mine : (r : Row) (m n : ℤ) → column r 0 ≡ Int m → column r 1 ≡ Int n → begins_with (m, n) r ≡ true
+pub pair_mine : (r : Row) (m n : ℤ) → column r 0 ≡ Int m → column r 1 ≡ Int n → has_key_pair (m, n) r ≡ true
 pair_mine r m n p q = and_from _ _ (self_tied (column r 0) m p) (self_tied (column r 1) n q)
 
-pair_only : (j : ℤ × ℤ) (r : Row) (m n : ℤ) → column r 0 ≡ Int m → column r 1 ≡ Int n → begins_with j r ≡ true → j ≡ (m, n)
+pair_only : (j : ℤ × ℤ) (r : Row) (m n : ℤ) → column r 0 ≡ Int m → column r 1 ≡ Int n → has_key_pair j r ≡ true → j ≡ (m, n)
 pair_only j r m n p q h =
     let a = and_parts _ _ h in
     let one = tied_number (column r 0) m j.0 p a.0 in
     let two = tied_number (column r 1) n j.1 q a.1 in
     λ i. (one i, two i)
 
-pub slots_bear : (version : Version) → Bears begins_with slot_number (ReadsSlot version) IsBelow IsPairLess
+pub slots_bear : (version : Version) → Bears has_key_pair slot_number (ReadsSlot version) IsRowBelow IsPairLess
 slots_bear version = record {
   mine = λ k r x read. pair_mine r k.0.0 (pos k.1.0) (ap (λ (c : Row). column c 0) read.0.4) (ap (λ (c : Row). column c 1) read.0.4);
   only = λ j k r x read h. pair_only j r k.0.0 (pos k.1.0) (ap (λ (c : Row). column c 0) read.0.4) (ap (λ (c : Row). column c 1) read.0.4) h;
@@ -156,7 +156,7 @@ slots_bear version = record {
   same = pair_same;
 }
 
-pub verbs_bear : Bears begins_with verb_number ReadsVerb IsBelow IsPairLess
+pub verbs_bear : Bears has_key_pair verb_number ReadsVerb IsRowBelow IsPairLess
 verbs_bear = record {
   mine = λ k r x read. pair_mine r k.0.0 (pos k.1.0) (ap (λ (c : Row). column c 0) read.0.2) (ap (λ (c : Row). column c 1) read.0.2);
   only = λ j k r x read h. pair_only j r k.0.0 (pos k.1.0) (ap (λ (c : Row). column c 0) read.0.2) (ap (λ (c : Row). column c 1) read.0.2) h;

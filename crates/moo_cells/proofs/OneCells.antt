@@ -29,8 +29,9 @@ use Rattle.moo_world.specs.World.{accept_fits, state_fits}
 use Rattle.moo_world.proofs.Form.Ranges.{fits_tested}
 use Rattle.moo_tables.specs.declared.version.Version.{Version}
 use Rattle.moo_tables.specs.declared.version.Version.TheVariants.{First, Second}
-use Rattle.moo_tables.specs.Cells.{flag}
-use Rattle.moo_cells.specs.Shows.{ShowsAccept, ShowsBits, ShowsState, object_list}
+use Rattle.moo_tables.specs.Cells.{flag_cell}
+use Rattle.moo_world.specs.Answers.{object_list}
+use Rattle.moo_cells.specs.Shows.{ShowsAccept, ShowsBits, ShowsSlotState}
 use Rattle.moo_cells.proofs.Texts.{int_inj, text_inj, fits_list, spread_objects}
 
 pub one_some : {A : Type 0} (x y : A) → Some x ≡ Some y → x ≡ y
@@ -38,7 +39,7 @@ one_some x y e = cc
 
 -- ---- single cells
 
-pub flag_inj : (a b : Bool) → flag a ≡ flag b → a ≡ b
+pub flag_inj : (a b : Bool) → flag_cell a ≡ flag_cell b → a ≡ b
 flag_inj true true e = refl
 flag_inj false false e = refl
 flag_inj true false e = let one : pos 1 ≡ pos 0 = int_inj (pos 1) (pos 0) e in cc
@@ -104,7 +105,7 @@ not_nothing : (v : MooValue) → Fits v → Spells v [] → ⊥
 unfolding literal_at
 not_nothing v fits spells = no_read v (front_again [] v 0 (whole v [] fits spells))
 
-pub state_one : (text : List ℕ) (s t : SlotState) → state_fits s ≡ true → state_fits t ≡ true → ShowsState text s → ShowsState text t → s ≡ t
+pub state_one : (text : List ℕ) (s t : SlotState) → state_fits s ≡ true → state_fits t ≡ true → ShowsSlotState text s → ShowsSlotState text t → s ≡ t
 state_one text Clear Clear f g p q = refl
 state_one text Clear (Set w) f g p q = absurd (not_nothing w ((fits_tested w).0 g) (subst (Spells w) p q))
 state_one text (Set v) Clear f g p q = absurd (not_nothing v ((fits_tested v).0 f) (subst (Spells v) q p))

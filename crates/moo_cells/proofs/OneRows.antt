@@ -28,7 +28,7 @@ use Rattle.moo_tables.specs.Tables.{Tables}
 use Rattle.moo_tables.specs.Cells.{head_cells, petition_head_cells}
 use Rattle.moo_damage.specs.Limits.{AreWithin}
 use Rattle.moo_cells.specs.Reading.{calls_fit}
-use Rattle.moo_cells.specs.Shows.{ShowsOrNone, ShowsBits, ShowsState, ShowsObject, ShowsProp, ShowsSlot, ShowsVerb, ShowsPetition, ShowsCounter, ShowsRows}
+use Rattle.moo_cells.specs.Shows.{ShowsOrNone, ShowsBits, ShowsSlotState, ShowsObject, ShowsProp, ShowsSlot, ShowsVerb, ShowsPetition, ShowsCounter, ShowsRows}
 use Rattle.moo_cells.proofs.Texts.{int_inj, values_in, calls_within}
 use Rattle.moo_cells.proofs.Keys.{pos_inj}
 use Rattle.moo_cells.proofs.OneCells.{one_some, text_at, place_inj, prep_inj, bits_one, state_one}
@@ -50,7 +50,7 @@ slot_one version key c x y f g p q =
     let cell : p.0 ≡ q.0 = ap (λ (c : Row). column c 3) e in
     let bits = bits_one version q.0 x.bits y.bits (subst (λ v. ShowsBits version v x.bits) cell p.2) q.2 in
     let text : p.1 ≡ q.1 = ap (text_at 4) e in
-    let state = state_one q.1 x.state y.state f g (subst (λ t. ShowsState t x.state) text p.3) q.3 in
+    let state = state_one q.1 x.state y.state f g (subst (λ t. ShowsSlotState t x.state) text p.3) q.3 in
     λ i. record { owner = record { 0 = owner i }; bits = bits i; state = state i }
 
 verb_one : (key : ObjNo × VerbId) (c : Row) (x y : VerbRow) → ShowsVerb key c x → ShowsVerb key c y → x ≡ y

@@ -9,7 +9,7 @@ use Rattle.moo_rows.specs.Maps.{Maps}
 use Rattle.std.proofs.lemmas.Bool.{and_from}
 use Rattle.moo_tables.specs.declared.reading.CellLists.{CellLists}
 use Rattle.moo_tables.specs.Tables.{Tables}
-use Rattle.moo_tables.specs.Listing.{tables_of, begins_with}
+use Rattle.moo_tables.specs.Listing.{tables_of, has_key_pair}
 use Rattle.moo_tables.specs.Version.{version_number}
 use Rattle.moo_damage.specs.declared.kind.Kind.{Kind}
 use Rattle.moo_damage.specs.declared.kind.Kind.TheVariants.{BadHead, BadCell, PastHead, NoParent, ParentLoop, NoPlace, PlaceLoop, NoDefiner, DoubleName, StrangeSlot, MissingSlot, ClearDefiner, StrangeVerb, Mismatch}
@@ -57,8 +57,8 @@ pub record ReadTables (lists : CellLists) (m : Maps) : Type 0 where
   pub counter : ReadsCounter lists.version (λ n. find (has_rowid n) lists.petition_head.items) m.head.next_petition
   pub objects : HoldsTable has_rowid object_number ReadsObject lists.object.items m.objects
   pub props : HoldsTable has_rowid prop_number ReadsProp lists.prop.items m.props
-  pub slots : HoldsTable begins_with slot_number (ReadsSlot lists.version) lists.slot.items m.slots
-  pub verbs : HoldsTable begins_with verb_number ReadsVerb lists.verb.items m.verbs
+  pub slots : HoldsTable has_key_pair slot_number (ReadsSlot lists.version) lists.slot.items m.slots
+  pub verbs : HoldsTable has_key_pair verb_number ReadsVerb lists.verb.items m.verbs
   pub petitions : HoldsTable has_rowid petition_number ReadsPetition lists.petition.items m.petitions
 
 module _ (lists : CellLists) (m : Maps) (read : ReadTables lists m) where
@@ -71,9 +71,9 @@ module _ (lists : CellLists) (m : Maps) (read : ReadTables lists m) where
       objects = λ n. shows_of (ReadsObject n) (ShowsObject n) (λ c x h. h.0) (find (has_rowid n.0) lists.object.items) (get m.objects n) (read.objects.shown n);
       props = λ id. shows_of (ReadsProp id) (ShowsProp id) (λ c x h. h.0) (find (has_rowid (pos id.0)) lists.prop.items) (get m.props id) (read.props.shown id);
       no_prop = λ n. no_other props_bear lists.prop.items read.props.read (negsuc n) (λ k e. not_negative k.0 n e);
-      slots = λ key. shows_of (ReadsSlot lists.version key) (ShowsSlot lists.version key) (λ c x h. h.0) (find (begins_with (slot_number key)) lists.slot.items) (get m.slots key) (read.slots.shown key);
+      slots = λ key. shows_of (ReadsSlot lists.version key) (ShowsSlot lists.version key) (λ c x h. h.0) (find (has_key_pair (slot_number key)) lists.slot.items) (get m.slots key) (read.slots.shown key);
       no_slot = λ x n. no_other (slots_bear lists.version) lists.slot.items read.slots.read (x, negsuc n) (λ k e. not_negative k.1.0 n (ap (λ (p : ℤ × ℤ). p.1) e));
-      verbs = λ key. shows_of (ReadsVerb key) (ShowsVerb key) (λ c x h. h.0) (find (begins_with (verb_number key)) lists.verb.items) (get m.verbs key) (read.verbs.shown key);
+      verbs = λ key. shows_of (ReadsVerb key) (ShowsVerb key) (λ c x h. h.0) (find (has_key_pair (verb_number key)) lists.verb.items) (get m.verbs key) (read.verbs.shown key);
       no_verb = λ x n. no_other verbs_bear lists.verb.items read.verbs.read (x, negsuc n) (λ k e. not_negative k.1.0 n (ap (λ (p : ℤ × ℤ). p.1) e));
       petitions = λ id. shows_of (ReadsPetition id) (ShowsPetition id) (λ c x h. h.0) (find (has_rowid (pos id.0)) lists.petition.items) (get m.petitions id) (read.petitions.shown id);
       no_petition = λ n. no_other petitions_bear lists.petition.items read.petitions.read (negsuc n) (λ k e. not_negative k.0 n e);
@@ -88,8 +88,8 @@ module _ (lists : CellLists) (m : Maps) (read : ReadTables lists m) where
     next_petition = read.counter.1;
     objects = λ x row e. (read_of (ReadsObject x) (find (has_rowid x.0) lists.object.items) (get m.objects x) row (read.objects.shown x) e).1.1.fits;
     props = λ id p e. let h = (read_of (ReadsProp id) (find (has_rowid (pos id.0)) lists.prop.items) (get m.props id) p (read.props.shown id) e).1.1 in (h.number.0, h.name);
-    slots = λ key s e. let h = (read_of (ReadsSlot lists.version key) (find (begins_with (slot_number key)) lists.slot.items) (get m.slots key) s (read.slots.shown key) e).1.1 in and_from _ _ h.owner h.state;
-    verbs = λ key v e. let h = (read_of (ReadsVerb key) (find (begins_with (verb_number key)) lists.verb.items) (get m.verbs key) v (read.verbs.shown key) e).1.1 in (h.number.0, h.fits);
+    slots = λ key s e. let h = (read_of (ReadsSlot lists.version key) (find (has_key_pair (slot_number key)) lists.slot.items) (get m.slots key) s (read.slots.shown key) e).1.1 in and_from _ _ h.owner h.state;
+    verbs = λ key v e. let h = (read_of (ReadsVerb key) (find (has_key_pair (verb_number key)) lists.verb.items) (get m.verbs key) v (read.verbs.shown key) e).1.1 in (h.number.0, h.fits);
     petitions = λ id row e. let h = (read_of (ReadsPetition id) (find (has_rowid (pos id.0)) lists.petition.items) (get m.petitions id) row (read.petitions.shown id) e).1.1 in (h.number.0, h.fits);
   }
 
@@ -98,7 +98,7 @@ pub read_all : (lists : CellLists) (cells : Row) (m0 m1 m2 m3 m4 m5 : Maps) → 
     → ReadsCounter lists.version (λ n. find (has_rowid n) lists.petition_head.items) m0.head.next_petition
     → m1 ≡ record m0 { objects = m1.objects } → m2 ≡ record m1 { props = m2.props } → m3 ≡ record m2 { slots = m3.slots } → m4 ≡ record m3 { verbs = m4.verbs } → m5 ≡ record m4 { petitions = m5.petitions }
     → HoldsTable has_rowid object_number ReadsObject lists.object.items m1.objects → HoldsTable has_rowid prop_number ReadsProp lists.prop.items m2.props
-    → HoldsTable begins_with slot_number (ReadsSlot lists.version) lists.slot.items m3.slots → HoldsTable begins_with verb_number ReadsVerb lists.verb.items m4.verbs
+    → HoldsTable has_key_pair slot_number (ReadsSlot lists.version) lists.slot.items m3.slots → HoldsTable has_key_pair verb_number ReadsVerb lists.verb.items m4.verbs
     → HoldsTable has_rowid petition_number ReadsPetition lists.petition.items m5.petitions → ReadTables lists m5
 read_all lists cells m0 m1 m2 m3 m4 m5 is reads counter k1 k2 k3 k4 k5 objects props slots verbs petitions =
     let head : m5.head ≡ m0.head = ap (λ (m : Maps). m.head) k5 ∙ ap (λ (m : Maps). m.head) k4 ∙ ap (λ (m : Maps). m.head) k3 ∙ ap (λ (m : Maps). m.head) k2 ∙ ap (λ (m : Maps). m.head) k1 in
@@ -113,8 +113,8 @@ read_all lists cells m0 m1 m2 m3 m4 m5 is reads counter k1 k2 k3 k4 k5 objects p
       counter = subst (λ (h : HeadRow). ReadsCounter lists.version (λ n. find (has_rowid n) lists.petition_head.items) h.next_petition) (sym head) counter;
       objects = subst (HoldsTable has_rowid object_number ReadsObject lists.object.items) (sym o) objects;
       props = subst (HoldsTable has_rowid prop_number ReadsProp lists.prop.items) (sym p) props;
-      slots = subst (HoldsTable begins_with slot_number (ReadsSlot lists.version) lists.slot.items) (sym s) slots;
-      verbs = subst (HoldsTable begins_with verb_number ReadsVerb lists.verb.items) (sym v) verbs;
+      slots = subst (HoldsTable has_key_pair slot_number (ReadsSlot lists.version) lists.slot.items) (sym s) slots;
+      verbs = subst (HoldsTable has_key_pair verb_number ReadsVerb lists.verb.items) (sym v) verbs;
       petitions = petitions;
     }
 
@@ -226,7 +226,7 @@ module _ (lists : CellLists) (head : HeadRow) (cells : Row) (is : HeadIs (λ n. 
     says_prop OutOfMemory says = tt
 
     module _ (props : AllByRecursion (IsRead ReadsProp) lists.prop.items) where
-      pub says_slot : (fault : CellFault) → SaysUnread begins_with (ReadsSlot lists.version) IsPairLess slot_key lists.slot.items fault → SaysOfCells t fault
+      pub says_slot : (fault : CellFault) → SaysUnread has_key_pair (ReadsSlot lists.version) IsPairLess slot_key lists.slot.items fault → SaysOfCells t fault
       says_slot (Damaged kind key) says = rw (says.1, says.2) (head_not_newer lists.version t.head cells head is reads, (before, (says.3.bad, least)))
         where
           least : (other : Key) → IsBelow other (Slot says.0.0 says.0.1) → ¬ (IsBadCell t other)
@@ -240,7 +240,7 @@ module _ (lists : CellLists) (head : HeadRow) (cells : Row) (is : HeadIs (λ n. 
       says_slot OutOfMemory says = tt
 
       module _ (slots : AllByRecursion (IsRead (ReadsSlot lists.version)) lists.slot.items) where
-        pub says_verb : (fault : CellFault) → SaysUnread begins_with ReadsVerb IsPairLess verb_key lists.verb.items fault → SaysOfCells t fault
+        pub says_verb : (fault : CellFault) → SaysUnread has_key_pair ReadsVerb IsPairLess verb_key lists.verb.items fault → SaysOfCells t fault
         says_verb (Damaged kind key) says = rw (says.1, says.2) (head_not_newer lists.version t.head cells head is reads, (before, (says.3.bad, least)))
           where
             least : (other : Key) → IsBelow other (Verb says.0.0 says.0.1) → ¬ (IsBadCell t other)

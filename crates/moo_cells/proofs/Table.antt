@@ -17,7 +17,7 @@ use Rattle.sqlite_trees.specs.Tree.{IsAscending}
 use Rattle.moo_cells.specs.Reading.{IsRead}
 use Rattle.moo_cells.specs.Shows.{ShowsOrNone}
 use Rattle.moo_cells.specs.Unread.{IsUnread, FirstUnread}
-use Rattle.moo_cells.specs.Holding.{HoldsTable, Takes}
+use Rattle.moo_cells.specs.Holding.{HoldsTable, TakesRow}
 
 -- how rows in ascending order bear the keys of a table
 pub record Bears {J K X : Type 0} (has : J → Row → Bool) (number : K → J) (reads : K → Row → X → Type 0) (up : Row → Row → Type 0) (below : J → J → Type 0) : Type 0 where
@@ -124,7 +124,7 @@ module _ {J K X : Type 0} {has : J → Row → Bool} {number : K → J} {reads :
   }
 
   pub held_more : {cmp : K → K → Ordering} → IsTotalOrder cmp → IsAntisymmetric cmp → (cells : List Row) (i : ℕ) (r : Row) → i < length cells → r ≡ get_or cells i r → IsAscending up cells
-      → (m n : FinMap cmp X) → HoldsTable has number reads (take i cells) m → Takes reads r m n → HoldsTable has number reads (take (i + 1) cells) n
+      → (m n : FinMap cmp X) → HoldsTable has number reads (take i cells) m → TakesRow reads r m n → HoldsTable has number reads (take (i + 1) cells) n
   held_more {cmp} total exact cells i r within is rise m n held taken =
       let more : take (i + 1) cells ≡ take i cells ++ r ∷ [] = take_more cells i r within ∙ ap (λ x. take i cells ++ x ∷ []) (sym is) in
       let rise′ : IsAscending up (take i cells ++ r ∷ drop (i + 1) cells) = subst (IsAscending up) (split_at cells i r within is) rise in

@@ -28,7 +28,8 @@ use Rattle.moo_world.proofs.Form.Ranges.{text_tested, fits_tested, fits_of, rang
 use Rattle.moo_verbs.specs.declared.fault.VerbFault.{VerbFault}
 use Rattle.moo_verbs.specs.declared.fault.VerbFault.TheVariants.{BadNames}
 use Rattle.moo_cells.specs.Reading.{calls_fit}
-use Rattle.moo_cells.specs.Shows.{ShowsState, object_list}
+use Rattle.moo_world.specs.Answers.{object_list}
+use Rattle.moo_cells.specs.Shows.{ShowsSlotState}
 
 abbrev text_in : Value → List ℕ
 text_in Null = []
@@ -86,7 +87,7 @@ fails_none NotALiteral v e some = cc
 fails_none OutOfRange v e some = cc
 fails_none TooDeep v e some = cc
 
-pub not_state : (f : LiteralFault) (s text : List ℕ) (state : SlotState) → ((v : MooValue) → Fits v → Spells v s → Fails f (let x : Result MooValue LiteralFault = Ok v in x)) → f ≢ OutOfMemory → (s ≡ [] → ⊥) → ShowsState text state → state_fits state ≡ true → s ≡ text → ⊥
+pub not_state : (f : LiteralFault) (s text : List ℕ) (state : SlotState) → ((v : MooValue) → Fits v → Spells v s → Fails f (let x : Result MooValue LiteralFault = Ok v in x)) → f ≢ OutOfMemory → (s ≡ [] → ⊥) → ShowsSlotState text state → state_fits state ≡ true → s ≡ text → ⊥
 not_state f s text Clear only some full shows fits is = full (is ∙ shows)
 not_state f s text (Set v) only some full shows fits is = fails_none f v (only v ((fits_tested v).0 fits) (subst (Spells v) (sym is) shows)) some
 

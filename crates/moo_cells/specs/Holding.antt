@@ -61,7 +61,7 @@ pub record HoldsTable {J K X : Type 0} {cmp : K → K → Ordering} (has : J →
   pub read : AllByRecursion (IsRead reads) cells
 
 -- one row more is put, which the cells show
-pub record Takes {K X : Type 0} {cmp : K → K → Ordering} (reads : K → Row → X → Type 0) (cells : Row) (old new : FinMap cmp X) : Type 0 where
+pub record TakesRow {K X : Type 0} {cmp : K → K → Ordering} (reads : K → Row → X → Type 0) (cells : Row) (old new : FinMap cmp X) : Type 0 where
   pub key : K
   pub row : X
   pub is_read : reads key cells row

@@ -2,18 +2,12 @@
 use Rattle.std.specs.Prelude.{◌≡◌, ℕ, List, [], map, Option, Some, None}
 use Rattle.sqlite.specs.Order.{Row, column}
 use Rattle.moo_value.specs.declared.value.ObjNo.{ObjNo}
-use Rattle.moo_value.specs.declared.value.Value.{Value}
-use Rattle.moo_value.specs.declared.value.Value.TheVariants.{Obj, List as a_list}
-use Rattle.moo_value.specs.Value.{gather}
 use Rattle.moo_value.specs.Literal.{Spells}
 use Rattle.moo_rows.specs.declared.row.ObjRow.{ObjRow}
-use Rattle.moo_tables.specs.Cells.{flag}
+use Rattle.moo_world.specs.Answers.{object_list}
+use Rattle.moo_tables.specs.Cells.{flag_cell}
 use Rattle.moo_tables.specs.Object.{object_row_cells}
 use Rattle.moo_cells.specs.declared.object.Flags.{Flags}
-
--- a list of objects, as a value
-abbrev pub object_list : List ObjNo → Value
-object_list objects = a_list (gather (map Obj objects))
 
 -- the cell of an accept list: empty for none, else a literal of the list
 abbrev pub ShowsAccept : List ℕ → Option (List ObjNo) → Type 0
@@ -26,9 +20,9 @@ ShowsObject n cells row = (accept : List ℕ) × ShowsAccept accept row.accept �
 
 -- these flags stand in their columns
 pub record HasFlags (cells : Row) (flags : Flags) : Type 0 where
-  pub player : column cells 5 ≡ flag flags.player
-  pub programmer : column cells 6 ≡ flag flags.programmer
-  pub wizard : column cells 7 ≡ flag flags.wizard
-  pub r : column cells 8 ≡ flag flags.r
-  pub w : column cells 9 ≡ flag flags.w
-  pub f : column cells 10 ≡ flag flags.f
+  pub player : column cells 5 ≡ flag_cell flags.player
+  pub programmer : column cells 6 ≡ flag_cell flags.programmer
+  pub wizard : column cells 7 ≡ flag_cell flags.wizard
+  pub r : column cells 8 ≡ flag_cell flags.r
+  pub w : column cells 9 ≡ flag_cell flags.w
+  pub f : column cells 10 ≡ flag_cell flags.f

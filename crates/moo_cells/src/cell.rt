@@ -13,7 +13,7 @@ ghost use Rattle.moo_rows.specs.declared.row.Preposition.{Preposition};
 ghost use Rattle.moo_rows.specs.Bits.{verb_bits_of};
 ghost use Rattle.moo_world.specs.Arguments.{in_range, is_number, is_text};
 ghost use Rattle.moo_world.specs.Prepositions.{prep_text, place_text};
-ghost use Rattle.moo_tables.specs.Cells.{flag};
+ghost use Rattle.moo_tables.specs.Cells.{flag_cell};
 ghost use Rattle.moo_cells.specs.Reading.{IsId};
 ghost use Rattle.moo_cells.specs.Shows.{ShowsBits};
 ghost use Rattle.moo_cells.specs.declared.fault.RowFault.TheVariants.{Unreadable};
@@ -91,8 +91,8 @@ pub(crate) fn id_at(cells: &Row, at: usize) -> Result<u32, RowFault>
 
 /// The 0 or 1 in a column.
 pub(crate) fn flag_at(cells: &Row, at: usize) -> Result<bool, RowFault>
-    ensures ok { IfOk result (λ b. column cells.now at ≡ flag b) }
-    ensures err { IfErr result (λ _. (b : Bool) → column cells.now at ≢ flag b) }
+    ensures ok { IfOk result (λ b. column cells.now at ≡ flag_cell b) }
+    ensures err { IfErr result (λ _. (b : Bool) → column cells.now at ≢ flag_cell b) }
 {
     match int_at(cells, at)? {
         0 => Ok(false),

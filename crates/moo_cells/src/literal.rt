@@ -10,10 +10,11 @@ ghost use Rattle.moo_value.specs.Value.{spread};
 ghost use Rattle.moo_value.specs.Values.{Values};
 ghost use Rattle.moo_value.specs.Literal.{Spells};
 ghost use Rattle.moo_rows.specs.declared.row.SlotState.{SlotState};
+ghost use Rattle.moo_world.specs.Answers.{object_list};
 ghost use Rattle.moo_world.specs.Petitions.{is_named, are_few, are_shallow};
 ghost use Rattle.moo_world.specs.World.{accept_fits, state_fits};
 ghost use Rattle.moo_cells.specs.Reading.{calls_fit};
-ghost use Rattle.moo_cells.specs.Shows.{ShowsAccept, ShowsState, object_list};
+ghost use Rattle.moo_cells.specs.Shows.{ShowsAccept, ShowsSlotState};
 ghost use Rattle.moo_cells.specs.declared.fault.RowFault.TheVariants.{Unreadable};
 
 use crate::cell::text_at;
@@ -74,9 +75,9 @@ pub(crate) fn accept_at(alloc: Global, cells: &Row, at: usize) -> Result<Option<
 
 /// What a slot holds, in a column.
 pub(crate) fn state_at(alloc: Global, cells: &Row, at: usize) -> Result<SlotState, RowFault>
-    ensures ok { IfOk result (λ state. (text : List ℕ) × ShowsState text state × (column cells.now at ≡ Text text)) }
+    ensures ok { IfOk result (λ state. (text : List ℕ) × ShowsSlotState text state × (column cells.now at ≡ Text text)) }
     ensures fits { IfOk result (λ state. state_fits state ≡ true) }
-    ensures err { IfErr result (λ fault. fault ≡ Unreadable → (text : List ℕ) (state : SlotState) → ShowsState text state → state_fits state ≡ true → column cells.now at ≢ Text text) }
+    ensures err { IfErr result (λ fault. fault ≡ Unreadable → (text : List ℕ) (state : SlotState) → ShowsSlotState text state → state_fits state ≡ true → column cells.now at ≢ Text text) }
 {
     let text = text_at(cells, at)?;
     if text.is_empty() {

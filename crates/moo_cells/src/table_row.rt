@@ -5,7 +5,7 @@ ghost use Rattle.sqlite.specs.Order.{Row as Cells};
 ghost use Rattle.moo_tables.specs.declared.version.Version.{Version};
 
 use crate::fault::RowFault;
-use moo_rows::Key;
+use moo_ordered::Key;
 use moo_tables::Version;
 use sqlite::Row;
 use std::alloc::Global;

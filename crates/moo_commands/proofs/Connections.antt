@@ -12,7 +12,7 @@ use Rattle.moo_commands.specs.declared.failure.Failure.{Failure}
 use Rattle.moo_commands.specs.declared.failure.Failure.TheVariants.{Usage, NoFile, Store, Damaged, NewerVersion, NoBatches, Read, Write, TooLong, Port, NoMemory}
 use Rattle.sqlite.specs.declared.error.Error.{Error}
 use Rattle.moo_commands.specs.Lines.{Reports, store_failure}
-use Rattle.moo_commands.specs.Run.{Done, Stops, Ends, Runs, RunsUnseen, IsOpening, IsRefusal, FailsAtOnce, LeavesAsBefore}
+use Rattle.moo_commands.specs.Run.{Done, StopsTask, EndsTask, RunsFrom, RunsUnseen, IsOpening, MayRefuse, FailsAtOnce, LeavesAsBefore}
 use Rattle.moo_world.specs.Judge.{State, state_of}
 use Rattle.moo_store.specs.Kept.{World}
 use Rattle.moo_store.specs.World.{store_of, CrashLeaves, StandsFor}
@@ -38,39 +38,39 @@ of_opening fault failure of it = subst IsOpening (sym of) (of_store fault it)
 
 module _ {S : Type 0} (g : Ghosts S) (known : Bool) (was world : World S) (conn : Held S) (is : conn ≡ world.connection) (task : Task) (s : State) (input old : Option (List ℕ)) where
   abbrev pub RunsTo : Option (List ℕ) → ℕ → Type 0
-  RunsTo new status = Runs task s input old new status (IsTrue known × HasCleanDisk (state g conn)) (CrashLeaves (state g conn))
+  RunsTo new status = RunsFrom task s input old new status (IsTrue known × HasCleanDisk (state g conn)) (CrashLeaves (state g conn))
 
-  pub runs_done : (new : Option (List ℕ)) (status : ℕ) → Ends g known was world (λ end. Done task s end input old new status) → RunsTo new status
+  pub runs_done : (new : Option (List ℕ)) (status : ℕ) → EndsTask g known was world (λ end. Done task s end input old new status) → RunsTo new status
   runs_done new status it = record {
     end = it.end;
     crash = λ both. subst (λ h. HasCleanDisk (state g h) → CrashLeaves (state g h) it.end) (sym is) (it.crash both.0) both.1;
     writes = inl it.ends;
   }
 
-  pub runs_stops : (between new : Option (List ℕ)) (failure : Failure) (status : ℕ) → Ends g known was world (λ end. Stops task s end failure (IsTrue known × HasCleanDisk (store_of g world)) input old between) → Reports failure between new status
+  pub runs_stops : (between new : Option (List ℕ)) (failure : Failure) (status : ℕ) → EndsTask g known was world (λ end. StopsTask task s end failure (IsTrue known × HasCleanDisk (store_of g world)) input old between) → Reports failure between new status
       → RunsTo new status
   runs_stops between new failure status it reports = record {
     end = it.end;
     crash = λ both. subst (λ h. HasCleanDisk (state g h) → CrashLeaves (state g h) it.end) (sym is) (it.crash both.0) both.1;
-    writes = inr (failure, between, subst (λ h. Stops task s it.end failure (IsTrue known × HasCleanDisk (state g h)) input old between) (sym is) it.ends, reports);
+    writes = inr (failure, between, subst (λ h. StopsTask task s it.end failure (IsTrue known × HasCleanDisk (state g h)) input old between) (sym is) it.ends, reports);
   }
 
-  pub late_clean : (End : Stand → Type 0) → Ends g known was world End → HasCleanDisk (state g conn) → HasCleanDisk (store_of g was)
+  pub late_clean : (End : Stand → Type 0) → EndsTask g known was world End → HasCleanDisk (state g conn) → HasCleanDisk (store_of g was)
   late_clean End it clean = it.clean (subst (λ h. HasCleanDisk (state g h)) is clean)
 
-  pub runs_to : (r : Result ℕ Failure) (mid new : Option (List ℕ)) (status : ℕ) → IfOk r (λ value. Ends g known was world (λ end. Done task s end input old mid value))
-      → IfErr r (λ failure. Ends g known was world (λ end. Stops task s end failure (IsTrue known × HasCleanDisk (store_of g world)) input old mid))
+  pub runs_to : (r : Result ℕ Failure) (mid new : Option (List ℕ)) (status : ℕ) → IfOk r (λ value. EndsTask g known was world (λ end. Done task s end input old mid value))
+      → IfErr r (λ failure. EndsTask g known was world (λ end. StopsTask task s end failure (IsTrue known × HasCleanDisk (store_of g world)) input old mid))
       → MatchResult r (λ value. (status ≡ value) × (new ≡ mid)) (λ failure. Reports failure mid new status) → RunsTo new status
   runs_to (Ok value) mid new status done stops (same, unwritten) = subst₂ RunsTo (sym unwritten) (sym same) (runs_done mid value done)
   runs_to (Err failure) mid new status done stops reports = runs_stops mid new failure status stops reports
 
-  pub late_clean_of : (r : Result ℕ Failure) (mid : Option (List ℕ)) → IfOk r (λ value. Ends g known was world (λ end. Done task s end input old mid value))
-      → IfErr r (λ failure. Ends g known was world (λ end. Stops task s end failure (IsTrue known × HasCleanDisk (store_of g world)) input old mid)) → HasCleanDisk (state g conn) → HasCleanDisk (store_of g was)
+  pub late_clean_of : (r : Result ℕ Failure) (mid : Option (List ℕ)) → IfOk r (λ value. EndsTask g known was world (λ end. Done task s end input old mid value))
+      → IfErr r (λ failure. EndsTask g known was world (λ end. StopsTask task s end failure (IsTrue known × HasCleanDisk (store_of g world)) input old mid)) → HasCleanDisk (state g conn) → HasCleanDisk (store_of g was)
   late_clean_of (Ok value) mid done stops = late_clean (λ end. Done task s end input old mid value) done
-  late_clean_of (Err failure) mid done stops = late_clean (λ end. Stops task s end failure (IsTrue known × HasCleanDisk (store_of g world)) input old mid) stops
+  late_clean_of (Err failure) mid done stops = late_clean (λ end. StopsTask task s end failure (IsTrue known × HasCleanDisk (store_of g world)) input old mid) stops
 
 -- what is known where more is known of the disk
-stops_when : (task : Task) (s : State) (end : Stand) (failure : Failure) (Clean More : Type 0) → (More → Clean) → (input old new : Option (List ℕ)) → Stops task s end failure Clean input old new → Stops task s end failure More input old new
+stops_when : (task : Task) (s : State) (end : Stand) (failure : Failure) (Clean More : Type 0) → (More → Clean) → (input old new : Option (List ℕ)) → StopsTask task s end failure Clean input old new → StopsTask task s end failure More input old new
 stops_when (Init file) s end failure Clean More on input old new it = it
 stops_when (Apply file batches) s end failure Clean More on input old new it = it
 stops_when (Ask file batches) s end failure Clean More on input old new it = it
@@ -79,14 +79,14 @@ stops_when (Check file) s end failure Clean More on input old new (e, inl (fault
 stops_when (Check file) s end failure Clean More on input old new (e, inr front) = (e, inr front)
 stops_when (Serve file port count) s end failure Clean More on input old new it = it
 
-pub unseen : (task : Task) (s : State) (input old new : Option (List ℕ)) (status : ℕ) (Clean : Type 0) (Crash : Stand → Type 0) → Runs task s input old new status Clean Crash → RunsUnseen task s input old new status
+pub unseen : (task : Task) (s : State) (input old new : Option (List ℕ)) (status : ℕ) (Clean : Type 0) (Crash : Stand → Type 0) → RunsFrom task s input old new status Clean Crash → RunsUnseen task s input old new status
 unseen task s input old new status Clean Crash it = record {
   end = it.end;
   crash = λ none. absurd none;
   writes = elim it.writes [ inl done ↦ inl done | inr stops ↦ inr (stops.0, stops.1, stops_when task s it.end stops.0 Clean ⊥ (λ none. absurd none) input old stops.1 stops.2, stops.3) ];
 }
 
-pub either_unseen : (task : Task) (s : State) (input old new : Option (List ℕ)) (status : ℕ) (Clean : Type 0) (Crash : Stand → Type 0) → FailsAtOnce old new status ⊎ Runs task s input old new status Clean Crash
+pub either_unseen : (task : Task) (s : State) (input old new : Option (List ℕ)) (status : ℕ) (Clean : Type 0) (Crash : Stand → Type 0) → FailsAtOnce old new status ⊎ RunsFrom task s input old new status Clean Crash
     → FailsAtOnce old new status ⊎ RunsUnseen task s input old new status
 either_unseen task s input old new status Clean Crash (inl fails) = inl fails
 either_unseen task s input old new status Clean Crash (inr it) = inr (unseen task s input old new status Clean Crash it)
@@ -95,17 +95,17 @@ pub as_before : (old new : Database) (s : State) → ShowsState old s → Surviv
 as_before old new s shown it clean trees may = elim (it.crash clean trees may) [ inl before ↦ inl before | inr adopts ↦ inr (adopts.1 s shown) ]
 
 -- any fault of opening is a refusal
-each_refusal : (fault : StoreFault) → IsRefusal (store_failure fault)
+each_refusal : (fault : StoreFault) → MayRefuse (store_failure fault)
 each_refusal (store_fault.Store error) = tt
 each_refusal (store_fault.Damaged kind key) = tt
 each_refusal store_fault.NewerVersion = tt
 each_refusal store_fault.OutOfMemory = tt
 each_refusal store_fault.Closed = tt
 
-pub of_refusal : (fault : StoreFault) (failure : Failure) → failure ≡ store_failure fault → IsRefusal failure
-of_refusal fault failure of = subst IsRefusal (sym of) (each_refusal fault)
+pub of_refusal : (fault : StoreFault) (failure : Failure) → failure ≡ store_failure fault → MayRefuse failure
+of_refusal fault failure of = subst MayRefuse (sym of) (each_refusal fault)
 
-pub opening_refuses : (failure : Failure) → IsOpening failure → IsRefusal failure
+pub opening_refuses : (failure : Failure) → IsOpening failure → MayRefuse failure
 opening_refuses (Store error) it = tt
 opening_refuses NoMemory it = tt
 opening_refuses Usage it = absurd it
@@ -119,7 +119,7 @@ opening_refuses TooLong it = absurd it
 opening_refuses Port it = absurd it
 
 -- what is known of one whose tables are known
-pub surely : (task : Task) (s : State) (input old new : Option (List ℕ)) (status : ℕ) (Clean : Type 0) (Crash : Stand → Type 0) → Runs task s input old new status (IsTrue true × Clean) Crash → Runs task s input old new status Clean Crash
+pub surely : (task : Task) (s : State) (input old new : Option (List ℕ)) (status : ℕ) (Clean : Type 0) (Crash : Stand → Type 0) → RunsFrom task s input old new status (IsTrue true × Clean) Crash → RunsFrom task s input old new status Clean Crash
 surely task s input old new status Clean Crash it = record {
   end = it.end;
   crash = λ clean. it.crash (refl, clean);

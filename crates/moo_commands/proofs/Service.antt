@@ -7,11 +7,11 @@ use Rattle.moo_world.specs.Judge.{State}
 use Rattle.moo_store.specs.Kept.{World}
 use Rattle.moo_store.specs.Stand.{Stand, Works}
 use Rattle.moo_store.specs.World.{store_of}
-use Rattle.moo_http.specs.Connections.{Reaches, ServesPort}
+use Rattle.moo_http.specs.Connections.{StandsAtEnd, ServesPort}
 use Rattle.moo_http.specs.declared.service.ServiceFault.{ServiceFault}
 use Rattle.moo_http.specs.declared.service.ServiceFault.TheVariants as service_fault
 use Rattle.moo_commands.specs.Lines.{service_failure}
-use Rattle.moo_commands.specs.Run.{Serving, StopsServing, Ends}
+use Rattle.moo_commands.specs.Run.{Serving, StopsServing, EndsTask}
 use Rattle.moo_commands.specs.declared.failure.Failure.{Failure}
 
 -- what stops the service, by its fault
@@ -24,9 +24,9 @@ stopped port count s end service_fault.OutOfMemory failure old new is (inl (same
 stopped port count s end service_fault.OutOfMemory failure old new is (inr (text, all, front)) = inr (inr (text, all, (inr is, front.0, front.1)))
 
 module _ {S : Type 0} (g : Ghosts S) (known : Bool) (was world : World S) (clean : HasCleanDisk (store_of g world) → HasCleanDisk (store_of g was)) (port count : ℕ) (s : State) (old new : Option (List ℕ)) where
-  pub service_done : (done : Unit {0}) → Reaches g known world (λ end. ServesPort (Ok done) port count (Works s) end old new) → Ends g known was world (λ end. Serving port count s end old new 0)
+  pub service_done : (done : Unit {0}) → StandsAtEnd g known world (λ end. ServesPort (Ok done) port count (Works s) end old new) → EndsTask g known was world (λ end. Serving port count s end old new 0)
   service_done done it = record { end = it.end; clean = clean; crash = it.crash; ends = (it.ends.0, it.ends.1, it.ends.2, refl) }
 
-  pub service_stops : (fault : ServiceFault) (failure : Failure) → failure ≡ service_failure fault → Reaches g known world (λ end. ServesPort (Err fault) port count (Works s) end old new)
-      → Ends g known was world (λ end. StopsServing port count s end failure old new)
+  pub service_stops : (fault : ServiceFault) (failure : Failure) → failure ≡ service_failure fault → StandsAtEnd g known world (λ end. ServesPort (Err fault) port count (Works s) end old new)
+      → EndsTask g known was world (λ end. StopsServing port count s end failure old new)
   service_stops fault failure is it = record { end = it.end; clean = clean; crash = it.crash; ends = stopped port count s it.end fault failure old new is it.ends }

@@ -9,16 +9,16 @@ use Rattle.moo_text.specs.declared.fault.TextFault.{TextFault}
 use Rattle.moo_store.specs.Kept.{World}
 use Rattle.moo_store.specs.Stand.{Stand, Works, RunsBatch}
 use Rattle.moo_store.specs.Turns.{Halts}
-use Rattle.moo_store.specs.Text.{Applies, Stops}
+use Rattle.moo_store.specs.Text.{Applies, StopsRun}
 use Rattle.moo_store.specs.World.{store_of, CrashLeaves}
 use Rattle.moo_commands.specs.Lines.{text_failure}
-use Rattle.moo_commands.specs.Run.{given, lost_status, RunsText, StopsText, Ends}
+use Rattle.moo_commands.specs.Run.{known_text, lost_status, RunsText, StopsText, EndsTask}
 use Rattle.moo_commands.specs.declared.failure.Failure.{Failure}
 
-pub given_input : (batches : List ℕ) (input : Option (List ℕ)) → bytes_eq batches (codes "-") ≡ true → given batches input ≡ input
+pub given_input : (batches : List ℕ) (input : Option (List ℕ)) → bytes_eq batches (codes "-") ≡ true → known_text batches input ≡ input
 given_input batches input e = ap (λ (b : Bool). if b then input else None) e
 
-pub given_none : (batches : List ℕ) (input : Option (List ℕ)) → bytes_eq batches (codes "-") ≡ false → given batches input ≡ None
+pub given_none : (batches : List ℕ) (input : Option (List ℕ)) → bytes_eq batches (codes "-") ≡ false → known_text batches input ≡ None
 given_none batches input e = ap (λ (b : Bool). if b then input else None) e
 
 none_below : (n m : ℕ) → n ≤ m → m ≡ 0 → n ≡ 0
@@ -29,27 +29,27 @@ was_clean old new Commits it clean = none_below _ _ it.clean clean
 
 module _ {S : Type 0} (g : Ghosts S) (known : Bool) (was world : World S) where
   pub done_text : (s : State) (text old new : Option (List ℕ)) (batches lost status : ℕ) → status ≡ lost_status lost → Applies g known (Works s) text old new was world batches lost
-      → Ends g known was world (λ end. RunsText RunsBatch s end text old new status)
+      → EndsTask g known was world (λ end. RunsText RunsBatch s end text old new status)
   done_text s text old new batches lost status is it = record { end = it.new; clean = it.clean; crash = it.crash; ends = (batches, lost, it.completes, is) }
 
-  pub stops_text : (s : State) (text old new : Option (List ℕ)) (fault : TextFault) (failure : Failure) → failure ≡ text_failure fault → Stops g known (Works s) text old new was world fault
-      → Ends g known was world (λ end. (f : TextFault) × (failure ≡ text_failure f) × Halts RunsBatch (Works s) end text old new f)
+  pub stops_text : (s : State) (text old new : Option (List ℕ)) (fault : TextFault) (failure : Failure) → failure ≡ text_failure fault → StopsRun g known (Works s) text old new was world fault
+      → EndsTask g known was world (λ end. (f : TextFault) × (failure ≡ text_failure f) × Halts RunsBatch (Works s) end text old new f)
   stops_text s text old new fault failure is it = record { end = it.new; clean = it.clean; crash = it.crash; ends = (fault, is, it.halts) }
 
-  pub ends_map : (P Q : Stand → Type 0) → ((end : Stand) → P end → Q end) → Ends g known was world P → Ends g known was world Q
+  pub ends_map : (P Q : Stand → Type 0) → ((end : Stand) → P end → Q end) → EndsTask g known was world P → EndsTask g known was world Q
   ends_map P Q f it = record { end = it.end; clean = it.clean; crash = it.crash; ends = f it.end it.ends }
 
   -- what stops the text that is given stops the text of that name
   pub text_stops : {A : Type 0} (r : Result A Failure) (s : State) (text named old new : Option (List ℕ)) → named ≡ text
-      → IfErr r (λ failure. Ends g known was world (λ end. (f : TextFault) × (failure ≡ text_failure f) × Halts RunsBatch (Works s) end text old new f))
-      → IfErr r (λ failure. Ends g known was world (λ end. StopsText RunsBatch s end failure named old new))
+      → IfErr r (λ failure. EndsTask g known was world (λ end. (f : TextFault) × (failure ≡ text_failure f) × Halts RunsBatch (Works s) end text old new f))
+      → IfErr r (λ failure. EndsTask g known was world (λ end. StopsText RunsBatch s end failure named old new))
   text_stops (Ok a) s text named old new is it = tt
   text_stops (Err failure) s text named old new is it =
       ends_map (λ end. (f : TextFault) × (failure ≡ text_failure f) × Halts RunsBatch (Works s) end text old new f) (λ end. StopsText RunsBatch s end failure named old new)
       (λ end stops. subst (λ t. StopsText RunsBatch s end failure t old new) (sym is) (inl stops)) it
 
   -- a call that commits nothing leaves what a crash could leave before
-  pub stays_at : (s : State) (P : Stand → Type 0) → Survives (store_of g was) (store_of g world) (λ _. ⊥) → (IsTrue known → HasCleanDisk (store_of g was) → CrashLeaves (store_of g was) (Works s)) → P (Works s) → Ends g known was world P
+  pub stays_at : (s : State) (P : Stand → Type 0) → Survives (store_of g was) (store_of g world) (λ _. ⊥) → (IsTrue known → HasCleanDisk (store_of g was) → CrashLeaves (store_of g was) (Works s)) → P (Works s) → EndsTask g known was world P
   stays_at s P it leaves p =
       let clean = was_clean (store_of g was) (store_of g world) (λ _. ⊥) it in
       record {
@@ -60,7 +60,7 @@ module _ {S : Type 0} (g : Ghosts S) (known : Bool) (was world : World S) where
       }
 
 -- a World that is as it was
-pub unchanged : {S : Type 0} (g : Ghosts S) (known : Bool) (world : World S) (s : State) (P : Stand → Type 0) → (IsTrue known → HasCleanDisk (store_of g world) → CrashLeaves (store_of g world) (Works s)) → P (Works s) → Ends g known world world P
+pub unchanged : {S : Type 0} (g : Ghosts S) (known : Bool) (world : World S) (s : State) (P : Stand → Type 0) → (IsTrue known → HasCleanDisk (store_of g world) → CrashLeaves (store_of g world) (Works s)) → P (Works s) → EndsTask g known world world P
 unchanged g known world s P leaves p = record { end = Works s; clean = λ clean. clean; crash = leaves; ends = p }
 
 pub on_ok : {A E : Type 0} (P Q : A → Type 0) (r : Result A E) → ((a : A) → P a → Q a) → IfOk r P → IfOk r Q

@@ -54,8 +54,8 @@ begins_anew (Check file) = bytes_eq file.now (codes ":memory:")
 begins_anew (Serve file port count) = bytes_eq file.now (codes ":memory:")
 
 -- what is known of the text that is given as the batches: that of the input for `-`, and nothing of a file's
-abbrev pub given : List ℕ → Option (List ℕ) → Option (List ℕ)
-given batches input = if bytes_eq batches (codes "-") then input else None
+abbrev pub known_text : List ℕ → Option (List ℕ) → Option (List ℕ)
+known_text batches input = if bytes_eq batches (codes "-") then input else None
 
 -- 1 where an answer is `fault` or `closed`
 abbrev pub lost_status : ℕ → ℕ
@@ -81,8 +81,8 @@ Serving port count s end old new status = (text : List ℕ) × ServesAll port co
 -- the task is done
 abbrev pub Done : Task → State → Stand → Option (List ℕ) → Option (List ℕ) → Option (List ℕ) → ℕ → Type 0
 Done (Init file) s end input old new status = (end ≡ Works s) × Appends old new created_line × (status ≡ 0)
-Done (Apply file batches) s end input old new status = RunsText RunsBatch s end (given batches.now input) old new status
-Done (Ask file batches) s end input old new status = (end ≡ Works s) × RunsText AsksBatch s (Works s) (given batches.now input) old new status
+Done (Apply file batches) s end input old new status = RunsText RunsBatch s end (known_text batches.now input) old new status
+Done (Ask file batches) s end input old new status = (end ≡ Works s) × RunsText AsksBatch s (Works s) (known_text batches.now input) old new status
 Done (Dump file) s end input old new status = (end ≡ Works s) × Appends old new (dump s) × (status ≡ 0)
 Done (Check file) s end input old new status =
     (end ≡ Works s) × Appends old new (checked_line s.seq (length (objects_of s.world))) × (status ≡ 0)
@@ -101,19 +101,19 @@ StopsServing port count s end failure old new =
     ⊎ ((text : List ℕ) × ServesAll port count (Works s) end text × StopsIn text failure old new)
 
 -- It stops with this failure, and so much is written. On a clean disk no check of a world that stands finds a damage.
-abbrev pub Stops : Task → State → Stand → Failure → Type 0 → Option (List ℕ) → Option (List ℕ) → Option (List ℕ) → Type 0
-Stops (Init file) s end failure Clean input old new = (end ≡ Works s) × StopsIn created_line failure old new
-Stops (Apply file batches) s end failure Clean input old new = StopsText RunsBatch s end failure (given batches.now input) old new
-Stops (Ask file batches) s end failure Clean input old new = (end ≡ Works s) × StopsText AsksBatch s (Works s) failure (given batches.now input) old new
-Stops (Dump file) s end failure Clean input old new = (end ≡ Works s) × StopsIn (dump s) failure old new
-Stops (Check file) s end failure Clean input old new =
+abbrev pub StopsTask : Task → State → Stand → Failure → Type 0 → Option (List ℕ) → Option (List ℕ) → Option (List ℕ) → Type 0
+StopsTask (Init file) s end failure Clean input old new = (end ≡ Works s) × StopsIn created_line failure old new
+StopsTask (Apply file batches) s end failure Clean input old new = StopsText RunsBatch s end failure (known_text batches.now input) old new
+StopsTask (Ask file batches) s end failure Clean input old new = (end ≡ Works s) × StopsText AsksBatch s (Works s) failure (known_text batches.now input) old new
+StopsTask (Dump file) s end failure Clean input old new = (end ≡ Works s) × StopsIn (dump s) failure old new
+StopsTask (Check file) s end failure Clean input old new =
     (end ≡ Works s)
     × (((fault : StoreFault) × (failure ≡ store_failure fault) × (Clean → IsOfStore fault) × (new ≡ old))
     ⊎ StopsIn (checked_line s.seq (length (objects_of s.world))) failure old new)
-Stops (Serve file port count) s end failure Clean input old new = StopsServing port count s end failure old new
+StopsTask (Serve file port count) s end failure Clean input old new = StopsServing port count s end failure old new
 
 -- What was done to a World leaves it so: a disk that returns what was written did so before, and what a crash leaves then is known.
-pub record Ends {S : Type 0} (g : Ghosts S) (known : Bool) (was world : World S) (End : Stand → Type 0) : Type 0 where
+pub record EndsTask {S : Type 0} (g : Ghosts S) (known : Bool) (was world : World S) (End : Stand → Type 0) : Type 0 where
   pub end : Stand
   pub clean : HasCleanDisk (store_of g world) → HasCleanDisk (store_of g was)
   pub crash : IsTrue known → HasCleanDisk (store_of g world) → CrashLeaves (store_of g world) end
@@ -123,16 +123,16 @@ pub record Ends {S : Type 0} (g : Ghosts S) (known : Bool) (was world : World S)
 
 -- A task runs from a world of this state on: it is done, or stops and the failure is reported. Where the disk is clean a crash then
 -- leaves what its end tells: the state behind the last acknowledged batch, or where the store failed in a batch that or the one behind it.
-pub record Runs (task : Task) (s : State) (input old new : Option (List ℕ)) (status : ℕ) (Clean : Type 0) (Crash : Stand → Type 0) : Type 0 where
+pub record RunsFrom (task : Task) (s : State) (input old new : Option (List ℕ)) (status : ℕ) (Clean : Type 0) (Crash : Stand → Type 0) : Type 0 where
   pub end : Stand
   pub crash : Clean → Crash end
   pub writes :
       Done task s end input old new status
-      ⊎ ((failure : Failure) × (between : Option (List ℕ)) × Stops task s end failure Clean input old between × Reports failure between new status)
+      ⊎ ((failure : Failure) × (between : Option (List ℕ)) × StopsTask task s end failure Clean input old between × Reports failure between new status)
 
 -- the same, where nothing is known of the disk
 abbrev pub RunsUnseen : Task → State → Option (List ℕ) → Option (List ℕ) → Option (List ℕ) → ℕ → Type 0
-RunsUnseen task s input old new status = Runs task s input old new status ⊥ (λ _. ⊥)
+RunsUnseen task s input old new status = RunsFrom task s input old new status ⊥ (λ _. ⊥)
 
 -- a failure of the store, or want of memory
 abbrev pub IsOpening : Failure → Type 0
@@ -141,14 +141,14 @@ IsOpening NoMemory = ⊤
 IsOpening failure = ⊥
 
 -- why a file isn't opened, whatever it holds: there is none, it is damaged or of a later version, or one of these two
-abbrev pub IsRefusal : Failure → Type 0
-IsRefusal NoFile = ⊤
-IsRefusal (Damaged kind key) = ⊤
-IsRefusal NewerVersion = ⊤
-IsRefusal failure = IsOpening failure
+abbrev pub MayRefuse : Failure → Type 0
+MayRefuse NoFile = ⊤
+MayRefuse (Damaged kind key) = ⊤
+MayRefuse NewerVersion = ⊤
+MayRefuse failure = IsOpening failure
 
 abbrev pub RefusesFile : Option (List ℕ) → Option (List ℕ) → ℕ → Type 0
-RefusesFile old new status = (failure : Failure) × IsRefusal failure × Reports failure old new status
+RefusesFile old new status = (failure : Failure) × MayRefuse failure × Reports failure old new status
 
 -- no world is opened or made, and that alone is reported
 abbrev pub FailsAtOnce : Option (List ℕ) → Option (List ℕ) → ℕ → Type 0

@@ -13,12 +13,13 @@ ghost use Rattle.moo_store.specs.Stand.{Works, RunsBatch, AsksBatch};
 ghost use Rattle.moo_store.specs.Turns.{Halts};
 ghost use Rattle.moo_store.specs.World.{store_of, StandsFor};
 ghost use Rattle.moo_commands.specs.Lines.{text_failure, store_failure, checked_line};
-ghost use Rattle.moo_commands.specs.Run.{given, lost_status, RunsText, StopsText, StopsIn, Serving, StopsServing, Done, Stops, Ends};
+ghost use Rattle.moo_commands.specs.Run.{known_text, lost_status, RunsText, StopsText, StopsIn, Serving, StopsServing, Done, StopsTask, EndsTask};
 
 use crate::failure::Failure;
 use crate::output::{checked_text, explain_lost};
+use moo_dump::put_all;
 use moo_http::serve_port;
-use moo_store::{Tally, World, apply_text, ask_text, put_all};
+use moo_store::{Tally, World, apply_text, ask_text};
 use moo_words::Task;
 use sqlite::Alter;
 use std::alloc::Global;
@@ -39,8 +40,8 @@ fn run_text<R: Read + Drop, W: Write, S: Alter + Drop>(
     text: R,
     output: &mut W,
 ) -> Result<u8, Failure>
-    ensures done { (known : Bool) (s : State) → StandsFor S.Store known world.old s → IfOk result (λ status. Ends S.Store known world.old world.new (λ end. RunsText RunsBatch s end (R.remaining text) (W.contents output.old) (W.contents output.new) status)) }
-    ensures stops { (known : Bool) (s : State) → StandsFor S.Store known world.old s → IfErr result (λ failure. Ends S.Store known world.old world.new (λ end.
+    ensures done { (known : Bool) (s : State) → StandsFor S.Store known world.old s → IfOk result (λ status. EndsTask S.Store known world.old world.new (λ end. RunsText RunsBatch s end (R.remaining text) (W.contents output.old) (W.contents output.new) status)) }
+    ensures stops { (known : Bool) (s : State) → StandsFor S.Store known world.old s → IfErr result (λ failure. EndsTask S.Store known world.old world.new (λ end.
         (fault : TextFault) × (failure ≡ text_failure fault) × Halts RunsBatch (Works s) end (R.remaining text) (W.contents output.old) (W.contents output.new) fault)) }
 {
     match apply_text(rt.alloc(), text, output, world) {
@@ -60,8 +61,8 @@ fn apply<R: Read + Drop, W: Write, S: Alter + Drop>(
     input: R,
     output: &mut W,
 ) -> Result<u8, Failure>
-    ensures done { (known : Bool) (s : State) → StandsFor S.Store known world.old s → IfOk result (λ status. Ends S.Store known world.old world.new (λ end. RunsText RunsBatch s end (given batches.now (R.remaining input)) (W.contents output.old) (W.contents output.new) status)) }
-    ensures stops { (known : Bool) (s : State) → StandsFor S.Store known world.old s → IfErr result (λ failure. Ends S.Store known world.old world.new (λ end. StopsText RunsBatch s end failure (given batches.now (R.remaining input)) (W.contents output.old) (W.contents output.new))) }
+    ensures done { (known : Bool) (s : State) → StandsFor S.Store known world.old s → IfOk result (λ status. EndsTask S.Store known world.old world.new (λ end. RunsText RunsBatch s end (known_text batches.now (R.remaining input)) (W.contents output.old) (W.contents output.new) status)) }
+    ensures stops { (known : Bool) (s : State) → StandsFor S.Store known world.old s → IfErr result (λ failure. EndsTask S.Store known world.old world.new (λ end. StopsText RunsBatch s end failure (known_text batches.now (R.remaining input)) (W.contents output.old) (W.contents output.new))) }
 {
     world.leaves();
     if batches == "-" {
@@ -98,8 +99,8 @@ fn ask<R: Read + Drop, W: Write, S: Alter + Drop>(
     input: R,
     output: &mut W,
 ) -> Result<u8, Failure>
-    ensures done { (known : Bool) (s : State) → StandsFor S.Store known world.now s → IfOk result (RunsText AsksBatch s (Works s) (given batches.now (R.remaining input)) (W.contents output.old) (W.contents output.new)) }
-    ensures stops { (known : Bool) (s : State) → StandsFor S.Store known world.now s → IfErr result (λ failure. StopsText AsksBatch s (Works s) failure (given batches.now (R.remaining input)) (W.contents output.old) (W.contents output.new)) }
+    ensures done { (known : Bool) (s : State) → StandsFor S.Store known world.now s → IfOk result (RunsText AsksBatch s (Works s) (known_text batches.now (R.remaining input)) (W.contents output.old) (W.contents output.new)) }
+    ensures stops { (known : Bool) (s : State) → StandsFor S.Store known world.now s → IfErr result (λ failure. StopsText AsksBatch s (Works s) failure (known_text batches.now (R.remaining input)) (W.contents output.old) (W.contents output.new)) }
 {
     if batches == "-" {
         return ask_batches(rt.alloc(), world, input, output);
@@ -124,8 +125,10 @@ fn put_text<W: Write>(line: &str, output: &mut W) -> Result<u8, Failure>
     ensures done { IfOk result (λ status. Appends (W.contents output.old) (W.contents output.new) line.now × (status ≡ 0)) }
     ensures stops { IfErr result (λ failure. StopsIn line.now failure (W.contents output.old) (W.contents output.new)) }
 {
-    put_all(output, line.as_bytes())?;
-    Ok(0)
+    match put_all(output, line.as_bytes()) {
+        Ok(()) => Ok(0),
+        Err(_) => Err(Failure::Write),
+    }
 }
 
 /// Tests the tables, and writes what they hold.
@@ -156,8 +159,8 @@ fn serve<W: Write, S: Alter + Drop>(
     count: u32,
     output: &mut W,
 ) -> Result<u8, Failure>
-    ensures done { (known : Bool) (s : State) → StandsFor S.Store known world.old s → IfOk result (λ status. Ends S.Store known world.old world.new (λ end. Serving port count s end (W.contents output.old) (W.contents output.new) status)) }
-    ensures stops { (known : Bool) (s : State) → StandsFor S.Store known world.old s → IfErr result (λ failure. Ends S.Store known world.old world.new (λ end. StopsServing port count s end failure (W.contents output.old) (W.contents output.new))) }
+    ensures done { (known : Bool) (s : State) → StandsFor S.Store known world.old s → IfOk result (λ status. EndsTask S.Store known world.old world.new (λ end. Serving port count s end (W.contents output.old) (W.contents output.new) status)) }
+    ensures stops { (known : Bool) (s : State) → StandsFor S.Store known world.old s → IfErr result (λ failure. EndsTask S.Store known world.old world.new (λ end. StopsServing port count s end failure (W.contents output.old) (W.contents output.new))) }
 {
     match serve_port(rt, world, port, count, output) {
         Ok(()) => Ok(0),
@@ -173,10 +176,10 @@ pub(crate) fn do_task<R: Read + Drop, W: Write, S: Alter + Drop>(
     input: R,
     output: &mut W,
 ) -> Result<u8, Failure>
-    ensures done { (known : Bool) (s : State) → StandsFor S.Store known world.old s → IfOk result (λ status. Ends S.Store known world.old world.new (λ end.
+    ensures done { (known : Bool) (s : State) → StandsFor S.Store known world.old s → IfOk result (λ status. EndsTask S.Store known world.old world.new (λ end.
         Done task.entry s end (R.remaining input) (W.contents output.old) (W.contents output.new) status)) }
-    ensures stops { (known : Bool) (s : State) → StandsFor S.Store known world.old s → IfErr result (λ failure. Ends S.Store known world.old world.new (λ end.
-        Stops task.entry s end failure (IsTrue known × HasCleanDisk (store_of S.Store world.new)) (R.remaining input) (W.contents output.old) (W.contents output.new))) }
+    ensures stops { (known : Bool) (s : State) → StandsFor S.Store known world.old s → IfErr result (λ failure. EndsTask S.Store known world.old world.new (λ end.
+        StopsTask task.entry s end failure (IsTrue known × HasCleanDisk (store_of S.Store world.new)) (R.remaining input) (W.contents output.old) (W.contents output.new))) }
 {
     world.leaves();
     match task {

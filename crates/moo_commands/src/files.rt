@@ -12,7 +12,7 @@ ghost use Rattle.moo_tables.specs.Tables.{Tables};
 ghost use Rattle.moo_cells.specs.Shows.{ShowsRows};
 ghost use Rattle.moo_store.specs.World.{store_of, CrashLeaves, StandsFor};
 ghost use Rattle.moo_files.specs.Contents.{HoldsTables, HoldsState};
-ghost use Rattle.moo_commands.specs.Run.{begins_anew, file_of, IsOpening, IsRefusal, FailsAtOnce, RefusesFile, Runs, RunsUnseen, RunsTask};
+ghost use Rattle.moo_commands.specs.Run.{begins_anew, file_of, IsOpening, MayRefuse, FailsAtOnce, RefusesFile, RunsFrom, RunsUnseen, RunsTask};
 
 use crate::failure::Failure;
 use crate::output::report;
@@ -55,7 +55,7 @@ fn run_in_files<R: Read + Drop, W: Write, D: Disk + Drop>(
     output: &mut W,
     status: &mut u8,
 ) -> Connection<FileStore<D>>
-    ensures runs { (known : Bool) (s : State) → StandsFor over_files known world s → Runs task.entry s (R.remaining input) (W.contents output.old) (W.contents output.new) status.new (IsTrue known × HasCleanDisk (file_state result)) (CrashLeaves (file_state result)) }
+    ensures runs { (known : Bool) (s : State) → StandsFor over_files known world s → RunsFrom task.entry s (R.remaining input) (W.contents output.old) (W.contents output.new) status.new (IsTrue known × HasCleanDisk (file_state result)) (CrashLeaves (file_state result)) }
     ensures clean { (known : Bool) (s : State) → StandsFor over_files known world s → HasCleanDisk (file_state result) → HasCleanDisk (store_of over_files world) }
 {
     run_in(rt, world, task, input, output, status)
@@ -78,14 +78,14 @@ fn make<T: Start>(
 
 /// Each fault of opening refuses the file.
 fn refusal(fault: StoreFault) -> Failure
-    ensures { IsRefusal result }
+    ensures { MayRefuse result }
 {
     Failure::from(fault)
 }
 
 /// Why a file isn't opened. That there is none is told apart, for what is said of it on standard error.
 fn refusal_of(rt: &HostRuntime, file: &str, fault: StoreFault) -> Failure
-    ensures { IsRefusal result }
+    ensures { MayRefuse result }
 {
     let failure = refusal(fault);
     if failure == CANNOT_OPEN && fs::metadata(rt, file).is_err() {
@@ -100,7 +100,7 @@ fn open<T: Start>(
     file: &str,
     start: T,
 ) -> Result<World<FileStore<FileFrom<T>>>, Failure>
-    ensures opened { MatchResult result (λ world. IsGood world.rows.maps × StandsFor over_files false world (state_of world.rows.maps)) IsRefusal }
+    ensures opened { MatchResult result (λ world. IsGood world.rows.maps × StandsFor over_files false world (state_of world.rows.maps)) MayRefuse }
     ensures kept { (s : State) → HoldsState (image_at T.Start) s → IfOk result (λ world. HasCleanDisk (store_of over_files world) → StandsFor over_files true world s) }
     ensures only { (tables : Tables) → HoldsTables (image_at T.Start) tables → IfOk result (λ world. HasCleanDisk (store_of over_files world) → ShowsRows tables world.rows.maps) }
 {
@@ -119,7 +119,7 @@ fn world_of<T: Start>(
 ) -> Result<World<FileStore<FileFrom<T>>>, Failure>
     ensures anew { begins_anew task.entry ≡ true → MatchResult result (λ world. StandsFor over_files true world (state_of opening_maps)) IsOpening }
     ensures taken { (s : State) → begins_anew task.entry ≡ true → HoldsState (image_at T.Start) s → IfOk result (λ world. HasCleanDisk (store_of over_files world) → ⊥) }
-    ensures opened { begins_anew task.entry ≡ false → MatchResult result (λ world. IsGood world.rows.maps × StandsFor over_files false world (state_of world.rows.maps)) IsRefusal }
+    ensures opened { begins_anew task.entry ≡ false → MatchResult result (λ world. IsGood world.rows.maps × StandsFor over_files false world (state_of world.rows.maps)) MayRefuse }
     ensures kept { (s : State) → begins_anew task.entry ≡ false → HoldsState (image_at T.Start) s → IfOk result (λ world. HasCleanDisk (store_of over_files world) → StandsFor over_files true world s) }
     ensures only { (tables : Tables) → begins_anew task.entry ≡ false → HoldsTables (image_at T.Start) tables → IfOk result (λ world. HasCleanDisk (store_of over_files world) → ShowsRows tables world.rows.maps) }
 {
@@ -146,11 +146,11 @@ pub fn run_from<T: Start, R: Read + Drop, W: Write>(
 ) -> Option<Connection<FileStore<FileFrom<T>>>>
     // A task that begins with a new world runs from the opening world on, and not over another.
     ensures anew { begins_anew task.entry ≡ true → MatchOption result (FailsAtOnce (W.contents output.old) (W.contents output.new) status.new)
-        (λ conn. Runs task.entry (state_of opening_maps) (R.remaining input) (W.contents output.old) (W.contents output.new) status.new (HasCleanDisk (file_state conn)) (CrashLeaves (file_state conn))) }
+        (λ conn. RunsFrom task.entry (state_of opening_maps) (R.remaining input) (W.contents output.old) (W.contents output.new) status.new (HasCleanDisk (file_state conn)) (CrashLeaves (file_state conn))) }
     ensures taken { (s : State) → begins_anew task.entry ≡ true → HoldsState (image_at T.Start) s → IfSome result (λ conn. HasCleanDisk (file_state conn) → ⊥) }
     // Any other runs from the state on that the files hold, whatever bytes these are, on a disk that returns what was written.
     ensures kept { (s : State) → begins_anew task.entry ≡ false → HoldsState (image_at T.Start) s → IfSome result (λ conn. HasCleanDisk (file_state conn) →
-        Runs task.entry s (R.remaining input) (W.contents output.old) (W.contents output.new) status.new (HasCleanDisk (file_state conn)) (CrashLeaves (file_state conn))) }
+        RunsFrom task.entry s (R.remaining input) (W.contents output.old) (W.contents output.new) status.new (HasCleanDisk (file_state conn)) (CrashLeaves (file_state conn))) }
     // Where they hold tables that show no world, it runs from none.
     ensures only { (tables : Tables) → begins_anew task.entry ≡ false → HoldsTables (image_at T.Start) tables → IfSome result (λ conn. HasCleanDisk (file_state conn) → (rows : Maps) × IsGood rows × ShowsRows tables rows) }
     // Whatever they hold, the file is refused, or the task runs from a well formed world on.

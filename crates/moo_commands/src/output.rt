@@ -5,7 +5,8 @@ ghost use Rattle.moo_commands.specs.Lines.{WritesLine, Reports, checked_line, da
 
 use crate::failure::Failure;
 use moo_damage::{Key, Kind};
-use moo_store::{Tally, put_all};
+use moo_dump::put_all;
+use moo_store::Tally;
 use sqlite::{Error, ErrorCode};
 use std::alloc::{AllocError, Global};
 use std::io::Write;

@@ -8,7 +8,7 @@ ghost use Rattle.moo_world.specs.Judge.{State, state_of};
 ghost use Rattle.moo_store.specs.States.{ShowsState};
 ghost use Rattle.moo_store.specs.World.{store_of, CrashLeaves, StandsFor};
 ghost use Rattle.moo_commands.specs.Lines.{Reports};
-ghost use Rattle.moo_commands.specs.Run.{begins_anew, Runs, RunsOpened, FailsAtOnce, LeavesAsBefore};
+ghost use Rattle.moo_commands.specs.Run.{begins_anew, RunsFrom, RunsOpened, FailsAtOnce, LeavesAsBefore};
 
 use crate::commands::do_task;
 use crate::failure::Failure;
@@ -55,7 +55,7 @@ pub(crate) fn run_in<R: Read + Drop, W: Write, S: Alter + Drop>(
     output: &mut W,
     status: &mut u8,
 ) -> Connection<S>
-    ensures runs { (known : Bool) (s : State) → StandsFor S.Store known world s → Runs task.entry s (R.remaining input) (W.contents output.old) (W.contents output.new) status.new (IsTrue known × HasCleanDisk (state S.Store result)) (CrashLeaves (state S.Store result)) }
+    ensures runs { (known : Bool) (s : State) → StandsFor S.Store known world s → RunsFrom task.entry s (R.remaining input) (W.contents output.old) (W.contents output.new) status.new (IsTrue known × HasCleanDisk (state S.Store result)) (CrashLeaves (state S.Store result)) }
     ensures clean { (known : Bool) (s : State) → StandsFor S.Store known world s → HasCleanDisk (state S.Store result) → HasCleanDisk (store_of S.Store world) }
 {
     let done = do_task(rt, &mut world, task, input, output);
@@ -74,7 +74,7 @@ fn run_anew<R: Read + Drop, W: Write, S: Alter + Drop>(
 ) -> Connection<S>
     requires outside { conn.in_transaction ≡ false }
     ensures { FailsAtOnce (W.contents output.old) (W.contents output.new) status.new
-        ⊎ Runs task.entry (state_of opening_maps) (R.remaining input) (W.contents output.old) (W.contents output.new) status.new (HasCleanDisk (state S.Store result)) (CrashLeaves (state S.Store result)) }
+        ⊎ RunsFrom task.entry (state_of opening_maps) (R.remaining input) (W.contents output.old) (W.contents output.new) status.new (HasCleanDisk (state S.Store result)) (CrashLeaves (state S.Store result)) }
 {
     match create_in(rt.alloc(), conn) {
         Ok(world) => run_in(rt, world, task, input, output, status),
@@ -97,7 +97,7 @@ fn run_opened<R: Read + Drop, W: Write, S: Alter + Drop>(
     requires outside { conn.in_transaction ≡ false }
     ensures kept { (s : State) → ShowsState (state S.Store conn) s → HasCleanDisk (state S.Store result) →
         (FailsAtOnce (W.contents output.old) (W.contents output.new) status.new × LeavesAsBefore s (state S.Store conn) (state S.Store result))
-        ⊎ Runs task.entry s (R.remaining input) (W.contents output.old) (W.contents output.new) status.new (HasCleanDisk (state S.Store result)) (CrashLeaves (state S.Store result)) }
+        ⊎ RunsFrom task.entry s (R.remaining input) (W.contents output.old) (W.contents output.new) status.new (HasCleanDisk (state S.Store result)) (CrashLeaves (state S.Store result)) }
     ensures opened { RunsOpened task.entry (R.remaining input) (W.contents output.old) (W.contents output.new) status.new }
 {
     match adopt(rt.alloc(), conn) {
@@ -125,11 +125,11 @@ pub fn run_over<R: Read + Drop, W: Write, S: Alter + Drop>(
     requires outside { conn.in_transaction ≡ false }
     // A task that begins with a new world runs from the opening world on.
     ensures anew { begins_anew task.entry ≡ true → FailsAtOnce (W.contents output.old) (W.contents output.new) status.new
-        ⊎ Runs task.entry (state_of opening_maps) (R.remaining input) (W.contents output.old) (W.contents output.new) status.new (HasCleanDisk (state S.Store result)) (CrashLeaves (state S.Store result)) }
+        ⊎ RunsFrom task.entry (state_of opening_maps) (R.remaining input) (W.contents output.old) (W.contents output.new) status.new (HasCleanDisk (state S.Store result)) (CrashLeaves (state S.Store result)) }
     // Any other runs from the state on that the tables of the connection show, of either version, on a disk that returns what was written.
     ensures kept { (s : State) → begins_anew task.entry ≡ false → ShowsState (state S.Store conn) s → HasCleanDisk (state S.Store result) →
         (FailsAtOnce (W.contents output.old) (W.contents output.new) status.new × LeavesAsBefore s (state S.Store conn) (state S.Store result))
-        ⊎ Runs task.entry s (R.remaining input) (W.contents output.old) (W.contents output.new) status.new (HasCleanDisk (state S.Store result)) (CrashLeaves (state S.Store result)) }
+        ⊎ RunsFrom task.entry s (R.remaining input) (W.contents output.old) (W.contents output.new) status.new (HasCleanDisk (state S.Store result)) (CrashLeaves (state S.Store result)) }
     // Whatever they show, it is refused, or the task runs from a well formed world on.
     ensures opened { begins_anew task.entry ≡ false → RunsOpened task.entry (R.remaining input) (W.contents output.old) (W.contents output.new) status.new }
 {

@@ -25,7 +25,8 @@ use Rattle.moo_world.proofs.Shown.Seen.{is_object_seen}
 use Rattle.moo_world.proofs.Ancestry.Trees.{Chain-chain, chain_of_none, nothing_is_no_object}
 use Rattle.moo_props.proofs.Gains.{slot_on_heir}
 use Rattle.moo_props.proofs.Owing.{entries_held}
-use Rattle.moo_damage.specs.Damage.{share_name, is_double, is_owed, is_clear, IsClean}
+use Rattle.moo_world.specs.PropertyCalls.{is_clear}
+use Rattle.moo_damage.specs.Damage.{share_name, is_double, is_owed, IsClean}
 use Rattle.moo_props.specs.Names.{defines}
 use Rattle.moo_damage.proofs.Apart.{one_passing}
 use Rattle.moo_damage.proofs.Good.{parents_seen, places_seen}

@@ -20,7 +20,7 @@ use Rattle.moo_world.specs.World.{Climbs}
 use Rattle.moo_world.proofs.Ancestry.Chains.{Climbs-once}
 use Rattle.moo_world.proofs.Shown.MapLaws.{decided_alike, key-Decides}
 use Rattle.moo_damage.specs.declared.trees.Link.{Link}
-use Rattle.moo_damage.specs.Damage.{link_of, next_of, Ends, LinksHold}
+use Rattle.moo_damage.specs.Damage.{link_of, next_of, HasEnd, LinksHold}
 use Rattle.moo_damage.specs.Noted.{AreEnding}
 
 find-lookup : {K X : Type 0} (cmp : K → K → Ordering) (q : K) (es : List (K × X)) → lookup (eq_by_cmp cmp q) es ≡ find cmp q es
@@ -70,7 +70,7 @@ module _ (link : Link) (m : Maps) (h : LinksHold link m) where
     up = ap (option_map (link_of link)) there
 
     -- from where the chain ends it ends one step lower
-    pub step_up : Ends link m (link_of link row) → Ends link m x
+    pub step_up : HasEnd link m (link_of link row) → HasEnd link m x
     step_up c = (x ∷ c.0, (refl, link_of link row, up, c.1))
 
     pub step_down : (c : List ObjNo) → Climbs next x c → (rest : List ObjNo) × Climbs next (link_of link row) rest × (suc (length rest) ≡ length c)
@@ -78,14 +78,14 @@ module _ (link : Link) (m : Maps) (h : LinksHold link m) where
     step_down (y ∷ rest) p = (rest, subst (λ z. Climbs next z rest) (same_Some p.1 (link_of link row) (sym p.2 ∙ up)) p.3, refl)
 
   -- what has no row, but is linked to, is the end
-  pub ends_here : (x : ObjNo) → (x ≡ nothing) ⊎ (is_some (get m.objects x) ≡ true) → get m.objects x ≡ None → Ends link m x
+  pub ends_here : (x : ObjNo) → (x ≡ nothing) ⊎ (is_some (get m.objects x) ≡ true) → get m.objects x ≡ None → HasEnd link m x
   ends_here x (inl e) g = ([], e)
   ends_here x (inr e) g = absurd (false≢true (sym (ap is_some g) ∙ e))
 
 -- one more that is known
-pub AreEnding-noted : (link : Link) (m : Maps) (known : FinMap object_cmp (Unit {0})) (x : ObjNo) → Ends link m x → AreEnding link m known → AreEnding link m (insert known x tt)
+pub AreEnding-noted : (link : Link) (m : Maps) (known : FinMap object_cmp (Unit {0})) (x : ObjNo) → HasEnd link m x → AreEnding link m known → AreEnding link m (insert known x tt)
 AreEnding-noted link m known x ends are z e = by (eq_by_cmp object_cmp z x) refl (sym (get-insert object_total known x tt z) ∙ e)
   where
-    by : (b : Bool) → eq_by_cmp object_cmp z x ≡ b → cond b (Some tt) (get known z) ≡ Some tt → Ends link m z
-    by true k g = subst (Ends link m) (sym ((key-Decides object_cmp object_total object_exact z x).0 k)) ends
+    by : (b : Bool) → eq_by_cmp object_cmp z x ≡ b → cond b (Some tt) (get known z) ≡ Some tt → HasEnd link m z
+    by true k g = subst (HasEnd link m) (sym ((key-Decides object_cmp object_total object_exact z x).0 k)) ends
     by false k g = are z g

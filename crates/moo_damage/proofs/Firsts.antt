@@ -10,7 +10,7 @@ use Rattle.std.proofs.lemmas.Option.{none-some, same_Some}
 use Rattle.moo_rows.proofs.Walking.{first_of, second_of, less_of, elsewhere, here}
 use Rattle.moo_world.proofs.Shown.EntriesInOrder.{own_entries}
 use Rattle.moo_world.proofs.Shown.MapLaws.{key-Decides}
-use Rattle.moo_damage.specs.First.{IsFirst}
+use Rattle.moo_damage.specs.First.{IsLeastBad}
 
 module _ {K X : Type 0} (right bad : K → X → Type 0) where
   -- the first bad one of a list of entries, or none
@@ -83,10 +83,10 @@ module _ {K X : Type 0} {cmp : K → K → Ordering} (right bad : K → X → Ty
       held [] a = tt
       held (e ∷ es) a = (get-entries m e.0 ∙ a.0, held es a.1)
 
-  pub ended : (left : List (K × X)) → left ≡ [] → FirstLeft right bad left (entries m) → IsFirst m right bad None
+  pub ended : (left : List (K × X)) → left ≡ [] → FirstLeft right bad left (entries m) → IsLeastBad m right bad None
   ended left is f k r e = each_right right bad cmp total exact (entries m) (f None (subst (λ l. FirstIn right bad l None) (sym is) refl)) k r (sym (get-entries m k) ∙ e)
 
-  pub stopped : (left es : List (K × X)) (e : K × X) → left ≡ e ∷ es → FirstLeft right bad left (entries m) → bad e.0 e.1 → IsFirst m right bad (Some e.0)
+  pub stopped : (left es : List (K × X)) (e : K × X) → left ≡ e ∷ es → FirstLeft right bad left (entries m) → bad e.0 e.1 → IsLeastBad m right bad (Some e.0)
   stopped left es e is f b =
       let g = found_at right bad cmp total exact (entries m) (entries_sorted m) e.0 (f (Some e.0) (subst (λ l. FirstIn right bad l (Some e.0)) (sym is) (inr (b, refl)))) in
       (g.0, get-entries m e.0 ∙ g.1, g.2, λ k r l h. g.3 k r l (sym (get-entries m k) ∙ h))

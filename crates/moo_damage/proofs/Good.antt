@@ -34,7 +34,8 @@ use Rattle.moo_props.proofs.Owing.{any_owed, entries_held}
 use Rattle.moo_props.proofs.Walked.{any_held}
 use Rattle.moo_damage.specs.declared.trees.Link.{Link}
 use Rattle.moo_damage.specs.declared.trees.Link.TheVariants.{Parent, Place}
-use Rattle.moo_damage.specs.Damage.{next_of, link_of, share_name, is_double, is_clear, is_clear_definer, is_lost, NumbersGiven, LinksEnd, LinksHold, IsClean}
+use Rattle.moo_world.specs.PropertyCalls.{is_clear}
+use Rattle.moo_damage.specs.Damage.{next_of, link_of, share_name, is_double, is_clear_definer, is_lost, NumbersGiven, LinksEnd, LinksHold, IsClean}
 use Rattle.moo_damage.specs.Limits.{AreWithin}
 use Rattle.moo_damage.proofs.Apart.{both_true, all_map, none_any, one_passing, all_made, distinct_append, all_numbers, distinct_numbers, distinct_mapped}
 

@@ -18,7 +18,7 @@ use Rattle.moo_rows.specs.Maps.{Maps}
 use Rattle.moo_damage.specs.declared.kind.Kind.{Kind}
 use Rattle.moo_damage.specs.declared.kind.Key.{Key}
 use Rattle.moo_damage.specs.declared.kind.Key.TheVariants.{Head, Object, Prop, Slot, Verb, Petition}
-use Rattle.moo_damage.specs.First.{IsFirst}
+use Rattle.moo_damage.specs.First.{IsLeastBad}
 use Rattle.moo_damage.specs.Kinds.{IsBelow, Has, AtObject, AtProp, AtSlot, AtVerb, AtPetition, InRows, IsLeast}
 
 pub number_less : (i j : ℕ) → pos i <ℤ pos j → nat_cmp i j ≡ Less
@@ -29,7 +29,7 @@ pair_less n k i j (inl l) = ap (λ o. ordering_then o (nat_cmp i j)) (sym (int_c
 pair_less n k i j (inr l) = ap (λ o. ordering_then o (nat_cmp i j)) (sym (int_cmp_is n k Equal l.0)) ∙ number_less i j l.1
 
 -- where the search for a bad row ended, there is none
-pub no_bad : {K X : Type 0} {cmp : K → K → Ordering} (rows : FinMap cmp X) (right bad : K → X → Type 0) → ((k : K) (r : X) → right k r → ¬ (bad k r)) → IsFirst rows right bad None → (k : K) → ¬ (Has (get rows) bad k)
+pub no_bad : {K X : Type 0} {cmp : K → K → Ordering} (rows : FinMap cmp X) (right bad : K → X → Type 0) → ((k : K) (r : X) → right k r → ¬ (bad k r)) → IsLeastBad rows right bad None → (k : K) → ¬ (Has (get rows) bad k)
 no_bad rows right bad apart f k h = apart k h.0 (f k h.0 h.1) h.2
 
 module _ (m : Maps) (kind : Kind) where
@@ -118,34 +118,34 @@ module _ (m : Maps) (kind : Kind) where
 
 module _ (m : Maps) where
   pub object_first : (kind : Kind) (right bad : ObjNo → ObjRow → Type 0) → ((x : ObjNo) → Has (get m.objects) bad x → AtObject m kind x) → ((x : ObjNo) → AtObject m kind x → Has (get m.objects) bad x)
-      → ((x : ObjNo) (row : ObjRow) → right x row → ¬ (bad x row)) → (x : ObjNo) → IsFirst m.objects right bad (Some x) → IsLeast (InRows m kind) (Some (Object x.0))
+      → ((x : ObjNo) (row : ObjRow) → right x row → ¬ (bad x row)) → (x : ObjNo) → IsLeastBad m.objects right bad (Some x) → IsLeast (InRows m kind) (Some (Object x.0))
   object_first kind right bad to from apart x f =
       least_object m kind x (to x (f.0, f.1, f.2))
       (λ y l h. let b = from y h in apart y b.0 (f.3 y b.0 (sym (int_cmp_is y.0 x.0 Less l)) b.1) b.2)
 
   pub prop_first : (kind : Kind) (right bad : PropId → PropRow → Type 0) → ((id : PropId) → Has (get m.props) bad id → AtProp m kind id) → ((id : PropId) → AtProp m kind id → Has (get m.props) bad id)
-      → ((id : PropId) (row : PropRow) → right id row → ¬ (bad id row)) → ((y : ObjNo) → ¬ (AtObject m kind y)) → (id : PropId) → IsFirst m.props right bad (Some id) → IsLeast (InRows m kind) (Some (Prop (pos id.0)))
+      → ((id : PropId) (row : PropRow) → right id row → ¬ (bad id row)) → ((y : ObjNo) → ¬ (AtObject m kind y)) → (id : PropId) → IsLeastBad m.props right bad (Some id) → IsLeast (InRows m kind) (Some (Prop (pos id.0)))
   prop_first kind right bad to from apart a id f =
       least_prop m kind id a (to id (f.0, f.1, f.2))
       (λ i l h. let b = from i h in apart i b.0 (f.3 i b.0 (number_less i.0 id.0 l) b.1) b.2)
 
   pub slot_first : (kind : Kind) (right bad : ObjNo × PropId → SlotRow → Type 0) → ((key : ObjNo × PropId) → Has (get m.slots) bad key → AtSlot m kind key) → ((key : ObjNo × PropId) → AtSlot m kind key → Has (get m.slots) bad key)
       → ((key : ObjNo × PropId) (row : SlotRow) → right key row → ¬ (bad key row)) → ((y : ObjNo) → ¬ (AtObject m kind y)) → ((id : PropId) → ¬ (AtProp m kind id))
-      → (key : ObjNo × PropId) → IsFirst m.slots right bad (Some key) → IsLeast (InRows m kind) (Some (Slot key.0.0 (pos key.1.0)))
+      → (key : ObjNo × PropId) → IsLeastBad m.slots right bad (Some key) → IsLeast (InRows m kind) (Some (Slot key.0.0 (pos key.1.0)))
   slot_first kind right bad to from apart a b key f =
       least_slot m kind key a b (to key (f.0, f.1, f.2))
       (λ k l h. let t = from k h in apart k t.0 (f.3 k t.0 (pair_less k.0.0 key.0.0 k.1.0 key.1.0 l) t.1) t.2)
 
   pub verb_first : (kind : Kind) (right bad : ObjNo × VerbId → VerbRow → Type 0) → ((key : ObjNo × VerbId) → Has (get m.verbs) bad key → AtVerb m kind key) → ((key : ObjNo × VerbId) → AtVerb m kind key → Has (get m.verbs) bad key)
       → ((key : ObjNo × VerbId) (row : VerbRow) → right key row → ¬ (bad key row)) → ((y : ObjNo) → ¬ (AtObject m kind y)) → ((id : PropId) → ¬ (AtProp m kind id)) → ((key : ObjNo × PropId) → ¬ (AtSlot m kind key))
-      → (key : ObjNo × VerbId) → IsFirst m.verbs right bad (Some key) → IsLeast (InRows m kind) (Some (Verb key.0.0 (pos key.1.0)))
+      → (key : ObjNo × VerbId) → IsLeastBad m.verbs right bad (Some key) → IsLeast (InRows m kind) (Some (Verb key.0.0 (pos key.1.0)))
   verb_first kind right bad to from apart a b c key f =
       least_verb m kind key a b c (to key (f.0, f.1, f.2))
       (λ k l h. let t = from k h in apart k t.0 (f.3 k t.0 (pair_less k.0.0 key.0.0 k.1.0 key.1.0 l) t.1) t.2)
 
   pub petition_first : (kind : Kind) (right bad : PetitionId → PetitionRow → Type 0) → ((id : PetitionId) → Has (get m.petitions) bad id → AtPetition m kind id) → ((id : PetitionId) → AtPetition m kind id → Has (get m.petitions) bad id)
       → ((id : PetitionId) (row : PetitionRow) → right id row → ¬ (bad id row)) → ((y : ObjNo) → ¬ (AtObject m kind y)) → ((id : PropId) → ¬ (AtProp m kind id)) → ((key : ObjNo × PropId) → ¬ (AtSlot m kind key))
-      → ((key : ObjNo × VerbId) → ¬ (AtVerb m kind key)) → (id : PetitionId) → IsFirst m.petitions right bad (Some id) → IsLeast (InRows m kind) (Some (Petition (pos id.0)))
+      → ((key : ObjNo × VerbId) → ¬ (AtVerb m kind key)) → (id : PetitionId) → IsLeastBad m.petitions right bad (Some id) → IsLeast (InRows m kind) (Some (Petition (pos id.0)))
   petition_first kind right bad to from apart a b c d id f =
       least_petition m kind id a b c d (to id (f.0, f.1, f.2))
       (λ i l h. let t = from i h in apart i t.0 (f.3 i t.0 (number_less i.0 id.0 l) t.1) t.2)

@@ -12,7 +12,8 @@ use Rattle.moo_rows.specs.Exact.{prop_exact}
 use Rattle.moo_rows.specs.Maps.{Maps, prop_cmp}
 use Rattle.moo_rows.proofs.Orders.{prop_total}
 use Rattle.moo_world.specs.Objects.{same_object, same_object-Decides}
-use Rattle.moo_damage.specs.Damage.{is_clear, is_clear_definer}
+use Rattle.moo_world.specs.PropertyCalls.{is_clear}
+use Rattle.moo_damage.specs.Damage.{is_clear_definer}
 use Rattle.moo_damage.specs.OwnClear.{has_clear}
 use Rattle.moo_damage.proofs.Nearby.{none_held}
 

@@ -13,8 +13,8 @@ use Rattle.moo_damage.specs.declared.kind.Key.{Key}
 use Rattle.moo_damage.specs.declared.kind.Key.TheVariants.{Object, Prop, Slot, Verb, Petition}
 use Rattle.moo_damage.specs.declared.trees.Link.{Link}
 use Rattle.moo_damage.specs.declared.trees.Link.TheVariants.{Parent, Place}
-use Rattle.moo_damage.specs.Damage.{Ends, Loops, is_object_past, is_prop_past, is_verb_past, is_petition_past, is_lost, lacks_definer, is_double, is_strange, is_clear_definer, is_strange_verb}
-use Rattle.moo_damage.specs.First.{IsFirst}
+use Rattle.moo_damage.specs.Damage.{HasEnd, Loops, is_object_past, is_prop_past, is_verb_past, is_petition_past, is_lost, lacks_definer, is_double, is_strange, is_clear_definer, is_strange_verb}
+use Rattle.moo_damage.specs.First.{IsLeastBad}
 use Rattle.moo_damage.specs.Kinds.{place, lost_kind, loop_kind, InRows, NoneBefore, IsLeast, IsFirstMet}
 use Rattle.moo_damage.specs.Missing.{IsFirstMissing}
 use Rattle.moo_damage.proofs.InTurn.{none_more}
@@ -40,30 +40,30 @@ apart : (b : Bool) → b ≡ false → ¬ (b ≡ true)
 apart b e f = both_ways b e f
 
 module _ (m : Maps) where
-  pub lost_least : (link : Link) (o : Option ObjNo) → IsFirst m.objects (λ k r. is_lost link m r ≡ false) (λ k r. is_lost link m r ≡ true) o → IsLeast (InRows m (lost_kind link)) (of_object o)
+  pub lost_least : (link : Link) (o : Option ObjNo) → IsLeastBad m.objects (λ k r. is_lost link m r ≡ false) (λ k r. is_lost link m r ≡ true) o → IsLeast (InRows m (lost_kind link)) (of_object o)
   lost_least Parent None f = none_met m NoParent (no_bad m.objects (λ k r. is_lost Parent m r ≡ false) (λ k r. is_lost Parent m r ≡ true) (λ k r. apart (is_lost Parent m r)) f) (λ id h. h) (λ key h. h) (λ key h. h) (λ id h. h)
   lost_least Parent (Some x) f = object_first m NoParent (λ k r. is_lost Parent m r ≡ false) (λ k r. is_lost Parent m r ≡ true) (λ x h. h) (λ x h. h) (λ k r. apart (is_lost Parent m r)) x f
   lost_least Place None f = none_met m NoPlace (no_bad m.objects (λ k r. is_lost Place m r ≡ false) (λ k r. is_lost Place m r ≡ true) (λ k r. apart (is_lost Place m r)) f) (λ id h. h) (λ key h. h) (λ key h. h) (λ id h. h)
   lost_least Place (Some x) f = object_first m NoPlace (λ k r. is_lost Place m r ≡ false) (λ k r. is_lost Place m r ≡ true) (λ x h. h) (λ x h. h) (λ k r. apart (is_lost Place m r)) x f
 
-  ending : (link : Link) (x : ObjNo) → Ends link m x → ¬ (Loops link m x)
+  ending : (link : Link) (x : ObjNo) → HasEnd link m x → ¬ (Loops link m x)
   ending link x c f = f c.0 c.1
 
-  pub loops_least : (link : Link) (o : Option ObjNo) → IsFirst m.objects (λ x _. Ends link m x) (λ x _. Loops link m x) o → IsLeast (InRows m (loop_kind link)) (of_object o)
-  loops_least Parent None f = none_met m ParentLoop (no_bad m.objects (λ x _. Ends Parent m x) (λ x _. Loops Parent m x) (λ k r. ending Parent k) f) (λ id h. h) (λ key h. h) (λ key h. h) (λ id h. h)
-  loops_least Parent (Some x) f = object_first m ParentLoop (λ x _. Ends Parent m x) (λ x _. Loops Parent m x) (λ x h. h) (λ x h. h) (λ k r. ending Parent k) x f
-  loops_least Place None f = none_met m PlaceLoop (no_bad m.objects (λ x _. Ends Place m x) (λ x _. Loops Place m x) (λ k r. ending Place k) f) (λ id h. h) (λ key h. h) (λ key h. h) (λ id h. h)
-  loops_least Place (Some x) f = object_first m PlaceLoop (λ x _. Ends Place m x) (λ x _. Loops Place m x) (λ x h. h) (λ x h. h) (λ k r. ending Place k) x f
+  pub loops_least : (link : Link) (o : Option ObjNo) → IsLeastBad m.objects (λ x _. HasEnd link m x) (λ x _. Loops link m x) o → IsLeast (InRows m (loop_kind link)) (of_object o)
+  loops_least Parent None f = none_met m ParentLoop (no_bad m.objects (λ x _. HasEnd Parent m x) (λ x _. Loops Parent m x) (λ k r. ending Parent k) f) (λ id h. h) (λ key h. h) (λ key h. h) (λ id h. h)
+  loops_least Parent (Some x) f = object_first m ParentLoop (λ x _. HasEnd Parent m x) (λ x _. Loops Parent m x) (λ x h. h) (λ x h. h) (λ k r. ending Parent k) x f
+  loops_least Place None f = none_met m PlaceLoop (no_bad m.objects (λ x _. HasEnd Place m x) (λ x _. Loops Place m x) (λ k r. ending Place k) f) (λ id h. h) (λ key h. h) (λ key h. h) (λ id h. h)
+  loops_least Place (Some x) f = object_first m PlaceLoop (λ x _. HasEnd Place m x) (λ x _. Loops Place m x) (λ x h. h) (λ x h. h) (λ k r. ending Place k) x f
 
-  pub definer_least : (o : Option PropId) → IsFirst m.props (λ k r. lacks_definer m r ≡ false) (λ k r. lacks_definer m r ≡ true) o → IsLeast (InRows m NoDefiner) (of_prop o)
+  pub definer_least : (o : Option PropId) → IsLeastBad m.props (λ k r. lacks_definer m r ≡ false) (λ k r. lacks_definer m r ≡ true) o → IsLeast (InRows m NoDefiner) (of_prop o)
   definer_least None f = none_met m NoDefiner (λ x h. h) (no_bad m.props (λ k r. lacks_definer m r ≡ false) (λ k r. lacks_definer m r ≡ true) (λ k r. apart (lacks_definer m r)) f) (λ key h. h) (λ key h. h) (λ id h. h)
   definer_least (Some id) f = prop_first m NoDefiner (λ k r. lacks_definer m r ≡ false) (λ k r. lacks_definer m r ≡ true) (λ id h. h) (λ id h. h) (λ k r. apart (lacks_definer m r)) (λ y h. h) id f
 
-  pub double_least : (o : Option PropId) → IsFirst m.props (λ k r. is_double m k r ≡ false) (λ k r. is_double m k r ≡ true) o → IsLeast (InRows m DoubleName) (of_prop o)
+  pub double_least : (o : Option PropId) → IsLeastBad m.props (λ k r. is_double m k r ≡ false) (λ k r. is_double m k r ≡ true) o → IsLeast (InRows m DoubleName) (of_prop o)
   double_least None f = none_met m DoubleName (λ x h. h) (no_bad m.props (λ k r. is_double m k r ≡ false) (λ k r. is_double m k r ≡ true) (λ k r. apart (is_double m k r)) f) (λ key h. h) (λ key h. h) (λ id h. h)
   double_least (Some id) f = prop_first m DoubleName (λ k r. is_double m k r ≡ false) (λ k r. is_double m k r ≡ true) (λ id h. h) (λ id h. h) (λ k r. apart (is_double m k r)) (λ y h. h) id f
 
-  pub strange_least : (o : Option (ObjNo × PropId)) → IsFirst m.slots (λ k r. is_strange m k ≡ false) (λ k r. is_strange m k ≡ true) o → IsLeast (InRows m StrangeSlot) (of_slot o)
+  pub strange_least : (o : Option (ObjNo × PropId)) → IsLeastBad m.slots (λ k r. is_strange m k ≡ false) (λ k r. is_strange m k ≡ true) o → IsLeast (InRows m StrangeSlot) (of_slot o)
   strange_least None f = none_met m StrangeSlot (λ x h. h) (λ id h. h) (no_bad m.slots (λ k r. is_strange m k ≡ false) (λ k r. is_strange m k ≡ true) (λ k r. apart (is_strange m k)) f) (λ key h. h) (λ id h. h)
   strange_least (Some key) f = slot_first m StrangeSlot (λ k r. is_strange m k ≡ false) (λ k r. is_strange m k ≡ true) (λ k h. h) (λ k h. h) (λ k r. apart (is_strange m k)) (λ y h. h) (λ id h. h) key f
 
@@ -71,27 +71,27 @@ module _ (m : Maps) where
   missing_least None f = none_met m MissingSlot (λ x h. h) (λ id h. h) (none_missing m f) (λ key h. h) (λ id h. h)
   missing_least (Some key) f = missing_first m key f
 
-  pub clear_least : (o : Option (ObjNo × PropId)) → IsFirst m.slots (λ k r. is_clear_definer m k r ≡ false) (λ k r. is_clear_definer m k r ≡ true) o → IsLeast (InRows m ClearDefiner) (of_slot o)
+  pub clear_least : (o : Option (ObjNo × PropId)) → IsLeastBad m.slots (λ k r. is_clear_definer m k r ≡ false) (λ k r. is_clear_definer m k r ≡ true) o → IsLeast (InRows m ClearDefiner) (of_slot o)
   clear_least None f = none_met m ClearDefiner (λ x h. h) (λ id h. h) (no_bad m.slots (λ k r. is_clear_definer m k r ≡ false) (λ k r. is_clear_definer m k r ≡ true) (λ k r. apart (is_clear_definer m k r)) f) (λ key h. h) (λ id h. h)
   clear_least (Some key) f = slot_first m ClearDefiner (λ k r. is_clear_definer m k r ≡ false) (λ k r. is_clear_definer m k r ≡ true) (λ k h. h) (λ k h. h) (λ k r. apart (is_clear_definer m k r)) (λ y h. h) (λ id h. h) key f
 
-  pub verb_least : (o : Option (ObjNo × VerbId)) → IsFirst m.verbs (λ k r. is_strange_verb m k ≡ false) (λ k r. is_strange_verb m k ≡ true) o → IsLeast (InRows m StrangeVerb) (of_verb o)
+  pub verb_least : (o : Option (ObjNo × VerbId)) → IsLeastBad m.verbs (λ k r. is_strange_verb m k ≡ false) (λ k r. is_strange_verb m k ≡ true) o → IsLeast (InRows m StrangeVerb) (of_verb o)
   verb_least None f = none_met m StrangeVerb (λ x h. h) (λ id h. h) (λ key h. h) (no_bad m.verbs (λ k r. is_strange_verb m k ≡ false) (λ k r. is_strange_verb m k ≡ true) (λ k r. apart (is_strange_verb m k)) f) (λ id h. h)
   verb_least (Some key) f = verb_first m StrangeVerb (λ k r. is_strange_verb m k ≡ false) (λ k r. is_strange_verb m k ≡ true) (λ k h. h) (λ k h. h) (λ k r. apart (is_strange_verb m k)) (λ y h. h) (λ id h. h) (λ key h. h) key f
 
   -- ---- numbers past the head, in five maps
 
   abbrev ObjectPast : Option ObjNo → Type 0
-  ObjectPast o = IsFirst m.objects (λ k r. is_object_past m.head k ≡ false) (λ k r. is_object_past m.head k ≡ true) o
+  ObjectPast o = IsLeastBad m.objects (λ k r. is_object_past m.head k ≡ false) (λ k r. is_object_past m.head k ≡ true) o
 
   abbrev PropPast : Option PropId → Type 0
-  PropPast o = IsFirst m.props (λ k r. is_prop_past m.head k ≡ false) (λ k r. is_prop_past m.head k ≡ true) o
+  PropPast o = IsLeastBad m.props (λ k r. is_prop_past m.head k ≡ false) (λ k r. is_prop_past m.head k ≡ true) o
 
   abbrev VerbPast : Option (ObjNo × VerbId) → Type 0
-  VerbPast o = IsFirst m.verbs (λ k r. is_verb_past m.head k ≡ false) (λ k r. is_verb_past m.head k ≡ true) o
+  VerbPast o = IsLeastBad m.verbs (λ k r. is_verb_past m.head k ≡ false) (λ k r. is_verb_past m.head k ≡ true) o
 
   abbrev PetitionPast : Option PetitionId → Type 0
-  PetitionPast o = IsFirst m.petitions (λ k r. is_petition_past m.head k ≡ false) (λ k r. is_petition_past m.head k ≡ true) o
+  PetitionPast o = IsLeastBad m.petitions (λ k r. is_petition_past m.head k ≡ false) (λ k r. is_petition_past m.head k ≡ true) o
 
   pub object_past : (x : ObjNo) → ObjectPast (Some x) → IsLeast (InRows m PastHead) (of_object (Some x))
   object_past x f = object_first m PastHead (λ k r. is_object_past m.head k ≡ false) (λ k r. is_object_past m.head k ≡ true) (λ x h. h) (λ x h. h) (λ k r. apart (is_object_past m.head k)) x f

@@ -19,7 +19,7 @@ use Rattle.moo_damage.specs.declared.kind.Kind.TheVariants.{BadHead, BadCell, Pa
 use Rattle.moo_damage.specs.declared.kind.Key.{Key}
 use Rattle.moo_damage.specs.declared.trees.Link.{Link}
 use Rattle.moo_damage.specs.declared.trees.Link.TheVariants.{Parent, Place}
-use Rattle.moo_damage.specs.Damage.{link_of, next_of, Ends, is_missing, IsClean}
+use Rattle.moo_damage.specs.Damage.{link_of, next_of, HasEnd, is_missing, IsClean}
 use Rattle.moo_damage.specs.Kinds.{InRows}
 use Rattle.moo_damage.proofs.Ending.{some_mapped}
 use Rattle.moo_damage.proofs.Good.{nothing_there}
@@ -35,7 +35,7 @@ module _ (link : Link) (m : Maps) where
   at_end y [] c e = not_true _ (and_parts _ _ e).0 ((same_object-Decides nothing y).1 (sym c))
   at_end y (z ∷ l) c e = not_true _ (and_parts _ _ e).1 (is_object_seen (look_ups m) y ∙ some_mapped (get m.objects y) (link_of link) c.1 c.2)
 
-  not_lost : IsClean m → (x : ObjNo) (row : ObjRow) → get m.objects x ≡ Some row → Ends link m x → ¬ ((not (same_object nothing (link_of link row)) && not (is_object (world_of m) (link_of link row))) ≡ true)
+  not_lost : IsClean m → (x : ObjNo) (row : ObjRow) → get m.objects x ≡ Some row → HasEnd link m x → ¬ ((not (same_object nothing (link_of link row)) && not (is_object (world_of m) (link_of link row))) ≡ true)
   not_lost clean x row e c = by c.0 c.1
     where
       by : (l : List ObjNo) → Climbs (next_of link m) x l → ¬ ((not (same_object nothing (link_of link row)) && not (is_object (world_of m) (link_of link row))) ≡ true)

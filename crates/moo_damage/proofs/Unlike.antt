@@ -6,9 +6,9 @@ use Rattle.std.specs.Ordering.{match_ordering, ordering_reverse}
 use Rattle.std.specs.FinMap.{FinMap, get}
 use Rattle.std.proofs.lemmas.Bool.{false≢true}
 use Rattle.std.proofs.lemmas.Map.Lookups.{CmpEqualImpliesEq}
-use Rattle.moo_rows.specs.Ordered.{lesser}
+use Rattle.moo_ordered.specs.Ordered.{lesser}
 use Rattle.moo_damage.specs.Differences.{IsFirstUnlike}
-use Rattle.moo_damage.specs.First.{IsFirst}
+use Rattle.moo_damage.specs.First.{IsLeastBad}
 
 pub is_bad : {X : Type 0} (b : Bool) (held : Option X) (row : X) (at : Option X) → (IsTrue b ↔ (held ≡ Some row)) → b ≡ false → held ≡ at → at ≢ Some row
 is_bad b held row at h n is e = false≢true (sym n ∙ h.1 (is ∙ e))
@@ -24,7 +24,7 @@ both_agree None None f g = refl
 
 module _ {K X : Type 0} {cmp : K → K → Ordering} (total : IsTotalOrder cmp) (exact : CmpEqualImpliesEq cmp) (a b : FinMap cmp X) where
   abbrev Unlike : FinMap cmp X → FinMap cmp X → Option K → Type 0
-  Unlike x y = IsFirst x (λ k r. get y k ≡ Some r) (λ k r. get y k ≢ Some r)
+  Unlike x y = IsLeastBad x (λ k r. get y k ≡ Some r) (λ k r. get y k ≢ Some r)
 
   by_order : (x y : K) (o : Ordering) → cmp y x ≡ o → Unlike a b (Some x) → Unlike b a (Some y) → IsFirstUnlike a b (match_ordering o (Some y) (Some x) (Some x))
   by_order x y Less e f g = (

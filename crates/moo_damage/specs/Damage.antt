@@ -11,12 +11,11 @@ use Rattle.moo_rows.specs.declared.row.PetitionRow.{PetitionRow}
 use Rattle.moo_rows.specs.declared.row.PropId.{PropId}
 use Rattle.moo_rows.specs.declared.row.PropRow.{PropRow}
 use Rattle.moo_rows.specs.declared.row.SlotRow.{SlotRow}
-use Rattle.moo_rows.specs.declared.row.SlotState.{SlotState}
-use Rattle.moo_rows.specs.declared.row.SlotState.TheVariants.{Clear, Set}
 use Rattle.moo_rows.specs.declared.row.VerbId.{VerbId}
 use Rattle.moo_rows.specs.declared.row.VerbRow.{VerbRow}
 use Rattle.moo_rows.specs.Maps.{Maps}
 use Rattle.moo_world.specs.Objects.{nothing, same_object, same_text, folded, is_among}
+use Rattle.moo_world.specs.PropertyCalls.{is_clear}
 use Rattle.moo_world.specs.Rows.{world_of}
 use Rattle.moo_world.specs.World.{World, Climbs, is_object, chain}
 use Rattle.moo_props.specs.Names.{defines}
@@ -50,8 +49,8 @@ abbrev pub next_of : Link → Maps → ObjNo → Option ObjNo
 next_of link m x = option_map (link_of link) (get m.objects x)
 
 -- the chain of links from x ends
-abbrev pub Ends : Link → Maps → ObjNo → Type 0
-Ends link m x = (l : List ObjNo) × Climbs (next_of link m) x l
+abbrev pub HasEnd : Link → Maps → ObjNo → Type 0
+HasEnd link m x = (l : List ObjNo) × Climbs (next_of link m) x l
 
 -- parent-loop, place-loop: and it doesn't
 abbrev pub Loops : Link → Maps → ObjNo → Type 0
@@ -81,10 +80,6 @@ is_strange m key = not (is_owed m key)
 abbrev pub is_missing : Maps → ObjNo × PropId → Bool
 is_missing m key = is_owed m key && not (is_some (get m.slots key))
 
-abbrev pub is_clear : SlotState → Bool
-is_clear Clear = true
-is_clear (Set v) = false
-
 -- clear-definer
 abbrev pub is_clear_definer : Maps → ObjNo × PropId → SlotRow → Bool
 is_clear_definer m key row = is_clear row.state && defines m key.0 key.1
@@ -107,7 +102,7 @@ pub record NumbersGiven (m : Maps) : Type 0 where
   pub petitions : (id : PetitionId) (row : PetitionRow) → get m.petitions id ≡ Some row → is_petition_past m.head id ≡ false
 
 abbrev pub LinksEnd : Link → Maps → Type 0
-LinksEnd link m = (x : ObjNo) (row : ObjRow) → get m.objects x ≡ Some row → Ends link m x
+LinksEnd link m = (x : ObjNo) (row : ObjRow) → get m.objects x ≡ Some row → HasEnd link m x
 
 pub record PropsRight (m : Maps) : Type 0 where
   pub definers : (id : PropId) (p : PropRow) → get m.props id ≡ Some p → lacks_definer m p ≡ false

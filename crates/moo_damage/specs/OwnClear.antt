@@ -5,7 +5,7 @@ use Rattle.std.specs.FinMap.{get}
 use Rattle.moo_value.specs.declared.value.ObjNo.{ObjNo}
 use Rattle.moo_rows.specs.declared.row.PropId.{PropId}
 use Rattle.moo_rows.specs.Maps.{Maps}
-use Rattle.moo_damage.specs.Damage.{is_clear}
+use Rattle.moo_world.specs.PropertyCalls.{is_clear}
 
 -- the object has a clear slot of the property
 abbrev pub has_clear : Maps → ObjNo → PropId → Bool

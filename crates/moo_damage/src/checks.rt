@@ -3,11 +3,12 @@
 ghost use Rattle.std.specs.Prelude.{◌≡◌, true, false, not, IfSome, IfNone};
 ghost use Rattle.std.specs.List.{list_any};
 ghost use Rattle.std.specs.FinMap.{entries, get};
+ghost use Rattle.moo_world.specs.PropertyCalls.{is_clear};
 ghost use Rattle.moo_world.specs.Rows.{world_of};
 ghost use Rattle.moo_world.specs.World.{IsTree};
 ghost use Rattle.moo_props.specs.Names.{defines};
-ghost use Rattle.moo_damage.specs.First.{IsFirst};
-ghost use Rattle.moo_damage.specs.Damage.{is_object_past, is_prop_past, is_verb_past, is_petition_past, is_lost, lacks_definer, share_name, is_double, is_owed, is_strange, is_missing, is_clear, is_clear_definer, is_strange_verb};
+ghost use Rattle.moo_damage.specs.First.{IsLeastBad};
+ghost use Rattle.moo_damage.specs.Damage.{is_object_past, is_prop_past, is_verb_past, is_petition_past, is_lost, lacks_definer, share_name, is_double, is_owed, is_strange, is_missing, is_clear_definer, is_strange_verb};
 ghost use Rattle.moo_damage.specs.OwnClear.{has_clear};
 ghost use Rattle.moo_damage.specs.Missing.{IsFirstMissing};
 
@@ -152,7 +153,7 @@ fn is_strange_verb<R: Rows>(rows: &R, key: (ObjNo, VerbId)) -> bool
 
 /// The least object whose number was never given, or none.
 pub(crate) fn first_object_past<R: Rows>(rows: &R) -> Option<ObjNo>
-    ensures { IsFirst (R.held rows.now).maps.objects (λ k r. is_object_past (R.held rows.now).maps.head k ≡ false) (λ k r. is_object_past (R.held rows.now).maps.head k ≡ true) result }
+    ensures { IsLeastBad (R.held rows.now).maps.objects (λ k r. is_object_past (R.held rows.now).maps.head k ≡ false) (λ k r. is_object_past (R.held rows.now).maps.head k ≡ true) result }
 {
     let head = rows.head();
     for (key, _row) in each_object(rows) {
@@ -165,7 +166,7 @@ pub(crate) fn first_object_past<R: Rows>(rows: &R) -> Option<ObjNo>
 
 /// The least property whose number was never given, or none.
 pub(crate) fn first_prop_past<R: Rows>(rows: &R) -> Option<PropId>
-    ensures { IsFirst (R.held rows.now).maps.props (λ k r. is_prop_past (R.held rows.now).maps.head k ≡ false) (λ k r. is_prop_past (R.held rows.now).maps.head k ≡ true) result }
+    ensures { IsLeastBad (R.held rows.now).maps.props (λ k r. is_prop_past (R.held rows.now).maps.head k ≡ false) (λ k r. is_prop_past (R.held rows.now).maps.head k ≡ true) result }
 {
     let head = rows.head();
     for (key, _row) in each_prop(rows) {
@@ -178,7 +179,7 @@ pub(crate) fn first_prop_past<R: Rows>(rows: &R) -> Option<PropId>
 
 /// The least verb whose number was never given, or none.
 pub(crate) fn first_verb_past<R: Rows>(rows: &R) -> Option<(ObjNo, VerbId)>
-    ensures { IsFirst (R.held rows.now).maps.verbs (λ k r. is_verb_past (R.held rows.now).maps.head k ≡ false) (λ k r. is_verb_past (R.held rows.now).maps.head k ≡ true) result }
+    ensures { IsLeastBad (R.held rows.now).maps.verbs (λ k r. is_verb_past (R.held rows.now).maps.head k ≡ false) (λ k r. is_verb_past (R.held rows.now).maps.head k ≡ true) result }
 {
     let head = rows.head();
     for (key, _row) in each_verb(rows) {
@@ -191,7 +192,7 @@ pub(crate) fn first_verb_past<R: Rows>(rows: &R) -> Option<(ObjNo, VerbId)>
 
 /// The least petition whose number was never given, or none.
 pub(crate) fn first_petition_past<R: Rows>(rows: &R) -> Option<PetitionId>
-    ensures { IsFirst (R.held rows.now).maps.petitions (λ k r. is_petition_past (R.held rows.now).maps.head k ≡ false) (λ k r. is_petition_past (R.held rows.now).maps.head k ≡ true) result }
+    ensures { IsLeastBad (R.held rows.now).maps.petitions (λ k r. is_petition_past (R.held rows.now).maps.head k ≡ false) (λ k r. is_petition_past (R.held rows.now).maps.head k ≡ true) result }
 {
     let head = rows.head();
     for (key, _row) in each_petition(rows) {
@@ -204,7 +205,7 @@ pub(crate) fn first_petition_past<R: Rows>(rows: &R) -> Option<PetitionId>
 
 /// The least object whose link names neither an object nor `#-1`, or none.
 pub(crate) fn first_lost<R: Rows>(rows: &R, link: Link) -> Option<ObjNo>
-    ensures { IsFirst (R.held rows.now).maps.objects (λ k r. is_lost link (R.held rows.now).maps r ≡ false) (λ k r. is_lost link (R.held rows.now).maps r ≡ true) result }
+    ensures { IsLeastBad (R.held rows.now).maps.objects (λ k r. is_lost link (R.held rows.now).maps r ≡ false) (λ k r. is_lost link (R.held rows.now).maps r ≡ true) result }
 {
     for (key, row) in each_object(rows) {
         if is_lost(rows, link, row) {
@@ -216,7 +217,7 @@ pub(crate) fn first_lost<R: Rows>(rows: &R, link: Link) -> Option<ObjNo>
 
 /// The least property whose definer is no object, or none.
 pub(crate) fn first_undefined<R: Rows>(rows: &R) -> Option<PropId>
-    ensures { IsFirst (R.held rows.now).maps.props (λ k r. lacks_definer (R.held rows.now).maps r ≡ false) (λ k r. lacks_definer (R.held rows.now).maps r ≡ true) result }
+    ensures { IsLeastBad (R.held rows.now).maps.props (λ k r. lacks_definer (R.held rows.now).maps r ≡ false) (λ k r. lacks_definer (R.held rows.now).maps r ≡ true) result }
 {
     for (key, row) in each_prop(rows) {
         if lacks_definer(rows, row) {
@@ -229,7 +230,7 @@ pub(crate) fn first_undefined<R: Rows>(rows: &R) -> Option<PropId>
 /// The least property whose name one of lesser number has on its definer, an ancestor or a descendant of it, or none.
 pub(crate) fn first_double<R: Rows>(rows: &R) -> Option<PropId>
     requires { IsTree (world_of (R.held rows.now).maps) }
-    ensures { IsFirst (R.held rows.now).maps.props (λ k r. is_double (R.held rows.now).maps k r ≡ false) (λ k r. is_double (R.held rows.now).maps k r ≡ true) result }
+    ensures { IsLeastBad (R.held rows.now).maps.props (λ k r. is_double (R.held rows.now).maps k r ≡ false) (λ k r. is_double (R.held rows.now).maps k r ≡ true) result }
 {
     for (key, row) in each_prop(rows) {
         if is_double(rows, key, row) {
@@ -242,7 +243,7 @@ pub(crate) fn first_double<R: Rows>(rows: &R) -> Option<PropId>
 /// The least slot of a property that its object is not owed, or none.
 pub(crate) fn first_strange<R: Rows>(rows: &R) -> Option<(ObjNo, PropId)>
     requires { IsTree (world_of (R.held rows.now).maps) }
-    ensures { IsFirst (R.held rows.now).maps.slots (λ k r. is_strange (R.held rows.now).maps k ≡ false) (λ k r. is_strange (R.held rows.now).maps k ≡ true) result }
+    ensures { IsLeastBad (R.held rows.now).maps.slots (λ k r. is_strange (R.held rows.now).maps k ≡ false) (λ k r. is_strange (R.held rows.now).maps k ≡ true) result }
 {
     for (key, _row) in each_slot(rows) {
         if is_strange(rows, key) {
@@ -276,7 +277,7 @@ fn any_clear_own<R: Rows>(rows: &R) -> bool
 
 /// The least slot on its definer that is clear, or none, by a look at each slot.
 fn search_clear<R: Rows>(rows: &R) -> Option<(ObjNo, PropId)>
-    ensures { IsFirst (R.held rows.now).maps.slots (λ k r. is_clear_definer (R.held rows.now).maps k r ≡ false) (λ k r. is_clear_definer (R.held rows.now).maps k r ≡ true) result }
+    ensures { IsLeastBad (R.held rows.now).maps.slots (λ k r. is_clear_definer (R.held rows.now).maps k r ≡ false) (λ k r. is_clear_definer (R.held rows.now).maps k r ≡ true) result }
 {
     for (key, row) in each_slot(rows) {
         if is_clear_definer(rows, key, row) {
@@ -288,7 +289,7 @@ fn search_clear<R: Rows>(rows: &R) -> Option<(ObjNo, PropId)>
 
 /// The least slot on its definer that is clear, or none: slots are looked at only where a property has such a one.
 pub(crate) fn first_clear<R: Rows>(rows: &R) -> Option<(ObjNo, PropId)>
-    ensures { IsFirst (R.held rows.now).maps.slots (λ k r. is_clear_definer (R.held rows.now).maps k r ≡ false) (λ k r. is_clear_definer (R.held rows.now).maps k r ≡ true) result }
+    ensures { IsLeastBad (R.held rows.now).maps.slots (λ k r. is_clear_definer (R.held rows.now).maps k r ≡ false) (λ k r. is_clear_definer (R.held rows.now).maps k r ≡ true) result }
 {
     if !any_clear_own(rows) {
         return None;
@@ -298,7 +299,7 @@ pub(crate) fn first_clear<R: Rows>(rows: &R) -> Option<(ObjNo, PropId)>
 
 /// The least verb of what is no object, or none.
 pub(crate) fn first_strange_verb<R: Rows>(rows: &R) -> Option<(ObjNo, VerbId)>
-    ensures { IsFirst (R.held rows.now).maps.verbs (λ k r. is_strange_verb (R.held rows.now).maps k ≡ false) (λ k r. is_strange_verb (R.held rows.now).maps k ≡ true) result }
+    ensures { IsLeastBad (R.held rows.now).maps.verbs (λ k r. is_strange_verb (R.held rows.now).maps k ≡ false) (λ k r. is_strange_verb (R.held rows.now).maps k ≡ true) result }
 {
     for (key, _row) in each_verb(rows) {
         if is_strange_verb(rows, key) {
@@ -311,7 +312,7 @@ pub(crate) fn first_strange_verb<R: Rows>(rows: &R) -> Option<(ObjNo, VerbId)>
 /// The least property that x is owed and has no slot of, or none.
 pub(crate) fn first_missing_of<R: Rows>(rows: &R, x: ObjNo) -> Option<PropId>
     requires { IsTree (world_of (R.held rows.now).maps) }
-    ensures { IsFirst (R.held rows.now).maps.props (λ k r. is_missing (R.held rows.now).maps (x, k) ≡ false) (λ k r. is_missing (R.held rows.now).maps (x, k) ≡ true) result }
+    ensures { IsLeastBad (R.held rows.now).maps.props (λ k r. is_missing (R.held rows.now).maps (x, k) ≡ false) (λ k r. is_missing (R.held rows.now).maps (x, k) ≡ true) result }
 {
     for (key, _row) in each_prop(rows) {
         if is_missing(rows, (x, key)) {

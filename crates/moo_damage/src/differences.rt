@@ -3,12 +3,13 @@
 ghost use Rattle.std.specs.Prelude.{◌≡◌, ◌≢◌, ◌↔◌, IsTrue, IfSome, IfNone, Some, option_map};
 ghost use Rattle.std.specs.FinMap.{get};
 ghost use Rattle.moo_damage.specs.Differences.{IsFirstDifference, IsFirstUnlike};
-ghost use Rattle.moo_damage.specs.First.{IsFirst};
+ghost use Rattle.moo_damage.specs.First.{IsLeastBad};
 
 use crate::kind::{Key, object_key, petition_key, prop_key, slot_key, verb_key};
+use moo_flat::Flat;
 use moo_rows::{
-    Flat, PetitionId, PropId, Row, Rows, VerbId, each_object, each_petition, each_prop, each_slot,
-    each_verb, ordered,
+    PetitionId, PropId, Row, Rows, VerbId, each_object, each_petition, each_prop, each_slot,
+    each_verb,
 };
 use moo_value::ObjNo;
 
@@ -24,7 +25,7 @@ fn is_held<V: Row>(held: Option<&V>, row: &V) -> bool
 
 /// The least object whose row isn't its row there, or none.
 fn object_unlike<R: Rows>(rows: &R, there: &R) -> Option<ObjNo>
-    ensures { IsFirst (R.held rows.now).maps.objects (λ k r. get (R.held there.now).maps.objects k ≡ Some r) (λ k r. get (R.held there.now).maps.objects k ≢ Some r) result }
+    ensures { IsLeastBad (R.held rows.now).maps.objects (λ k r. get (R.held there.now).maps.objects k ≡ Some r) (λ k r. get (R.held there.now).maps.objects k ≢ Some r) result }
 {
     for (key, row) in each_object(rows) {
         if !is_held(there.object(key), row) {
@@ -36,7 +37,7 @@ fn object_unlike<R: Rows>(rows: &R, there: &R) -> Option<ObjNo>
 
 /// The least property whose row isn't its row there, or none.
 fn prop_unlike<R: Rows>(rows: &R, there: &R) -> Option<PropId>
-    ensures { IsFirst (R.held rows.now).maps.props (λ k r. get (R.held there.now).maps.props k ≡ Some r) (λ k r. get (R.held there.now).maps.props k ≢ Some r) result }
+    ensures { IsLeastBad (R.held rows.now).maps.props (λ k r. get (R.held there.now).maps.props k ≡ Some r) (λ k r. get (R.held there.now).maps.props k ≢ Some r) result }
 {
     for (key, row) in each_prop(rows) {
         if !is_held(there.prop(key), row) {
@@ -48,7 +49,7 @@ fn prop_unlike<R: Rows>(rows: &R, there: &R) -> Option<PropId>
 
 /// The least slot whose row isn't its row there, or none.
 fn slot_unlike<R: Rows>(rows: &R, there: &R) -> Option<(ObjNo, PropId)>
-    ensures { IsFirst (R.held rows.now).maps.slots (λ k r. get (R.held there.now).maps.slots k ≡ Some r) (λ k r. get (R.held there.now).maps.slots k ≢ Some r) result }
+    ensures { IsLeastBad (R.held rows.now).maps.slots (λ k r. get (R.held there.now).maps.slots k ≡ Some r) (λ k r. get (R.held there.now).maps.slots k ≢ Some r) result }
 {
     for (key, row) in each_slot(rows) {
         if !is_held(there.slot(key), row) {
@@ -60,7 +61,7 @@ fn slot_unlike<R: Rows>(rows: &R, there: &R) -> Option<(ObjNo, PropId)>
 
 /// The least verb whose row isn't its row there, or none.
 fn verb_unlike<R: Rows>(rows: &R, there: &R) -> Option<(ObjNo, VerbId)>
-    ensures { IsFirst (R.held rows.now).maps.verbs (λ k r. get (R.held there.now).maps.verbs k ≡ Some r) (λ k r. get (R.held there.now).maps.verbs k ≢ Some r) result }
+    ensures { IsLeastBad (R.held rows.now).maps.verbs (λ k r. get (R.held there.now).maps.verbs k ≡ Some r) (λ k r. get (R.held there.now).maps.verbs k ≢ Some r) result }
 {
     for (key, row) in each_verb(rows) {
         if !is_held(there.verb(key), row) {
@@ -72,7 +73,7 @@ fn verb_unlike<R: Rows>(rows: &R, there: &R) -> Option<(ObjNo, VerbId)>
 
 /// The least petition whose row isn't its row there, or none.
 fn petition_unlike<R: Rows>(rows: &R, there: &R) -> Option<PetitionId>
-    ensures { IsFirst (R.held rows.now).maps.petitions (λ k r. get (R.held there.now).maps.petitions k ≡ Some r) (λ k r. get (R.held there.now).maps.petitions k ≢ Some r) result }
+    ensures { IsLeastBad (R.held rows.now).maps.petitions (λ k r. get (R.held there.now).maps.petitions k ≡ Some r) (λ k r. get (R.held there.now).maps.petitions k ≢ Some r) result }
 {
     for (key, row) in each_petition(rows) {
         if !is_held(there.petition(key), row) {
@@ -85,31 +86,31 @@ fn petition_unlike<R: Rows>(rows: &R, there: &R) -> Option<PetitionId>
 fn object_differing<R: Rows>(own: &R, found: &R) -> Option<ObjNo>
     ensures { IsFirstUnlike (R.held own.now).maps.objects (R.held found.now).maps.objects result }
 {
-    ordered::least(object_unlike(own, found), object_unlike(found, own))
+    moo_ordered::least(object_unlike(own, found), object_unlike(found, own))
 }
 
 fn prop_differing<R: Rows>(own: &R, found: &R) -> Option<PropId>
     ensures { IsFirstUnlike (R.held own.now).maps.props (R.held found.now).maps.props result }
 {
-    ordered::least(prop_unlike(own, found), prop_unlike(found, own))
+    moo_ordered::least(prop_unlike(own, found), prop_unlike(found, own))
 }
 
 fn slot_differing<R: Rows>(own: &R, found: &R) -> Option<(ObjNo, PropId)>
     ensures { IsFirstUnlike (R.held own.now).maps.slots (R.held found.now).maps.slots result }
 {
-    ordered::least(slot_unlike(own, found), slot_unlike(found, own))
+    moo_ordered::least(slot_unlike(own, found), slot_unlike(found, own))
 }
 
 fn verb_differing<R: Rows>(own: &R, found: &R) -> Option<(ObjNo, VerbId)>
     ensures { IsFirstUnlike (R.held own.now).maps.verbs (R.held found.now).maps.verbs result }
 {
-    ordered::least(verb_unlike(own, found), verb_unlike(found, own))
+    moo_ordered::least(verb_unlike(own, found), verb_unlike(found, own))
 }
 
 fn petition_differing<R: Rows>(own: &R, found: &R) -> Option<PetitionId>
     ensures { IsFirstUnlike (R.held own.now).maps.petitions (R.held found.now).maps.petitions result }
 {
-    ordered::least(petition_unlike(own, found), petition_unlike(found, own))
+    moo_ordered::least(petition_unlike(own, found), petition_unlike(found, own))
 }
 
 /// The first row in which two lots of rows differ, in the order head, objects, properties, slots, verbs, petitions, and in each by

@@ -6,7 +6,7 @@ ghost use Rattle.std.specs.FinMap.{entries, get};
 ghost use Rattle.moo_rows.specs.declared.row.PropRow.{PropRow};
 ghost use Rattle.moo_world.specs.Rows.{world_of, IsGood};
 ghost use Rattle.moo_world.specs.World.{IsTree};
-ghost use Rattle.moo_damage.specs.First.{IsFirst};
+ghost use Rattle.moo_damage.specs.First.{IsLeastBad};
 ghost use Rattle.moo_damage.specs.Damage.{is_double, is_strange};
 ghost use Rattle.moo_damage.specs.Missing.{IsFirstMissing};
 ghost use Rattle.moo_damage.specs.Local.{SlotsHold, has_slot, comes_down, lacks_one_of};
@@ -111,7 +111,7 @@ pub(crate) fn slots_hold<R: Rows>(alloc: Global, rows: &R) -> Result<bool, Alloc
 pub(crate) fn double_name<R: Rows>(rows: &R, hold: bool) -> Option<PropId>
     requires tree { IsTree (world_of (R.held rows.now).maps) }
     requires hold { hold ≡ true → SlotsHold (R.held rows.now).maps }
-    ensures { IsFirst (R.held rows.now).maps.props (λ k r. is_double (R.held rows.now).maps k r ≡ false) (λ k r. is_double (R.held rows.now).maps k r ≡ true) result }
+    ensures { IsLeastBad (R.held rows.now).maps.props (λ k r. is_double (R.held rows.now).maps k r ≡ false) (λ k r. is_double (R.held rows.now).maps k r ≡ true) result }
 {
     if hold {
         return None;
@@ -123,7 +123,7 @@ pub(crate) fn double_name<R: Rows>(rows: &R, hold: bool) -> Option<PropId>
 pub(crate) fn strange_slot<R: Rows>(rows: &R, hold: bool) -> Option<(ObjNo, PropId)>
     requires tree { IsTree (world_of (R.held rows.now).maps) }
     requires hold { hold ≡ true → SlotsHold (R.held rows.now).maps }
-    ensures { IsFirst (R.held rows.now).maps.slots (λ k r. is_strange (R.held rows.now).maps k ≡ false) (λ k r. is_strange (R.held rows.now).maps k ≡ true) result }
+    ensures { IsLeastBad (R.held rows.now).maps.slots (λ k r. is_strange (R.held rows.now).maps k ≡ false) (λ k r. is_strange (R.held rows.now).maps k ≡ true) result }
 {
     if hold {
         return None;

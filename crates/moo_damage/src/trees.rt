@@ -3,16 +3,16 @@
 ghost use Rattle.std.specs.Prelude.{◌≡◌, ◌≤◌, IfOk, IfSome, IfNone, OnOk, IsSome, true, is_some, length, map};
 ghost use Rattle.std.specs.List.{AllByRecursion};
 ghost use Rattle.std.specs.FinMap.{entries, get};
-ghost use Rattle.moo_rows.specs.Ordered.{contents};
+ghost use Rattle.moo_ordered.specs.Ordered.{contents};
 ghost use Rattle.moo_rows.specs.Maps.{Maps, object_cmp};
-ghost use Rattle.moo_damage.specs.First.{IsFirst};
-ghost use Rattle.moo_damage.specs.Damage.{link_of, Ends, Loops, LinksHold};
+ghost use Rattle.moo_damage.specs.First.{IsLeastBad};
+ghost use Rattle.moo_damage.specs.Damage.{link_of, HasEnd, Loops, LinksHold};
 ghost use Rattle.moo_damage.specs.Kinds.{lost_kind, loop_kind};
 ghost use Rattle.moo_damage.specs.Noted.{AreEnding};
 ghost use Rattle.moo_damage.specs.declared.trees.Link.{Link};
 
 use crate::kind::Kind;
-use moo_rows::{ObjRow, Rows, each_object, ordered};
+use moo_rows::{ObjRow, Rows, each_object};
 use moo_value::ObjNo;
 use std::alloc::{AllocError, Global};
 use std::collections::BTreeMap;
@@ -80,7 +80,7 @@ fn climb<R: Rows>(
     requires known { AreEnding link (R.held rows.now).maps (contents object_cmp known.now) }
     requires object { is_some (get (R.held rows.now).maps.objects x) ≡ true }
     requires count { length (entries (R.held rows.now).maps.objects) ≤ count }
-    ensures ends { IfOk result (λ o. IfSome o (λ path. AllByRecursion (Ends link (R.held rows.now).maps) path.items × Ends link (R.held rows.now).maps x)) }
+    ensures ends { IfOk result (λ o. IfSome o (λ path. AllByRecursion (HasEnd link (R.held rows.now).maps) path.items × HasEnd link (R.held rows.now).maps x)) }
     ensures loops { IfOk result (λ o. IfNone o (Loops link (R.held rows.now).maps x)) }
 {
     let mut path = Vec::new(alloc);
@@ -90,7 +90,7 @@ fn climb<R: Rows>(
             None => return Ok(Some(path)),
             Some(row) => row,
         };
-        if ordered::get(known, at).is_some() {
+        if moo_ordered::get(known, at).is_some() {
             return Ok(Some(path));
         }
         path.push(at)?;
@@ -104,10 +104,10 @@ fn climb<R: Rows>(
 
 /// Notes that the chains of these objects end.
 fn note(known: &mut BTreeMap<ObjNo, ()>, path: &[ObjNo]) -> Result<(), AllocError>
-    ensures { OnOk result ((link : Link) (m : Maps) → AllByRecursion (Ends link m) path.now → AreEnding link m (contents object_cmp known.old) → AreEnding link m (contents object_cmp known.new)) }
+    ensures { OnOk result ((link : Link) (m : Maps) → AllByRecursion (HasEnd link m) path.now → AreEnding link m (contents object_cmp known.old) → AreEnding link m (contents object_cmp known.new)) }
 {
     for x in path {
-        ordered::put(known, *x, ())?;
+        moo_ordered::put(known, *x, ())?;
     }
     Ok(())
 }
@@ -118,7 +118,7 @@ fn note(known: &mut BTreeMap<ObjNo, ()>, path: &[ObjNo]) -> Result<(), AllocErro
 /// objects is the answer.
 pub fn first_loop<R: Rows>(alloc: Global, rows: &R, link: Link) -> Result<Option<ObjNo>, AllocError>
     requires { LinksHold link (R.held rows.now).maps }
-    ensures { IfOk result (IsFirst (R.held rows.now).maps.objects (λ x _. Ends link (R.held rows.now).maps x) (λ x _. Loops link (R.held rows.now).maps x)) }
+    ensures { IfOk result (IsLeastBad (R.held rows.now).maps.objects (λ x _. HasEnd link (R.held rows.now).maps x) (λ x _. Loops link (R.held rows.now).maps x)) }
 {
     let count = object_count(alloc, rows)?;
     let mut known = BTreeMap::new(alloc);

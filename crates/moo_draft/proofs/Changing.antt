@@ -9,7 +9,7 @@ use Rattle.std.specs.List.{AllByRecursion}
 use Rattle.std.specs.List.Sorted.{IsStrictlySortedBy}
 use Rattle.std.specs.Map.{keys_of}
 use Rattle.std.proofs.lemmas.Map.Lookups.{CmpEqualImpliesEq}
-use Rattle.moo_rows.specs.Ordered.{contents}
+use Rattle.moo_ordered.specs.Ordered.{contents}
 use Rattle.moo_draft.specs.Overlay.{changed, row_over}
 use Rattle.moo_draft.specs.Changes.{IsChanges, changed_each}
 use Rattle.moo_draft.specs.Without.{Without, no_more, kept, left_out}

@@ -18,7 +18,7 @@ use Rattle.moo_rows.proofs.Linking.{defined-put, defined-remove}
 use Rattle.moo_rows.proofs.Orders.{object_total, prop_total}
 use Rattle.moo_draft.specs.Overlay.{overlaid}
 use Rattle.moo_draft.specs.declared.own.OwnLinks.{OwnLinks}
-use Rattle.moo_draft.specs.Either.{of_changes, is_that, may_own, is_candidate_of_either, EitherCovers}
+use Rattle.moo_draft.specs.Either.{of_changes, is_that, may_have_own, is_candidate_of_either, EitherCovers}
 use Rattle.moo_draft.proofs.Overlays.{get-overlaid}
 
 -- ---- objects
@@ -45,12 +45,12 @@ draft-covers below changes own covers link q h =
 
 module _ (below : ObjNo → Option ObjRow) where
   -- more may be
-  pub either-more : (above : ObjNo → Option ObjRow) (old new : OwnLinks) → EitherCovers below above old → ((l : Link) (q : ObjNo) → may_own new l q ≡ false → may_own old l q ≡ false) → EitherCovers below above new
+  pub either-more : (above : ObjNo → Option ObjRow) (old new : OwnLinks) → EitherCovers below above old → ((l : Link) (q : ObjNo) → may_have_own new l q ≡ false → may_have_own old l q ≡ false) → EitherCovers below above new
   either-more above old new covers kept l q e = covers l q (kept l q e)
 
   -- an object is changed
   pub either-change : (changes new : FinMap object_cmp (Option ObjRow)) (own : OwnLinks) (key : ObjNo) (o : Option ObjRow) → EitherCovers below (of_changes changes) own
-      → ((l : Link) → may_own own l key ≡ false → row_has l (below key) ≡ false → row_has l o ≡ false)
+      → ((l : Link) → may_have_own own l key ≡ false → row_has l (below key) ≡ false → row_has l o ≡ false)
       → new ≡ insert changes key o → EitherCovers below (of_changes new) own
   either-change changes new own key o covers there is l q e f =
       ap (λ m. row_has l (of_changes m q)) is ∙ ap (λ p. row_has l (unwrap_or p None)) (get-insert object_total changes key o q) ∙ by (object_cmp q key) refl
@@ -58,7 +58,7 @@ module _ (below : ObjNo → Option ObjRow) where
       by : (c : Ordering) → object_cmp q key ≡ c → row_has l (unwrap_or (cond (is_eq c) (Some o) (get changes q)) None) ≡ false
       by Equal c =
           let same = object_exact q key c in
-          there l (subst (λ z. may_own own l z ≡ false) same e) (subst (λ z. row_has l (below z) ≡ false) same f)
+          there l (subst (λ z. may_have_own own l z ≡ false) same e) (subst (λ z. row_has l (below z) ≡ false) same f)
       by Less c = covers l q e f
       by Greater c = covers l q e f
 

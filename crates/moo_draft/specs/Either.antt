@@ -20,12 +20,12 @@ is_that None key = false
 is_that (Some object) key = eq_by_cmp object_cmp key object
 
 -- a changed object that may have the link: the first one, or another that may
-abbrev pub may_own : OwnLinks → Link → ObjNo → Bool
-may_own own link key = is_that own.first key || may_have own.others link key
+abbrev pub may_have_own : OwnLinks → Link → ObjNo → Bool
+may_have_own own link key = is_that own.first key || may_have own.others link key
 
 -- a changed object that has a link is among those that may, or has it below
 abbrev pub EitherCovers : (ObjNo → Option ObjRow) → (ObjNo → Option ObjRow) → OwnLinks → Type 0
-EitherCovers below above own = (link : Link) (key : ObjNo) → may_own own link key ≡ false → row_has link (below key) ≡ false → row_has link (above key) ≡ false
+EitherCovers below above own = (link : Link) (key : ObjNo) → may_have_own own link key ≡ false → row_has link (below key) ≡ false → row_has link (above key) ≡ false
 
 -- an object to be looked at for the link: it has it below, or is changed and may have it
 abbrev pub is_candidate_of_either : (ObjNo → Option ObjRow) → FinMap object_cmp (Option ObjRow) → OwnLinks → Link → ObjNo → Bool

@@ -2,15 +2,16 @@
 
 ghost use Rattle.std.specs.Prelude.{◌≡◌, ◌↔◌, IsTrue, IfOk, OnOk, option_map};
 ghost use Rattle.std.specs.FinMap as map;
-ghost use Rattle.moo_rows.specs.Ordered.{contents};
+ghost use Rattle.moo_ordered.specs.Ordered.{contents};
 ghost use Rattle.moo_rows.specs.Maps.{Maps};
 ghost use Rattle.moo_draft.specs.Overlay.{row_over};
 ghost use Rattle.moo_draft.specs.Changes.{IsChanges, AreChanges, changed_each};
 
 use crate::overlay::Base;
+use moo_flat::Flat;
+use moo_ordered::Key;
 use moo_rows::{
-    Flat, Head, Key, ObjRow, PetitionId, PetitionRow, PropId, PropRow, Row, Rows, SlotRow, VerbId,
-    VerbRow,
+    Head, ObjRow, PetitionId, PetitionRow, PropId, PropRow, Row, Rows, SlotRow, VerbId, VerbRow,
 };
 use moo_value::ObjNo;
 use std::alloc::{AllocError, Global};

@@ -2,7 +2,7 @@
 
 ghost use Rattle.std.specs.Prelude.{◌≡◌, IfOk};
 ghost use Rattle.std.specs.FinMap as map;
-ghost use Rattle.moo_rows.specs.Ordered.{IsNext};
+ghost use Rattle.moo_ordered.specs.Ordered.{IsNext};
 ghost use Rattle.moo_draft.specs.Changes.{AreChanges};
 
 use crate::changes::{Changes, changed_rows};
@@ -10,9 +10,10 @@ use crate::either::{next_defined_of_either, next_linked_of_either};
 use crate::overlay;
 use crate::overlay::Base;
 use crate::own::OwnLinks;
+use moo_flat::{row_defined, row_has};
 use moo_rows::{
     Head, Link, ObjRow, PetitionId, PetitionRow, PropId, PropRow, Rows, SlotRow, VerbId, VerbRow,
-    Writes, ordered, row_defined, row_has,
+    Writes,
 };
 use moo_value::ObjNo;
 use std::alloc::{AllocError, Global};
@@ -39,7 +40,7 @@ pub struct Draft<'a, R: Rows> {
 
 impl<'a, R: Rows> Model for Draft<'a, R> {
     ghost use Rattle.moo_rows.specs.Maps.{Held, coded_held, object_cmp, prop_cmp, slot_cmp, verb_cmp, petition_cmp};
-    ghost use Rattle.moo_rows.specs.Ordered.{contents};
+    ghost use Rattle.moo_ordered.specs.Ordered.{contents};
     ghost use Rattle.moo_draft.specs.Overlay.{overlaid};
 
     ghost Value = { Held };
@@ -222,13 +223,13 @@ impl<'a, R: Rows> Rows for Draft<'a, R> {
 
     fn put_object(&mut self, key: ObjNo, row: ObjRow) -> Result<(), AllocError> {
         self.links.add(self.base, key, row.ties())?;
-        ordered::put(&mut self.objects, key, Some(row))?;
+        moo_ordered::put(&mut self.objects, key, Some(row))?;
         self.writes.rise();
         Ok(())
     }
 
     fn remove_object(&mut self, key: ObjNo) -> Result<(), AllocError> {
-        ordered::put(&mut self.objects, key, None)?;
+        moo_ordered::put(&mut self.objects, key, None)?;
         self.writes.rise();
         Ok(())
     }
@@ -256,14 +257,14 @@ impl<'a, R: Rows> Rows for Draft<'a, R> {
     }
 
     fn put_prop(&mut self, key: PropId, row: PropRow) -> Result<(), AllocError> {
-        ordered::put(&mut self.definers, (row.definer, key), ())?;
-        ordered::put(&mut self.props, key, Some(row))?;
+        moo_ordered::put(&mut self.definers, (row.definer, key), ())?;
+        moo_ordered::put(&mut self.props, key, Some(row))?;
         self.writes.rise();
         Ok(())
     }
 
     fn remove_prop(&mut self, key: PropId) -> Result<(), AllocError> {
-        ordered::put(&mut self.props, key, None)?;
+        moo_ordered::put(&mut self.props, key, None)?;
         self.writes.rise();
         Ok(())
     }
@@ -277,13 +278,13 @@ impl<'a, R: Rows> Rows for Draft<'a, R> {
     }
 
     fn put_slot(&mut self, key: (ObjNo, PropId), row: SlotRow) -> Result<(), AllocError> {
-        ordered::put(&mut self.slots, key, Some(row))?;
+        moo_ordered::put(&mut self.slots, key, Some(row))?;
         self.writes.rise();
         Ok(())
     }
 
     fn remove_slot(&mut self, key: (ObjNo, PropId)) -> Result<(), AllocError> {
-        ordered::put(&mut self.slots, key, None)?;
+        moo_ordered::put(&mut self.slots, key, None)?;
         self.writes.rise();
         Ok(())
     }
@@ -297,13 +298,13 @@ impl<'a, R: Rows> Rows for Draft<'a, R> {
     }
 
     fn put_verb(&mut self, key: (ObjNo, VerbId), row: VerbRow) -> Result<(), AllocError> {
-        ordered::put(&mut self.verbs, key, Some(row))?;
+        moo_ordered::put(&mut self.verbs, key, Some(row))?;
         self.writes.rise();
         Ok(())
     }
 
     fn remove_verb(&mut self, key: (ObjNo, VerbId)) -> Result<(), AllocError> {
-        ordered::put(&mut self.verbs, key, None)?;
+        moo_ordered::put(&mut self.verbs, key, None)?;
         self.writes.rise();
         Ok(())
     }
@@ -317,13 +318,13 @@ impl<'a, R: Rows> Rows for Draft<'a, R> {
     }
 
     fn put_petition(&mut self, key: PetitionId, row: PetitionRow) -> Result<(), AllocError> {
-        ordered::put(&mut self.petitions, key, Some(row))?;
+        moo_ordered::put(&mut self.petitions, key, Some(row))?;
         self.writes.rise();
         Ok(())
     }
 
     fn remove_petition(&mut self, key: PetitionId) -> Result<(), AllocError> {
-        ordered::put(&mut self.petitions, key, None)?;
+        moo_ordered::put(&mut self.petitions, key, None)?;
         self.writes.rise();
         Ok(())
     }

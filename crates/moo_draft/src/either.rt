@@ -4,11 +4,12 @@ ghost use Rattle.std.specs.Prelude.{◌||◌, is_some};
 ghost use Rattle.std.specs.FinMap as map;
 ghost use Rattle.moo_rows.specs.Links.{IsFirst, is_definer};
 ghost use Rattle.moo_rows.specs.Maps.{object_cmp, prop_cmp, slot_cmp};
-ghost use Rattle.moo_rows.specs.Ordered.{contents};
+ghost use Rattle.moo_ordered.specs.Ordered.{contents};
 ghost use Rattle.moo_draft.specs.Either.{is_candidate_of_either};
 
 use crate::own::OwnLinks;
-use moo_rows::{Link, ObjRow, PropId, Rows, next_defined, ordered};
+use moo_flat::next_defined;
+use moo_rows::{Link, ObjRow, PropId, Rows};
 use moo_value::ObjNo;
 use std::collections::BTreeMap;
 
@@ -22,7 +23,7 @@ pub(crate) fn next_linked_of_either<R: Rows>(
 ) -> Option<ObjNo>
     ensures { IsFirst object_cmp (is_candidate_of_either (map.get (R.held base.now).maps.objects) (contents object_cmp changes.now) links.now link) after result }
 {
-    ordered::least(
+    moo_ordered::least(
         base.next_linked(link, after),
         links.next(changes, link, after),
     )
@@ -37,7 +38,7 @@ pub(crate) fn next_defined_of_either<R: Rows>(
 ) -> Option<PropId>
     ensures { IsFirst prop_cmp (λ q. is_definer (R.held base.now).maps x q || is_some (map.get (contents slot_cmp definers.now) (x, q))) after result }
 {
-    ordered::least(
+    moo_ordered::least(
         base.next_defined(x, after),
         next_defined(definers, x, after),
     )

@@ -2,16 +2,16 @@
 
 ghost use Rattle.std.specs.Prelude.{◌≡◌, ◌↔◌, IsTrue, option_map, Some, None};
 ghost use Rattle.std.specs.FinMap as map;
-ghost use Rattle.moo_rows.specs.Ordered.{contents, IsNextAt};
+ghost use Rattle.moo_ordered.specs.Ordered.{contents, IsNextAt};
 ghost use Rattle.moo_draft.specs.Overlay.{row_over, IsNextOfEither};
 
-use moo_rows::{Key, ordered};
+use moo_ordered::Key;
 use std::collections::BTreeMap;
 
 /// The map below the changes.
 pub trait Base<'a, K: Key, V>: Copy + Drop {
     ghost use Rattle.std.specs.Prelude.{◌≡◌, Option, option_map};
-    ghost use Rattle.moo_rows.specs.Ordered.{IsNextAt};
+    ghost use Rattle.moo_ordered.specs.Ordered.{IsNextAt};
 
     /// The row of each key that has one.
     ghost row_at: { Self → K → Option V };
@@ -34,7 +34,7 @@ pub fn get<'a, K: Key, V, B: Base<'a, K, V>>(
     ensures { option_map (λ row. row.now) result
         ≡ row_over (B.row_at base) (contents K.cmp changes.now) key }
 {
-    match ordered::get(changes, key) {
+    match moo_ordered::get(changes, key) {
         Some(Some(row)) => Some(row),
         Some(None) => None,
         None => base.get(key),
@@ -49,7 +49,7 @@ fn next_of_either<'a, K: Key, V, B: Base<'a, K, V>>(
 ) -> Option<K>
     ensures { IsNextOfEither (B.row_at base) (contents K.cmp changes.now) from result }
 {
-    ordered::least(base.next(from), ordered::next(changes, from))
+    moo_ordered::least(base.next(from), moo_ordered::next(changes, from))
 }
 
 /// The next held key.
@@ -77,7 +77,7 @@ pub fn next<'a, K: Key, V, B: Base<'a, K, V>>(
 fn is_removed<K: Key, V>(changes: &BTreeMap<K, Option<V>>, key: K) -> bool
     ensures { IsTrue result ↔ (map.get (contents K.cmp changes.now) key ≡ Some None) }
 {
-    match ordered::get(changes, key) {
+    match moo_ordered::get(changes, key) {
         Some(None) => true,
         _ => false,
     }

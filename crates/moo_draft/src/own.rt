@@ -5,10 +5,11 @@ ghost use Rattle.moo_value.specs.declared.value.ObjNo.{ObjNo};
 ghost use Rattle.moo_rows.specs.declared.row.Link.{Link};
 ghost use Rattle.moo_rows.specs.Links.{IsFirst, has_link, is_candidate, is_linked};
 ghost use Rattle.moo_rows.specs.Maps.{object_cmp};
-ghost use Rattle.moo_rows.specs.Ordered.{contents};
-ghost use Rattle.moo_draft.specs.Either.{is_that, may_own};
+ghost use Rattle.moo_ordered.specs.Ordered.{contents};
+ghost use Rattle.moo_draft.specs.Either.{is_that, may_have_own};
 
-use moo_rows::{Link, Links, ObjRow, Rows, Ties, are_same, ordered, ties_of};
+use moo_flat::{Links, are_same, ties_of};
+use moo_rows::{Link, ObjRow, Rows, Ties};
 use moo_value::ObjNo;
 use std::alloc::{AllocError, Global};
 use std::cmp::Ordering;
@@ -49,8 +50,8 @@ impl OwnLinks {
         key: ObjNo,
         ties: Ties,
     ) -> Result<(), AllocError>
-        ensures others { (l : Link) (q : ObjNo) → may_own self.new l q ≡ false → may_own self.old l q ≡ false }
-        ensures there { OnOk result ((l : Link) → has_link l ties ≡ true → is_linked (R.held base.now).maps l key ≡ false → may_own self.new l key ≡ true) }
+        ensures others { (l : Link) (q : ObjNo) → may_have_own self.new l q ≡ false → may_have_own self.old l q ≡ false }
+        ensures there { OnOk result ((l : Link) → has_link l ties ≡ true → is_linked (R.held base.now).maps l key ≡ false → may_have_own self.new l key ≡ true) }
     {
         let first = match self.first {
             None => {
@@ -74,7 +75,7 @@ impl OwnLinks {
     ) -> Option<ObjNo>
         ensures { IsFirst object_cmp (λ q. is_that self.now.first q || is_candidate self.now.others (contents object_cmp changes.now) link q) after result }
     {
-        ordered::least(
+        moo_ordered::least(
             past(self.first, after),
             self.others.next(changes, link, after),
         )

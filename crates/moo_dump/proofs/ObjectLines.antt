@@ -13,7 +13,7 @@ use Rattle.moo_rows.specs.declared.row.SlotRow.{SlotRow}
 use Rattle.moo_rows.specs.Maps.{Maps, prop_cmp}
 use Rattle.moo_rows.proofs.Orders.{prop_total}
 use Rattle.moo_world.specs.Objects.{Name, same_object, folded, is_among, same_object-Decides}
-use Rattle.moo_world.specs.World.{World, Record, Slot, is_object, chain, names_of, defined_by, owed_by, verbs_of, slot_of}
+use Rattle.moo_world.specs.World.{World, Record, Slot, is_object, chain, names_of, defined_by, owed_by, directory_of, slot_of}
 use Rattle.moo_world.specs.Rows.{IsSound, IsGood, look_ups, world_of, world_shown, record_of, slot_seen}
 use Rattle.moo_world.proofs.Shown.EntriesInOrder.{own_entries, all_weaker}
 use Rattle.moo_world.proofs.Shown.ObjectEntries.{objects_listed}
@@ -83,21 +83,21 @@ module _ (t : Maps) where
         flat_map-alike (λ d. is_among d (chain w x) ≡ true) (λ d. flat_map (slot_line_of t x) (ids_defined t d)) (λ d. flat_map (owed_line w x) (defined_by w d)) slots_of_definer (chain w x) (each_among (chain w x))
         ∙ sym (flat_map-flat_map (owed_line w x) (defined_by w) (chain w x))
 
-  pub verbs_walked : IsSound t → (x : ObjNo) → flat_map (λ (e : Entry). verb_line x e.1) (walk t x) ≡ flat_map (verb_line x) (verbs_of w x)
+  pub verbs_walked : IsSound t → (x : ObjNo) → flat_map (λ (e : Entry). verb_line x e.1) (walk t x) ≡ flat_map (verb_line x) (directory_of w x)
   verbs_walked sound x =
       sym (flat_map-map (λ (b : List ℕ). b) (λ (e : Entry). verb_line x e.1) (walk t x))
       ∙ ap (flat_map (λ (b : List ℕ). b)) (walked_rows t sound x (verb_line x))
-      ∙ flat_map-map (λ (b : List ℕ). b) (verb_line x) (verbs_of w x)
+      ∙ flat_map-map (λ (b : List ℕ). b) (verb_line x) (directory_of w x)
 
   -- the lines of an object are its own, those of its properties, those of its slots and those of its verbs
   pub object_printed : IsGood t → (x : ObjNo) (row : ObjRow) → get t.objects x ≡ Some row
-      → object_lines w x ≡ object_line x row ++ (flat_map (property_line_of t x) (ids_defined t x) ++ (slot_lines_over t x (chain w x) ++ flat_map (verb_line x) (verbs_of w x)))
+      → object_lines w x ≡ object_line x row ++ (flat_map (property_line_of t x) (ids_defined t x) ++ (slot_lines_over t x (chain w x) ++ flat_map (verb_line x) (directory_of w x)))
   object_printed good x row e =
       let seen : w.object x ≡ Some (record_of (look_ups t) x row) = object_seen (look_ups t) x row e in
       let r : Record = record_of (look_ups t) x row in
       let there : is_object w x ≡ true = ap is_some seen in
       let names : names_of w x ≡ r.defines = ap (λ o. unwrap_or (option_map (λ (k : Record). k.defines) o) []) seen in
-      let verbs : verbs_of w x ≡ r.verbs = ap (λ o. unwrap_or (option_map (λ (k : Record). k.verbs) o) []) seen in
+      let verbs : directory_of w x ≡ r.verbs = ap (λ o. unwrap_or (option_map (λ (k : Record). k.verbs) o) []) seen in
       ap (λ (o : Option Record). elim o [ None ↦ [] | Some k ↦ record_lines w x k ]) seen
       ∙ sym (λ i. object_line x row ++ ((properties_are good.sound x ∙ ap (flat_map (property_line x)) names) i ++ (slots_are good x there i ++ flat_map (verb_line x) (verbs i))))
 

@@ -16,12 +16,12 @@ use Rattle.moo_world.specs.Objects.{same_object}
 use Rattle.moo_world.specs.Rows.{slot_seen, world_of}
 
 -- the properties that d defines, of these
-abbrev pub ids_among : ObjNo → List (PropId × PropRow) → List PropId
-ids_among d es = map (λ e. e.0) (filter (λ e. same_object e.1.definer d) es)
+abbrev pub ids_defined_by : ObjNo → List (PropId × PropRow) → List PropId
+ids_defined_by d es = map (λ e. e.0) (filter (λ e. same_object e.1.definer d) es)
 
 -- the properties that an object defines, in ascending number
 abbrev pub ids_defined : Maps → ObjNo → List PropId
-ids_defined t d = ids_among d (entries t.props)
+ids_defined t d = ids_defined_by d (entries t.props)
 
 -- what a map of lists has for an object
 abbrev pub ids_listed : BTreeMap ObjNo (Vec PropId) → ObjNo → List PropId

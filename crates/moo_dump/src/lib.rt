@@ -13,4 +13,5 @@ mod seen;
 pub use dumping::dump;
 pub use fault::DumpFault;
 pub use looking::look;
+pub use output::put_all;
 pub use seen::Look;

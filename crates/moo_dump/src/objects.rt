@@ -5,7 +5,7 @@ ghost use Rattle.std.specs.List.{flat_map};
 ghost use Rattle.moo_dump.specs.Dump.{verb_line, object_lines};
 ghost use Rattle.moo_dump.specs.Lines.{ListsDefinitions, property_line_of, slot_line_of, slot_lines_over};
 ghost use Rattle.moo_world.specs.Rows.{world_of, IsSound, IsGood};
-ghost use Rattle.moo_world.specs.World.{IsTree, chain, verbs_of};
+ghost use Rattle.moo_world.specs.World.{IsTree, chain, directory_of};
 
 use crate::definitions::{Definitions, defined_by};
 use crate::lines::{put_object_line, put_property_line, put_slot_line, put_verb_line};
@@ -96,7 +96,7 @@ fn put_verbs<R: Rows>(
 ) -> Result<(), AllocError>
     requires { IsSound (R.held rows.now).maps }
     ensures { OnOk result (out.new.items
-        ≡ out.old.items ++ flat_map (verb_line x) (verbs_of (world_of (R.held rows.now).maps) x)) }
+        ≡ out.old.items ++ flat_map (verb_line x) (directory_of (world_of (R.held rows.now).maps) x)) }
 {
     for (_, row) in each_verb_of(rows, x, VerbId(0)) {
         put_verb_line(alloc, x, row, out)?;

@@ -7,7 +7,7 @@ use crate::fault::DumpFault;
 use std::io::Write;
 
 /// Writes all of the bytes. An error of the writer, or a count of 0, is a fault; a front of the bytes is written then.
-pub(crate) fn put_all<W: Write>(writer: &mut W, bytes: &[u8]) -> Result<(), DumpFault>
+pub fn put_all<W: Write>(writer: &mut W, bytes: &[u8]) -> Result<(), DumpFault>
     ensures ok { OnOk result (Appends (W.contents writer.old) (W.contents writer.new) bytes.now) }
     ensures err { OnErr result ((count : ℕ) × Appends (W.contents writer.old) (W.contents writer.new) (take count bytes.now)) }
     ensures fault { IfErr result (λ fault. fault ≡ DumpFault.Write) }

@@ -14,9 +14,9 @@ use Rattle.moo_http.specs.declared.fault.ServeFault.{ServeFault}
 use Rattle.moo_http.specs.declared.fault.ServeFault.TheVariants.{Read, Write, OutOfMemory}
 use Rattle.moo_http.specs.declared.service.ServiceFault.{ServiceFault}
 use Rattle.moo_http.specs.declared.service.ServiceFault.TheVariants as service
-use Rattle.moo_http.specs.Connections.{Moves, AfterConnections, Reaches, WritesFront, ServesPort}
+use Rattle.moo_http.specs.Connections.{Moves, AfterConnections, StandsAtEnd, WritesFront, ServesPort}
 use Rattle.moo_http.specs.Lines.{listening_line, served_line}
-use Rattle.moo_http.specs.Serves.{Gets, Serves, Stays, Served}
+use Rattle.moo_http.specs.Serves.{Gets, Serves, StandsStill, Served}
 use Rattle.moo_http.proofs.Serving.{appends_nothing, appends_both}
 
 -- ---- one connection
@@ -26,13 +26,13 @@ moved_by old Nothing output new gets = inl gets.1
 moved_by old (Request is_head asked) output new (o, answers, wrote) = inr (asked, o, answers)
 
 module _ {S : Type 0} (g : Ghosts S) (known : Bool) (old : Stand) (was world : World S) where
-  served_moves : (left rest : Option (List ℕ)) (output : List ℕ) → Serves g known old left rest world output → Reaches g known world (λ end. Moves old end)
+  served_moves : (left rest : Option (List ℕ)) (output : List ℕ) → Serves g known old left rest world output → StandsAtEnd g known world (λ end. Moves old end)
   served_moves left rest output it = record { end = it.new; stands = it.stands; crash = it.crash; ends = moved_by old it.received output it.new it.gets }
 
-  stays_moves : StandsAt g known was old → Stays g known old was world → Reaches g known world (λ end. Moves old end)
+  stays_moves : StandsAt g known was old → StandsStill g known old was world → StandsAtEnd g known world (λ end. Moves old end)
   stays_moves at it = record { end = old; stands = subst (λ w. StandsAt g known w old) (sym it.same) at; crash = it.crash; ends = inl refl }
 
-  pub moves : (r : Result (Unit {0}) ServeFault) (left rest before behind : Option (List ℕ)) → StandsAt g known was old → Served g known r old was world left rest before behind → Reaches g known world (λ end. Moves old end)
+  pub moves : (r : Result (Unit {0}) ServeFault) (left rest before behind : Option (List ℕ)) → StandsAt g known was old → Served g known r old was world left rest before behind → StandsAtEnd g known world (λ end. Moves old end)
   moves (Ok done) left rest before behind at (output, serves, wrote) = served_moves left rest output serves
   moves (Err Write) left rest before behind at (output, serves, sent, wrote) = served_moves left rest output serves
   moves (Err Read) left rest before behind at (stays, same) = stays_moves at stays
@@ -40,14 +40,14 @@ module _ {S : Type 0} (g : Ghosts S) (known : Bool) (old : Stand) (was world : W
   moves (Err OutOfMemory) left rest before behind at (same, inr (output, serves)) = served_moves left rest output serves
 
 -- where a World stood, it stands
-pub stood : {S : Type 0} (g : Ghosts S) (known : Bool) (stand : Stand) (world : World S) (End : Stand → Type 0) → StandsAt g known world stand → (IsTrue known → HasCleanDisk (store_of g world) → CrashLeaves (store_of g world) stand) → End stand → Reaches g known world End
+pub stood : {S : Type 0} (g : Ghosts S) (known : Bool) (stand : Stand) (world : World S) (End : Stand → Type 0) → StandsAt g known world stand → (IsTrue known → HasCleanDisk (store_of g world) → CrashLeaves (store_of g world) stand) → End stand → StandsAtEnd g known world End
 stood g known stand world End at crash ends = record { end = stand; stands = at; crash = crash; ends = ends }
 
 -- ---- many
 
 -- so many connections were taken since the World was so
 pub record Taken {S : Type 0} (g : Ghosts S) (was world : World S) (count : ℕ) : Type 0 where
-  pub reaches : (known : Bool) (stand : Stand) → StandsAt g known was stand → Reaches g known world (λ end. AfterConnections count stand end)
+  pub reaches : (known : Bool) (stand : Stand) → StandsAt g known was stand → StandsAtEnd g known world (λ end. AfterConnections count stand end)
   pub clean : HasCleanDisk (store_of g world) → HasCleanDisk (store_of g was)
 
 pub none_taken : {S : Type 0} (g : Ghosts S) (world : World S) → ((known : Bool) (stand : Stand) → StandsAt g known world stand → IsTrue known → HasCleanDisk (store_of g world) → CrashLeaves (store_of g world) stand) → Taken g world world zero
@@ -56,17 +56,17 @@ none_taken g world leaves = record {
   clean = λ clean. clean;
 }
 
-one_more : {S : Type 0} (g : Ghosts S) (known : Bool) (stand : Stand) (mid world : World S) (count : ℕ) → ((mid_stand : Stand) → StandsAt g known mid mid_stand → Reaches g known world (λ end. Moves mid_stand end))
-    → Reaches g known mid (λ end. AfterConnections count stand end) → Reaches g known world (λ end. AfterConnections (suc count) stand end)
+one_more : {S : Type 0} (g : Ghosts S) (known : Bool) (stand : Stand) (mid world : World S) (count : ℕ) → ((mid_stand : Stand) → StandsAt g known mid mid_stand → StandsAtEnd g known world (λ end. Moves mid_stand end))
+    → StandsAtEnd g known mid (λ end. AfterConnections count stand end) → StandsAtEnd g known world (λ end. AfterConnections (suc count) stand end)
 one_more g known stand mid world count moves before =
     let after = moves before.end before.stands in
     record { end = after.end; stands = after.stands; crash = after.crash; ends = (before.end, before.ends, after.ends) }
 
 pub taken_on : {S : Type 0} (g : Ghosts S) (was mid world : World S) (count next : ℕ) → next ≡ suc count → Taken g was mid count
-    → ((known : Bool) (stand : Stand) → StandsAt g known mid stand → Reaches g known world (λ end. Moves stand end)) → (HasCleanDisk (store_of g world) → HasCleanDisk (store_of g mid))
+    → ((known : Bool) (stand : Stand) → StandsAt g known mid stand → StandsAtEnd g known world (λ end. Moves stand end)) → (HasCleanDisk (store_of g world) → HasCleanDisk (store_of g mid))
     → Taken g was world next
 taken_on g was mid world count next is before moves clean = record {
-  reaches = λ known stand at. subst (λ n. Reaches g known world (λ end. AfterConnections n stand end)) (sym is) (one_more g known stand mid world count (moves known) (before.reaches known stand at));
+  reaches = λ known stand at. subst (λ n. StandsAtEnd g known world (λ end. AfterConnections n stand end)) (sym is) (one_more g known stand mid world count (moves known) (before.reaches known stand at));
   clean = λ now. before.clean (clean now);
 }
 

@@ -24,8 +24,8 @@ use Rattle.moo_request.specs.declared.asked.Mode.TheVariants.{Run, Ask}
 use Rattle.moo_responses.specs.declared.outcome.Outcome.{Outcome}
 use Rattle.moo_responses.specs.declared.outcome.Outcome.TheVariants as outcome
 use Rattle.moo_responses.specs.Outcomes.{looked}
-use Rattle.moo_http.specs.Answers.{Answers}
-use Rattle.moo_http.specs.Settled.{Settles, lost_by}
+use Rattle.moo_http.specs.Answers.{MayAnswer}
+use Rattle.moo_http.specs.Settled.{ComesOfRun, lost_by}
 
 -- ---- where a World stands, by whether it failed
 
@@ -52,7 +52,7 @@ pub record Ran {S : Type 0} (g : Ghosts S) (known : Bool) (was new : World S) (s
 
 -- the World stands somewhere, and this is what came of the batch
 abbrev pub Behind : {S : Type 0} (g : Ghosts S) → Bool → World S → Stand → Batch → Outcome → Type 0
-Behind g known new stand batch o = (next : Stand) × StandsAt g known new next × Answers stand (Calls Run batch) o next
+Behind g known new stand batch o = (next : Stand) × StandsAt g known new next × MayAnswer stand (Calls Run batch) o next
 
 no_reply : (replies : List Reply) → length replies < 1 → replies ≡ []
 no_reply [] few = refl
@@ -106,7 +106,7 @@ either true = inl refl
 either false = inr refl
 
 settled : {S : Type 0} (g : Ghosts S) (known : Bool) (was new : World S) (stand : Stand) (batch : Batch) (replies : List Reply) (r : Result (Unit {0}) StoreFault) (o : Outcome)
-    → StandsAt g known was stand → Ran g known was new stand (batch ∷ []) replies r → Settles r replies o → Behind g known new stand batch o
+    → StandsAt g known was stand → Ran g known was new stand (batch ∷ []) replies r → ComesOfRun r replies o → Behind g known new stand batch o
 settled g known was new stand batch replies (Ok x) o at ran settles =
     let one = subst (λ rs. Ran g known was new stand (batch ∷ []) rs (Ok x)) settles.1 ran in
     subst (Behind g known new stand batch) (sym settles.2) (replied g known was new stand batch settles.0 x one)
@@ -117,7 +117,7 @@ settled g known was new stand batch replies (Err fault) o at ran settles =
     ] in subst (Behind g known new stand batch) (sym settles) there
 
 pub ran_one : {S : Type 0} (g : Ghosts S) (known : Bool) (was new : World S) (stand : Stand) (batch : Batch) (all : List Batch) (old replies : List Reply) (r : Result (Unit {0}) StoreFault) (o : Outcome)
-    → all ≡ batch ∷ [] → old ≡ [] → StandsAt g known was stand → Ran g known was new stand all (added old replies) r → Settles r replies o → Behind g known new stand batch o
+    → all ≡ batch ∷ [] → old ≡ [] → StandsAt g known was stand → Ran g known was new stand all (added old replies) r → ComesOfRun r replies o → Behind g known new stand batch o
 ran_one g known was new stand batch all old replies r o one none at ran settles =
     let none_before : added old replies ≡ replies = ap (λ (rs : List Reply). added rs replies) none in
     let plain = subst (λ (rs : List Reply). Ran g known was new stand all rs r) none_before ran in
@@ -132,7 +132,7 @@ came_of (Err fault) = lost_by fault
 
 pub asked : {S : Type 0} (g : Ghosts S) (known : Bool) (world : World S) (batch : Batch) (r : Result Reply StoreFault)
     → ((known : Bool) (s : State) → StandsFor g known world s → IsOkAnd r (λ reply. (reply ≡ NoMemory) ⊎ (reply ≡ answer_of s (judge s batch)))) → ((known : Bool) (s : State) → StandsFor g known world s → IfOk r (λ reply. reply ≡ NoMemory → IsRun s batch))
-    → (IsTrue world.failed → r ≡ Err Closed) → (stand : Stand) → StandsAt g known world stand → Answers stand (Calls Ask batch) (came_of r) stand
+    → (IsTrue world.failed → r ≡ Err Closed) → (stand : Stand) → StandsAt g known world stand → MayAnswer stand (Calls Ask batch) (came_of r) stand
 asked g known world batch (Ok reply) judged run closed stand at = inl (answered.Replied reply, asked_one g world batch (Ok reply) judged run closed known stand at, refl)
 asked g known world batch (Err fault) judged run closed (Works s) at = absurd (judged known s at)
 asked g known world batch (Err fault) judged run closed (Failed s) at = inl (answered.Closed, (refl, refl), ap came_of (closed at.0))
@@ -143,7 +143,7 @@ told_seq (Ok seq) = outcome.Seq seq
 told_seq (Err fault) = lost_by fault
 
 pub numbered : {S : Type 0} (g : Ghosts S) (known : Bool) (world : World S) (r : Result ℕ StoreFault) → ((known : Bool) (s : State) → StandsFor g known world s → r ≡ Ok s.seq) → (IsTrue world.failed → r ≡ Err Closed)
-    → (stand : Stand) → StandsAt g known world stand → Answers stand Seq (told_seq r) stand
+    → (stand : Stand) → StandsAt g known world stand → MayAnswer stand Seq (told_seq r) stand
 numbered g known world r number closed (Works s) at = inl (ap told_seq (number known s at), refl)
 numbered g known world r number closed (Failed s) at = inl (ap told_seq (closed at.0), refl)
 numbered g known world r number closed (StoreFailed s hand) at = inl (ap told_seq (closed at.0), refl)
@@ -152,12 +152,12 @@ abbrev pub told_look : Result (Option Look) StoreFault → Outcome
 told_look (Ok look) = looked look
 told_look (Err fault) = lost_by fault
 
-look_told : {S : Type 0} (g : Ghosts S) (known : Bool) (world : World S) (n : ObjNo) (s : State) (r : Result (Option Look) StoreFault) → IfOk r (λ look. look ≡ look_of s.world n) → IfErr r (λ fault. fault ≡ OutOfMemory) → Answers (Works s) (Object n) (told_look r) (Works s)
+look_told : {S : Type 0} (g : Ghosts S) (known : Bool) (world : World S) (n : ObjNo) (s : State) (r : Result (Option Look) StoreFault) → IfOk r (λ look. look ≡ look_of s.world n) → IfErr r (λ fault. fault ≡ OutOfMemory) → MayAnswer (Works s) (Object n) (told_look r) (Works s)
 look_told g known world n s (Ok look) is fault = inl (ap looked is, refl)
 look_told g known world n s (Err why) is fault = inr (tt, ap lost_by fault, refl)
 
 pub seen : {S : Type 0} (g : Ghosts S) (known : Bool) (world : World S) (n : ObjNo) (r : Result (Option Look) StoreFault) → ((known : Bool) (s : State) → StandsFor g known world s → IfOk r (λ look. look ≡ look_of s.world n))
-    → (world.failed ≡ false → IfErr r (λ fault. fault ≡ OutOfMemory)) → (IsTrue world.failed → r ≡ Err Closed) → (stand : Stand) → StandsAt g known world stand → Answers stand (Object n) (told_look r) stand
+    → (world.failed ≡ false → IfErr r (λ fault. fault ≡ OutOfMemory)) → (IsTrue world.failed → r ≡ Err Closed) → (stand : Stand) → StandsAt g known world stand → MayAnswer stand (Object n) (told_look r) stand
 seen g known world n r look fault closed (Works s) at = look_told g known world n s r (look known s at) (fault at.works)
 seen g known world n r look fault closed (Failed s) at = inl (ap told_look (closed at.0), refl)
 seen g known world n r look fault closed (StoreFailed s hand) at = inl (ap told_look (closed at.0), refl)

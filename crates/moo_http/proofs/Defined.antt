@@ -5,7 +5,7 @@ use Rattle.moo_world.specs.Judge as model
 use Rattle.moo_world.specs.Judge.{State, judge, left_by}
 use Rattle.moo_text.specs.declared.reply.Answer.{Answer}
 use Rattle.moo_text.specs.declared.reply.Answer.TheVariants as answered
-use Rattle.moo_store.specs.Stand.{Stand, Works, state_at, Leaves, RunsBatch, AsksBatch}
+use Rattle.moo_store.specs.Stand.{Stand, Works, state_at, VerdictLeaves, RunsBatch, AsksBatch}
 use Rattle.moo_request.specs.declared.asked.Asked.{Asked}
 use Rattle.moo_request.specs.declared.asked.Asked.TheVariants.{Refused, Calls, Seq, Object}
 use Rattle.moo_request.specs.declared.asked.Mode.TheVariants.{Run, Ask}
@@ -13,9 +13,9 @@ use Rattle.moo_responses.specs.declared.outcome.Outcome.{Outcome}
 use Rattle.moo_responses.specs.declared.outcome.Outcome.TheVariants as outcome
 use Rattle.moo_responses.specs.Outcomes.{outcome_of}
 use Rattle.moo_responses.specs.Responses.{response_of}
-use Rattle.moo_http.specs.Answers.{Answers, Comes, answer}
+use Rattle.moo_http.specs.Answers.{MayAnswer, Comes, answer}
 
-leaves : (s : State) (v : model.Verdict) (new : Stand) → Leaves s v new → state_at new ≡ left_by s v
+leaves : (s : State) (v : model.Verdict) (new : Stand) → VerdictLeaves s v new → state_at new ≡ left_by s v
 leaves s (model.Accepted answers next) new left = elim left [ inl e ↦ ap state_at e | inr e ↦ ap state_at e ]
 leaves s (model.Refused call code) new left = ap state_at left
 leaves s (model.NoRoom call) new left = ap state_at left
@@ -48,7 +48,7 @@ comes_defined s (Calls Ask batch) o new comes other = ask_defined s batch comes.
 comes_defined s Seq o new comes other = (comes.0, ap state_at comes.1)
 comes_defined s (Object n) o new comes other = (comes.0, ap state_at comes.1)
 
-pub defined : (s : State) (asked : Asked) (o : Outcome) (new : Stand) → Answers (Works s) asked o new → (response_of o).status ≢ 503 → IsDefined s asked o new
+pub defined : (s : State) (asked : Asked) (o : Outcome) (new : Stand) → MayAnswer (Works s) asked o new → (response_of o).status ≢ 503 → IsDefined s asked o new
 defined s asked o new answers other = elim answers [
   | inl comes ↦ comes_defined s asked o new comes other
   | inr none ↦ absurd (other (ap (λ x. (response_of x).status) none.1))

@@ -17,7 +17,7 @@ use Rattle.moo_responses.specs.declared.outcome.Outcome.{Outcome}
 use Rattle.moo_http.specs.Answers.{Consulted}
 use Rattle.moo_http.specs.Faults.{fault_of}
 use Rattle.moo_responses.specs.Responses.{response_of, response_text}
-use Rattle.moo_http.specs.Serves.{Serves, Stays, Written, Served}
+use Rattle.moo_http.specs.Serves.{Serves, StandsStill, Written, Served}
 
 pub appends_nothing : (before : Option (List ℕ)) → Appends before before []
 appends_nothing None = tt
@@ -31,17 +31,17 @@ appends_both (Some x) (Some y) (Some z) bs cs p q = q ∙ ap (λ l. l ++ cs) p �
 
 -- ---- the request wasn't read
 
-pub unread : {S : Type 0} (g : Ghosts S) (known : Bool) (fault : ReadFault) (old : Stand) (was : World S) (left rest before : Option (List ℕ)) → Stays g known old was was → Served g known (Err (fault_of fault)) old was was left rest before before
+pub unread : {S : Type 0} (g : Ghosts S) (known : Bool) (fault : ReadFault) (old : Stand) (was : World S) (left rest before : Option (List ℕ)) → StandsStill g known old was was → Served g known (Err (fault_of fault)) old was was left rest before before
 unread g known read.Read old was left rest before stays = (stays, refl)
 unread g known read.OutOfMemory old was left rest before stays = (refl, inl stays)
 
-pub unread_at : {S : Type 0} (g : Ghosts S) (known : Bool) (r : Result (Unit {0}) ServeFault) (fault : ReadFault) (old : Stand) (was : World S) (left rest before : Option (List ℕ)) → IsErrAnd r (λ e. e ≡ fault_of fault) → Stays g known old was was → Served g known r old was was left rest before before
+pub unread_at : {S : Type 0} (g : Ghosts S) (known : Bool) (r : Result (Unit {0}) ServeFault) (fault : ReadFault) (old : Stand) (was : World S) (left rest before : Option (List ℕ)) → IsErrAnd r (λ e. e ≡ fault_of fault) → StandsStill g known old was was → Served g known r old was was left rest before before
 unread_at g known (Ok x) fault old was left rest before is stays = absurd is
 unread_at g known (Err e) fault old was left rest before is stays = subst (λ e. Served g known (Err e) old was was left rest before before) (sym is) (unread g known fault old was left rest before stays)
 
 -- ---- nothing came
 
-pub nothing : {S : Type 0} (g : Ghosts S) (known : Bool) (old : Stand) (was : World S) (left rest before : Option (List ℕ)) (done : Unit {0}) → Takes left rest Nothing → StandsAt g known was old → Stays g known old was was → Served g known (Ok done) old was was left rest before before
+pub nothing : {S : Type 0} (g : Ghosts S) (known : Bool) (old : Stand) (was : World S) (left rest before : Option (List ℕ)) (done : Unit {0}) → Takes left rest Nothing → StandsAt g known was old → StandsStill g known old was was → Served g known (Ok done) old was was left rest before before
 nothing g known old was left rest before done takes at stays =
     ([], record { received = Nothing; takes = takes; new = old; gets = (refl, refl); stands = at; crash = stays.crash }, appends_nothing before)
 

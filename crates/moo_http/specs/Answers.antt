@@ -5,7 +5,7 @@ use Rattle.sqlite.specs.Store.{Ghosts}
 use Rattle.moo_text.specs.declared.reply.Answer.{Answer}
 use Rattle.moo_world.specs.Judge.{State, judge}
 use Rattle.moo_dump.specs.Look.{look_of}
-use Rattle.moo_store.specs.Answered.{reply_of, answer_of, next_of}
+use Rattle.moo_store.specs.Answered.{reply_of, answer_of, state_behind}
 use Rattle.moo_store.specs.Stand.{Stand, Works, Failed, StoreFailed, RunsBatch, AsksBatch}
 use Rattle.moo_store.specs.Kept.{World}
 use Rattle.moo_store.specs.World.{store_of, CrashLeaves, StandsAt}
@@ -19,7 +19,7 @@ use Rattle.moo_responses.specs.Outcomes.{looked, outcome_of}
 -- what comes of what is asked at a state, and the state that it leaves
 abbrev pub answer : State → Asked → Outcome × State
 answer s (Refused refusal) = (outcome.Refused refusal, s)
-answer s (Calls Run batch) = (outcome.Replied (reply_of (judge s batch)), next_of s batch)
+answer s (Calls Run batch) = (outcome.Replied (reply_of (judge s batch)), state_behind s batch)
 answer s (Calls Ask batch) = (outcome.Replied (answer_of s (judge s batch)), s)
 answer s Seq = (outcome.Seq s.seq, s)
 answer s (Object n) = (looked (look_of s.world n), s)
@@ -49,12 +49,12 @@ TakesMemory Seq = ⊥
 TakesMemory (Object n) = ⊤
 
 -- So it comes; or memory for what is handed out is refused, and nothing changes.
-abbrev pub Answers : Stand → Asked → Outcome → Stand → Type 0
-Answers old asked o new = Comes old asked o new ⊎ (TakesMemory asked × (o ≡ outcome.NoMemory) × (new ≡ old))
+abbrev pub MayAnswer : Stand → Asked → Outcome → Stand → Type 0
+MayAnswer old asked o new = Comes old asked o new ⊎ (TakesMemory asked × (o ≡ outcome.NoMemory) × (new ≡ old))
 
 -- A World that stood there was asked. It stands where the answer leaves it, and so does whatever a crash leaves.
 pub record Consulted {S : Type 0} (g : Ghosts S) (known : Bool) (old : Stand) (world : World S) (asked : Asked) (o : Outcome) : Type 0 where
   pub new : Stand
   pub stands : StandsAt g known world new
-  pub answers : Answers old asked o new
+  pub answers : MayAnswer old asked o new
   pub crash : IsTrue known → HasCleanDisk (store_of g world) → CrashLeaves (store_of g world) new

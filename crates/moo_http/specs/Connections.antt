@@ -10,12 +10,12 @@ use Rattle.moo_request.specs.declared.asked.Asked.{Asked}
 use Rattle.moo_responses.specs.declared.outcome.Outcome.{Outcome}
 use Rattle.moo_http.specs.declared.service.ServiceFault.{ServiceFault}
 use Rattle.moo_http.specs.declared.service.ServiceFault.TheVariants.{Port}
-use Rattle.moo_http.specs.Answers.{Answers}
+use Rattle.moo_http.specs.Answers.{MayAnswer}
 use Rattle.moo_http.specs.Lines.{listening_line, served_line}
 
 -- One connection leaves the World where it stood, or where what was asked leaves it.
 abbrev pub Moves : Stand → Stand → Type 0
-Moves old new = (new ≡ old) ⊎ ((asked : Asked) × (o : Outcome) × Answers old asked o new)
+Moves old new = (new ≡ old) ⊎ ((asked : Asked) × (o : Outcome) × MayAnswer old asked o new)
 
 -- so many connections, one after another
 abbrev pub AfterConnections : ℕ → Stand → Stand → Type 0
@@ -23,7 +23,7 @@ AfterConnections zero old new = new ≡ old
 AfterConnections (suc n) old new = (mid : Stand) × AfterConnections n old mid × Moves mid new
 
 -- The World stands at an end of which this holds, and so does whatever a crash leaves.
-pub record Reaches {S : Type 0} (g : Ghosts S) (known : Bool) (world : World S) (End : Stand → Type 0) : Type 0 where
+pub record StandsAtEnd {S : Type 0} (g : Ghosts S) (known : Bool) (world : World S) (End : Stand → Type 0) : Type 0 where
   pub end : Stand
   pub stands : StandsAt g known world end
   pub crash : IsTrue known → HasCleanDisk (store_of g world) → CrashLeaves (store_of g world) end

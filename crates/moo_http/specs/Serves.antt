@@ -12,13 +12,13 @@ use Rattle.moo_request.specs.declared.request.Received.TheVariants.{Nothing, Req
 use Rattle.moo_http.specs.declared.fault.ServeFault.{ServeFault}
 use Rattle.moo_http.specs.declared.fault.ServeFault.TheVariants.{Read, Write, OutOfMemory}
 use Rattle.moo_responses.specs.declared.outcome.Outcome.{Outcome}
-use Rattle.moo_http.specs.Answers.{Answers}
+use Rattle.moo_http.specs.Answers.{MayAnswer}
 use Rattle.moo_responses.specs.Responses.{response_of, response_text}
 
 -- the answer to what is received: nothing where nothing came
 abbrev pub Gets : Stand → Received → List ℕ → Stand → Type 0
 Gets old Nothing output new = (output ≡ []) × (new ≡ old)
-Gets old (Request is_head asked) output new = (o : Outcome) × Answers old asked o new × (output ≡ response_text is_head (response_of o))
+Gets old (Request is_head asked) output new = (o : Outcome) × MayAnswer old asked o new × (output ≡ response_text is_head (response_of o))
 
 -- The reader gave some bytes, and this is the whole answer to what they ask. The World stands where that leaves it, and so does
 -- whatever a crash leaves.
@@ -31,7 +31,7 @@ pub record Serves {S : Type 0} (g : Ghosts S) (known : Bool) (old : Stand) (left
   pub crash : IsTrue known → HasCleanDisk (store_of g world) → CrashLeaves (store_of g world) new
 
 -- the World is as it was, and so is what a crash leaves
-pub record Stays {S : Type 0} (g : Ghosts S) (known : Bool) (old : Stand) (was world : World S) : Type 0 where
+pub record StandsStill {S : Type 0} (g : Ghosts S) (known : Bool) (old : Stand) (was world : World S) : Type 0 where
   pub same : world ≡ was
   pub crash : IsTrue known → HasCleanDisk (store_of g world) → CrashLeaves (store_of g world) old
 
@@ -47,6 +47,6 @@ Written (Err OutOfMemory) before behind output = behind ≡ before
 abbrev pub Served : {S : Type 0} (g : Ghosts S) → Bool → Result (Unit {0}) ServeFault → Stand → World S → World S → Option (List ℕ) → Option (List ℕ) → Option (List ℕ) → Option (List ℕ) → Type 0
 Served g known (Ok done) old was world left rest before behind = (output : List ℕ) × Serves g known old left rest world output × Appends before behind output
 Served g known (Err Write) old was world left rest before behind = (output : List ℕ) × Serves g known old left rest world output × (sent : ℕ) × Appends before behind (take sent output)
-Served g known (Err Read) old was world left rest before behind = Stays g known old was world × (behind ≡ before)
+Served g known (Err Read) old was world left rest before behind = StandsStill g known old was world × (behind ≡ before)
 Served g known (Err OutOfMemory) old was world left rest before behind =
-    (behind ≡ before) × (Stays g known old was world ⊎ ((output : List ℕ) × Serves g known old left rest world output))
+    (behind ≡ before) × (StandsStill g known old was world ⊎ ((output : List ℕ) × Serves g known old left rest world output))

@@ -13,6 +13,6 @@ lost_by fault.Closed = outcome.Closed
 lost_by other = outcome.Fault
 
 -- by the result of a run of one batch and its reply
-abbrev pub Settles : Result (Unit {0}) StoreFault → List Reply → Outcome → Type 0
-Settles (Ok done) replies o = (reply : Reply) × (replies ≡ reply ∷ []) × (o ≡ outcome.Replied reply)
-Settles (Err why) replies o = o ≡ lost_by why
+abbrev pub ComesOfRun : Result (Unit {0}) StoreFault → List Reply → Outcome → Type 0
+ComesOfRun (Ok done) replies o = (reply : Reply) × (replies ≡ reply ∷ []) × (o ≡ outcome.Replied reply)
+ComesOfRun (Err why) replies o = o ≡ lost_by why

@@ -5,8 +5,8 @@ ghost use Rattle.moo_store.specs.Stand.{Stand};
 ghost use Rattle.sqlite.specs.State.{HasCleanDisk};
 ghost use Rattle.moo_store.specs.World.{store_of, StandsAt};
 ghost use Rattle.moo_responses.specs.Outcomes.{looked};
-ghost use Rattle.moo_http.specs.Answers.{Answers, Consulted};
-ghost use Rattle.moo_http.specs.Settled.{Settles, lost_by};
+ghost use Rattle.moo_http.specs.Answers.{MayAnswer, Consulted};
+ghost use Rattle.moo_http.specs.Settled.{ComesOfRun, lost_by};
 
 use moo_dump::Look;
 use moo_request::{Asked, Mode};
@@ -43,7 +43,7 @@ fn only(mut replies: Vec<Reply>) -> Reply
 /// What a run of one batch came to, by its result and its reply.
 fn settle(ran: Result<(), StoreFault>, replies: Vec<Reply>) -> Outcome
     requires { OnOk ran (length replies.items ≡ 1) }
-    ensures { Settles ran replies.items result }
+    ensures { ComesOfRun ran replies.items result }
 {
     match ran {
         Ok(()) => Outcome::Replied(only(replies)),
@@ -53,7 +53,7 @@ fn settle(ran: Result<(), StoreFault>, replies: Vec<Reply>) -> Outcome
 
 fn run_batch<S: Alter + Drop>(alloc: Global, world: &mut World<S>, batch: &Batch) -> Outcome
     ensures clean { HasCleanDisk (store_of S.Store world.new) → HasCleanDisk (store_of S.Store world.old) }
-    ensures comes { (known : Bool) (stand : Stand) → StandsAt S.Store known world.old stand → (new : Stand) × StandsAt S.Store known world.new new × Answers stand (Asked.Calls Mode.Run batch.now) result new }
+    ensures comes { (known : Bool) (stand : Stand) → StandsAt S.Store known world.old stand → (new : Stand) × StandsAt S.Store known world.new new × MayAnswer stand (Asked.Calls Mode.Run batch.now) result new }
 {
     let mut replies = Vec::new(alloc);
     let ran = world.run(slice::from_ref(batch), &mut replies);
@@ -61,7 +61,7 @@ fn run_batch<S: Alter + Drop>(alloc: Global, world: &mut World<S>, batch: &Batch
 }
 
 fn ask_batch<S: Alter + Drop>(world: &World<S>, batch: &Batch) -> Outcome
-    ensures { (known : Bool) (stand : Stand) → StandsAt S.Store known world.now stand → Answers stand (Asked.Calls Mode.Ask batch.now) result stand }
+    ensures { (known : Bool) (stand : Stand) → StandsAt S.Store known world.now stand → MayAnswer stand (Asked.Calls Mode.Ask batch.now) result stand }
 {
     match world.ask(batch) {
         Ok(reply) => Outcome::Replied(reply),
@@ -70,7 +70,7 @@ fn ask_batch<S: Alter + Drop>(world: &World<S>, batch: &Batch) -> Outcome
 }
 
 fn ask_seq<S: Alter + Drop>(world: &World<S>) -> Outcome
-    ensures { (known : Bool) (stand : Stand) → StandsAt S.Store known world.now stand → Answers stand Asked.Seq result stand }
+    ensures { (known : Bool) (stand : Stand) → StandsAt S.Store known world.now stand → MayAnswer stand Asked.Seq result stand }
 {
     match world.seq() {
         Ok(seq) => Outcome::Seq(seq),
@@ -89,7 +89,7 @@ fn show(look: Option<Look>) -> Outcome
 }
 
 fn look_at<S: Alter + Drop>(world: &World<S>, number: ObjNo) -> Outcome
-    ensures { (known : Bool) (stand : Stand) → StandsAt S.Store known world.now stand → Answers stand (Asked.Object number) result stand }
+    ensures { (known : Bool) (stand : Stand) → StandsAt S.Store known world.now stand → MayAnswer stand (Asked.Object number) result stand }
 {
     match world.object(number) {
         Ok(look) => show(look),
@@ -105,7 +105,7 @@ fn take_batch<S: Alter + Drop>(
     batch: &Batch,
 ) -> Outcome
     ensures clean { HasCleanDisk (store_of S.Store world.new) → HasCleanDisk (store_of S.Store world.old) }
-    ensures comes { (known : Bool) (stand : Stand) → StandsAt S.Store known world.old stand → (new : Stand) × StandsAt S.Store known world.new new × Answers stand (Asked.Calls mode batch.now) result new }
+    ensures comes { (known : Bool) (stand : Stand) → StandsAt S.Store known world.old stand → (new : Stand) × StandsAt S.Store known world.new new × MayAnswer stand (Asked.Calls mode batch.now) result new }
 {
     match mode {
         Mode::Run => run_batch(alloc, world, batch),
@@ -115,7 +115,7 @@ fn take_batch<S: Alter + Drop>(
 
 fn answer<S: Alter + Drop>(alloc: Global, world: &mut World<S>, asked: &Asked) -> Outcome
     ensures clean { HasCleanDisk (store_of S.Store world.new) → HasCleanDisk (store_of S.Store world.old) }
-    ensures comes { (known : Bool) (stand : Stand) → StandsAt S.Store known world.old stand → (new : Stand) × StandsAt S.Store known world.new new × Answers stand asked.now result new }
+    ensures comes { (known : Bool) (stand : Stand) → StandsAt S.Store known world.old stand → (new : Stand) × StandsAt S.Store known world.new new × MayAnswer stand asked.now result new }
 {
     match asked {
         Asked::Refused(refusal) => Outcome::Refused(*refusal),

@@ -4,7 +4,7 @@ ghost use Rattle.std.specs.Prelude.{◌≡◌, ◌+◌, Bool};
 ghost use Rattle.sqlite.specs.State.{HasCleanDisk};
 ghost use Rattle.moo_store.specs.Stand.{Stand};
 ghost use Rattle.moo_store.specs.World.{store_of, StandsAt};
-ghost use Rattle.moo_http.specs.Connections.{Moves, AfterConnections, Reaches};
+ghost use Rattle.moo_http.specs.Connections.{Moves, AfterConnections, StandsAtEnd};
 
 use crate::serve::serve_one;
 use moo_request::Routes;
@@ -37,7 +37,7 @@ fn serve_next<S: Alter + Drop>(
     listener: &TcpListener,
     world: &mut World<S>,
 ) -> bool
-    ensures moves { (known : Bool) (stand : Stand) → StandsAt S.Store known world.old stand → Reaches S.Store known world.new (λ end. Moves stand end) }
+    ensures moves { (known : Bool) (stand : Stand) → StandsAt S.Store known world.old stand → StandsAtEnd S.Store known world.new (λ end. Moves stand end) }
     ensures clean { HasCleanDisk (store_of S.Store world.new) → HasCleanDisk (store_of S.Store world.old) }
 {
     world.leaves();
@@ -61,7 +61,7 @@ pub fn serve_on<S: Alter + Drop>(
 ) -> Served
     ensures count { result.answered + result.failed ≡ count }
     // Each may have asked one thing of the World, which stands where the last one left it.
-    ensures serves { (known : Bool) (stand : Stand) → StandsAt S.Store known world.old stand → Reaches S.Store known world.new (λ end. AfterConnections count stand end) }
+    ensures serves { (known : Bool) (stand : Stand) → StandsAt S.Store known world.old stand → StandsAtEnd S.Store known world.new (λ end. AfterConnections count stand end) }
     ensures clean { HasCleanDisk (store_of S.Store world.new) → HasCleanDisk (store_of S.Store world.old) }
 {
     world.leaves();

@@ -7,11 +7,12 @@ ghost use Rattle.moo_store.specs.World.{store_of, StandsAt};
 ghost use Rattle.moo_http.specs.declared.service.ServiceFault.TheVariants.{OutOfMemory};
 ghost use Rattle.std.specs.Io.KnownBytes.{Appends};
 ghost use Rattle.moo_http.specs.Lines.{listening_line, served_line};
-ghost use Rattle.moo_http.specs.Connections.{Reaches, ServesPort, WritesFront};
+ghost use Rattle.moo_http.specs.Connections.{StandsAtEnd, ServesPort, WritesFront};
 
 use crate::listen::{Served, serve_on};
+use moo_dump::put_all;
 use moo_request::Routes;
-use moo_store::{World, put_all};
+use moo_store::World;
 use sqlite::Alter;
 use std::alloc::{AllocError, Global};
 use std::io::Write;
@@ -93,7 +94,7 @@ pub fn serve_port<S: Alter + Drop, W: Write>(
     output: &mut W,
 ) -> Result<(), ServiceFault>
     ensures serves { (known : Bool) (stand : Stand) → StandsAt S.Store known world.old stand →
-        Reaches S.Store known world.new (λ end. ServesPort result port count stand end (W.contents output.old) (W.contents output.new)) }
+        StandsAtEnd S.Store known world.new (λ end. ServesPort result port count stand end (W.contents output.old) (W.contents output.new)) }
     // A disk that returns what was written did so before.
     ensures clean { HasCleanDisk (store_of S.Store world.new) → HasCleanDisk (store_of S.Store world.old) }
 {

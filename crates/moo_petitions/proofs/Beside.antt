@@ -14,7 +14,7 @@ use Rattle.moo_world.specs.World.{IsWellFormed}
 use Rattle.moo_world.specs.Numbers.{KeepsNumbers}
 use Rattle.moo_world.proofs.Form.Petitions.{one_more_stands, still_stand}
 use Rattle.moo_world.proofs.Shown.NumbersKept.{numbers_same}
-use Rattle.moo_petitions.specs.Outcomes.{state_in, KeepsRows}
+use Rattle.moo_petitions.specs.Outcomes.{state_in, KeepsGoodRows}
 
 abbrev pub beside_by : FinMap petition_cmp PetitionRow → ℕ → Maps → Maps
 beside_by petitions next t = record t { head = record t.head { next_petition = next }; petitions = petitions }
@@ -35,7 +35,7 @@ module _ (petitions : FinMap petition_cmp PetitionRow) (next : ℕ) (t : Maps) w
   }
 
   -- what is kept where these alone change
-  pub kept-beside : (old new : Held) → old.maps ≡ t → new.maps ≡ beside_by petitions next t → new.base ≡ old.base → IsGood t → PetitionsStand petitions next → KeepsRows KeepsNumbers old new
+  pub kept-beside : (old new : Held) → old.maps ≡ t → new.maps ≡ beside_by petitions next t → new.base ≡ old.base → IsGood t → PetitionsStand petitions next → KeepsGoodRows KeepsNumbers old new
   kept-beside old new was is base good stand = record {
     good = subst IsGood (sym is) (good-beside good stand);
     seq = ap (λ (m : Maps). m.head.seq) is ∙ sym (ap (λ (m : Maps). m.head.seq) was);
@@ -47,7 +47,7 @@ module _ (petitions : FinMap petition_cmp PetitionRow) (next : ℕ) (t : Maps) w
       field f same = ap f is ∙ same ∙ sym (ap f was)
 
 -- nothing changed
-pub kept-same : (held : Held) → IsGood held.maps → KeepsRows KeepsNumbers held held
+pub kept-same : (held : Held) → IsGood held.maps → KeepsGoodRows KeepsNumbers held held
 kept-same held good = record { good = good; seq = refl; base = refl; numbers = numbers_same held.maps held.maps refl refl refl refl }
 
 -- ---- a petition more, and one less
@@ -55,7 +55,7 @@ kept-same held good = record { good = good; seq = refl; base = refl; numbers = n
 abbrev kept_stand : Maps → PetitionId → FinMap petition_cmp PetitionRow
 kept_stand t gone = remove t.petitions gone
 
-pub removed-keeps : (old new : Held) (gone : PetitionId) → new ≡ without_petition old gone → IsGood old.maps → KeepsRows KeepsNumbers old new
+pub removed-keeps : (old new : Held) (gone : PetitionId) → new ≡ without_petition old gone → IsGood old.maps → KeepsGoodRows KeepsNumbers old new
 removed-keeps old new gone is good =
     kept-beside (kept_stand old.maps gone) old.maps.head.next_petition old.maps old new refl (ap (λ (h : Held). h.maps) is) (ap (λ (h : Held). h.base) is) good
     (still_stand old.maps.petitions old.maps.head.next_petition gone good.petitions)
@@ -79,7 +79,7 @@ module _ (old put new : Held) (head : Head) (p : ObjNo) (calls : Values) (head_i
   pub asked-state : state_in new ≡ asked (state_in old) p calls
   asked-state = ap state_of maps_are ∙ state-beside with_one (old.maps.head.next_petition + 1) old.maps
 
-  pub asked-keeps : IsGood old.maps → petition_fits (record { who = p; calls = calls }) ≡ true → old.maps.head.next_petition < 4294967295 → KeepsRows KeepsNumbers old new
+  pub asked-keeps : IsGood old.maps → petition_fits (record { who = p; calls = calls }) ≡ true → old.maps.head.next_petition < 4294967295 → KeepsGoodRows KeepsNumbers old new
   asked-keeps good fit less =
       kept-beside with_one (old.maps.head.next_petition + 1) old.maps old new refl maps_are (ap (λ (h : Held). h.base) counted ∙ ap (λ (h : Held). h.base) is_put) good
       (one_more_stands old.maps.petitions old.maps.head.next_petition (record { who = p; calls = calls }) good.petitions fit less)

@@ -8,7 +8,7 @@ use Rattle.moo_value.specs.declared.value.Value.TheVariants.{Int, Obj, Str, Erro
 use Rattle.moo_world.specs.declared.call.Call.{Call}
 use Rattle.moo_world.specs.declared.name.CallName.{CallName}
 use Rattle.moo_world.specs.declared.name.PetitionCall.{PetitionCall}
-use Rattle.moo_world.specs.Names.{named, petition_call}
+use Rattle.moo_world.specs.Names.{call_name_of, petition_call}
 use Rattle.moo_world.specs.Petitions.{begins_with_text}
 use Rattle.moo_world.specs.Requests.{call_in}
 
@@ -31,11 +31,11 @@ named_so args (Some n) = by (petition_call n)
     by None = refl
     by (Some c) = refl
 
-pub call_in-some : (values args : List Value) (text : List _) (n : CallName) → values ≡ Str text ∷ args → Some n ≡ on_world (named text) → call_in values ≡ Some (call_of args n)
-call_in-some values args text n is found = ap call_in is ∙ named_so args (named text) ∙ ap (option_map (call_of args)) (sym found)
+pub call_in-some : (values args : List Value) (text : List _) (n : CallName) → values ≡ Str text ∷ args → Some n ≡ on_world (call_name_of text) → call_in values ≡ Some (call_of args n)
+call_in-some values args text n is found = ap call_in is ∙ named_so args (call_name_of text) ∙ ap (option_map (call_of args)) (sym found)
 
-pub call_in-none : (values args : List Value) (text : List _) → values ≡ Str text ∷ args → None ≡ on_world (named text) → call_in values ≡ None
-call_in-none values args text is found = ap call_in is ∙ named_so args (named text) ∙ ap (option_map (call_of args)) (sym found)
+pub call_in-none : (values args : List Value) (text : List _) → values ≡ Str text ∷ args → None ≡ on_world (call_name_of text) → call_in values ≡ None
+call_in-none values args text is found = ap call_in is ∙ named_so args (call_name_of text) ∙ ap (option_map (call_of args)) (sym found)
 
 pub call_in-nameless : (values : List Value) → begins_with_text values ≡ false → call_in values ≡ None
 call_in-nameless [] h = refl

@@ -22,7 +22,7 @@ use Rattle.moo_world.specs.World.{World}
 use Rattle.moo_call_parts.specs.declared.fault.Fault.{Fault}
 use Rattle.moo_call_parts.specs.declared.fault.Fault.TheVariants.{Moo, Full as none_left, OutOfMemory}
 use Rattle.moo_call_parts.specs.Outcomes.{world_in, ComesTo}
-use Rattle.moo_petitions.specs.Outcomes.{state_in, ComesInTurn, KeepInTurn, KeepsRows, Reaches}
+use Rattle.moo_petitions.specs.Outcomes.{state_in, ComesInTurn, KeepInTurn, KeepsGoodRows, Reaches}
 
 -- all calls come to what those that are left come to
 pub record HaveStepped (before : Held) (p : ObjNo) (all : List Value) (now : Held) (left : List Value) : Type 0 where
@@ -97,8 +97,8 @@ granted-reaches s p helds mid new o (Err none_left) is comes kept = ap (in_world
 granted-reaches s p helds mid new o (Err OutOfMemory) is comes kept = tt
 
 module _ (p : ObjNo) (args : List Value) (n : ℤ) (e : PetitionId × PetitionRow) (old mid new : Held) where
-  pub granted-keeps : one_integer args ≡ Ok n → petition_at (state_in old) n ≡ Some e → mid ≡ without_petition old e.0 → KeepsRows KeepsNumbers old mid
-      → KeepInTurn p (spread e.1.calls) mid new → KeepsRows (GrantLeads p args) old new
+  pub granted-keeps : one_integer args ≡ Ok n → petition_at (state_in old) n ≡ Some e → mid ≡ without_petition old e.0 → KeepsGoodRows KeepsNumbers old mid
+      → KeepInTurn p (spread e.1.calls) mid new → KeepsGoodRows (GrantLeads p args) old new
   granted-keeps given found gone removed kept = record {
     good = kept.good;
     seq = ap (λ b. b.0) kept.beside ∙ removed.seq;
@@ -113,11 +113,11 @@ on_ok (Ok a) f h = f h
 on_ok (Err e) f h = tt
 
 -- a call on the world grants nothing
-world-keeps : (grants : Bool) (p : ObjNo) (args : List Value) (old new : Held) → grants ≡ false → Keeps old new → KeepsRows (CallKeepsNumbers grants p args) old new
+world-keeps : (grants : Bool) (p : ObjNo) (args : List Value) (old new : Held) → grants ≡ false → Keeps old new → KeepsGoodRows (CallKeepsNumbers grants p args) old new
 world-keeps true p args old new none kept = absurd (true≢false none)
 world-keeps false p args old new none kept = record { good = kept.good; seq = ap (λ b. b.0) kept.beside; base = kept.base; numbers = kept.numbers }
 
 pub stepped-keeps : (call : Call) (p : ObjNo) (old new : Held) → petition_call call.name ≡ None → Keeps old new
-    → KeepsRows (CallKeepsNumbers (is_grant call.name) p call.args) old new
+    → KeepsGoodRows (CallKeepsNumbers (is_grant call.name) p call.args) old new
 stepped-keeps call p old new on_world kept =
     world-keeps (is_grant call.name) p call.args old new (ap (λ o. elim o [ None ↦ false | Some c ↦ grants c ]) on_world) kept

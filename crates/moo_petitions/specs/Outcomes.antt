@@ -45,7 +45,7 @@ pub record KeepInTurn (p : ObjNo) (helds : List Value) (old new : Held) : Type 0
   pub numbers : HeldCallsLead p helds old.maps new.maps
 
 -- what a call keeps that is done: the rows are good ones, no batch is counted yet, and numbers are kept in this way
-pub record KeepsRows (keeps_numbers : Maps → Maps → Type 0) (old new : Held) : Type 0 where
+pub record KeepsGoodRows (keeps_numbers : Maps → Maps → Type 0) (old new : Held) : Type 0 where
   pub good : IsGood new.maps
   pub seq : new.maps.head.seq ≡ old.maps.head.seq
   pub base : new.base ≡ old.base

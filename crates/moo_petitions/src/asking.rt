@@ -10,7 +10,7 @@ ghost use Rattle.moo_world.specs.Requests.{ask, may_be_asked, one_list, petition
 ghost use Rattle.moo_world.specs.Rows.{IsGood};
 ghost use Rattle.moo_world.specs.World.{is_object};
 ghost use Rattle.moo_call_parts.specs.Outcomes.{world_in};
-ghost use Rattle.moo_petitions.specs.Outcomes.{state_in, KeepsRows, Reaches, Stays};
+ghost use Rattle.moo_petitions.specs.Outcomes.{state_in, KeepsGoodRows, Reaches, Stays};
 
 use crate::args::one_list;
 use crate::held::are_calls;
@@ -41,7 +41,7 @@ fn ask<R: Rows>(rows: &mut R, programmer: ObjNo, calls: ValueList) -> Result<Val
     requires fit { petition_fits (record { who = programmer; calls = calls }) ≡ true }
     ensures reaches { Reaches (ask (state_in (R.held rows.old)) programmer calls) (R.held rows.new) result }
     ensures stays { Stays (R.held rows.old) (R.held rows.new) result }
-    ensures kept { OnOk result (KeepsRows KeepsNumbers (R.held rows.old) (R.held rows.new)) }
+    ensures kept { OnOk result (KeepsGoodRows KeepsNumbers (R.held rows.old) (R.held rows.new)) }
 {
     let mut head = rows.head();
     let number = head.next_petition;
@@ -73,7 +73,7 @@ pub(crate) fn petition<R: Rows>(
     requires fit { list_all fits args.now ≡ true }
     ensures reaches { Reaches (taking (one_list args.now) (petition (state_in (R.held rows.old)) programmer)) (R.held rows.new) result }
     ensures stays { Stays (R.held rows.old) (R.held rows.new) result }
-    ensures kept { OnOk result (KeepsRows KeepsNumbers (R.held rows.old) (R.held rows.new)) }
+    ensures kept { OnOk result (KeepsGoodRows KeepsNumbers (R.held rows.old) (R.held rows.new)) }
 {
     let calls = one_list(args)?;
     may_be_asked(calls)?;

@@ -7,7 +7,7 @@ ghost use Rattle.moo_world.specs.Requests.{decline, one_integer, taking};
 ghost use Rattle.moo_world.specs.Rights.{is_wizard};
 ghost use Rattle.moo_world.specs.Rows.{IsGood};
 ghost use Rattle.moo_call_parts.specs.Outcomes.{world_in};
-ghost use Rattle.moo_petitions.specs.Outcomes.{state_in, KeepsRows, Reaches, Stays};
+ghost use Rattle.moo_petitions.specs.Outcomes.{state_in, KeepsGoodRows, Reaches, Stays};
 
 use crate::args::one_integer;
 use crate::looking::petition_at;
@@ -33,7 +33,7 @@ pub(crate) fn decline<R: Rows>(
     requires good { IsGood (R.held rows.old).maps }
     ensures reaches { Reaches (taking (one_integer args.now) (decline (state_in (R.held rows.old)) programmer)) (R.held rows.new) result }
     ensures stays { Stays (R.held rows.old) (R.held rows.new) result }
-    ensures kept { OnOk result (KeepsRows KeepsNumbers (R.held rows.old) (R.held rows.new)) }
+    ensures kept { OnOk result (KeepsGoodRows KeepsNumbers (R.held rows.old) (R.held rows.new)) }
 {
     let number = one_integer(args)?;
     let (id, who) = match petition_at(rows, number) {

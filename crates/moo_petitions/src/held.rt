@@ -5,7 +5,7 @@ ghost use Rattle.std.specs.List.{list_all};
 ghost use Rattle.std.specs.Option.{option_and_then};
 ghost use Rattle.moo_value.specs.declared.value.Value.TheVariants.{Str};
 ghost use Rattle.moo_world.specs.Arguments.{fits};
-ghost use Rattle.moo_world.specs.Names.{named, petition_call};
+ghost use Rattle.moo_world.specs.Names.{call_name_of, petition_call};
 ghost use Rattle.moo_world.specs.Petitions.{begins_with_text};
 ghost use Rattle.moo_world.specs.Requests.{held_call};
 
@@ -25,7 +25,7 @@ fn first_text(values: &[Value]) -> Option<(&MooStr, &[Value])>
 
 /// The call that a name names, where it is one on the world.
 fn name_of(name: &[u8]) -> Option<CallName>
-    ensures { result ≡ option_and_then (λ n. if is_some (petition_call n) then None else Some n) (named name.now) }
+    ensures { result ≡ option_and_then (λ n. if is_some (petition_call n) then None else Some n) (call_name_of name.now) }
 {
     let name = CallName::read(name)?;
     match name.petition_call() {

@@ -10,7 +10,7 @@ ghost use Rattle.moo_world.specs.Requests.{listed, petitions, taking};
 ghost use Rattle.moo_world.specs.Rights.{is_wizard};
 ghost use Rattle.moo_world.specs.Rows.{IsGood};
 ghost use Rattle.moo_call_parts.specs.Outcomes.{world_in};
-ghost use Rattle.moo_petitions.specs.Outcomes.{state_in, KeepsRows, Reaches};
+ghost use Rattle.moo_petitions.specs.Outcomes.{state_in, KeepsGoodRows, Reaches};
 
 use moo_call_parts::rights::is_wizard;
 use moo_call_parts::{Fault, list_of, no_values};
@@ -55,7 +55,7 @@ pub(crate) fn petitions<R: Rows>(
 ) -> Result<Value, Fault>
     requires good { IsGood (R.held rows.now).maps }
     ensures reaches { Reaches (taking (no_values args.now) (λ _. petitions (state_in (R.held rows.now)) programmer)) (R.held rows.now) result }
-    ensures kept { OnOk result (KeepsRows KeepsNumbers (R.held rows.now) (R.held rows.now)) }
+    ensures kept { OnOk result (KeepsGoodRows KeepsNumbers (R.held rows.now) (R.held rows.now)) }
 {
     no_values(args)?;
     let found = all_listed(rows, alloc, is_wizard(rows, programmer), programmer)?;

@@ -9,7 +9,7 @@ ghost use Rattle.moo_world.specs.Requests.{petition_call_by, request};
 ghost use Rattle.moo_world.specs.Rows.{IsGood};
 ghost use Rattle.moo_world.specs.World.{is_object};
 ghost use Rattle.moo_call_parts.specs.Outcomes.{world_in};
-ghost use Rattle.moo_petitions.specs.Outcomes.{state_in, KeepsRows, Reaches, Stays};
+ghost use Rattle.moo_petitions.specs.Outcomes.{state_in, KeepsGoodRows, Reaches, Stays};
 
 use crate::asking::petition;
 use crate::declining::decline;
@@ -35,7 +35,7 @@ fn petition_call<R: Rows>(
     requires fit { list_all fits args.now ≡ true }
     ensures reaches { Reaches (petition_call_by (state_in (R.held rows.old)) programmer call args.now) (R.held rows.new) result }
     ensures stays { grants call ≡ false → Stays (R.held rows.old) (R.held rows.new) result }
-    ensures kept { OnOk result (KeepsRows (CallKeepsNumbers (grants call) programmer args.now) (R.held rows.old) (R.held rows.new)) }
+    ensures kept { OnOk result (KeepsGoodRows (CallKeepsNumbers (grants call) programmer args.now) (R.held rows.old) (R.held rows.new)) }
 {
     match call {
         PetitionCall::Petition => petition(rows, programmer, args),
@@ -58,7 +58,7 @@ pub fn step<R: Rows>(
     requires good { IsGood (R.held rows.old).maps }
     ensures reaches { Reaches (request (state_in (R.held rows.old)) programmer call.now) (R.held rows.new) result }
     ensures stays { is_grant call.now.name ≡ false → Stays (R.held rows.old) (R.held rows.new) result }
-    ensures kept { OnOk result (KeepsRows (CallKeepsNumbers (is_grant call.now.name) programmer call.now.args) (R.held rows.old) (R.held rows.new)) }
+    ensures kept { OnOk result (KeepsGoodRows (CallKeepsNumbers (is_grant call.now.name) programmer call.now.args) (R.held rows.old) (R.held rows.new)) }
 {
     let Some(of_petitions) = call.name.petition_call() else {
         return moo_calls::step(rows, alloc, programmer, call);

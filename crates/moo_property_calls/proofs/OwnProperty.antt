@@ -7,7 +7,7 @@ use Rattle.std.proofs.lemmas.Bool.{both_ways}
 use Rattle.moo_value.specs.declared.value.ObjNo.{ObjNo}
 use Rattle.moo_world.specs.Objects.{Name, Pair, same_object, same_text, same_pair, folded, is_among, same_object-Decides, same_pair-self}
 use Rattle.moo_world.specs.World.{World, Record, Slot, IsWellFormed, Chain, chain, parent_of, names_of, defined_by, owed_by, pair_named, slot_of}
-use Rattle.moo_world.specs.PropertyCalls.{defines}
+use Rattle.moo_world.specs.PropertyCalls.{defines_name}
 use Rattle.moo_world.proofs.Ancestry.Chains.{Climbs-once}
 use Rattle.moo_world.proofs.Inheritance.Owed.{find-append, found_among, own_pair, definer_among, named_owed}
 use Rattle.moo_world.proofs.Ancestry.Trees.{Chain-chain, chain-step, no_parent}
@@ -29,7 +29,7 @@ module _ (w : World) (wf : IsWellFormed w) (x : ObjNo) (n : Name) where
   abbrev has_name : Pair → Bool
   has_name p = same_text (folded p.1) (folded n)
 
-  own_any : list_any has_name (defined_by w x) ≡ defines w x n
+  own_any : list_any has_name (defined_by w x) ≡ defines_name w x n
   own_any = any_map has_name (λ m. (x, m)) (names_of w x)
 
   by_definer : (o : Option Slot) (p : Option Pair) → option_map (λ s. s.definer) o ≡ option_map (λ p. p.0) p → owns_slot x o ≡ unwrap_or (option_map (λ p. same_object p.0 x) p) false
@@ -63,7 +63,7 @@ module _ (w : World) (wf : IsWellFormed w) (x : ObjNo) (n : Name) where
     at_first None None e f = refl
     at_first None (Some q) e f = above q f
 
-    owned : owns_slot x (slot_of w x (folded n)) ≡ defines w x n
+    owned : owns_slot x (slot_of w x (folded n)) ≡ defines_name w x n
     owned =
         by_definer (slot_of w x (folded n)) (pair_named (owed_by w (x ∷ up)) (folded n)) (wf.slots x (x ∷ up) (folded n) (ap is_some here) own_chain)
         ∙ ap (λ p. unwrap_or (option_map (λ p. same_object p.0 x) p) false) (find-append has_name (defined_by w x) (owed_by w up))
@@ -71,9 +71,9 @@ module _ (w : World) (wf : IsWellFormed w) (x : ObjNo) (n : Name) where
         ∙ found_any has_name (defined_by w x) ∙ own_any
 
   -- x defines the property of a name just where its slot has it as definer
-  pub owns_by_slot : owns_slot x (slot_of w x (folded n)) ≡ defines w x n
+  pub owns_by_slot : owns_slot x (slot_of w x (folded n)) ≡ defines_name w x n
   owns_by_slot = by (w.object x) refl
     where
-      by : (o : Option Record) → w.object x ≡ o → owns_slot x (slot_of w x (folded n)) ≡ defines w x n
+      by : (o : Option Record) → w.object x ≡ o → owns_slot x (slot_of w x (folded n)) ≡ defines_name w x n
       by None e = ap (λ o. owns_slot x (option_and_then (λ r. r.slot (folded n)) o)) e ∙ sym (ap (λ o. list_any (λ m. same_text (folded m) (folded n)) (unwrap_or (option_map (λ (r : Record). r.defines) o) [])) e)
       by (Some r) e = owned r e

@@ -8,7 +8,7 @@ use Rattle.moo_rows.specs.declared.row.PropId.{PropId}
 use Rattle.moo_rows.specs.Maps.{Maps}
 use Rattle.moo_world.specs.Changes.{clashes, with_slot_of}
 use Rattle.moo_world.specs.Objects.{Name, folded}
-use Rattle.moo_world.specs.PropertyCalls.{defines, may_rename}
+use Rattle.moo_world.specs.PropertyCalls.{defines_name, may_rename}
 use Rattle.moo_world.specs.Rows.{IsGood, world_of}
 use Rattle.moo_world.specs.World.{World, Slot, slot_of, is_property_name}
 use Rattle.moo_props.specs.Names.{spelling_of, defines as defines_property}
@@ -19,9 +19,9 @@ use Rattle.moo_props.proofs.Quotas.{folded_spelling}
 use Rattle.moo_property_calls.proofs.OwnProperty.{owns_slot, owns_by_slot}
 
 -- what is asked of a new name
-pub may_parts : (w : World) (x : ObjNo) (n new : Name) (given : Option Name) → given ≡ Some new → may_rename w x n given ≡ true → (defines w x n ≡ true) × (is_property_name new ≡ true) × (clashes w x new ≡ false)
+pub may_parts : (w : World) (x : ObjNo) (n new : Name) (given : Option Name) → given ≡ Some new → may_rename w x n given ≡ true → (defines_name w x n ≡ true) × (is_property_name new ≡ true) × (clashes w x new ≡ false)
 may_parts w x n new given is e =
-    let own = and_parts (defines w x n) (is_property_name new && not (clashes w x new)) (ap (may_rename w x n) (sym is) ∙ e) in
+    let own = and_parts (defines_name w x n) (is_property_name new && not (clashes w x new)) (ap (may_rename w x n) (sym is) ∙ e) in
     let name = and_parts (is_property_name new) (not (clashes w x new)) own.1 in
     (own.0, name.0, negated (clashes w x new) name.1)
   where
@@ -30,7 +30,7 @@ may_parts w x n new given is e =
     negated false g = refl
 
 -- a property that x has, of a name that x defines, is x's own
-pub own_of_name : (t : Maps) → IsGood t → (x : ObjNo) (id : PropId) → is_some (get t.slots (x, id)) ≡ true → defines (world_of t) x (spelling_of t id) ≡ true → defines_property t x id ≡ true
+pub own_of_name : (t : Maps) → IsGood t → (x : ObjNo) (id : PropId) → is_some (get t.slots (x, id)) ≡ true → defines_name (world_of t) x (spelling_of t id) ≡ true → defines_property t x id ≡ true
 own_of_name t good x id held own = by (slot_of (world_of t) x (folded (spelling_of t id))) refl
   where
     owned : owns_slot x (slot_of (world_of t) x (folded (spelling_of t id))) ≡ true

@@ -23,7 +23,7 @@ writing_slot w p x n then =
     check (may_write_slot w p s) (Failed Permission) (then s))
 
 -- the owner is an object, and the rights have the letters of a property's alone
-abbrev pub taking_info : World → Info → (Bits → Outcome) → Outcome
-taking_info w info then =
+abbrev pub taking_property_info : World → Info → (Bits → Outcome) → Outcome
+taking_property_info w info then =
     check (is_object w info.0) (Failed InvalidArgument)
     (found_or (bits_of info.1) InvalidArgument then)

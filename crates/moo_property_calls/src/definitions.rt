@@ -7,7 +7,7 @@ ghost use Rattle.moo_rows.specs.declared.row.SlotState.TheVariants.{Set};
 ghost use Rattle.moo_value.specs.declared.value.Value.{Value};
 ghost use Rattle.moo_world.specs.Arguments.{fits};
 ghost use Rattle.moo_world.specs.Keeps.{Keeps};
-ghost use Rattle.moo_world.specs.PropertyCalls.{add_property, defines, may_define};
+ghost use Rattle.moo_world.specs.PropertyCalls.{add_property, defines_name, may_define};
 ghost use Rattle.moo_world.specs.Rows.{IsGood};
 ghost use Rattle.moo_world.specs.Objects.{folded};
 ghost use Rattle.moo_world.specs.Answers.{zero};
@@ -16,7 +16,7 @@ ghost use Rattle.moo_world.specs.Outcomes.{Outcome, Done, Failed};
 ghost use Rattle.moo_world.specs.World.{is_object, is_property_name};
 ghost use Rattle.moo_props.specs.Names.{defines as defines_property, name_of};
 ghost use Rattle.moo_call_parts.specs.Outcomes.{world_in, ComesTo, Answers};
-ghost use Rattle.moo_property_calls.specs.Checks.{taking_info};
+ghost use Rattle.moo_property_calls.specs.Checks.{taking_property_info};
 
 use moo_call_parts::{Fault, Info, ZERO, rights};
 use moo_props::{clashes, define, slot_of};
@@ -57,7 +57,7 @@ pub(crate) fn may_define<R: Rows>(
 /// The property of a name that x itself defines.
 pub(crate) fn own_property<R: Rows>(rows: &R, x: ObjNo, name: &MooStr) -> Option<PropId>
     requires { IsGood (R.held rows.now).maps }
-    ensures exact { is_some result ≡ defines (world_in (R.held rows.now)) x name.now }
+    ensures exact { is_some result ≡ defines_name (world_in (R.held rows.now)) x name.now }
     ensures own { IfSome result (λ id. defines_property (R.held rows.now).maps x id ≡ true) }
     ensures named { IfSome result (λ id. name_of (R.held rows.now).maps id ≡ folded name.now) }
 {
@@ -74,7 +74,7 @@ pub(crate) fn own_property<R: Rows>(rows: &R, x: ObjNo, name: &MooStr) -> Option
 /// Whether x itself defines a property of the name.
 pub(crate) fn defines<R: Rows>(rows: &R, x: ObjNo, name: &MooStr) -> bool
     requires { IsGood (R.held rows.now).maps }
-    ensures { result ≡ defines (world_in (R.held rows.now)) x name.now }
+    ensures { result ≡ defines_name (world_in (R.held rows.now)) x name.now }
 {
     own_property(rows, x, name).is_some()
 }
@@ -84,7 +84,7 @@ pub(crate) fn defines<R: Rows>(rows: &R, x: ObjNo, name: &MooStr) -> bool
 pub(crate) fn bits_taken<R: Rows>(rows: &R, info: Info<'_>) -> Result<Bits, Code>
     ensures owner { OnOk result (is_object (world_in (R.held rows.now)) info.entry.owner ≡ true) }
     ensures bits { IfOk result (λ bits. bits_of info.entry.perms.now ≡ Some bits) }
-    ensures err { IfErr result (λ code. (then : Bits → Outcome) → taking_info (world_in (R.held rows.now)) (info.entry.owner, info.entry.perms.now) then ≡ Failed code) }
+    ensures err { IfErr result (λ code. (then : Bits → Outcome) → taking_property_info (world_in (R.held rows.now)) (info.entry.owner, info.entry.perms.now) then ≡ Failed code) }
 {
     if !valid(rows, info.owner) {
         return Err(Code::InvalidArgument);

@@ -14,7 +14,7 @@ use Rattle.moo_world.specs.World.{chain}
 use Rattle.moo_world.specs.Objects.{is_among}
 use Rattle.moo_world.specs.Rows.{world_of}
 use Rattle.moo_world.specs.Manual.{lost, gained}
-use Rattle.moo_props.specs.Dropping.{is_linked, linked_among, verbs_among}
+use Rattle.moo_props.specs.Dropping.{links_to, linked_among, verbs_among}
 use Rattle.moo_props.specs.Present.{AreAscending}
 use Rattle.moo_tree.specs.Under.{owners_under}
 use Rattle.moo_props.specs.Touched.{props_of, removed_keys, added_keys}
@@ -108,4 +108,4 @@ pub verbs_ascend : (t : Maps) (x : ObjNo) → AreAscending verb_cmp (verbs_among
 verbs_ascend t x = ascend verb_cmp (verbs_among x (entries t.verbs)) (rises_made verb_cmp (λ k. k) (λ e. int_eq e.0.0.0 x.0) (λ e. e.0) (λ e. refl) (entries t.verbs) (entries_sorted t.verbs))
 
 pub linked_ascend : (t : Maps) (x : ObjNo) → AreAscending object_cmp (linked_among x (entries t.objects))
-linked_ascend t x = ascend object_cmp (linked_among x (entries t.objects)) (rises_made object_cmp (λ k. k) (λ e. is_linked x e.1) (λ e. e.0) (λ e. refl) (entries t.objects) (entries_sorted t.objects))
+linked_ascend t x = ascend object_cmp (linked_among x (entries t.objects)) (rises_made object_cmp (λ k. k) (λ e. links_to x e.1) (λ e. e.0) (λ e. refl) (entries t.objects) (entries_sorted t.objects))

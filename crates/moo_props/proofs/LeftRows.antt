@@ -22,7 +22,7 @@ use Rattle.moo_world.proofs.Ancestry.Chains.{Climbs-unique}
 use Rattle.moo_world.proofs.Shown.Seen.{object_seen}
 use Rattle.moo_world.proofs.Ancestry.Trees.{no_parent, nothing_is_no_object}
 use Rattle.moo_props.specs.Dropped.{goes_with, dropped_keys, slot_left, prop_left, verb_left, heir, row_left}
-use Rattle.moo_props.specs.Dropping.{is_linked, released_row, ids_for, ids_among, verbs_among, linked_among, dropped_over, slots_dropped, props_removed, verbs_removed, with_released, row_released, rows_released}
+use Rattle.moo_props.specs.Dropping.{links_to, released_row, ids_for, ids_among, verbs_among, linked_among, dropped_over, slots_dropped, props_removed, verbs_removed, with_released, row_released, rows_released}
 use Rattle.moo_props.specs.Names.{defines}
 use Rattle.moo_props.specs.Present.{ArePresent, AreAbsent}
 use Rattle.moo_tree.specs.Under.{owners_under}
@@ -151,7 +151,7 @@ module _ (t : Maps) (good : IsGood t) (x : ObjNo) (row : ObjRow) (here : get t.o
       by None e = refl
       by (Some r) e = absurd (false≢true (sym e))
 
-  unlinked : is_linked x row ≡ false
+  unlinked : links_to x row ≡ false
   unlinked =
       let c = good.formed.tree.chains x xo in
       let p = good.formed.tree.places x xo in
@@ -160,12 +160,12 @@ module _ (t : Maps) (good : IsGood t) (x : ObjNo) (row : ObjRow) (here : get t.o
       || apart (location_of (world_of t)) no_place p.0 p.1 row.location (ap (option_map (λ (r : Record). r.row.location)) seen) (same_object x row.location) refl i
 
   pub relinked_there : ArePresent after.maps.objects (linked_among x (entries t.objects))
-  relinked_there = all_made (λ e. find object_cmp e.0 (entries t.objects) ≡ Some e.1) (λ y. is_some (get after.maps.objects y) ≡ true) (λ e. is_linked x e.1) (λ e. e.0)
+  relinked_there = all_made (λ e. find object_cmp e.0 (entries t.objects) ≡ Some e.1) (λ y. is_some (get after.maps.objects y) ≡ true) (λ e. links_to x e.1) (λ e. e.0)
       (λ e h k. ap is_some (objects_left e.0) ∙ other e.0 e.1 (get-entries t.objects e.0 ∙ h) k (same_object x e.0) refl)
       (entries t.objects) (own_entries object_cmp object_total object_exact (entries t.objects) (entries_sorted t.objects))
     where
-      other : (y : ObjNo) (r : ObjRow) → get t.objects y ≡ Some r → is_linked x r ≡ true → (b : Bool) → same_object x y ≡ b → is_some (if b then None else option_map (released_row x (heir t x)) (get t.objects y)) ≡ true
+      other : (y : ObjNo) (r : ObjRow) → get t.objects y ≡ Some r → links_to x r ≡ true → (b : Bool) → same_object x y ≡ b → is_some (if b then None else option_map (released_row x (heir t x)) (get t.objects y)) ≡ true
       other y r e l false f = ap (λ o. is_some (option_map (released_row x (heir t x)) o)) e
       other y r e l true f =
           let is = same_Some row r (sym here ∙ ap (get t.objects) ((same_object-Decides x y).0 f) ∙ e) in
-          absurd (both_ways (is_linked x row) unlinked (ap (is_linked x) is ∙ l))
+          absurd (both_ways (links_to x row) unlinked (ap (links_to x) is ∙ l))

@@ -24,7 +24,7 @@ use Rattle.moo_world.proofs.Shown.MapLaws.{object_key}
 use Rattle.moo_world.proofs.Inheritance.Owed.{definer_among, named_owed}
 use Rattle.moo_world.proofs.Shown.Seen.{is_object_seen, chain_of_row}
 use Rattle.moo_world.proofs.Ancestry.Trees.{Chain-chain}
-use Rattle.moo_props.specs.Dropping.{is_linked, released_row, ids_for, ids_among, verbs_among, linked_among, slots_dropped, props_removed, verbs_removed, with_released, row_released, rows_released}
+use Rattle.moo_props.specs.Dropping.{links_to, released_row, ids_for, ids_among, verbs_among, linked_among, slots_dropped, props_removed, verbs_removed, with_released, row_released, rows_released}
 use Rattle.moo_props.specs.Names.{name_of}
 use Rattle.moo_tree.specs.Under.{owners_under}
 use Rattle.moo_props.specs.Touched.{props_of}
@@ -178,7 +178,7 @@ module _ (x q : ObjNo) where
       by false b g = refl
 
   -- a row that isn't linked to x is released already
-  unlinked : (r : ObjRow) → is_linked x r ≡ false → Some r ≡ Some (rel r)
+  unlinked : (r : ObjRow) → links_to x r ≡ false → Some r ≡ Some (rel r)
   unlinked r e =
       let parts = or_parts (same_object x r.parent) (same_object x r.location) e in
       λ i. Some (record r { parent = if sym parts.0 i then q else r.parent; location = if sym parts.1 i then nothing else r.location })
@@ -316,21 +316,21 @@ module _ (t : Maps) (good : IsGood t) (x : ObjNo) (row : ObjRow) (here : get t.o
   objects5 z =
       get-remove object_total held4.maps.objects x z
       ∙ (λ i. cond (object_key x z i) None (rows-released x row.parent z (linked_among x (entries t.objects)) held3 i))
-      ∙ (λ i. cond (same_object x z) None (settle (listed object_cmp object_total object_exact z (λ e. is_linked x e.1) (λ e. e.0) (λ y. same_object y z) (λ e. sym (object_key e.0 z)) (entries t.objects) (entries_sorted t.objects) i) (get (only3 i).objects z)))
-      ∙ ap (λ o. cond (same_object x z) None (settle (unwrap_or (option_map (λ r. is_linked x r) o) false) (get t.objects z))) (sym (get-entries t.objects z))
+      ∙ (λ i. cond (same_object x z) None (settle (listed object_cmp object_total object_exact z (λ e. links_to x e.1) (λ e. e.0) (λ y. same_object y z) (λ e. sym (object_key e.0 z)) (entries t.objects) (entries_sorted t.objects) i) (get (only3 i).objects z)))
+      ∙ ap (λ o. cond (same_object x z) None (settle (unwrap_or (option_map (λ r. links_to x r) o) false) (get t.objects z))) (sym (get-entries t.objects z))
       ∙ by (same_object x z) (get t.objects z)
     where
       settle : Bool → Option ObjRow → Option ObjRow
       settle b g = cond b (option_map (released_row x row.parent) g) g
 
-      linked : (r : ObjRow) (b : Bool) → is_linked x r ≡ b → cond b (Some (released_row x row.parent r)) (Some r) ≡ Some (released_row x row.parent r)
+      linked : (r : ObjRow) (b : Bool) → links_to x r ≡ b → cond b (Some (released_row x row.parent r)) (Some r) ≡ Some (released_row x row.parent r)
       linked r true e = refl
       linked r false e = unlinked x row.parent r e
 
-      by : (b : Bool) (o : Option ObjRow) → cond b None (cond (unwrap_or (option_map (λ r. is_linked x r) o) false) (option_map (released_row x row.parent) o) o) ≡ (if b then None else option_map (released_row x row.parent) o)
+      by : (b : Bool) (o : Option ObjRow) → cond b None (cond (unwrap_or (option_map (λ r. links_to x r) o) false) (option_map (released_row x row.parent) o) o) ≡ (if b then None else option_map (released_row x row.parent) o)
       by true o = refl
       by false None = refl
-      by false (Some r) = linked r (is_linked x r) refl
+      by false (Some r) = linked r (links_to x r) refl
 
   pub look_ups-less : look_ups held5.maps ≡ less_object m x row.parent
   look_ups-less =

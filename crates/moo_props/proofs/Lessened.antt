@@ -10,7 +10,7 @@ use Rattle.moo_rows.specs.declared.row.ObjRow.{ObjRow}
 use Rattle.moo_rows.specs.declared.row.PropRow.{PropRow}
 use Rattle.moo_world.specs.Manual.{kept_from}
 use Rattle.moo_world.specs.Objects.{Name, nothing, same_object, same_object-Decides}
-use Rattle.moo_world.specs.Recycling.{released, without_object, recycled}
+use Rattle.moo_world.specs.Recycling.{released, without_record, recycled}
 use Rattle.moo_world.specs.World.{World, Record, Slot, IsWellFormed, is_object, parent_of, slot_of, with_slots, without_slots}
 use Rattle.moo_world.specs.Rows.{LookUps, AreSound, numbers_below, name_on, slot_seen, record_of, world_shown}
 use Rattle.moo_world.proofs.Inheritance.Rebuilding.{SameButSlots-rebuilt, same_world, no_slot, objects_same}
@@ -43,7 +43,7 @@ module _ (m : LookUps) (sound : AreSound m) (wf : IsWellFormed (world_shown m)) 
   m2 = less_object m x row.parent
 
   abbrev s : World
-  s = without_object w x
+  s = without_record w x
 
   xo : is_object w x ≡ true
   xo = is_object_seen m x ∙ ap is_some here

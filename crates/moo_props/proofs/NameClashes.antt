@@ -14,7 +14,7 @@ use Rattle.moo_rows.specs.Walk.{is_past}
 use Rattle.moo_world.specs.Changes.{clashes}
 use Rattle.moo_world.specs.ObjectLists.{subtree_of, meets}
 use Rattle.moo_world.specs.Objects.{Name, Pair, same_object, same_text, folded}
-use Rattle.moo_world.specs.PropertyCalls.{defines}
+use Rattle.moo_world.specs.PropertyCalls.{defines_name}
 use Rattle.moo_world.specs.World.{World, IsWellFormed, chain, names_of, defined_by, owed_by, pair_named, slot_of}
 use Rattle.moo_world.specs.Rows.{IsSound, world_of, prop_id}
 use Rattle.moo_world.proofs.Shown.EntriesInOrder.{all_weaker}
@@ -47,7 +47,7 @@ module _ (w : World) where
   any_owed_by test (y ∷ l) = any-append test (defined_by w y) (owed_by w l) ∙ (λ i. any_map test (λ n. (y, n)) (names_of w y) i || any_owed_by test l i)
 
   -- one of them defines the name
-  pub any_defines : (l : List ObjNo) (n : Name) → list_any (λ y. defines w y n) l ≡ is_some (pair_named (owed_by w l) (folded n))
+  pub any_defines : (l : List ObjNo) (n : Name) → list_any (λ y. defines_name w y n) l ≡ is_some (pair_named (owed_by w l) (folded n))
   any_defines l n = sym (found_any (λ p. same_text (folded p.1) (folded n)) (owed_by w l) ∙ any_owed_by (λ p. same_text (folded p.1) (folded n)) l)
 
   -- one under x defines a name that new has

@@ -10,7 +10,7 @@ use Rattle.moo_value.specs.declared.value.ObjNo.{ObjNo}
 use Rattle.moo_rows.specs.declared.row.ObjRow.{ObjRow}
 use Rattle.moo_rows.specs.declared.row.PropRow.{PropRow}
 use Rattle.moo_rows.specs.declared.row.SlotRow.{SlotRow}
-use Rattle.moo_world.specs.Creation.{born, with_object, created, next_object}
+use Rattle.moo_world.specs.Creation.{born, with_new_record, created, next_object}
 use Rattle.moo_world.specs.Objects.{Name, Pair, nothing, same_object, same_text, same_pair, folded, same_object-Decides}
 use Rattle.moo_world.specs.Arguments.{is_number}
 use Rattle.moo_world.specs.World.{World, Record, Slot, IsWellFormed, Chain, is_object, chain, owed_by, owner_of, owes, pair_named, slot_of, fresh, slot_for, with_slots, without_slots, SameButSlots, climb, numbers_to, read_in, read_along, read_of}
@@ -70,7 +70,7 @@ module _ (m : LookUps) (sound : AreSound m) (wf : IsWellFormed (world_shown m)) 
   m2 = with_new m x q owner
 
   abbrev s : World
-  s = with_object w x (born q owner)
+  s = with_new_record w x (born q owner)
 
   -- ---- what the number says
 

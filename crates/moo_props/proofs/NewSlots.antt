@@ -16,7 +16,7 @@ use Rattle.moo_world.specs.Objects.{same_object, same_object-Decides}
 use Rattle.moo_world.specs.Rows.{LookUps, IsSound, look_ups, prop_id}
 use Rattle.moo_world.proofs.Shown.MapLaws.{object_key}
 use Rattle.moo_props.specs.declared.slots.Origin.{Origin}
-use Rattle.moo_props.specs.Birth.{new_row, objects_with}
+use Rattle.moo_props.specs.Birth.{new_row, with_new_row}
 use Rattle.moo_props.specs.Slots.{origins_among, origin_of, origins, fresh_of, slot_put, with_fresh, fresh_row}
 use Rattle.moo_props.proofs.Folding.{is_id, has_id, is_id-Decides, slot_at-fresh, fresh_in, fresh_in-origins}
 use Rattle.moo_world.proofs.Shown.PairLists.{any_map}
@@ -56,7 +56,7 @@ with_new m x q owner =
 
 module _ (t : Maps) (sound : IsSound t) (x q owner : ObjNo) (free : get t.objects x ≡ None) (held : Held) (at : held.maps ≡ t) where
   abbrev pub held1 : Held
-  held1 = objects_with x q owner held
+  held1 = with_new_row x q owner held
 
   abbrev pub held2 : Held
   held2 = with_fresh x owner (origins_among (walk t q)) held1

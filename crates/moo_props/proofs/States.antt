@@ -17,7 +17,7 @@ use Rattle.moo_world.specs.Objects.{Name, same_object, same_text, folded, same_o
 use Rattle.moo_world.specs.World.{World, Record, IsWellFormed, Slot, slot_of, with_record, slot_fits}
 use Rattle.moo_world.specs.Petitions.{PetitionsStand}
 use Rattle.moo_world.specs.Rows.{LookUps, IsSound, IsGood, look_ups, world_of, world_shown, slot_seen, prop_id}
-use Rattle.moo_world.proofs.Shown.RowLaws.{slot_shown, world_shown-with_slot}
+use Rattle.moo_world.proofs.Shown.RowLaws.{slot_shown, world_shown-with_slot_row}
 use Rattle.moo_world.proofs.Shown.MapLaws.{look_ups-put_slot}
 use Rattle.moo_props.specs.Names.{name_of, spelling_of, defines}
 use Rattle.moo_world.proofs.Form.Slots.{IsWellFormed-with_slot_of}
@@ -42,7 +42,7 @@ module _ (t : Maps) (sound : IsSound t) (x : ObjNo) (id : PropId) (k : SlotRow) 
 
   one : world_of (record t { slots = insert t.slots (x, id) next }) ≡ with_record w x (λ r. record r { slot = λ n. if same_text (folded prop.0.name) n then Some (slot_seen prop.0.definer next) else r.slot n })
   one = ap world_shown (look_ups-put_slot t x id next)
-      ∙ world_shown-with_slot m x id.0 next prop.0 prop.1 (sound.props_below id.0 (ap is_some prop.1)).1 (λ j r e s n. sound.one_name x j id.0 r prop.0 s (ap is_some held) e prop.1 n)
+      ∙ world_shown-with_slot_row m x id.0 next prop.0 prop.1 (sound.props_below id.0 (ap is_some prop.1)).1 (λ j r e s n. sound.one_name x j id.0 r prop.0 s (ap is_some held) e prop.1 n)
 
   shown : slot_of w x (folded prop.0.name) ≡ Some (slot_seen prop.0.definer k)
   shown = slot_shown m sound x row.0 row.1 id.0 prop.0 k prop.1 held

@@ -28,7 +28,7 @@ use Rattle.moo_world.specs.Objects.{nothing, same_object, same_object-eq}
 use Rattle.moo_world.specs.Rows.{IsGood, look_ups, prop_id, verb_id}
 use Rattle.moo_world.proofs.Shown.ObjectEntries.{same_object-symm}
 use Rattle.moo_world.proofs.Shown.Seen.{is_object_seen}
-use Rattle.moo_props.specs.Dropping.{is_linked, row_linked, linked_among, verbs_among}
+use Rattle.moo_props.specs.Dropping.{links_to, row_linked, linked_among, verbs_among}
 use Rattle.moo_props.specs.Touched.{props_of}
 
 -- where each held key is past one, the entries past it are all
@@ -88,7 +88,7 @@ module _ (t : Maps) (x from : ObjNo) where
       alike (Some row) = λ i. same_object-eq x row.parent i || same_object-eq x row.location i
 
   pub linked-end : IsFirst object_cmp (λ y. row_linked x (get t.objects y)) from None → linked_among x (entries_past object_cmp (Some from) (entries t.objects)) ≡ []
-  linked-end h = ap (map (λ e. e.0)) (first-end object_total object_exact (is_linked x) t.objects from h)
+  linked-end h = ap (map (λ e. e.0)) (first-end object_total object_exact (links_to x) t.objects from h)
 
   pub linked-step : (y : ObjNo) → IsFirst object_cmp (λ y. row_linked x (get t.objects y)) from (Some y)
       → linked_among x (entries_past object_cmp (Some from) (entries t.objects)) ≡ y ∷ linked_among x (entries_past object_cmp (Some y) (entries t.objects))
@@ -96,4 +96,4 @@ module _ (t : Maps) (x from : ObjNo) where
     where
       by : (o : Option ObjRow) → get t.objects y ≡ o → linked_among x (entries_past object_cmp (Some from) (entries t.objects)) ≡ y ∷ linked_among x (entries_past object_cmp (Some y) (entries t.objects))
       by None e = absurd (true≢false (sym h.0 ∙ ap (row_linked x) e))
-      by (Some row) e = ap (map (λ e. e.0)) (first-step object_total object_exact (is_linked x) t.objects from y row h e)
+      by (Some row) e = ap (map (λ e. e.0)) (first-step object_total object_exact (links_to x) t.objects from y row h e)

@@ -11,5 +11,5 @@ abbrev pub new_row : ObjNo → ObjNo → ObjRow
 new_row q owner = plain_row [] owner q
 
 -- what is held once its row is put
-abbrev pub objects_with : ObjNo → ObjNo → ObjNo → Held → Held
-objects_with x q owner held = wrote held (record (held.maps) { head = record (held.maps.head) { top = x.0 }; objects = insert held.maps.objects x (new_row q owner) })
+abbrev pub with_new_row : ObjNo → ObjNo → ObjNo → Held → Held
+with_new_row x q owner held = wrote held (record (held.maps) { head = record (held.maps.head) { top = x.0 }; objects = insert held.maps.objects x (new_row q owner) })

@@ -17,16 +17,16 @@ use Rattle.moo_props.specs.Slots.{keys_on, without_on}
 -- ---- who is concerned
 
 -- the object's parent or place is x
-abbrev pub is_linked : ObjNo → ObjRow → Bool
-is_linked x r = same_object x r.parent || same_object x r.location
+abbrev pub links_to : ObjNo → ObjRow → Bool
+links_to x r = same_object x r.parent || same_object x r.location
 
 -- there is a row, and its parent or place is x
 abbrev pub row_linked : ObjNo → Option ObjRow → Bool
-row_linked x row = unwrap_or (option_map (is_linked x) row) false
+row_linked x row = unwrap_or (option_map (links_to x) row) false
 
 -- the objects of these entries whose parent or place is x
 abbrev pub linked_among : ObjNo → List (ObjNo × ObjRow) → List ObjNo
-linked_among x es = map (λ e. e.0) (filter (λ e. is_linked x e.1) es)
+linked_among x es = map (λ e. e.0) (filter (λ e. links_to x e.1) es)
 
 -- the verbs of x, of these entries
 abbrev pub verbs_among : ObjNo → List ((ObjNo × VerbId) × VerbRow) → List (ObjNo × VerbId)

@@ -6,7 +6,7 @@ ghost use Rattle.moo_world.specs.Creation.{created, next_object};
 ghost use Rattle.moo_world.specs.Objects.{Name, nothing, same_object};
 ghost use Rattle.moo_world.specs.Rows.{world_of, IsGood};
 ghost use Rattle.moo_world.specs.World.{is_object, read_of};
-ghost use Rattle.moo_props.specs.Birth.{objects_with};
+ghost use Rattle.moo_props.specs.Birth.{with_new_row};
 ghost use Rattle.moo_world.specs.Keeps.{Keeps};
 
 use crate::slots::{origins_on, put_fresh};
@@ -22,7 +22,7 @@ fn put_new<R: Rows>(
     parent: ObjNo,
     owner: ObjNo,
 ) -> Result<(), AllocError>
-    ensures { OnOk result (R.held rows.new ≡ objects_with x parent owner (R.held rows.old)) }
+    ensures { OnOk result (R.held rows.new ≡ with_new_row x parent owner (R.held rows.old)) }
 {
     let row = ObjRow::plain(alloc, b"", owner, parent)?;
     let mut head = rows.head();

@@ -5,7 +5,7 @@ ghost use Rattle.std.specs.List.{list_any};
 ghost use Rattle.moo_world.specs.Changes.{clashes};
 ghost use Rattle.moo_world.specs.ObjectLists.{meets, subtree_of};
 ghost use Rattle.moo_world.specs.Objects.{folded};
-ghost use Rattle.moo_world.specs.PropertyCalls.{defines};
+ghost use Rattle.moo_world.specs.PropertyCalls.{defines_name};
 ghost use Rattle.moo_world.specs.Rows.{world_of, IsGood, IsSound};
 ghost use Rattle.moo_world.specs.World.{owed_by, pair_named};
 ghost use Rattle.moo_props.specs.Clashes.{meets_on};
@@ -19,7 +19,7 @@ use std::alloc::{AllocError, Global};
 /// Whether y itself defines a property of the name.
 fn defines_named<R: Rows>(rows: &R, y: ObjNo, name: &MooStr) -> bool
     requires { IsSound (R.held rows.now).maps }
-    ensures { result ≡ defines (world_of (R.held rows.now).maps) y name.now }
+    ensures { result ≡ defines_name (world_of (R.held rows.now).maps) y name.now }
 {
     let name = name.bytes();
     each_defined(rows, y, PropId(0)).any(|(_id, row)| is_named(row, name))

@@ -12,13 +12,13 @@ use Rattle.moo_request.specs.declared.lines.Found.{Found}
 use Rattle.moo_request.specs.declared.lines.Found.TheVariants as line
 
 -- the values of the lines of a name
-abbrev pub IsFound : List (List ℕ) → Found → Type 0
-IsFound values line.Nothing = values ≡ []
-IsFound values (line.One value) = values ≡ value.now ∷ []
-IsFound values line.Several = 1 < length values
+abbrev pub IsFoundAmong : List (List ℕ) → Found → Type 0
+IsFoundAmong values line.Nothing = values ≡ []
+IsFoundAmong values (line.One value) = values ≡ value.now ∷ []
+IsFoundAmong values line.Several = 1 < length values
 
 -- a head stands at the front of the bytes, whatever follows, and its parts lie where they were found
-pub record StandsAt (bytes : List ℕ) (found : Head) : Type 0 where
+pub record HeadStands (bytes : List ℕ) (found : Head) : Type 0 where
   pub head : RequestHead
   pub begins : (more : List ℕ) → BeginsWithHead (bytes ++ more) head (drop found.spans.len bytes ++ more)
   pub at : IsRequestAt bytes found.headers found.spans head
@@ -30,13 +30,13 @@ Lacks input = (input ≢ []) × HasNoHead input
 
 -- what the bytes that were given say of the head
 abbrev pub FindsHead : Option (List ℕ) → List ℕ → HeadRead → Type 0
-FindsHead left given (Whole found) = StandsAt given found
+FindsHead left given (Whole found) = HeadStands given found
 FindsHead left given Refused = Settles left given Lacks
 FindsHead left given Empty = (given ≡ []) × IsAtEnd left
 
 -- what bytes say of the head by themselves, whatever follows
 abbrev pub ShowsHead : List ℕ → HeadRead → Type 0
-ShowsHead bytes (Whole found) = StandsAt bytes found
+ShowsHead bytes (Whole found) = HeadStands bytes found
 ShowsHead bytes Refused = (more : List ℕ) → Lacks (bytes ++ more)
 ShowsHead bytes Empty = ⊥
 

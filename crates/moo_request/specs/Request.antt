@@ -35,18 +35,18 @@ pub data IsSparing (given : List ℕ) : Type 0 where
       → IsSparing given
 
 -- From old to new the reader gave these bytes, no more than are needed. Where it tells its bytes they stood in front and are gone.
-pub record Gives (old new : Option (List ℕ)) (given : List ℕ) : Type 0 where
+pub record GivesSparingly (old new : Option (List ℕ)) (given : List ℕ) : Type 0 where
   pub known : Consumes old new given
   pub sparing : IsSparing given
 
 -- The reader gave some bytes, and this is received of them. Behind a head stand fewer than the 1,024 bytes of a piece, but for its body.
 pub record Takes (old new : Option (List ℕ)) (received : Received) : Type 0 where
   pub given : List ℕ
-  pub gives : Gives old new given
+  pub gives : GivesSparingly old new given
   pub settles : Settles new given (λ input. Receives input received)
   pub behind : (head : RequestHead) (rest : List ℕ) → BeginsWithHead given head rest → length rest ≤ max 1023 (body_size (plan_by head))
 
 -- The reader gave some bytes, and there reading stopped.
-pub record BreaksOff (old new : Option (List ℕ)) : Type 0 where
+pub record StopsReading (old new : Option (List ℕ)) : Type 0 where
   pub given : List ℕ
-  pub gives : Gives old new given
+  pub gives : GivesSparingly old new given

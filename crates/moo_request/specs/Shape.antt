@@ -26,9 +26,9 @@ seq_of None = None
 seq_of (Some n) = if nat_lt n (2 ^ 63) then Some (Some n) else None
 
 -- no number where the key is absent or null
-abbrev pub at_of : Option Data → Option (Option ℕ)
-at_of None = Some None
-at_of (Some d) = if is_some (as_null d) then Some None else seq_of (option_and_then as_u64 (as_number d))
+abbrev pub stated_at : Option Data → Option (Option ℕ)
+stated_at None = Some None
+stated_at (Some d) = if is_some (as_null d) then Some None else seq_of (option_and_then as_u64 (as_number d))
 
 -- the shape that the three parts make
 abbrev pub shape_from : Option ObjNo → Option (List (List ℕ)) → Option (Option ℕ) → Option Shape
@@ -43,4 +43,4 @@ abbrev pub shape_of : Data → Option Shape
 shape_of d = shape_from
     (option_and_then object_of (option_and_then as_str (get (codes "as") d)))
     (option_and_then texts_of (option_and_then as_array (get (codes "calls") d)))
-    (at_of (get (codes "at") d))
+    (stated_at (get (codes "at") d))

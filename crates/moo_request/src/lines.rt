@@ -2,8 +2,8 @@
 
 ghost use Rattle.std.specs.Prelude.{◌≡◌, ◌==◌, ◌≤◌, ℕ, length, map, codes, All, option_map};
 ghost use Rattle.httparse.specs.Spans.{IsHeaderWithin, header_bytes};
-ghost use Rattle.moo_request.specs.Lengths.{is_named, values_of, length_text};
-ghost use Rattle.moo_request.specs.Found.{IsFound};
+ghost use Rattle.moo_request.specs.Lengths.{is_line_of, values_of, length_text};
+ghost use Rattle.moo_request.specs.Found.{IsFoundAmong};
 
 use httparse::spans::HeaderSpan;
 
@@ -21,7 +21,7 @@ pub enum Found<'b> {
 /// Whether a line has a name, in any case.
 fn has_name(bytes: &[u8], line: HeaderSpan, name: &[u8]) -> bool
     requires within { IsHeaderWithin (length bytes.now) line }
-    ensures { result ≡ is_named name.now (header_bytes bytes.now line) }
+    ensures { result ≡ is_line_of name.now (header_bytes bytes.now line) }
 {
     line.name.of(bytes).eq_ignore_ascii_case(name)
 }
@@ -29,7 +29,7 @@ fn has_name(bytes: &[u8], line: HeaderSpan, name: &[u8]) -> bool
 /// The value of the lines of a name.
 fn find<'b>(bytes: &'b [u8], lines: &[HeaderSpan], name: &[u8]) -> Found<'b>
     requires within { All (IsHeaderWithin (length bytes.now)) lines.now }
-    ensures { IsFound (values_of name.now (map (header_bytes bytes.entry.now) lines.now)) result }
+    ensures { IsFoundAmong (values_of name.now (map (header_bytes bytes.entry.now) lines.now)) result }
 {
     let mut found = Found::Nothing;
     for line in lines {

@@ -5,7 +5,7 @@ ghost use Rattle.httparse.specs.Grammar.{RequestHead};
 ghost use Rattle.httparse.specs.Spans.{IsRequestAt, IsRequestWithin, IsRequestOf};
 ghost use Rattle.moo_request.specs.Plan.{plan_by, is_head as is_head_of};
 ghost use Rattle.moo_request.specs.Planned.{IsBounded};
-ghost use Rattle.moo_request.specs.Request.{Takes, BreaksOff};
+ghost use Rattle.moo_request.specs.Request.{Takes, StopsReading};
 
 use crate::asked::{Asked, Refusal};
 use crate::body::follow_plan;
@@ -58,7 +58,7 @@ pub fn read_request<R: Read>(
     reader: &mut R,
 ) -> Result<Received, ReadFault>
     ensures takes { IfOk result (Takes (R.remaining reader.old) (R.remaining reader.new)) }
-    ensures breaks { OnErr result (BreaksOff (R.remaining reader.old) (R.remaining reader.new)) }
+    ensures breaks { OnErr result (StopsReading (R.remaining reader.old) (R.remaining reader.new)) }
 {
     let mut bytes = Vec::new(alloc);
     let head = match read_head(reader, &mut bytes)? {

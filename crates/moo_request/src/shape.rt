@@ -5,7 +5,7 @@ ghost use Rattle.std.specs.List.{list_all};
 ghost use Rattle.serde_json.specs.Data.{Data};
 ghost use Rattle.serde_json.specs.Read.{read};
 ghost use Rattle.serde_json.specs.View.{view, items_view};
-ghost use Rattle.moo_request.specs.Shape.{texts_of, at_of, are_within, shape_of};
+ghost use Rattle.moo_request.specs.Shape.{texts_of, stated_at, are_within, shape_of};
 ghost use Rattle.moo_request.specs.Shown.{shape_shown};
 
 use moo_text::object_of;
@@ -42,7 +42,7 @@ fn texts_in<'a>(alloc: Global, items: &'a [Value]) -> Result<Option<Vec<&'a str>
 
 /// The number under `at`, which may be absent or null. `None` is another value.
 fn at_in(found: Option<&Value>) -> Option<Option<u64>>
-    ensures { result ≡ at_of (option_map (λ value. view value.now) found.entry) }
+    ensures { result ≡ stated_at (option_map (λ value. view value.now) found.entry) }
 {
     let Some(value) = found else {
         return Some(None);

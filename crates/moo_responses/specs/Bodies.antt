@@ -36,21 +36,21 @@ object_text x = print (Obj x)
 abbrev pub objects : List ObjNo → Data
 objects xs = array (strings (map object_text xs))
 
-abbrev pub flag : Bool → Data
-flag set = number (unsigned (cond set 1 0))
+abbrev pub flag_data : Bool → Data
+flag_data set = number (unsigned (cond set 1 0))
 
 -- the fields of an object, its children and what lies in it
 abbrev pub look_body : Look → Data
 look_body l = object
     (member (codes "children") (objects l.children)
     (member (codes "contents") (objects l.contents)
-    (member (codes "f") (flag l.f)
+    (member (codes "f") (flag_data l.f)
     (member (codes "location") (string (object_text l.location))
     (member (codes "name") (string l.name)
     (member (codes "owner") (string (object_text l.owner))
     (member (codes "parent") (string (object_text l.parent))
-    (member (codes "player") (flag l.player)
-    (member (codes "programmer") (flag l.programmer)
-    (member (codes "r") (flag l.r)
-    (member (codes "w") (flag l.w)
-    (member (codes "wizard") (flag l.wizard) no_members))))))))))))
+    (member (codes "player") (flag_data l.player)
+    (member (codes "programmer") (flag_data l.programmer)
+    (member (codes "r") (flag_data l.r)
+    (member (codes "w") (flag_data l.w)
+    (member (codes "wizard") (flag_data l.wizard) no_members))))))))))))

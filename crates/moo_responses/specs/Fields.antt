@@ -2,7 +2,7 @@
 use Rattle.std.specs.Prelude.{codes}
 use Rattle.serde_json.specs.Data.{Members, string, put}
 use Rattle.moo_dump.specs.declared.seen.Look.{Look}
-use Rattle.moo_responses.specs.Bodies.{object_text, objects, flag}
+use Rattle.moo_responses.specs.Bodies.{object_text, objects, flag_data}
 
 abbrev pub with_links : Look → Members → Members
 with_links l fields =
@@ -15,9 +15,9 @@ with_links l fields =
 
 abbrev pub with_flags : Look → Members → Members
 with_flags l fields =
-    put (codes "wizard") (flag l.wizard)
-    (put (codes "w") (flag l.w)
-    (put (codes "r") (flag l.r)
-    (put (codes "programmer") (flag l.programmer)
-    (put (codes "player") (flag l.player)
-    (put (codes "f") (flag l.f) fields)))))
+    put (codes "wizard") (flag_data l.wizard)
+    (put (codes "w") (flag_data l.w)
+    (put (codes "r") (flag_data l.r)
+    (put (codes "programmer") (flag_data l.programmer)
+    (put (codes "player") (flag_data l.player)
+    (put (codes "f") (flag_data l.f) fields)))))

@@ -4,7 +4,7 @@ ghost use Rattle.std.specs.Prelude.{◌≡◌, map, IfOk, OnOk, string_bytes};
 ghost use Rattle.serde_json.specs.Data.{string, put as insert};
 ghost use Rattle.serde_json.specs.View.{view, items_view, members_view};
 ghost use Rattle.serde_json.specs.Written.{compact_text};
-ghost use Rattle.moo_responses.specs.Bodies.{strings, object_text, objects as objects_of, flag, look_body};
+ghost use Rattle.moo_responses.specs.Bodies.{strings, object_text, objects as objects_of, flag_data, look_body};
 ghost use Rattle.moo_responses.specs.Fields.{with_links, with_flags};
 
 use crate::bodies::{literal_text, printed};
@@ -79,7 +79,7 @@ fn put_flag(
     key: &str,
     set: bool,
 ) -> Result<(), AllocError>
-    ensures { OnOk result (members_view fields.new.entries ≡ insert key.now (flag set) (members_view fields.old.entries)) }
+    ensures { OnOk result (members_view fields.new.entries ≡ insert key.now (flag_data set) (members_view fields.old.entries)) }
 {
     put(fields, alloc, key, Value::from(u64::from(set)))
 }

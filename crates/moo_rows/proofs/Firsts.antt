@@ -13,7 +13,7 @@ use Rattle.std.specs.Prelude.{OnOk, OnErr}
 use Rattle.std.proofs.lemmas.Map.Lookups.{CmpEqualImpliesEq}
 use Rattle.std.proofs.lemmas.Bool.{true≢false}
 use Rattle.moo_value.specs.declared.value.ObjNo.{ObjNo}
-use Rattle.moo_rows.specs.Ordered.{lesser, IsPast, IsNext}
+use Rattle.moo_ordered.specs.Ordered.{lesser, IsPast, IsNext}
 use Rattle.moo_rows.specs.Walk.{is_past, entries_past}
 use Rattle.moo_rows.specs.Maps.{object_cmp}
 use Rattle.moo_rows.specs.Links.{IsFirst}

@@ -12,11 +12,11 @@ use Rattle.moo_world.specs.Judge.{State, state_of}
 use Rattle.moo_tables.specs.declared.version.Version.{Version}
 use Rattle.moo_tables.specs.declared.version.Version.TheVariants.{First}
 use Rattle.moo_tables.specs.Tables.{Tables, schema_of}
-use Rattle.moo_tables.specs.Inside.{Rests, RestsAt, HasTables, Reads, FailsToRead}
+use Rattle.moo_tables.specs.Inside.{Rests, RestsAt, HasTables, ReadsTables, FailsToRead}
 use Rattle.moo_tables.proofs.InsideLemmas.{stays, clean_before}
 use Rattle.moo_tables.proofs.ReadLemmas.{rests_on}
 use Rattle.moo_cells.specs.Shows.{ShowsRows}
-use Rattle.moo_store.specs.States.{Keeps, KeepsRows, ShowsState}
+use Rattle.moo_store.specs.States.{KeepsState, KeepsRows, ShowsState}
 use Rattle.moo_store.specs.Opening.{Says, IsOfStore, Adopts, TakesOver}
 use Rattle.moo_store.specs.declared.fault.StoreFault.{StoreFault}
 use Rattle.moo_store.specs.declared.fault.StoreFault.TheVariants.{Store, Damaged, NewerVersion, OutOfMemory, Closed}
@@ -90,7 +90,7 @@ module _ {S : Type 0} (g : Ghosts S) (old new : Held S) where
 
 -- ---- rows were read of tables of a version, and these brought to the present one
 
-module _ {S : Type 0} (g : Ghosts S) (old mid : Held S) (version : Version) (rows : Maps) (has : HasTables (schema_of version) (state g old)) (read : Reads (schema_of version) (state g old) (state g mid)) where
+module _ {S : Type 0} (g : Ghosts S) (old mid : Held S) (version : Version) (rows : Maps) (has : HasTables (schema_of version) (state g old)) (read : ReadsTables (schema_of version) (state g old) (state g mid)) where
   pub has_still : HasCleanDisk (state g mid) → HasTables (schema_of version) (state g mid)
   has_still clean = ap (λ (db : Content). db.schema) (read.same clean has).0.now_is ∙ has
 
@@ -156,7 +156,7 @@ module _ {S : Type 0} (g : Ghosts S) (old new : Held S) (world : World S) (rows 
       record {
         works = works;
         is_at = record {
-          tables = λ _ _. subst (λ h. Keeps (state g h) s) (sym is) (record { rows = rows; good = good; state = is_state; keeps = kept });
+          tables = λ _ _. subst (λ h. KeepsState (state g h) s) (sym is) (record { rows = rows; good = good; state = is_state; keeps = kept });
           rows = λ _. ap state_of same_rows ∙ is_state;
           shown = λ _ _ _. subst₂ (λ h m. KeepsRows (state g h) m) (sym is) (sym same_rows) kept;
         };

@@ -24,7 +24,7 @@ use Rattle.moo_cells.specs.Shows.{ShowsRows}
 use Rattle.moo_store.specs.States.{KeepsRows}
 use Rattle.moo_store.specs.Kept.{World}
 use Rattle.moo_store.specs.World.{store_of, StandsFor}
-use Rattle.moo_store.specs.Checked.{Fails, SaysInCheck}
+use Rattle.moo_store.specs.Checked.{FailsWorld, SaysInCheck}
 use Rattle.moo_store.specs.Opening.{Says, IsOfStore}
 use Rattle.moo_store.specs.declared.fault.StoreFault.{StoreFault}
 use Rattle.moo_store.specs.declared.fault.StoreFault.TheVariants.{Store, Damaged, NewerVersion, OutOfMemory, Closed}
@@ -56,7 +56,7 @@ whole_here cells Known own (Ok count) whole is = tt
 whole_here cells Known own (Err fault) whole is = λ t known shows. whole (subst (λ t. ShowsRows t own) (sym (is t known)) shows)
 
 -- a World that works on was answered Ok, or OutOfMemory
-pub works_on : (r : Result ℕ StoreFault) (failed : Bool) (P : Type 0) → Fails r failed → failed ≡ false → MatchResult r (λ _. P) (λ fault. fault ≡ OutOfMemory → P) → P
+pub works_on : (r : Result ℕ StoreFault) (failed : Bool) (P : Type 0) → FailsWorld r failed → failed ≡ false → MatchResult r (λ _. P) (λ fault. fault ≡ OutOfMemory → P) → P
 works_on (Ok count) failed P fails works it = it
 works_on (Err (Store error)) failed P fails works it = absurd (let e : true ≡ false = sym fails ∙ works in cc)
 works_on (Err (Damaged kind key)) failed P fails works it = absurd (let e : true ≡ false = sym fails ∙ works in cc)

@@ -7,7 +7,7 @@ use Rattle.moo_tables.proofs.InsideLemmas.{left_by, clean_before}
 use Rattle.moo_rows.specs.Maps.{Maps}
 use Rattle.moo_world.specs.Rows.{IsGood}
 use Rattle.moo_world.specs.Judge.{State, state_of}
-use Rattle.moo_store.specs.States.{KeepsRows, LeavesRows, Keeps, LeavesState}
+use Rattle.moo_store.specs.States.{KeepsRows, LeavesRows, KeepsState, LeavesState}
 use Rattle.moo_store.specs.Kept.{World}
 use Rattle.moo_store.specs.Stand.{Stand, Works, Failed, StoreFailed}
 use Rattle.moo_store.specs.World.{store_of, Left, CrashLeaves, StandsAt}
@@ -24,7 +24,7 @@ rows_at_rest store rows settled it trees left = record {
 }
 
 -- what tables at rest show, a crash leaves
-pub left_at_rest : (store : Database) (s : State) → IsSettled store → Keeps store s → Left store s
+pub left_at_rest : (store : Database) (s : State) → IsSettled store → KeepsState store s → Left store s
 left_at_rest store s settled it trees left = record {
   rows = it.rows;
   good = it.good;
@@ -32,7 +32,7 @@ left_at_rest store s settled it trees left = record {
   leaves = rows_at_rest store it.rows settled it.keeps trees left;
 }
 
-pub keeps_state : (store : Database) (rows : Maps) (s : State) → IsGood rows → state_of rows ≡ s → KeepsRows store rows → Keeps store s
+pub keeps_state : (store : Database) (rows : Maps) (s : State) → IsGood rows → state_of rows ≡ s → KeepsRows store rows → KeepsState store s
 keeps_state store rows s good is it = record { rows = rows; good = good; state = is; keeps = it }
 
 leaves_state : (trees : Trees) (rows : Maps) (s : State) → IsGood rows → state_of rows ≡ s → LeavesRows trees rows → LeavesState trees s

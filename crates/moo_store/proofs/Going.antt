@@ -10,14 +10,14 @@ use Rattle.moo_world.specs.declared.call.Batch.{Batch}
 use Rattle.moo_text.specs.Items.{items}
 use Rattle.moo_text.specs.Replies.{answer_text}
 use Rattle.moo_text.specs.Side.{Side, untouched, IsOver}
-use Rattle.moo_text.specs.Given.{Gives, Explains, BreaksOff, ReadsNext, ReadsItems}
+use Rattle.moo_text.specs.Given.{ReaderGives, Explains, BreaksOff, ReadsNext, ReadsItems}
 use Rattle.moo_text.specs.declared.next.Next.{Next}
 use Rattle.moo_text.specs.declared.next.Next.TheVariants.{End}
 use Rattle.moo_text.specs.declared.reply.Answer.{Answer}
 use Rattle.moo_text.specs.declared.fault.TextFault.{TextFault}
 use Rattle.moo_text.specs.declared.fault.TextFault.TheVariants.{Read, Write, OutOfMemory, Long}
 use Rattle.moo_text.proofs.Joining.{items_none, items_then, items_end, whole_items, all_given, items_stop}
-use Rattle.moo_store.specs.Turns.{text_of, is_batch, is_lost, Turn, Turns, GivesFront, Completes, Halts}
+use Rattle.moo_store.specs.Turns.{answers_text, is_batch, is_lost_answer, Turn, Turns, GivesFrontOrAll, Completes, Halts}
 use Rattle.moo_store.proofs.Writing.{Appends-then, Appends-nothing}
 
 -- one turn more
@@ -49,10 +49,10 @@ not_long fault it long = elim it [
 ]
 
 -- what a reader gave stands in front of its bytes
-gives_front : (text : Option (List ℕ)) (room : ℕ) (c : Side) (given : List ℕ) → Gives (untouched text room) c given → GivesFront text c.ended given
+gives_front : (text : Option (List ℕ)) (room : ℕ) (c : Side) (given : List ℕ) → ReaderGives (untouched text room) c given → GivesFrontOrAll text c.ended given
 gives_front text room c given g = by text c.left g.known (g.at_end (λ e. absurd cc))
   where
-    by : (text now : Option (List ℕ)) → Consumes text now given → (c.ended ≡ true → IsAtEnd now) → GivesFront text c.ended given
+    by : (text now : Option (List ℕ)) → Consumes text now given → (c.ended ≡ true → IsAtEnd now) → GivesFrontOrAll text c.ended given
     by None now known end = tt
     by (Some bytes) None known end = absurd known
     by (Some bytes) (Some rest) known end = (rest, known, end)
@@ -71,9 +71,9 @@ module _ {A : Type 0} (P : A → Batch → Answer → A → Type 0) (old : A) (t
     pub read : ReadsItems (untouched text 1073741824) side done
     pub answers : List Answer
     pub turns : Turns P old done answers now
-    pub wrote : Appends before written (text_of answers)
+    pub wrote : Appends before written (answers_text answers)
     pub batches_are : batches ≡ count_by is_batch answers
-    pub lost_are : lost ≡ count_by is_lost answers
+    pub lost_are : lost ≡ count_by is_lost_answer answers
 
   pub going_starts : (side : Side) (b l : ℕ) → side ≡ untouched text 1073741824 → b ≡ 0 → l ≡ 0 → Going old side before b l
   going_starts side b l is is_b is_l = record {
@@ -88,15 +88,15 @@ module _ {A : Type 0} (P : A → Batch → Answer → A → Type 0) (old : A) (t
 
   pub going_on : (now next : A) (side more : Side) (written longer : Option (List ℕ)) (b l b2 l2 : ℕ) (item : Next) (a : Answer)
       → Going now side written b l → ReadsNext side more item → Turn P now item a next → Appends written longer (answer_text a)
-      → b2 ≡ b + cond (is_batch a) 1 0 → l2 ≡ l + cond (is_lost a) 1 0 → Going next more longer b2 l2
+      → b2 ≡ b + cond (is_batch a) 1 0 → l2 ≡ l + cond (is_lost_answer a) 1 0 → Going next more longer b2 l2
   going_on now next side more written longer b l b2 l2 item a p took one wrote is_b is_l = record {
     done = p.done ++ item ∷ [];
     read = items_then (untouched text 1073741824) side more p.done item p.read took (not_end P now next item a one);
     answers = p.answers ++ a ∷ [];
     turns = turns-push P old now next p.done p.answers item a p.turns one;
-    wrote = subst (Appends before longer) (ap (λ (t : List ℕ). text_of p.answers ++ t) (sym (append-nil (answer_text a))) ∙ sym (flat_map-append answer_text p.answers (a ∷ []))) (Appends-then before written longer (text_of p.answers) (answer_text a) p.wrote wrote);
+    wrote = subst (Appends before longer) (ap (λ (t : List ℕ). answers_text p.answers ++ t) (sym (append-nil (answer_text a))) ∙ sym (flat_map-append answer_text p.answers (a ∷ []))) (Appends-then before written longer (answers_text p.answers) (answer_text a) p.wrote wrote);
     batches_are = is_b ∙ ap (λ n. n + cond (is_batch a) 1 0) p.batches_are ∙ sym (count-push is_batch p.answers a);
-    lost_are = is_l ∙ ap (λ n. n + cond (is_lost a) 1 0) p.lost_are ∙ sym (count-push is_lost p.answers a);
+    lost_are = is_l ∙ ap (λ n. n + cond (is_lost_answer a) 1 0) p.lost_are ∙ sym (count-push is_lost_answer p.answers a);
   }
 
   -- at the end of the text
@@ -133,7 +133,7 @@ module _ {A : Type 0} (P : A → Batch → Answer → A → Type 0) (old : A) (t
         last = [];
         in_hand = refl;
         count = 0;
-        wrote = subst (Appends before written) (sym (append-nil (text_of p.answers))) p.wrote;
+        wrote = subst (Appends before written) (sym (append-nil (answers_text p.answers))) p.wrote;
         read = λ e. refl;
         cut = λ e. refl;
       }
@@ -159,7 +159,7 @@ module _ {A : Type 0} (P : A → Batch → Answer → A → Type 0) (old : A) (t
         last = a ∷ [];
         in_hand = (next, one, refl);
         count = count;
-        wrote = subst (λ (t : List ℕ). Appends before longer (text_of p.answers ++ take count t)) (sym (append-nil (answer_text a))) (Appends-then before written longer (text_of p.answers) (take count (answer_text a)) p.wrote wrote);
+        wrote = subst (λ (t : List ℕ). Appends before longer (answers_text p.answers ++ take count t)) (sym (append-nil (answer_text a))) (Appends-then before written longer (answers_text p.answers) (take count (answer_text a)) p.wrote wrote);
         read = λ e. elim e [ inl r ↦ no_read fault writing r | inr long ↦ not_long fault writing long ];
         cut = cut;
       }

@@ -17,8 +17,8 @@ use Rattle.moo_store.specs.Stand.{Stand, Works, Failed, StoreFailed, RunsBatch}
 use Rattle.moo_store.specs.Kept.{World}
 use Rattle.moo_store.specs.declared.fault.StoreFault.{StoreFault}
 use Rattle.moo_store.specs.declared.fault.StoreFault.TheVariants.{Store, Damaged, NewerVersion, OutOfMemory, Closed}
-use Rattle.moo_store.specs.Text.{Runs, answer_to, accepted_at, accepted, KeepsRest, Applies, Stops}
-use Rattle.moo_store.specs.Untouched.{IsOver, taken_of}
+use Rattle.moo_store.specs.Text.{RunsAndAnswers, answer_to, accepted_at, accepted, KeepsRest, Applies, StopsRun}
+use Rattle.moo_store.specs.Untouched.{StandsOver, taken_of}
 use Rattle.moo_store.specs.Turns.{Turn, Turns, Completes, Halts}
 use Rattle.moo_store.proofs.Crashes.{IsSettled, crash_leaves}
 use Rattle.moo_store.proofs.Following.{completes-follows, halts-follows}
@@ -39,14 +39,14 @@ one_taken batch a (Err Closed) is = ap (accepted_at (Whole batch)) is
 written_same : {S : Type 0} (g : Ghosts S) (old now new : World S) (batches : List Batch) → new ≡ now → Written g old now batches → Written g old new (batches ++ [])
 written_same g old now new batches same was = subst (λ w. Written g old w (batches ++ [])) (sym same) (subst (Written g old now) (sym (append-nil batches)) was)
 
-turn_written : {S : Type 0} (g : Ghosts S) (old now new : World S) (batches : List Batch) (item : Next) (a : Answer) → Written g old now batches → Turn (Runs g) now item a new → Written g old new (batches ++ accepted_at item a)
+turn_written : {S : Type 0} (g : Ghosts S) (old now new : World S) (batches : List Batch) (item : Next) (a : Answer) → Written g old now batches → Turn (RunsAndAnswers g) now item a new → Written g old new (batches ++ accepted_at item a)
 turn_written g old now new batches (Whole batch) a was turn =
     subst (λ more. Written g old new (batches ++ more)) (sym (one_taken batch a turn.result turn.answer)) (written_on g old now new batches batch turn.result was (fails_of g now new turn.result turn.closed turn.fails) turn.cells)
 turn_written g old now new batches (Malformed number) a was turn = written_same g old now new batches turn.1 was
 turn_written g old now new batches Truncated a was turn = written_same g old now new batches turn.1 was
 turn_written g old now new batches End a was turn = absurd turn
 
-turns_written : {S : Type 0} (g : Ghosts S) (old now new : World S) (batches : List Batch) (items : List Next) (answers : List Answer) → Written g old now batches → Turns (Runs g) now items answers new → Written g old new (batches ++ accepted items answers)
+turns_written : {S : Type 0} (g : Ghosts S) (old now new : World S) (batches : List Batch) (items : List Next) (answers : List Answer) → Written g old now batches → Turns (RunsAndAnswers g) now items answers new → Written g old new (batches ++ accepted items answers)
 turns_written g old now new batches [] [] was turns = written_same g old now new batches turns was
 turns_written g old now new batches [] (a ∷ answers) was turns = absurd turns
 turns_written g old now new batches (item ∷ items) [] was turns = absurd turns
@@ -55,7 +55,7 @@ turns_written g old now new batches (item ∷ items) (a ∷ answers) was turns =
     (turns_written g old turns.0 new (batches ++ accepted_at item a) items answers (turn_written g old now turns.0 batches item a was turns.1) turns.2)
 
 -- the tables of a World that works show its rows
-over_at : {S : Type 0} (g : Ghosts S) (known : Bool) (world : World S) (stand : Stand) (tables : Tables) → IsTrue known → StandsAt g known world stand → HasCleanDisk (store_of g world) → Rests (store_of g world) tables → IsOver g world tables
+over_at : {S : Type 0} (g : Ghosts S) (known : Bool) (world : World S) (stand : Stand) (tables : Tables) → IsTrue known → StandsAt g known world stand → HasCleanDisk (store_of g world) → Rests (store_of g world) tables → StandsOver g world tables
 over_at g known world (Works s) tables sure at clean rests = is_over g known world s tables sure at.is_at clean rests
 over_at g known world (Failed s) tables sure at clean rests = is_over g known world s tables sure at.1 clean rests
 over_at g known world (StoreFailed s hand) tables sure at clean rests = record {
@@ -70,9 +70,9 @@ keeps_rest g known old new stand batches it at sure clean works tables rests = i
 -- ---- a whole text
 
 module _ {S : Type 0} (g : Ghosts S) (settled : (w : World S) → IsSettled (store_of g w)) where
-  pub applies : (old new : World S) (text before behind : Option (List ℕ)) (b l : ℕ) → Completes (Runs g) old new text before behind b l → (known : Bool) (stand : Stand) → StandsAt g known old stand → Applies g known stand text before behind old new b l
+  pub applies : (old new : World S) (text before behind : Option (List ℕ)) (b l : ℕ) → Completes (RunsAndAnswers g) old new text before behind b l → (known : Bool) (stand : Stand) → StandsAt g known old stand → Applies g known stand text before behind old new b l
   applies old new text before behind b l c known stand at =
-      let run = completes-follows (Runs g) RunsBatch (StandsAt g known) (λ old new stand batch a it one. one.stands known stand it) old new stand text before behind b l at c in
+      let run = completes-follows (RunsAndAnswers g) RunsBatch (StandsAt g known) (λ old new stand batch a it one. one.stands known stand it) old new stand text before behind b l at c in
       let wrote = turns_written g old old new [] (items c.given) c.answers (written_none g old) c.turns in
       record {
         new = run.0;
@@ -83,9 +83,9 @@ module _ {S : Type 0} (g : Ghosts S) (settled : (w : World S) → IsSettled (sto
         cells = keeps_rest g known old new stand (accepted (items c.given) c.answers) wrote at;
       }
 
-  pub stops : (old new : World S) (text before behind : Option (List ℕ)) (fault : TextFault) → Halts (Runs g) old new text before behind fault → (known : Bool) (stand : Stand) → StandsAt g known old stand → Stops g known stand text before behind old new fault
+  pub stops : (old new : World S) (text before behind : Option (List ℕ)) (fault : TextFault) → Halts (RunsAndAnswers g) old new text before behind fault → (known : Bool) (stand : Stand) → StandsAt g known old stand → StopsRun g known stand text before behind old new fault
   stops old new text before behind fault h known stand at =
-      let run = halts-follows (Runs g) RunsBatch (StandsAt g known) (λ old new stand batch a it one. one.stands known stand it) old new stand text before behind fault at h in
+      let run = halts-follows (RunsAndAnswers g) RunsBatch (StandsAt g known) (λ old new stand batch a it one. one.stands known stand it) old new stand text before behind fault at h in
       let done = turns_written g old old h.mid [] h.done h.answers (written_none g old) h.turns in
       let wrote = turns_written g old h.mid new (accepted h.done h.answers) h.hand h.last done h.in_hand in
       record {

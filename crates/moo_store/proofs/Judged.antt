@@ -13,7 +13,7 @@ use Rattle.moo_text.specs.declared.reply.Reply.{Reply}
 use Rattle.moo_text.specs.declared.reply.Reply.TheVariants as reply
 use Rattle.moo_store.specs.Answered.{reply_of, IsRun}
 use Rattle.moo_store.specs.Kept.{World}
-use Rattle.moo_store.specs.Stand.{Stand, Works, Failed, StoreFailed, Leaves, ReachesStore, RunsBatch}
+use Rattle.moo_store.specs.Stand.{Stand, Works, Failed, StoreFailed, VerdictLeaves, ReachesStore, RunsBatch}
 use Rattle.moo_store.specs.States.{LeavesState}
 use Rattle.moo_store.specs.Text.{StandsBehind, answer_to}
 use Rattle.moo_store.specs.World.{store_of, IsAt, StandsAt}
@@ -42,12 +42,12 @@ no_memory_stands g world batch works run =
     works_stand g world world batch (Ok reply.NoMemory) works (λ known s at. (Works s, record { works = works; is_at = at }, inl (refl, refl, subst (λ t. IsRun t batch) (at.rows works) run)))
 
 -- so does a verdict that isn't Accepted
-pub refused_stands : {S : Type 0} (g : Ghosts S) (world : World S) (batch : Batch) (v : Verdict) → world.failed ≡ false → judge (state_of world.rows.maps) batch ≡ v → ((s : State) → Leaves s v (Works s))
+pub refused_stands : {S : Type 0} (g : Ghosts S) (world : World S) (batch : Batch) (v : Verdict) → world.failed ≡ false → judge (state_of world.rows.maps) batch ≡ v → ((s : State) → VerdictLeaves s v (Works s))
     → StandsBehind g world batch (answer.Replied (reply_of v)) world
 refused_stands g world batch v works judged leaves =
     works_stand g world world batch (Ok (reply_of v)) works (λ known s at.
     let here = subst (λ t. judge t batch ≡ v) (at.rows works) judged in
-    (Works s, record { works = works; is_at = at }, inr (ap reply_of (sym here), subst (λ x. Leaves s x (Works s)) (sym here) (leaves s))))
+    (Works s, record { works = works; is_at = at }, inr (ap reply_of (sym here), subst (λ x. VerdictLeaves s x (Works s)) (sym here) (leaves s))))
 
 -- an accepted batch is committed, or the store failed
 pub accepted_stands : {S : Type 0} (g : Ghosts S) (old new : World S) (batch : Batch) (answers : List Value) (next : State) (r : Result Reply StoreFault) → old.failed ≡ false
@@ -59,8 +59,8 @@ accepted_stands {S} g old new batch answers next r works judged is at fault fail
     works_stand g old new batch r works (λ known s here. by r known s here (subst (λ t. judge t batch ≡ Accepted answers next) (here.rows works) judged) is (at known s here) fault failed (crash known s here))
   where
     committed : (known : Bool) (s : State) (reply : Reply) (b : Bool) → new.failed ≡ b → judge s batch ≡ Accepted answers next → reply ≡ reply_of (judge s batch) → IsAt g known new next → (end : Stand) × StandsAt g known new end × RunsBatch (Works s) batch (answer.Replied reply) end
-    committed known s r false on judged is at = (Works next, record { works = on; is_at = at }, inr (is, subst (λ v. Leaves s v (Works next)) (sym judged) (inl refl)))
-    committed known s r true on judged is at = (Failed next, (on, at), inr (is, subst (λ v. Leaves s v (Failed next)) (sym judged) (inr refl)))
+    committed known s r false on judged is at = (Works next, record { works = on; is_at = at }, inr (is, subst (λ v. VerdictLeaves s v (Works next)) (sym judged) (inl refl)))
+    committed known s r true on judged is at = (Failed next, (on, at), inr (is, subst (λ v. VerdictLeaves s v (Failed next)) (sym judged) (inr refl)))
 
     by : (r : Result Reply StoreFault) (known : Bool) (s : State) → IsAt g known old s → judge s batch ≡ Accepted answers next → IfOk r (λ r. r ≡ reply.Accepted next.seq answers) → OnOk r (IsAt g known new next)
         → IfErr r (λ fault. (error : Error) × (fault ≡ Store error)) → OnErr r (new.failed ≡ true)

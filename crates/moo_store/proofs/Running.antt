@@ -15,10 +15,10 @@ use Rattle.std.specs.Prelude.{nat_lt, if◌then◌else◌}
 use borrow.Author.Tests.{ltb-true}
 use Rattle.moo_world.specs.Judge.{State, Ran, Through, FailedAt, FullAt, Verdict, Accepted, Refused, NoRoom, Stale, is_due, last_seq, run_calls, verdict_of, judge, left_by, after}
 use Rattle.moo_store.specs.States.{LeavesState}
-use Rattle.moo_store.specs.Answered.{reply_of, next_of, IsRun, AnsweredOne, Answered, acknowledged, added}
+use Rattle.moo_store.specs.Answered.{reply_of, state_behind, IsRun, AnsweredOne, Answered, acknowledged, added}
 use Rattle.moo_text.specs.declared.next.Next.TheVariants.{Batch as Whole}
 use Rattle.moo_text.specs.declared.reply.Answer.TheVariants as answer
-use Rattle.moo_store.specs.Stand.{Stand, Works, Failed, StoreFailed, state_at, Leaves, RunsBatch}
+use Rattle.moo_store.specs.Stand.{Stand, Works, Failed, StoreFailed, state_at, VerdictLeaves, RunsBatch}
 use Rattle.moo_store.specs.Turns.{Turns}
 use Rattle.moo_store.specs.Text.{StandsBehind, RunsAll, answer_to}
 use Rattle.moo_store.specs.World.{store_of, IsAt, StandsAt, Left, LeftOrNext, MatchStore}
@@ -119,7 +119,7 @@ stays s (Stale seq) e = refl
 keeps : (s next : State) (batch : Batch) (r : Reply) → accepts r ≡ false → AnsweredOne s batch r next → next ≡ s
 keeps s next batch r unaccepted it = elim it [ inl e ↦ e.1 | inr e ↦ e.1 ∙ stays s (judge s batch) (sym (ap accepts e.0) ∙ unaccepted) ]
 
-takes : (s next : State) (batch : Batch) (seq : ℕ) (answers : List Value) → AnsweredOne s batch (reply.Accepted seq answers) next → next ≡ next_of s batch
+takes : (s next : State) (batch : Batch) (seq : ℕ) (answers : List Value) → AnsweredOne s batch (reply.Accepted seq answers) next → next ≡ state_behind s batch
 takes s next batch seq answers it = elim it [ inl e ↦ (let no : reply.Accepted seq answers ≡ reply.NoMemory = e.0 in absurd cc) | inr e ↦ e.1 ]
 
 -- the state at the end is that after the acknowledged batches
@@ -137,7 +137,7 @@ answered_after s (b ∷ bs) (reply.NoMemory ∷ rs) end it = answered_after it.0
 -- ---- one batch, wherever the World stands
 
 -- what a verdict leaves is at the state that it leaves
-pub leaves_at : (s : State) (v : Verdict) (new : Stand) → Leaves s v new → state_at new ≡ left_by s v
+pub leaves_at : (s : State) (v : Verdict) (new : Stand) → VerdictLeaves s v new → state_at new ≡ left_by s v
 leaves_at s (Accepted answers next) new it = elim it [ inl on ↦ ap state_at on | inr on ↦ ap state_at on ]
 leaves_at s (Refused call code) new it = ap state_at it
 leaves_at s (NoRoom call) new it = ap state_at it
@@ -148,7 +148,7 @@ pub replied_one : (s : State) (batch : Batch) (reply : Reply) (new : Stand) → 
 replied_one s batch reply new it = elim it [ inl none ↦ inl (none.0, ap state_at none.1, none.2) | inr ran ↦ inr (ran.0, leaves_at s (judge s batch) new ran.1) ]
 
 -- no verdict leaves a store that failed
-no_store_failed : {X : Type 0} (s t : State) (hand : Batch) (v : Verdict) → Leaves s v (StoreFailed t hand) → X
+no_store_failed : {X : Type 0} (s t : State) (hand : Batch) (v : Verdict) → VerdictLeaves s v (StoreFailed t hand) → X
 no_store_failed s t hand (Accepted answers next) it = elim it [ inl on ↦ (let no : StoreFailed t hand ≡ Works next = on in absurd cc) | inr on ↦ (let no : StoreFailed t hand ≡ Failed next = on in absurd cc) ]
 no_store_failed s t hand (Refused call code) it = let no : StoreFailed t hand ≡ Works s = it in absurd cc
 no_store_failed s t hand (NoRoom call) it = let no : StoreFailed t hand ≡ Works s = it in absurd cc

@@ -19,7 +19,7 @@ use Rattle.moo_rows.proofs.Orders.{prop_total, slot_total, verb_total, petition_
 use Rattle.moo_world.proofs.Shown.MapLaws.{decided_alike, key-Decides}
 use Rattle.moo_tables.specs.declared.version.Version.{Version}
 use Rattle.moo_tables.specs.declared.version.Version.TheVariants.{First, Second}
-use Rattle.moo_tables.specs.Tables.{Tables, same_number, same_pair, numbered_with}
+use Rattle.moo_tables.specs.Tables.{Tables, same_number, same_numbers, numbered_with}
 use Rattle.moo_tables.specs.Cells.{head_cells, object_cells, prop_cells, slot_cells, verb_cells, petition_cells, petition_head_cells, tables_with, migrated}
 use Rattle.moo_tables.specs.Inside.{IsCurrent}
 use Rattle.moo_tables.specs.declared.cells.CellChanges.{CellChanges}
@@ -40,8 +40,8 @@ decided_false false P d n = refl
 same_number-Decides : (a b : ℤ) → Decides (same_number a b) (a ≡ b)
 same_number-Decides a b = Decides-int_eq a b
 
-same_pair-Decides : (a b : ℤ × ℤ) → Decides (same_pair a b) (a ≡ b)
-same_pair-Decides a b = (
+same_numbers-Decides : (a b : ℤ × ℤ) → Decides (same_numbers a b) (a ≡ b)
+same_numbers-Decides a b = (
   λ e. let parts = and_parts (same_number a.0 b.0) (same_number a.1 b.1) e in λ i. ((same_number-Decides a.0 b.0).0 parts.0 i, (same_number-Decides a.1 b.1).0 parts.1 i),
   λ e. λ i. (same_number-Decides a.0 b.0).1 (ap (λ (k : ℤ × ℤ). k.0) e) i && (same_number-Decides a.1 b.1).1 (ap (λ (k : ℤ × ℤ). k.1) e) i,
 )
@@ -63,25 +63,25 @@ petition_alike a b = decided_alike _ _ (a ≡ b)
     (λ e. let n = pos_inj a.0 b.0 ((same_number-Decides (pos a.0) (pos b.0)).0 e) in λ i. record { 0 = n i }, λ e. (same_number-Decides (pos a.0) (pos b.0)).1 (ap (λ (id : PetitionId). pos id.0) e))
     (key-Decides petition_cmp petition_total petition_exact a b)
 
-slot_alike : (a b : ObjNo × PropId) → same_pair (a.0.0, pos a.1.0) (b.0.0, pos b.1.0) ≡ eq_by_cmp slot_cmp a b
+slot_alike : (a b : ObjNo × PropId) → same_numbers (a.0.0, pos a.1.0) (b.0.0, pos b.1.0) ≡ eq_by_cmp slot_cmp a b
 slot_alike a b = decided_alike _ _ (a ≡ b) (
   λ e.
-      let keys = (same_pair-Decides (a.0.0, pos a.1.0) (b.0.0, pos b.1.0)).0 e in
+      let keys = (same_numbers-Decides (a.0.0, pos a.1.0) (b.0.0, pos b.1.0)).0 e in
       let x = ap (λ (k : ℤ × ℤ). k.0) keys in
       let id = pos_inj a.1.0 b.1.0 (ap (λ (k : ℤ × ℤ). k.1) keys) in
       λ i. (record { 0 = x i }, record { 0 = id i }),
-  λ e. (same_pair-Decides (a.0.0, pos a.1.0) (b.0.0, pos b.1.0)).1 (ap (λ (k : ObjNo × PropId). (k.0.0, pos k.1.0)) e),
+  λ e. (same_numbers-Decides (a.0.0, pos a.1.0) (b.0.0, pos b.1.0)).1 (ap (λ (k : ObjNo × PropId). (k.0.0, pos k.1.0)) e),
 )
     (key-Decides slot_cmp slot_total slot_exact a b)
 
-verb_alike : (a b : ObjNo × VerbId) → same_pair (a.0.0, pos a.1.0) (b.0.0, pos b.1.0) ≡ eq_by_cmp verb_cmp a b
+verb_alike : (a b : ObjNo × VerbId) → same_numbers (a.0.0, pos a.1.0) (b.0.0, pos b.1.0) ≡ eq_by_cmp verb_cmp a b
 verb_alike a b = decided_alike _ _ (a ≡ b) (
   λ e.
-      let keys = (same_pair-Decides (a.0.0, pos a.1.0) (b.0.0, pos b.1.0)).0 e in
+      let keys = (same_numbers-Decides (a.0.0, pos a.1.0) (b.0.0, pos b.1.0)).0 e in
       let x = ap (λ (k : ℤ × ℤ). k.0) keys in
       let id = pos_inj a.1.0 b.1.0 (ap (λ (k : ℤ × ℤ). k.1) keys) in
       λ i. (record { 0 = x i }, record { 0 = id i }),
-  λ e. (same_pair-Decides (a.0.0, pos a.1.0) (b.0.0, pos b.1.0)).1 (ap (λ (k : ObjNo × VerbId). (k.0.0, pos k.1.0)) e),
+  λ e. (same_numbers-Decides (a.0.0, pos a.1.0) (b.0.0, pos b.1.0)).1 (ap (λ (k : ObjNo × VerbId). (k.0.0, pos k.1.0)) e),
 )
     (key-Decides verb_cmp verb_total verb_exact a b)
 
@@ -95,8 +95,8 @@ no_id n id = decided_false _ _ (same_number-Decides (negsuc n) (pos id.0)) (nega
 no_petition_id : (n : ℕ) (id : PetitionId) → same_number (negsuc n) (pos id.0) ≡ false
 no_petition_id n id = decided_false _ _ (same_number-Decides (negsuc n) (pos id.0)) (negative n id.0)
 
-no_pair : (x : ℤ) (n : ℕ) (y : ℤ) (id : ℕ) → same_pair (x, negsuc n) (y, pos id) ≡ false
-no_pair x n y id = decided_false _ _ (same_pair-Decides (x, negsuc n) (y, pos id)) (λ e. negative n id (ap (λ (k : ℤ × ℤ). k.1) e))
+no_pair : (x : ℤ) (n : ℕ) (y : ℤ) (id : ℕ) → same_numbers (x, negsuc n) (y, pos id) ≡ false
+no_pair x n y id = decided_false _ _ (same_numbers-Decides (x, negsuc n) (y, pos id)) (λ e. negative n id (ap (λ (k : ℤ × ℤ). k.1) e))
 
 -- the number of the head is 1
 not_one : (n : ℤ) → n ≢ pos 1 → same_number n (pos 1) ≡ false
@@ -126,10 +126,10 @@ shows-written cells changes base new t p c current alone counter_alone shows = r
     objects = written object_cmp object_exact same_number (λ n. n.0) number_alike object_cells ShowsObject cells.objects.items changes.objects (get base.objects) (get new.objects) t.object p.objects c.objects shows.objects;
     props = written prop_cmp prop_exact same_number (λ id. pos id.0) id_alike prop_cells ShowsProp cells.props.items changes.props (get base.props) (get new.props) t.prop p.props c.props shows.props;
     no_prop = λ n. elsewhere prop_cmp prop_exact same_number (λ id. pos id.0) id_alike prop_cells ShowsProp cells.props.items t.prop (negsuc n) (no_id n) ∙ shows.no_prop n;
-    slots = written slot_cmp slot_exact same_pair (λ k. (k.0.0, pos k.1.0)) slot_alike slot_cells (ShowsSlot t.version) cells.slots.items changes.slots (get base.slots) (get new.slots) t.slot (prints_slots t.version cells changes current p) c.slots shows.slots;
-    no_slot = λ x n. elsewhere slot_cmp slot_exact same_pair (λ k. (k.0.0, pos k.1.0)) slot_alike slot_cells (ShowsSlot Second) cells.slots.items t.slot (x, negsuc n) (λ k. no_pair x n k.0.0 k.1.0) ∙ shows.no_slot x n;
-    verbs = written verb_cmp verb_exact same_pair (λ k. (k.0.0, pos k.1.0)) verb_alike verb_cells ShowsVerb cells.verbs.items changes.verbs (get base.verbs) (get new.verbs) t.verb p.verbs c.verbs shows.verbs;
-    no_verb = λ x n. elsewhere verb_cmp verb_exact same_pair (λ k. (k.0.0, pos k.1.0)) verb_alike verb_cells ShowsVerb cells.verbs.items t.verb (x, negsuc n) (λ k. no_pair x n k.0.0 k.1.0) ∙ shows.no_verb x n;
+    slots = written slot_cmp slot_exact same_numbers (λ k. (k.0.0, pos k.1.0)) slot_alike slot_cells (ShowsSlot t.version) cells.slots.items changes.slots (get base.slots) (get new.slots) t.slot (prints_slots t.version cells changes current p) c.slots shows.slots;
+    no_slot = λ x n. elsewhere slot_cmp slot_exact same_numbers (λ k. (k.0.0, pos k.1.0)) slot_alike slot_cells (ShowsSlot Second) cells.slots.items t.slot (x, negsuc n) (λ k. no_pair x n k.0.0 k.1.0) ∙ shows.no_slot x n;
+    verbs = written verb_cmp verb_exact same_numbers (λ k. (k.0.0, pos k.1.0)) verb_alike verb_cells ShowsVerb cells.verbs.items changes.verbs (get base.verbs) (get new.verbs) t.verb p.verbs c.verbs shows.verbs;
+    no_verb = λ x n. elsewhere verb_cmp verb_exact same_numbers (λ k. (k.0.0, pos k.1.0)) verb_alike verb_cells ShowsVerb cells.verbs.items t.verb (x, negsuc n) (λ k. no_pair x n k.0.0 k.1.0) ∙ shows.no_verb x n;
     petitions = written petition_cmp petition_exact same_number (λ id. pos id.0) petition_alike petition_cells ShowsPetition cells.petitions.items changes.petitions (get base.petitions) (get new.petitions) t.petition p.petitions c.petitions shows.petitions;
     no_petition = λ n. elsewhere petition_cmp petition_exact same_number (λ id. pos id.0) petition_alike petition_cells ShowsPetition cells.petitions.items t.petition (negsuc n) (no_petition_id n) ∙ shows.no_petition n;
   };
@@ -143,8 +143,8 @@ keeps-written cells changes base new t p c current shown = record {
   shows = shows-written cells changes base new t p c current shown.no_head (counts_alone t.version base.head.next_petition t.petition_head current shown.counter) shown.maps;
   objects = stays object_cmp object_exact same_number (λ n. n.0) number_alike object_cells ShowsObject cells.objects.items changes.objects (get base.objects) (get new.objects) t.object p.objects c.objects;
   props = stays prop_cmp prop_exact same_number (λ id. pos id.0) id_alike prop_cells ShowsProp cells.props.items changes.props (get base.props) (get new.props) t.prop p.props c.props;
-  slots = stays slot_cmp slot_exact same_pair (λ k. (k.0.0, pos k.1.0)) slot_alike slot_cells (ShowsSlot Second) cells.slots.items changes.slots (get base.slots) (get new.slots) t.slot p.slots c.slots;
-  verbs = stays verb_cmp verb_exact same_pair (λ k. (k.0.0, pos k.1.0)) verb_alike verb_cells ShowsVerb cells.verbs.items changes.verbs (get base.verbs) (get new.verbs) t.verb p.verbs c.verbs;
+  slots = stays slot_cmp slot_exact same_numbers (λ k. (k.0.0, pos k.1.0)) slot_alike slot_cells (ShowsSlot Second) cells.slots.items changes.slots (get base.slots) (get new.slots) t.slot p.slots c.slots;
+  verbs = stays verb_cmp verb_exact same_numbers (λ k. (k.0.0, pos k.1.0)) verb_alike verb_cells ShowsVerb cells.verbs.items changes.verbs (get base.verbs) (get new.verbs) t.verb p.verbs c.verbs;
   petitions = stays petition_cmp petition_exact same_number (λ id. pos id.0) petition_alike petition_cells ShowsPetition cells.petitions.items changes.petitions (get base.petitions) (get new.petitions) t.petition p.petitions c.petitions;
 }
 
@@ -163,8 +163,8 @@ shows-migrated m slots t printed first none shown = record {
     objects = shown.maps.objects;
     props = shown.maps.props;
     no_prop = shown.maps.no_prop;
-    slots = written slot_cmp slot_exact same_pair (λ k. (k.0.0, pos k.1.0)) slot_alike slot_cells (ShowsSlot Second) slots (all_of m.slots) (λ _. None) (get m.slots) (λ _. None) printed (all_changed slot_cmp m.slots) (λ k. tt);
-    no_slot = λ x n. elsewhere slot_cmp slot_exact same_pair (λ k. (k.0.0, pos k.1.0)) slot_alike slot_cells (ShowsSlot Second) slots (λ _. None) (x, negsuc n) (λ k. no_pair x n k.0.0 k.1.0);
+    slots = written slot_cmp slot_exact same_numbers (λ k. (k.0.0, pos k.1.0)) slot_alike slot_cells (ShowsSlot Second) slots (all_of m.slots) (λ _. None) (get m.slots) (λ _. None) printed (all_changed slot_cmp m.slots) (λ k. tt);
+    no_slot = λ x n. elsewhere slot_cmp slot_exact same_numbers (λ k. (k.0.0, pos k.1.0)) slot_alike slot_cells (ShowsSlot Second) slots (λ _. None) (x, negsuc n) (λ k. no_pair x n k.0.0 k.1.0);
     verbs = shown.maps.verbs;
     no_verb = shown.maps.no_verb;
     petitions = λ id. subst (λ c. ShowsOrNone (ShowsPetition id) c (get m.petitions id)) (none (pos id.0)) (shown.maps.petitions id);

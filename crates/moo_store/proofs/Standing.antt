@@ -8,10 +8,10 @@ use Rattle.moo_text.specs.declared.next.Next.TheVariants.{Batch as Whole, Malfor
 use Rattle.moo_text.specs.declared.reply.Answer.{Answer}
 use Rattle.moo_text.specs.declared.reply.Answer.TheVariants as answer
 use Rattle.moo_text.specs.declared.reply.Reply.TheVariants.{NoMemory}
-use Rattle.moo_store.specs.Answered.{reply_of, answer_of, next_of}
+use Rattle.moo_store.specs.Answered.{reply_of, answer_of, state_behind}
 use Rattle.moo_store.specs.Stand.{Stand, Works, Failed, StoreFailed, state_at, RunsBatch, AsksBatch}
 use Rattle.moo_store.specs.Turns.{Turn, Turns}
-use Rattle.moo_store.specs.Text.{accepted_at, accepted, is_plain, replies, asked, batches_of}
+use Rattle.moo_store.specs.Text.{accepted_at, accepted, is_plain, replies, answers_asked, batches_of}
 use Rattle.moo_store.proofs.Running.{answered_after, leaves_at, replied_one}
 use Rattle.moo_store.proofs.WholeRuns.{after-append}
 
@@ -47,7 +47,7 @@ closed_is_not_plain a is plain = let odd : false ≡ true = sym (ap is_plain is)
 none_is_not_plain : {X : Type 0} (a : Answer) → a ≡ answer.Replied NoMemory → is_plain a ≡ true → X
 none_is_not_plain a is plain = let odd : false ≡ true = sym (ap is_plain is) ∙ plain in absurd cc
 
-plain_one : (old new : Stand) (batch : Batch) (a : Answer) → RunsBatch old batch a new → is_plain a ≡ true → (a ≡ answer.Replied (reply_of (judge (state_at old) batch))) × (state_at new ≡ next_of (state_at old) batch)
+plain_one : (old new : Stand) (batch : Batch) (a : Answer) → RunsBatch old batch a new → is_plain a ≡ true → (a ≡ answer.Replied (reply_of (judge (state_at old) batch))) × (state_at new ≡ state_behind (state_at old) batch)
 plain_one (Works s) new batch (answer.Replied reply) it plain = elim it [
   | inl none ↦ none_is_not_plain (answer.Replied reply) (ap answer.Replied none.0) plain
   | inr ran ↦ (ap answer.Replied ran.0, leaves_at s (judge s batch) new ran.1)
@@ -89,15 +89,15 @@ plain_question (Works s) new batch a it plain = elim it.0 [ inl none ↦ none_is
 plain_question (Failed s) new batch a it plain = closed_is_not_plain a it.0 plain
 plain_question (StoreFailed s hand) new batch a it plain = closed_is_not_plain a it.0 plain
 
-pub plain_asked : (old new : Stand) (items : List Next) (answers : List Answer) → Turns AsksBatch old items answers new → AllByRecursion (λ a. is_plain a ≡ true) answers → answers ≡ asked (state_at old) items
+pub plain_asked : (old new : Stand) (items : List Next) (answers : List Answer) → Turns AsksBatch old items answers new → AllByRecursion (λ a. is_plain a ≡ true) answers → answers ≡ answers_asked (state_at old) items
 plain_asked old new [] [] it all = refl
 plain_asked old new [] (a ∷ answers) it all = absurd it
 plain_asked old new (item ∷ items) [] it all = absurd it
 plain_asked old new (Whole batch ∷ items) (a ∷ answers) it all =
     ap (λ x. x ∷ answers) (plain_question old it.0 batch a it.1 all.0)
-    ∙ ap (λ rest. answer.Replied (answer_of (state_at old) (judge (state_at old) batch)) ∷ rest) (plain_asked it.0 new items answers it.2 all.1 ∙ ap (λ t. asked (state_at t) items) (asks_stays old it.0 batch a it.1))
+    ∙ ap (λ rest. answer.Replied (answer_of (state_at old) (judge (state_at old) batch)) ∷ rest) (plain_asked it.0 new items answers it.2 all.1 ∙ ap (λ t. answers_asked (state_at t) items) (asks_stays old it.0 batch a it.1))
 plain_asked old new (Malformed number ∷ items) (a ∷ answers) it all =
-    ap (λ x. x ∷ answers) it.1.0 ∙ ap (λ rest. answer.Malformed number ∷ rest) (plain_asked it.0 new items answers it.2 all.1 ∙ ap (λ t. asked (state_at t) items) it.1.1)
+    ap (λ x. x ∷ answers) it.1.0 ∙ ap (λ rest. answer.Malformed number ∷ rest) (plain_asked it.0 new items answers it.2 all.1 ∙ ap (λ t. answers_asked (state_at t) items) it.1.1)
 plain_asked old new (Truncated ∷ items) (a ∷ answers) it all =
-    ap (λ x. x ∷ answers) it.1.0 ∙ ap (λ rest. answer.Truncated ∷ rest) (plain_asked it.0 new items answers it.2 all.1 ∙ ap (λ t. asked (state_at t) items) it.1.1)
+    ap (λ x. x ∷ answers) it.1.0 ∙ ap (λ rest. answer.Truncated ∷ rest) (plain_asked it.0 new items answers it.2 all.1 ∙ ap (λ t. answers_asked (state_at t) items) it.1.1)
 plain_asked old new (End ∷ items) (a ∷ answers) it all = absurd it.1

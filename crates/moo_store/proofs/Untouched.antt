@@ -19,14 +19,14 @@ use Rattle.moo_store.specs.Answered.{acknowledged, added}
 use Rattle.moo_cells.specs.Shows.{ShowsRows}
 use Rattle.moo_store.specs.World.{store_of, IsAt, MatchStore}
 use Rattle.moo_store.specs.Kept.{World}
-use Rattle.moo_store.specs.Untouched.{KeepsCells, Writes, IsOver, HasWritten, WritesOne, IsKnown, taken_of}
+use Rattle.moo_store.specs.Untouched.{KeepsCells, Writes, StandsOver, HasWritten, WritesOne, IsKnown, taken_of}
 use Rattle.moo_store.proofs.Committed.{shown_by, current_by}
 use Rattle.moo_store.proofs.Running.{Progress, FailsAtStore}
 use Rattle.moo_store.specs.declared.fault.StoreFault.{StoreFault}
 use Rattle.moo_store.specs.declared.fault.StoreFault.TheVariants.{Store, Damaged, NewerVersion, OutOfMemory, Closed}
 
 -- tables that rest in the store of a World that is at a state
-pub is_over : {S : Type 0} (g : Ghosts S) (known : Bool) (world : World S) (s : State) (tables : Tables) → IsTrue known → IsAt g known world s → HasCleanDisk (store_of g world) → Rests (store_of g world) tables → IsOver g world tables
+pub is_over : {S : Type 0} (g : Ghosts S) (known : Bool) (world : World S) (s : State) (tables : Tables) → IsTrue known → IsAt g known world s → HasCleanDisk (store_of g world) → Rests (store_of g world) tables → StandsOver g world tables
 is_over g known world s tables sure at clean rests = record {
   rests = rests;
   current = λ works. current_by (store_of g world) world.rows.maps tables (at.shown sure works clean) rests;
@@ -67,12 +67,12 @@ acknowledged-push (b ∷ bs) (reply.Stale seq ∷ rs) batch r low is = acknowled
 acknowledged-push (b ∷ bs) (reply.NoMemory ∷ rs) batch r low is = acknowledged-push bs rs batch r (omega (arith, low)) is
 
 -- nothing is written for no batch
-pub none_written : {S : Type 0} (g : Ghosts S) (old : World S) (tables : Tables) → IsOver g old tables → HasWritten g old old tables []
+pub none_written : {S : Type 0} (g : Ghosts S) (old : World S) (tables : Tables) → StandsOver g old tables → HasWritten g old old tables []
 none_written g old tables over = record { end = old.rows.maps; after = tables; rests = over.rests; current = over.current; writes = (refl, refl); rows = λ works. refl }
 
 -- what a World has written, and then, while it works, what it writes on
 pub written_then : {S : Type 0} (g : Ghosts S) (old mid new : World S) (tables : Tables) (first second : List Batch) → mid.failed ≡ false
-    → ShowsRows tables old.rows.maps → HasWritten g old mid tables first → ((between : Tables) → IsOver g mid between → HasWritten g mid new between second) → HasWritten g old new tables (first ++ second)
+    → ShowsRows tables old.rows.maps → HasWritten g old mid tables first → ((between : Tables) → StandsOver g mid between → HasWritten g mid new between second) → HasWritten g old new tables (first ++ second)
 written_then g old mid new tables first second works shown was on =
     let shows : ShowsRows was.after mid.rows.maps = subst (ShowsRows was.after) (sym (was.rows works)) (writes-show old.rows.maps tables first was.end was.after was.writes shown) in
     let here = on was.after (record { rests = was.rests; current = was.current; shows = λ _. shows }) in
@@ -144,7 +144,7 @@ accepted_is_taken old new batch answers seq (Err Closed) is fault none = let no 
 pub record Written {S : Type 0} (g : Ghosts S) (old now : World S) (batches : List Batch) : Type 0 where
   pub clean : HasCleanDisk (store_of g now) → HasCleanDisk (store_of g old)
   pub works : now.failed ≡ false → old.failed ≡ false
-  pub written : HasCleanDisk (store_of g now) → (now.failed ≡ false) ⊎ IsTrue (store_of g now).is_open → (tables : Tables) → IsOver g old tables → HasWritten g old now tables batches
+  pub written : HasCleanDisk (store_of g now) → (now.failed ≡ false) ⊎ IsTrue (store_of g now).is_open → (tables : Tables) → StandsOver g old tables → HasWritten g old now tables batches
 
 pub written_none : {S : Type 0} (g : Ghosts S) (old : World S) → Written g old old []
 written_none g old = record { clean = λ c. c; works = λ works. works; written = λ c known tables over. none_written g old tables over }
@@ -176,7 +176,7 @@ written_on g old now next batches batch (Err Closed) was fails one = subst (λ w
 pub record Wrote {S : Type 0} (g : Ghosts S) (old now : World S) (all : List Batch) (replies : List Reply) : Type 0 where
   pub clean : HasCleanDisk (store_of g now) → HasCleanDisk (store_of g old)
   pub works : now.failed ≡ false → old.failed ≡ false
-  pub written : HasCleanDisk (store_of g now) → (tables : Tables) → IsOver g old tables → HasWritten g old now tables (acknowledged all replies)
+  pub written : HasCleanDisk (store_of g now) → (tables : Tables) → StandsOver g old tables → HasWritten g old now tables (acknowledged all replies)
   pub same : acknowledged all replies ≡ [] → now ≡ old
 
 none_in : (first second : List Batch) → first ++ second ≡ [] → (first ≡ []) × (second ≡ [])
@@ -208,7 +208,7 @@ wrote_one g old now next all replies batch r low is was works one stays = record
 -- the batch in hand met a fault, and wrote nothing
 pub wrote_stopped : (T : Type 0) {S : Type 0} (g : Ghosts S) (old now new : World S) (all : List Batch) (replies : List Reply) (batch : Batch) (fault : StoreFault) → Wrote g old now all replies
     → (let r : Result Reply StoreFault = Err fault in FailsAtStore g now new r) → WritesOne g now new batch (Err fault)
-    → HasCleanDisk (store_of g new) → (let r : Result T StoreFault = Err fault in IsKnown (store_of g new) r) → (tables : Tables) → IsOver g old tables → HasWritten g old new tables (acknowledged all replies)
+    → HasCleanDisk (store_of g new) → (let r : Result T StoreFault = Err fault in IsKnown (store_of g new) r) → (tables : Tables) → StandsOver g old tables → HasWritten g old new tables (acknowledged all replies)
 wrote_stopped T g old now new all replies batch (Store error) it fails one clean opened tables over =
     subst (HasWritten g old new tables) (append-nil (acknowledged all replies))
     (written_then g old now new tables (acknowledged all replies) [] fails.0 (over.shows (it.works fails.0)) (it.written (one.clean clean) tables over) (one.written clean opened))

@@ -17,10 +17,10 @@ SaysInCheck own tables OutOfMemory = ⊤
 SaysInCheck own tables Closed = ⊤
 
 -- whether the World has failed then
-abbrev pub Fails : Result ℕ StoreFault → Bool → Type 0
-Fails (Ok count) failed = failed ≡ false
-Fails (Err (Store error)) failed = failed ≡ true
-Fails (Err (Damaged kind key)) failed = failed ≡ true
-Fails (Err NewerVersion) failed = failed ≡ true
-Fails (Err OutOfMemory) failed = failed ≡ false
-Fails (Err Closed) failed = failed ≡ true
+abbrev pub FailsWorld : Result ℕ StoreFault → Bool → Type 0
+FailsWorld (Ok count) failed = failed ≡ false
+FailsWorld (Err (Store error)) failed = failed ≡ true
+FailsWorld (Err (Damaged kind key)) failed = failed ≡ true
+FailsWorld (Err NewerVersion) failed = failed ≡ true
+FailsWorld (Err OutOfMemory) failed = failed ≡ false
+FailsWorld (Err Closed) failed = failed ≡ true

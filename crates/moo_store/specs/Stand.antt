@@ -6,7 +6,7 @@ use Rattle.moo_world.specs.Judge.{State, judge}
 use Rattle.moo_text.specs.declared.reply.Answer.{Answer}
 use Rattle.moo_text.specs.declared.reply.Answer.TheVariants as answer
 use Rattle.moo_text.specs.declared.reply.Reply.TheVariants.{NoMemory}
-use Rattle.moo_store.specs.Answered.{reply_of, answer_of, next_of, IsRun}
+use Rattle.moo_store.specs.Answered.{reply_of, answer_of, state_behind, IsRun}
 
 -- It works at a state. Or it failed there: memory was refused behind the commit that made it. Or its store failed there, with a
 -- batch in hand.
@@ -25,12 +25,12 @@ state_at (StoreFailed s hand) = s
 abbrev pub MayLeave : Stand → State → Type 0
 MayLeave (Works s) t = t ≡ s
 MayLeave (Failed s) t = t ≡ s
-MayLeave (StoreFailed s hand) t = (t ≡ s) ⊎ (t ≡ next_of s hand)
+MayLeave (StoreFailed s hand) t = (t ≡ s) ⊎ (t ≡ state_behind s hand)
 
 -- what a verdict leaves: only behind a commit can a World fail
-abbrev pub Leaves : State → model.Verdict → Stand → Type 0
-Leaves s (model.Accepted answers next) new = (new ≡ Works next) ⊎ (new ≡ Failed next)
-Leaves s verdict new = new ≡ Works s
+abbrev pub VerdictLeaves : State → model.Verdict → Stand → Type 0
+VerdictLeaves s (model.Accepted answers next) new = (new ≡ Works next) ⊎ (new ≡ Failed next)
+VerdictLeaves s verdict new = new ≡ Works s
 
 -- only a batch that is accepted reaches the store
 abbrev pub ReachesStore : model.Verdict → Type 0
@@ -40,7 +40,7 @@ ReachesStore verdict = ⊥
 -- A World that works replies as it judges, or NoMemory where it runs the calls; or its store fails. A failed one is closed.
 abbrev pub RunsBatch : Stand → Batch → Answer → Stand → Type 0
 RunsBatch (Works s) batch (answer.Replied reply) new =
-    ((reply ≡ NoMemory) × (new ≡ Works s) × IsRun s batch) ⊎ ((reply ≡ reply_of (judge s batch)) × Leaves s (judge s batch) new)
+    ((reply ≡ NoMemory) × (new ≡ Works s) × IsRun s batch) ⊎ ((reply ≡ reply_of (judge s batch)) × VerdictLeaves s (judge s batch) new)
 RunsBatch (Works s) batch answer.Fault new = ReachesStore (judge s batch) × (new ≡ StoreFailed s batch)
 RunsBatch (Works s) batch a new = ⊥
 RunsBatch (Failed s) batch a new = (a ≡ answer.Closed) × (new ≡ Failed s)

@@ -23,7 +23,7 @@ pub record LeavesRows (trees : Trees) (rows : Maps) : Type 0 where
   pub shows : ShowsRows tables rows
 
 -- the tables, of the present version, show good rows of this state
-pub record Keeps (store : Database) (s : State) : Type 0 where
+pub record KeepsState (store : Database) (s : State) : Type 0 where
   pub rows : Maps
   pub good : IsGood rows
   pub state : state_of rows ≡ s

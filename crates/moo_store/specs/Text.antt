@@ -15,7 +15,7 @@ use Rattle.moo_text.specs.declared.reply.Reply.TheVariants.{Accepted, Refused, F
 use Rattle.moo_world.specs.Judge.{State, judge}
 use Rattle.moo_tables.specs.Tables.{Tables}
 use Rattle.moo_tables.specs.Inside.{Rests}
-use Rattle.moo_store.specs.Answered.{reply_of, answer_of, next_of, acknowledged}
+use Rattle.moo_store.specs.Answered.{reply_of, answer_of, state_behind, acknowledged}
 use Rattle.moo_store.specs.Kept.{World}
 use Rattle.moo_store.specs.World.{store_of, CrashLeaves, StandsAt, MatchStore}
 use Rattle.moo_store.specs.Stand.{Stand, RunsBatch}
@@ -36,7 +36,7 @@ abbrev pub StandsBehind : {S : Type 0} (g : Ghosts S) → World S → Batch → 
 StandsBehind g old batch a new = (known : Bool) (stand : Stand) → StandsAt g known old stand → (next : Stand) × StandsAt g known new next × RunsBatch stand batch a next
 
 -- A World ran a batch, and gave this answer.
-pub record Runs {S : Type 0} (g : Ghosts S) (old : World S) (batch : Batch) (a : Answer) (new : World S) : Type 0 where
+pub record RunsAndAnswers {S : Type 0} (g : Ghosts S) (old : World S) (batch : Batch) (a : Answer) (new : World S) : Type 0 where
   pub stands : StandsBehind g old batch a new
   pub result : Result Reply StoreFault
   pub answer : a ≡ answer_to result
@@ -79,7 +79,7 @@ pub record Applies {S : Type 0} (g : Ghosts S) (known : Bool) (old : Stand) (tex
   pub cells : IsTrue known → KeepsRest g was world (accepted (items completes.given) completes.answers)
 
 -- The run of the text stopped.
-pub record Stops {S : Type 0} (g : Ghosts S) (known : Bool) (old : Stand) (text before behind : Option (List ℕ)) (was world : World S) (fault : TextFault) : Type 0 where
+pub record StopsRun {S : Type 0} (g : Ghosts S) (known : Bool) (old : Stand) (text before behind : Option (List ℕ)) (was world : World S) (fault : TextFault) : Type 0 where
   pub new : Stand
   pub stands : StandsAt g known world new
   pub halts : Halts RunsBatch old new text before behind fault
@@ -103,18 +103,18 @@ is_plain answer.Closed = false
 -- each batch is judged after the accepted ones before it
 abbrev pub replies : State → List Next → List Answer
 replies s [] = []
-replies s (Whole batch ∷ items) = answer.Replied (reply_of (judge s batch)) ∷ replies (next_of s batch) items
+replies s (Whole batch ∷ items) = answer.Replied (reply_of (judge s batch)) ∷ replies (state_behind s batch) items
 replies s (Malformed number ∷ items) = answer.Malformed number ∷ replies s items
 replies s (Truncated ∷ items) = answer.Truncated ∷ replies s items
 replies s (End ∷ items) = replies s items
 
 -- each batch of questions is judged on the one state, and changes nothing
-abbrev pub asked : State → List Next → List Answer
-asked s [] = []
-asked s (Whole batch ∷ items) = answer.Replied (answer_of s (judge s batch)) ∷ asked s items
-asked s (Malformed number ∷ items) = answer.Malformed number ∷ asked s items
-asked s (Truncated ∷ items) = answer.Truncated ∷ asked s items
-asked s (End ∷ items) = asked s items
+abbrev pub answers_asked : State → List Next → List Answer
+answers_asked s [] = []
+answers_asked s (Whole batch ∷ items) = answer.Replied (answer_of s (judge s batch)) ∷ answers_asked s items
+answers_asked s (Malformed number ∷ items) = answer.Malformed number ∷ answers_asked s items
+answers_asked s (Truncated ∷ items) = answer.Truncated ∷ answers_asked s items
+answers_asked s (End ∷ items) = answers_asked s items
 
 abbrev pub batches_of : List Next → List Batch
 batches_of [] = []

@@ -14,8 +14,8 @@ use Rattle.moo_text.specs.declared.reply.Answer.{Answer}
 use Rattle.moo_text.specs.declared.reply.Answer.TheVariants as answer
 
 -- what is written for these answers
-abbrev pub text_of : List Answer → List ℕ
-text_of = flat_map answer_text
+abbrev pub answers_text : List Answer → List ℕ
+answers_text = flat_map answer_text
 
 abbrev pub is_batch : Answer → Bool
 is_batch (answer.Replied reply) = true
@@ -24,10 +24,10 @@ is_batch answer.Closed = true
 is_batch (answer.Malformed number) = false
 is_batch answer.Truncated = false
 
-abbrev pub is_lost : Answer → Bool
-is_lost answer.Fault = true
-is_lost answer.Closed = true
-is_lost a = false
+abbrev pub is_lost_answer : Answer → Bool
+is_lost_answer answer.Fault = true
+is_lost_answer answer.Closed = true
+is_lost_answer a = false
 
 -- one item's turn, with this for a batch; the other items answer for themselves, and change nothing
 abbrev pub Turn : {A : Type 0} → (A → Batch → Answer → A → Type 0) → A → Next → Answer → A → Type 0
@@ -49,20 +49,20 @@ pub record Completes {A : Type 0} (step : A → Batch → Answer → A → Type 
   pub short : length given ≤ 1073741824
   pub answers : List Answer
   pub turns : Turns step old (items given) answers new
-  pub wrote : Appends before behind (text_of answers)
+  pub wrote : Appends before behind (answers_text answers)
   pub batches_are : batches ≡ count_by is_batch answers
-  pub lost_are : lost ≡ count_by is_lost answers
+  pub lost_are : lost ≡ count_by is_lost_answer answers
 
 -- where the reader tells its bytes, these stand in front of them, and are all of them if it has ended
-abbrev pub GivesFront : Option (List ℕ) → Bool → List ℕ → Type 0
-GivesFront text ended given = IfSome text (λ bytes. (rest : List ℕ) × (bytes ≡ given ++ rest) × (ended ≡ true → rest ≡ []))
+abbrev pub GivesFrontOrAll : Option (List ℕ) → Bool → List ℕ → Type 0
+GivesFrontOrAll text ended given = IfSome text (λ bytes. (rest : List ℕ) × (bytes ≡ given ++ rest) × (ended ≡ true → rest ≡ []))
 
 -- Some items are done, and their answers are written whole. Then a fault came; or the next item had its turn first, and a front of
 -- its answer is written.
 pub record Halts {A : Type 0} (step : A → Batch → Answer → A → Type 0) (old new : A) (text before behind : Option (List ℕ)) (fault : TextFault) : Type 0 where
   pub given : List ℕ
   pub ended : Bool
-  pub front : GivesFront text ended given
+  pub front : GivesFrontOrAll text ended given
   pub long : (fault ≡ Long → length given ≡ 1073741825) × (fault ≢ Long → length given ≤ 1073741824)
   pub done : List Next
   pub hand : List Next
@@ -76,7 +76,7 @@ pub record Halts {A : Type 0} (step : A → Batch → Answer → A → Type 0) (
   pub last : List Answer
   pub in_hand : Turns step mid hand last new
   pub count : ℕ
-  pub wrote : Appends before behind (text_of answers ++ take count (text_of last))
+  pub wrote : Appends before behind (answers_text answers ++ take count (answers_text last))
   -- where the reader fails or the text is too long, none is in hand; and an answer is cut off only where the writer fails
   pub read : (fault ≡ Read) ⊎ (fault ≡ Long) → hand ≡ []
   pub cut : fault ≢ Write → count ≡ 0

@@ -15,7 +15,7 @@ use Rattle.moo_world.specs.Rows.{IsGood}
 use Rattle.moo_world.specs.Between.{BatchLeads}
 use Rattle.moo_world.specs.Judge.{state_of}
 use Rattle.moo_text.specs.declared.reply.Reply.{Reply}
-use Rattle.moo_store.specs.Answered.{next_of, acknowledged}
+use Rattle.moo_store.specs.Answered.{state_behind, acknowledged}
 use Rattle.moo_cells.specs.Shows.{ShowsRows}
 use Rattle.moo_store.specs.World.{store_of, MatchStore}
 use Rattle.moo_store.specs.Kept.{World}
@@ -37,7 +37,7 @@ pub record KeepsCells (rows next : Maps) (old new : Tables) : Type 0 where
 abbrev pub Writes : Maps → Tables → List Batch → Maps → Tables → Type 0
 Writes rows tables [] end after = (end ≡ rows) × (after ≡ tables)
 Writes rows tables (batch ∷ batches) end after =
-    (next : Maps) × (between : Tables) × IsGood next × BatchLeads batch rows next × (state_of next ≡ next_of (state_of rows) batch) × KeepsCells rows next tables between × Writes next between batches end after
+    (next : Maps) × (between : Tables) × IsGood next × BatchLeads batch rows next × (state_of next ≡ state_behind (state_of rows) batch) × KeepsCells rows next tables between × Writes next between batches end after
 
 -- the tables of a World, after these batches were written
 pub record HasWritten {S : Type 0} (g : Ghosts S) (old new : World S) (tables : Tables) (batches : List Batch) : Type 0 where
@@ -54,7 +54,7 @@ taken_of batch (Ok reply) = acknowledged (batch ∷ []) (reply ∷ [])
 taken_of batch (Err fault) = []
 
 -- These tables rest in the store of a World; while it works they are of the present version, and show its rows.
-pub record IsOver {S : Type 0} (g : Ghosts S) (world : World S) (tables : Tables) : Type 0 where
+pub record StandsOver {S : Type 0} (g : Ghosts S) (world : World S) (tables : Tables) : Type 0 where
   pub rests : Rests (store_of g world) tables
   pub current : world.failed ≡ false → IsCurrent tables
   pub shows : world.failed ≡ false → ShowsRows tables world.rows.maps
@@ -66,4 +66,4 @@ IsKnown store r = MatchStore r ⊤ (IsTrue store.is_open)
 -- What one batch writes, where the disk returns what was written; it returned that before too. One that meets a fault writes nothing.
 pub record WritesOne {S : Type 0} (g : Ghosts S) (old new : World S) (batch : Batch) (r : Result Reply StoreFault) : Type 0 where
   pub clean : HasCleanDisk (store_of g new) → HasCleanDisk (store_of g old)
-  pub written : HasCleanDisk (store_of g new) → IsKnown (store_of g new) r → (tables : Tables) → IsOver g old tables → HasWritten g old new tables (taken_of batch r)
+  pub written : HasCleanDisk (store_of g new) → IsKnown (store_of g new) r → (tables : Tables) → StandsOver g old tables → HasWritten g old new tables (taken_of batch r)

@@ -6,7 +6,7 @@ use Rattle.sqlite.specs.Store.{Ghosts}
 use Rattle.sqlite.specs.Held.{state}
 use Rattle.moo_world.specs.declared.call.Batch.{Batch}
 use Rattle.moo_world.specs.Judge.{State, state_of, after}
-use Rattle.moo_store.specs.States.{KeepsRows, Keeps, LeavesState}
+use Rattle.moo_store.specs.States.{KeepsRows, KeepsState, LeavesState}
 use Rattle.moo_store.specs.Stand.{Stand, Works, Failed, StoreFailed, MayLeave}
 use Rattle.moo_store.specs.Kept.{World}
 use Rattle.moo_store.specs.declared.fault.StoreFault.{StoreFault}
@@ -25,7 +25,7 @@ ShowsItsRows g world = HasCleanDisk (store_of g world) → KeepsRows (store_of g
 -- `known` says whether its tables are known to be so. Of a file that anybody may have written no query tells in which order its
 -- trees hold the rows, so that nothing can be said of what a change leaves of them; what is said of the rows holds all the same.
 pub record IsAt {S : Type 0} (g : Ghosts S) (known : Bool) (world : World S) (s : State) : Type 0 where
-  pub tables : IsTrue known → HasCleanDisk (store_of g world) → Keeps (store_of g world) s
+  pub tables : IsTrue known → HasCleanDisk (store_of g world) → KeepsState (store_of g world) s
   pub rows : world.failed ≡ false → state_of world.rows.maps ≡ s
   pub shown : IsTrue known → world.failed ≡ false → ShowsItsRows g world
 

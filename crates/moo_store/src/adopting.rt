@@ -18,7 +18,7 @@ use crate::fault::StoreFault;
 use crate::migrating::make_current;
 use crate::reading::read_rows;
 use crate::world::World;
-use moo_rows::Flat;
+use moo_flat::Flat;
 use sqlite::{Alter, Connection};
 use std::alloc::Global;
 

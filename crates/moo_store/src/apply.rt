@@ -3,7 +3,7 @@
 ghost use Rattle.std.specs.Prelude.{Bool, IfOk, IfErr};
 ghost use Rattle.moo_store.specs.Stand.{Stand};
 ghost use Rattle.moo_store.specs.World.{StandsAt};
-ghost use Rattle.moo_store.specs.Text.{Runs, Applies, Stops};
+ghost use Rattle.moo_store.specs.Text.{RunsAndAnswers, Applies, StopsRun};
 
 use crate::answering::{Answering, answer_all, answered_by};
 use crate::tally::Tally;
@@ -15,7 +15,7 @@ use std::alloc::Global;
 use std::io::{Read, Write};
 
 impl<S: Alter + Drop> Answering for World<S> {
-    ghost answered = { Runs S.Store };
+    ghost answered = { RunsAndAnswers S.Store };
 
     fn answer(&mut self, batch: &Batch) -> Answer {
         answered_by(self.run_one(batch))
@@ -39,7 +39,7 @@ pub fn apply_text<R: Read + Drop, W: Write, S: Alter + Drop>(
 
     // At a fault those of the items that are done, and a front of the next one.
     ensures stops { IfErr result (λ fault. (known : Bool) (stand : Stand) → StandsAt S.Store known world.old stand →
-        Stops S.Store known stand (R.remaining reader) (W.contents writer.old) (W.contents writer.new) world.old world.new fault) }
+        StopsRun S.Store known stand (R.remaining reader) (W.contents writer.old) (W.contents writer.new) world.old world.new fault) }
 {
     answer_all(alloc, reader, writer, world)
 }

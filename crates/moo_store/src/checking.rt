@@ -10,7 +10,7 @@ ghost use Rattle.moo_tables.specs.Inside.{Rests};
 ghost use Rattle.moo_tables.specs.Listing.{tables_of};
 ghost use Rattle.moo_cells.specs.Shows.{ShowsRows};
 ghost use Rattle.moo_store.specs.Opening.{IsOfStore};
-ghost use Rattle.moo_store.specs.Checked.{SaysInCheck, Fails};
+ghost use Rattle.moo_store.specs.Checked.{SaysInCheck, FailsWorld};
 ghost use Rattle.moo_store.specs.World.{store_of, StandsFor};
 
 use crate::fault::StoreFault;
@@ -18,7 +18,8 @@ use crate::reading::{read_lists, test_current};
 use crate::world::World;
 use moo_cells::{CellFault, compare_cells};
 use moo_damage::Kind;
-use moo_rows::{Flat, Rows, each_object};
+use moo_flat::Flat;
+use moo_rows::{Rows, each_object};
 use moo_tables::{CellLists, Version, are_listed};
 use sqlite::{Alter, Connection, Error, ErrorCode};
 use std::alloc::Global;
@@ -87,7 +88,7 @@ fn check_rows<S: Alter>(
 
 /// Whether a World has failed by such a check: by every fault but want of memory.
 fn has_failed(checked: &Result<u64, StoreFault>) -> bool
-    ensures { Fails checked.now result }
+    ensures { FailsWorld checked.now result }
 {
     match checked {
         Ok(_) | Err(StoreFault::OutOfMemory) => false,
@@ -115,7 +116,7 @@ impl<S: Alter + Drop> World<S> {
         ensures kept { HasCleanDisk (store_of S.Store self.new) → IsTrue (store_of S.Store self.new).is_open → (tables : Tables) → Rests (store_of S.Store self.old) tables → Rests (store_of S.Store self.new) tables }
         ensures crash { Survives (store_of S.Store self.old) (store_of S.Store self.new) (λ _. ⊥) }
         // Every fault but want of memory fails the World. A failed World changes no more.
-        ensures fails { self.old.failed ≡ false → Fails result self.new.failed }
+        ensures fails { self.old.failed ≡ false → FailsWorld result self.new.failed }
         ensures closed { IsTrue self.old.failed → IsErrOf result StoreFault.Closed × (self.new ≡ self.old) }
         ensures open { self.old.failed ≡ false → IfErr result (λ fault. fault ≢ StoreFault.Closed) }
     {

@@ -19,9 +19,9 @@ use crate::fault::StoreFault;
 use crate::printing::print_changes;
 use crate::world::World;
 use moo_draft::Draft;
-use moo_rows::{Flat, put_opening};
+use moo_flat::{Flat, opening_world, put_opening};
 use moo_tables::{CellChanges, create_in as create_tables};
-use moo_world::good_opening;
+use moo_world::laws::good_opening;
 use sqlite::{Alter, Connection, Error, ErrorCode};
 use std::alloc::{AllocError, Global};
 
@@ -52,7 +52,8 @@ fn opening(alloc: Global) -> Result<(CellChanges, Flat), AllocError>
     ensures limit { IfOk result (λ o. o.0.head.seq < 2 ^ 63) }
 {
     let cells = opening_cells(alloc)?;
-    let rows = good_opening(alloc)?;
+    let rows = opening_world(alloc)?;
+    good_opening();
     Ok((cells, rows))
 }
 

@@ -14,7 +14,7 @@ ghost use Rattle.moo_world.specs.Requests.{PetitionsStay, state_of};
 ghost use Rattle.moo_store.specs.Untouched.{Writes};
 ghost use Rattle.moo_store.specs.Answered.{Answered, acknowledged};
 ghost use Rattle.moo_store.specs.Stand.{Stand, state_at, RunsBatch, AsksBatch};
-ghost use Rattle.moo_store.specs.Text.{accepted, is_plain, replies, asked, batches_of};
+ghost use Rattle.moo_store.specs.Text.{accepted, is_plain, replies, answers_asked, batches_of};
 ghost use Rattle.moo_store.specs.Turns.{Turns};
 
 /// The state behind a run is that after its acknowledged batches.
@@ -47,5 +47,5 @@ pub fn plain_answers_are_judged()
 
 /// Where nothing is refused for want of memory and no fault is met, each batch of a text of questions is judged on the one state.
 pub fn plain_questions_are_judged()
-    ensures { (old new : Stand) (items : List Next) (answers : List Answer) → Turns AsksBatch old items answers new → AllByRecursion (λ answer. is_plain answer ≡ true) answers → answers ≡ asked (state_at old) items }
+    ensures { (old new : Stand) (items : List Next) (answers : List Answer) → Turns AsksBatch old items answers new → AllByRecursion (λ answer. is_plain answer ≡ true) answers → answers ≡ answers_asked (state_at old) items }
 {}

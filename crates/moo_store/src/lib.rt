@@ -26,7 +26,6 @@ pub use ask::ask_text;
 pub use creating::create_in;
 pub use dumping::DumpFault;
 pub use fault::StoreFault;
-pub use output::put_all;
 pub use reopening::{parts_join, run_and_reopen, run_then_crash_then_adopt};
 pub use tally::Tally;
 pub use world::World;

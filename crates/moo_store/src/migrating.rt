@@ -11,7 +11,8 @@ ghost use Rattle.moo_store.specs.Opening.{IsOfStore, TakesOver};
 
 use crate::fault::StoreFault;
 use crate::printing::print_slots;
-use moo_rows::{Flat, Rows};
+use moo_flat::Flat;
+use moo_rows::Rows;
 use moo_tables::{Version, migrate};
 use sqlite::{Alter, Connection};
 use std::alloc::Global;

@@ -4,24 +4,21 @@ ghost use Rattle.std.specs.Prelude.{◌≡◌, ◌≢◌, ◌⊎◌, ℕ, take, 
 ghost use Rattle.std.specs.Io.KnownBytes.{Appends};
 ghost use Rattle.moo_text.specs.Replies.{answer_text};
 
+use moo_dump::put_all;
 use moo_text::{Answer, TextFault, print_answer};
 use std::alloc::Global;
 use std::io::Write;
 
-/// Writes all of the bytes. An error of the writer, or a count of 0, is a fault; a front of the bytes is written then.
-pub fn put_all<W: Write>(writer: &mut W, bytes: &[u8]) -> Result<(), TextFault>
+/// Writes all of the bytes. Where the writer fails or takes none, a front of them is written.
+fn put_text<W: Write>(writer: &mut W, bytes: &[u8]) -> Result<(), TextFault>
     ensures ok { OnOk result (Appends (W.contents writer.old) (W.contents writer.new) bytes.now) }
     ensures err { OnErr result ((count : ℕ) × Appends (W.contents writer.old) (W.contents writer.new) (take count bytes.now)) }
     ensures fault { IfErr result (λ fault. fault ≡ TextFault.Write) }
 {
-    let mut at = 0;
-    while at < bytes.len() {
-        match writer.write(&bytes[at..]) {
-            Ok(0) | Err(_) => return Err(TextFault::Write),
-            Ok(count) => at += count,
-        }
+    match put_all(writer, bytes) {
+        Ok(()) => Ok(()),
+        Err(_) => Err(TextFault::Write),
     }
-    Ok(())
 }
 
 /// The lines of an answer.
@@ -45,7 +42,7 @@ pub(crate) fn put_answer<W: Write>(
     ensures fault { IfErr result (λ fault. (fault ≡ TextFault.Write) ⊎ (fault ≡ TextFault.OutOfMemory)) }
 {
     match printed(alloc, answer) {
-        Ok(text) => put_all(writer, &text),
+        Ok(text) => put_text(writer, &text),
         Err(fault) => Err(fault),
     }
 }

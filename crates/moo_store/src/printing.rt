@@ -2,13 +2,14 @@
 
 ghost use Rattle.std.specs.Prelude.{◌≡◌, IfOk, map};
 ghost use Rattle.moo_value.specs.Literal.{Spells};
-ghost use Rattle.moo_cells.specs.Shows.{object_list, ShowsAccept, ShowsState, ShowsOrNone};
+ghost use Rattle.moo_cells.specs.Shows.{object_list, ShowsAccept, ShowsSlotState, ShowsOrNone};
 ghost use Rattle.moo_store.specs.Printed.{PrintEach, PrintsSlot, Prints, all_of};
 
 use moo_draft::{ChangeList, Changes};
+use moo_flat::Flat;
 use moo_rows::{
-    Flat, ObjList, ObjRow, PetitionId, PetitionRow, PropId, PropRow, Row, SlotRow, SlotState,
-    VerbId, VerbRow, each_slot,
+    ObjList, ObjRow, PetitionId, PetitionRow, PropId, PropRow, Row, SlotRow, SlotState, VerbId,
+    VerbRow, each_slot,
 };
 use moo_tables::{CellChanges, ObjectCells, PetitionCells, PropCells, SlotCells, VerbCells};
 use moo_value::{MooStr, ObjNo, Value, ValueList, print_literal};
@@ -63,7 +64,7 @@ fn accept_cell(alloc: Global, accept: &Option<ObjList>) -> Result<Vec<u8>, Alloc
 }
 
 fn state_cell(alloc: Global, state: &SlotState) -> Result<Vec<u8>, AllocError>
-    ensures { IfOk result (λ cell. ShowsState cell.items state.now) }
+    ensures { IfOk result (λ cell. ShowsSlotState cell.items state.now) }
 {
     match state {
         SlotState::Set(value) => literal_cell(alloc, value),

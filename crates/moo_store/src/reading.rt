@@ -6,7 +6,7 @@ ghost use Rattle.sqlite.specs.Held.{state};
 ghost use Rattle.moo_rows.specs.Maps.{Maps};
 ghost use Rattle.moo_world.specs.Rows.{IsGood};
 ghost use Rattle.moo_tables.specs.Tables.{Tables, schema_of, second_schema};
-ghost use Rattle.moo_tables.specs.Inside.{Rests, HasTables, Reads, FailsToRead};
+ghost use Rattle.moo_tables.specs.Inside.{Rests, HasTables, ReadsTables, FailsToRead};
 ghost use Rattle.moo_tables.specs.Listing.{tables_of};
 ghost use Rattle.moo_tables.specs.declared.version.Version.{Version};
 ghost use Rattle.moo_cells.specs.Shows.{ShowsRows};
@@ -14,7 +14,7 @@ ghost use Rattle.moo_store.specs.Opening.{Says, IsOfStore};
 
 use crate::fault::StoreFault;
 use moo_cells::{CellFault, read_cells};
-use moo_rows::Flat;
+use moo_flat::Flat;
 use moo_tables::{CellLists, Version, are_listed, read_tables, version_of};
 use sqlite::{Alter, Connection, Error, ErrorCode};
 use std::alloc::Global;
@@ -46,7 +46,7 @@ pub(crate) fn read_lists<S: Alter>(
 ) -> Result<CellLists, StoreFault>
     requires outside { (state S.Store conn.old).in_transaction ≡ false }
     ensures outside { (state S.Store conn.new).in_transaction ≡ false }
-    ensures read { OnOk result (Reads (schema_of version) (state S.Store conn.old) (state S.Store conn.new)) }
+    ensures read { OnOk result (ReadsTables (schema_of version) (state S.Store conn.old) (state S.Store conn.new)) }
     ensures listed { HasCleanDisk (state S.Store conn.new) → IfOk result (λ lists. (tables : Tables) → tables.version ≡ version → Rests (state S.Store conn.old) tables → tables_of lists ≡ tables) }
     ensures failed { OnErr result (FailsToRead (schema_of version) (state S.Store conn.old) (state S.Store conn.new)) }
     ensures fault { IfErr result (λ fault. (error : _) × (fault ≡ StoreFault.Store error)) }
@@ -93,7 +93,7 @@ pub(crate) fn read_rows<S: Alter>(
 ) -> Result<(Version, Flat), StoreFault>
     requires outside { (state S.Store conn.old).in_transaction ≡ false }
     ensures outside { (state S.Store conn.new).in_transaction ≡ false }
-    ensures read { IfOk result (λ r. HasTables (schema_of r.0) (state S.Store conn.old) × Reads (schema_of r.0) (state S.Store conn.old) (state S.Store conn.new)) }
+    ensures read { IfOk result (λ r. HasTables (schema_of r.0) (state S.Store conn.old) × ReadsTables (schema_of r.0) (state S.Store conn.old) (state S.Store conn.new)) }
     ensures failed { OnErr result ((conn.new ≡ conn.old) ⊎ ((version : Version) × HasTables (schema_of version) (state S.Store conn.old) × FailsToRead (schema_of version) (state S.Store conn.old) (state S.Store conn.new))) }
     ensures settled { IsTrue (state S.Store conn.old).is_open → (state S.Store conn.old).now ≡ (state S.Store conn.old).committed }
     ensures other { ((version : Version) → (state S.Store conn.old).now.schema ≢ schema_of version) → IsErrAnd result (λ fault. IsOfStore fault × (conn.new ≡ conn.old)) }

@@ -1,7 +1,7 @@
 //! Counting the answers to a text.
 
 ghost use Rattle.std.specs.Prelude.{◌≡◌, ◌<◌, ◌+◌, ◌^◌, cond};
-ghost use Rattle.moo_store.specs.Turns.{is_batch, is_lost};
+ghost use Rattle.moo_store.specs.Turns.{is_batch, is_lost_answer};
 
 use moo_text::Answer;
 
@@ -26,7 +26,7 @@ impl Tally {
         requires room { self.old.batches < 2 ^ 63 }
         requires room_lost { self.old.lost < 2 ^ 63 }
         ensures batches { self.new.batches ≡ self.old.batches + cond (is_batch answer.now) 1 0 }
-        ensures lost { self.new.lost ≡ self.old.lost + cond (is_lost answer.now) 1 0 }
+        ensures lost { self.new.lost ≡ self.old.lost + cond (is_lost_answer answer.now) 1 0 }
     {
         match answer {
             Answer::Replied(_) => self.batches += 1,

@@ -26,7 +26,7 @@ use Rattle.sqlite_rules.specs.Keys.{AreConflicts, conflicts}
 use Rattle.moo_tables.specs.Cells.{petition_head_cells, with_counter}
 use Rattle.moo_tables.specs.Tables.{Tables, second_schema, petition_head_table, cells_at, petition_head_places, numbered_in, numbered_with, same_number}
 use Rattle.moo_tables.specs.Texts.{put_counter_text}
-use Rattle.moo_tables.specs.Inside.{AreKeyed, Sees, Changes, Ran}
+use Rattle.moo_tables.specs.Inside.{AreKeyed, Sees, Changes, RanStatement}
 use Rattle.moo_tables.proofs.TextLemmas.{put_counter_is, put_counter_plain, number_terms, number_overwrite, counter_filter, writes_where}
 use Rattle.moo_tables.proofs.NumberLemmas as number
 use Rattle.moo_tables.proofs.NumberLemmas.{HasNumbers, stored_at}
@@ -157,6 +157,6 @@ puts old new next count tables seen h inside =
         (record { schema_is = schema_is; sound = sound; is_open = is_open; inside = inside; rows_are = was.0; others = was.1 })
         (counter_seen seen) (so_already next old.now.trees new.now.trees (counter_seen seen) (sound_seen seen) was.2)
 
-pub put : (old new : State) (next : ℕ) (r : Result ℕ Error) → Ran put_counter_text (petition_head_cells next) old new r → OnOk r (Changes (with_counter next) old new)
+pub put : (old new : State) (next : ℕ) (r : Result ℕ Error) → RanStatement put_counter_text (petition_head_cells next) old new r → OnOk r (Changes (with_counter next) old new)
 put old new next (Err e) ran = tt
 put old new next (Ok count) ran = λ clean tables seen. let it = ran clean in puts old new next count tables seen it.1 it.0

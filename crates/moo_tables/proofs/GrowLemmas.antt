@@ -7,14 +7,14 @@ use Rattle.sqlite.specs.State.{State, HasCleanDisk}
 use Rattle.moo_tables.specs.declared.version.Version.TheVariants.{First}
 use Rattle.moo_tables.specs.Tables.{Tables, schema_of, first_schema, slot2_schema, petition_schema, second_schema, slot2_table, petition_table, petition_head_table, numbered_in, paired_in, head_places, object_places, prop_places, slot_places, verb_places, petition_places, petition_head_places}
 use Rattle.moo_tables.specs.Cells.{with_counter}
-use Rattle.moo_tables.specs.Inside.{AreKeyed, Holds, Sees, StaysInside, Changes, Ran, IsGrown, grown, no_tables, no_first_tables}
+use Rattle.moo_tables.specs.Inside.{AreKeyed, Holds, Sees, StaysInside, Changes, RanStatement, IsGrown, grown, no_tables, no_first_tables}
 use Rattle.moo_tables.specs.Texts.{create_text}
 use Rattle.moo_tables.proofs.TextLemmas.{create_slot2_is, create_petition_is, create_petition_head_is}
 use Rattle.moo_tables.proofs.CreateLemmas.{runs_making}
 use Rattle.moo_tables.proofs.InsideLemmas.{of_version, clean_before}
 use Rattle.moo_tables.proofs.SeenLemmas.{same_tables}
 
-pub makes_slot2 : (old new : State) (r : Result ℕ Error) → Ran (create_text slot2_table) [] old new r → OnOk r (HasCleanDisk new → (base : Database) → IsGrown base first_schema [] old.now → IsGrown base slot2_schema (7 ∷ []) new.now)
+pub makes_slot2 : (old new : State) (r : Result ℕ Error) → RanStatement (create_text slot2_table) [] old new r → OnOk r (HasCleanDisk new → (base : Database) → IsGrown base first_schema [] old.now → IsGrown base slot2_schema (7 ∷ []) new.now)
 makes_slot2 old new (Err e) ran = tt
 makes_slot2 old new (Ok count) ran = λ clean base was.
     let it = runs_making first_schema slot2_schema slot2_table create_slot2_is refl old new count was.schema_is (ran clean).1 in
@@ -26,7 +26,7 @@ makes_slot2 old new (Ok count) ran = λ clean base was.
       empty = (it.made.empty, tt);
     }
 
-pub makes_petition : (old new : State) (r : Result ℕ Error) → Ran (create_text petition_table) [] old new r → OnOk r (HasCleanDisk new → (base : Database) → IsGrown base slot2_schema (7 ∷ []) old.now → IsGrown base petition_schema (7 ∷ 9 ∷ []) new.now)
+pub makes_petition : (old new : State) (r : Result ℕ Error) → RanStatement (create_text petition_table) [] old new r → OnOk r (HasCleanDisk new → (base : Database) → IsGrown base slot2_schema (7 ∷ []) old.now → IsGrown base petition_schema (7 ∷ 9 ∷ []) new.now)
 makes_petition old new (Err e) ran = tt
 makes_petition old new (Ok count) ran = λ clean base was.
     let it = runs_making slot2_schema petition_schema petition_table create_petition_is refl old new count was.schema_is (ran clean).1 in
@@ -38,7 +38,7 @@ makes_petition old new (Ok count) ran = λ clean base was.
       empty = (same.1.1.1.1.1.0 ∙ was.empty.0, (it.made.empty, tt));
     }
 
-pub makes_petition_head : (old new : State) (r : Result ℕ Error) → Ran (create_text petition_head_table) [] old new r
+pub makes_petition_head : (old new : State) (r : Result ℕ Error) → RanStatement (create_text petition_head_table) [] old new r
     → OnOk r (HasCleanDisk new → (base : Database) → IsGrown base petition_schema (7 ∷ 9 ∷ []) old.now → (tables : Tables) → Holds base tables → tables.version ≡ First → Sees new (grown tables))
 makes_petition_head old new (Err e) ran = tt
 makes_petition_head old new (Ok count) ran = λ clean base was tables holds first.

@@ -14,8 +14,8 @@ use Rattle.moo_rows.specs.declared.row.PropId.{PropId}
 use Rattle.moo_tables.specs.declared.slot.SlotCells.{SlotCells}
 use Rattle.moo_tables.specs.declared.version.Version.TheVariants.{First}
 use Rattle.moo_tables.specs.Tables.{Tables, second_schema}
-use Rattle.moo_tables.specs.Cells.{with_each, with_head, with_slot, migrated}
-use Rattle.moo_tables.specs.Inside.{AreKeyed, Holds, Sees, Rests, HasTables, StaysInside, Changes, Ran}
+use Rattle.moo_tables.specs.Cells.{with_each, with_head_cells, with_slot_cells, migrated}
+use Rattle.moo_tables.specs.Inside.{AreKeyed, Holds, Sees, Rests, HasTables, StaysInside, Changes, RanStatement}
 use Rattle.moo_tables.proofs.TextLemmas.{empty_slots_text, empty_slots_is, empty_slots_plain, rowids_where}
 use Rattle.moo_tables.proofs.InsideLemmas.{clean_before, commits}
 use Rattle.moo_tables.proofs.ChangeLemmas.{slots_in_turn}
@@ -27,7 +27,7 @@ use Rattle.moo_tables.proofs.StepLemmas.{deletes}
 
 -- ---- a table that is emptied
 
-pub empties_beside : (old new : State) (r : Result ℕ Error) → Ran empty_slots_text [] old new r → OnOk r (Changes (λ tables. tables) old new)
+pub empties_beside : (old new : State) (r : Result ℕ Error) → RanStatement empty_slots_text [] old new r → OnOk r (Changes (λ tables. tables) old new)
 empties_beside old new (Err e) ran = tt
 empties_beside old new (Ok count) ran = λ clean tables seen.
     let it = ran clean in
@@ -41,7 +41,7 @@ none_left : (rows : List Row) → filter (λ r. not true) rows ≡ []
 none_left [] = refl
 none_left (r ∷ rows) = none_left rows
 
-pub empties : (old new : State) (r : Result ℕ Error) → Ran empty_slots_text [] old new r → OnOk r (HasCleanDisk new → HasTables second_schema old → AreKeyed (old.now.trees 3) → new.now.trees 3 ≡ [])
+pub empties : (old new : State) (r : Result ℕ Error) → RanStatement empty_slots_text [] old new r → OnOk r (HasCleanDisk new → HasTables second_schema old → AreKeyed (old.now.trees 3) → new.now.trees 3 ≡ [])
 empties old new (Err e) ran = tt
 empties old new (Ok count) ran = λ clean has keyed.
     let it = ran clean in
@@ -51,14 +51,14 @@ empties old new (Ok count) ran = λ clean has keyed.
     let shown = shows_all 3 [] (col 1 0 ∷ []) [] (overlay old.now.trees []) [] step.0 (step.1.answer Null) in
     step.2.applies.rows ∙ went_out (λ (key : Unit {0}) r. true) tt rows keyed [] [] [] step.0 shown (λ r. refl) ∙ none_left rows
 
-pub goes_on : (old new : State) (text : List ℕ) (params : Row) (r : Result ℕ Error) → Ran text params old new r → HasCleanDisk new → OnOk r (IsTrue new.in_transaction)
+pub goes_on : (old new : State) (text : List ℕ) (params : Row) (r : Result ℕ Error) → RanStatement text params old new r → HasCleanDisk new → OnOk r (IsTrue new.in_transaction)
 goes_on old new text params (Err e) ran clean = tt
 goes_on old new text params (Ok count) ran clean = (ran clean).0
 
 -- ---- the statements of the migration, one after another
 
 pub all_migrated : (a b d e z : State) (head : Head) (slots : List ((ObjNo × PropId) × Option SlotCells)) (r : Result ℕ Error) → StaysInside b d → StaysInside d e → StaysInside e z
-    → Becomes a b → Changes (with_head head) b d → Changes (with_each with_slot slots) d e → OnOk r (Changes (λ tables. tables) e z)
+    → Becomes a b → Changes (with_head_cells head) b d → Changes (with_each with_slot_cells slots) d e → OnOk r (Changes (λ tables. tables) e z)
     → OnOk r (HasCleanDisk z → (tables : Tables) → Holds a.now tables → tables.version ≡ First → Sees z (migrated head slots tables))
 all_migrated a b d e z head slots (Err error) quiet-two quiet-three quiet-four one two three four = tt
 all_migrated a b d e z head slots (Ok count) quiet-two quiet-three quiet-four one two three four = λ clean tables holds first.

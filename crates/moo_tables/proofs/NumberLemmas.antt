@@ -26,7 +26,7 @@ use Rattle.sqlite_schema.specs.declared.schema.Column.{Column}
 use Rattle.sqlite_value.specs.Keys.{first_key, plain}
 use Rattle.moo_tables.specs.Tables.{Tables, second_schema, numbered, number_places, cells_at, numbered_in, numbered_with, same_number}
 use Rattle.moo_tables.specs.Texts.{put_text, remove_text}
-use Rattle.moo_tables.specs.Inside.{AreKeyed, Sees, Changes, Ran}
+use Rattle.moo_tables.specs.Inside.{AreKeyed, Sees, Changes, RanStatement}
 use Rattle.moo_tables.proofs.TextLemmas.{WritesByNumber, number_terms, number_overwrite, written_over, by_number, rowids_where}
 use Rattle.moo_tables.proofs.CastLemmas.{fit, kept_all}
 use Rattle.moo_tables.proofs.StepLemmas.{cast_int, deletes}
@@ -125,10 +125,10 @@ module _ {K C : Type 0} (name : List ℕ) (tree : ℕ) (columns : List Column) (
         (rest_keyed has_rowid n old_rows keyed)
         (after_removal same_number has_rowid (cells_at places) number_exact number_apart n old_rows)
 
-    pub remove : (old new : State) (key : K) (r : Result ℕ Error) → Ran (remove_text t) (Int (number key) ∷ []) old new r → OnOk r (Changes (With (number key) None) old new)
+    pub remove : (old new : State) (key : K) (r : Result ℕ Error) → RanStatement (remove_text t) (Int (number key) ∷ []) old new r → OnOk r (Changes (With (number key) None) old new)
     remove old new key (Err e) ran = tt
     remove old new key (Ok count) ran = λ clean tables seen. let it = ran clean in removes old new key count tables seen it.1 it.0
 
-    pub put : (old new : State) (key : K) (row : C) (r : Result ℕ Error) → Ran (put_text t) (cells key row) old new r → OnOk r (Changes (With (number key) (Some (cells key row))) old new)
+    pub put : (old new : State) (key : K) (row : C) (r : Result ℕ Error) → RanStatement (put_text t) (cells key row) old new r → OnOk r (Changes (With (number key) (Some (cells key row))) old new)
     put old new key row (Err e) ran = tt
     put old new key row (Ok count) ran = λ clean tables seen. let it = ran clean in puts old new key row count tables seen it.1 it.0

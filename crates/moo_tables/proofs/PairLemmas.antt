@@ -24,9 +24,9 @@ use Rattle.sqlite_rules.specs.Keys.{AreConflicts, conflicts}
 use Rattle.sqlite_schema.specs.Rules.{agree}
 use Rattle.sqlite_schema.specs.declared.schema.Column.{Column}
 use Rattle.sqlite_value.specs.Keys.{first_key, plain}
-use Rattle.moo_tables.specs.Tables.{Tables, second_schema, paired, pair_places, has_pair, cells_at, paired_in, paired_with, same_pair}
+use Rattle.moo_tables.specs.Tables.{Tables, second_schema, paired, pair_places, has_pair, cells_at, paired_in, paired_with, same_numbers}
 use Rattle.moo_tables.specs.Texts.{put_text, remove_text}
-use Rattle.moo_tables.specs.Inside.{AreKeyed, Sees, Changes, Ran}
+use Rattle.moo_tables.specs.Inside.{AreKeyed, Sees, Changes, RanStatement}
 use Rattle.moo_tables.proofs.TextLemmas.{WritesByPair, pair_terms, pair_overwrite, written_over, by_pair, rowids_where}
 use Rattle.moo_tables.proofs.CastLemmas.{fit, kept_all}
 use Rattle.moo_tables.proofs.StepLemmas.{cast_null, cast_int, deletes}
@@ -116,7 +116,7 @@ module _ {K C : Type 0} (name : List ℕ) (tree : ℕ) (columns : List Column) (
         sees old new tables two (Some params) (put_row (Int number ∷ params) (rest has_pair two old_rows keyed)) seen
         (record { schema_is = it.schema_is; sound = w.sound; is_open = w.shown.is_open; inside = inside; rows_are = put.0.rows_are; others = put.1 })
         (put_keyed has_pair two old_rows keyed (Int number ∷ params) refl)
-        (λ k. after_put same_pair has_pair (cells_at places) pair_exact pair_apart two (Int number ∷ params) old_rows (has_its_pair number key row) put.0.free k
+        (λ k. after_put same_numbers has_pair (cells_at places) pair_exact pair_apart two (Int number ∷ params) old_rows (has_its_pair number key row) put.0.free k
         ∙ ap (λ shown. paired_with two (Some shown) (paired_in places old_rows) k) (it_has.placed number key row))
 
     removes : (old new : State) (key : K) (count : ℕ) (tables : Tables) → Sees old tables → Executes (remove_text t) (Int (pair key).0 ∷ Int (pair key).1 ∷ []) old new (Ok count) → IsTrue new.in_transaction → Sees new (With (pair key) None tables)
@@ -133,12 +133,12 @@ module _ {K C : Type 0} (name : List ℕ) (tree : ℕ) (columns : List Column) (
         sees old new tables two None (rest has_pair two old_rows keyed) seen
         (record { schema_is = it.2.schema_is; sound = w.sound; is_open = w.shown.is_open; inside = inside; rows_are = left; others = it.2.applies.others })
         (rest_keyed has_pair two old_rows keyed)
-        (after_removal same_pair has_pair (cells_at places) pair_exact pair_apart two old_rows)
+        (after_removal same_numbers has_pair (cells_at places) pair_exact pair_apart two old_rows)
 
-    pub remove : (old new : State) (key : K) (r : Result ℕ Error) → Ran (remove_text t) (Int (pair key).0 ∷ Int (pair key).1 ∷ []) old new r → OnOk r (Changes (With (pair key) None) old new)
+    pub remove : (old new : State) (key : K) (r : Result ℕ Error) → RanStatement (remove_text t) (Int (pair key).0 ∷ Int (pair key).1 ∷ []) old new r → OnOk r (Changes (With (pair key) None) old new)
     remove old new key (Err e) ran = tt
     remove old new key (Ok count) ran = λ clean tables seen. let it = ran clean in removes old new key count tables seen it.1 it.0
 
-    pub put : (old new : State) (key : K) (row : C) (r : Result ℕ Error) → Ran (put_text t) (cells key row) old new r → OnOk r (Changes (With (pair key) (Some (cells key row))) old new)
+    pub put : (old new : State) (key : K) (row : C) (r : Result ℕ Error) → RanStatement (put_text t) (cells key row) old new r → OnOk r (Changes (With (pair key) (Some (cells key row))) old new)
     put old new key row (Err e) ran = tt
     put old new key row (Ok count) ran = λ clean tables seen. let it = ran clean in puts old new key row count tables seen it.1 it.0

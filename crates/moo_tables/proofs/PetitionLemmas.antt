@@ -6,10 +6,10 @@ use Rattle.sqlite.specs.Order.{Row}
 use Rattle.sqlite.specs.State.{State}
 use Rattle.moo_rows.specs.declared.row.PetitionId.{PetitionId}
 use Rattle.moo_tables.specs.declared.petition.PetitionCells.{PetitionCells}
-use Rattle.moo_tables.specs.Cells.{petition_cells, with_petition}
+use Rattle.moo_tables.specs.Cells.{petition_cells, with_petition_cells}
 use Rattle.moo_tables.specs.Tables.{Tables, petition_table, numbered_with}
 use Rattle.moo_tables.specs.Texts.{put_petition_text, remove_petition_text}
-use Rattle.moo_tables.specs.Inside.{Changes, Ran}
+use Rattle.moo_tables.specs.Inside.{Changes, RanStatement}
 use Rattle.moo_tables.proofs.TextLemmas.{petition_writes}
 use Rattle.moo_tables.proofs.NumberLemmas as number
 use Rattle.moo_tables.proofs.NumberLemmas.{HasNumbers}
@@ -24,8 +24,8 @@ has_numbers = record { stored = λ db. refl; fitting = λ key row. refl; placed 
 abbrev With : ℤ → Option Row → Tables → Tables
 With key cells tables = record tables { petition = numbered_with key cells tables.petition }
 
-pub remove : (old new : State) (id : PetitionId) (r : Result ℕ Error) → Ran remove_petition_text (Int (pos id.0) ∷ []) old new r → OnOk r (Changes (with_petition id None) old new)
+pub remove : (old new : State) (id : PetitionId) (r : Result ℕ Error) → RanStatement remove_petition_text (Int (pos id.0) ∷ []) old new r → OnOk r (Changes (with_petition_cells id None) old new)
 remove = number.remove _ 9 _ number_of petition_cells has_numbers 6 refl petition_writes With (λ s tables seen. petitions_seen seen) sees_petition
 
-pub put : (old new : State) (id : PetitionId) (row : PetitionCells) (r : Result ℕ Error) → Ran put_petition_text (petition_cells id row) old new r → OnOk r (Changes (with_petition id (Some row)) old new)
+pub put : (old new : State) (id : PetitionId) (row : PetitionCells) (r : Result ℕ Error) → RanStatement put_petition_text (petition_cells id row) old new r → OnOk r (Changes (with_petition_cells id (Some row)) old new)
 put = number.put _ 9 _ number_of petition_cells has_numbers 6 refl petition_writes With (λ s tables seen. petitions_seen seen) sees_petition

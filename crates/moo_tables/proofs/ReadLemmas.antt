@@ -41,8 +41,8 @@ use Rattle.moo_tables.specs.declared.version.Version.{Version}
 use Rattle.moo_tables.specs.declared.version.Version.TheVariants.{First, Second}
 use Rattle.moo_tables.specs.Tables.{Tables, required, schema_of, slot_tree, head_table, object_table, prop_table, petition_table, petition_head_table, slot_table, slot2_table, verb_table, has_pair, cells_at, found_in, numbered_in, paired_in, head_places, object_places, prop_places, slot_places, verb_places, petition_places, petition_head_places, second_schema, in_second}
 use Rattle.moo_tables.specs.Texts.{select_text}
-use Rattle.moo_tables.specs.Inside.{AreKeyed, Holds, Rests, HasTables, Reads, FailsToRead}
-use Rattle.moo_tables.specs.Listing.{ListsNumbers, ListsPairs, IsBelow, begins_with}
+use Rattle.moo_tables.specs.Inside.{AreKeyed, Holds, Rests, HasTables, ReadsTables, FailsToRead}
+use Rattle.moo_tables.specs.Listing.{ListsNumbers, ListsPairs, IsRowBelow, has_key_pair}
 use Rattle.moo_tables.proofs.TextLemmas.{plain_query, in_order, number_order, pair_order}
 use Rattle.moo_tables.proofs.SelectLemmas.{IsSelect, number_columns, pair_columns, slots_table, select_head, select_object, select_prop, select_slot, select_verb, select_petition, select_counter}
 use Rattle.moo_tables.proofs.InsideLemmas.{clean_before}
@@ -95,11 +95,11 @@ module _ (tree : ℕ) (project : List Term) (places : List ℕ) (shows : (r : Ro
       let ordered = sorted_is-sort_by (output_cmp q) (output_cmp_total q) (map out rows) it.ordered apart it.same it.sorted ∙ sort_by-map (output_cmp q) out rows in
       it.shown_is ∙ ap (map (λ (o : Output). o.1)) ordered ∙ shown_rows q [] sorted ∙ each_shown project (1 ∷ 2 ∷ places) shows sorted
 
-  rises : IsAscending IsBelow (map cells sorted)
+  rises : IsAscending IsRowBelow (map cells sorted)
   rises =
       let up = subst (IsAscending (λ a b. output_cmp q a b ≡ Less)) (sort_by-map (output_cmp q) out rows) (rises-sort_by (output_cmp q) (output_cmp_total q) (map out rows) apart) in
       let below = ascending_from_map (λ a b. output_cmp q a b ≡ Less) out sorted up in
-      ascending-map IsBelow cells sorted (ascending_weaker (λ a b. by_key a b ≡ Less) (λ a b. IsBelow (cells a) (cells b)) (λ a b less. ap (ordering_then (value_cmp (column a 1) (column b 1))) (sym (then-Equal (value_cmp (column a 2) (column b 2)))) ∙ less) sorted below)
+      ascending-map IsRowBelow cells sorted (ascending_weaker (λ a b. by_key a b ≡ Less) (λ a b. IsRowBelow (cells a) (cells b)) (λ a b less. ap (ordering_then (value_cmp (column a 1) (column b 1))) (sym (then-Equal (value_cmp (column a 2) (column b 2)))) ∙ less) sorted below)
 
   same : IsPermutation sorted rows
   same = IsPermutation-sort_by by_key (on_total out (output_cmp_total q)) rows
@@ -114,7 +114,7 @@ module _ (tree : ℕ) (project : List Term) (places : List ℕ) (shows : (r : Ro
   sorted_lists = record {
     keyed = all_map (λ c. IsTrue (is_int (column c 0)) × IsTrue (is_int (column c 1))) cells sorted (all_from _ sorted (λ r has. ints r (back r has)));
     rise = rises;
-    found = λ key. find-map (begins_with key) cells sorted ∙ ap (option_map cells) (find_alike (has_pair key) sorted rows back over (λ x y p q′ here there. one key x y (back x p) (back y q′) here there));
+    found = λ key. find-map (has_key_pair key) cells sorted ∙ ap (option_map cells) (find_alike (has_pair key) sorted rows back over (λ x y p q′ here there. one key x y (back x p) (back y q′) here there));
   }
 
   pub lists_pairs : ListsPairs shown (found_in has_pair cells rows)
@@ -169,14 +169,14 @@ failed_then : (a b c : State) → IsUnchanged a b → IsUnchanged b c ⊎ IsRoll
 failed_then a b c p (inl same) = inl (unchanged_then a b c p same)
 failed_then a b c p (inr back) = inr (undone_then a b c p back)
 
-pub reads_then : {schema : Schema} {a b c : State} → Reads schema a b → Reads schema b c → Reads schema a c
+pub reads_then : {schema : Schema} {a b c : State} → ReadsTables schema a b → ReadsTables schema b c → ReadsTables schema a c
 reads_then {schema} {a} {b} {c} p q = record {
   clean = λ late. p.clean (q.clean late);
   same = λ late has. let early = p.same (q.clean late) has in unchanged_then a b c early (q.same late (has_then schema a b early has));
   crash = λ has. survives_then a b c _ _ (λ _. ⊥) (λ _ db none. none) (λ _ db none. none) (p.crash has) (q.crash (λ clean. let was = has (p.clean clean) in has_then schema a b (p.same clean was) was));
 }
 
-pub fails_then : {schema : Schema} {a b c : State} → Reads schema a b → FailsToRead schema b c → FailsToRead schema a c
+pub fails_then : {schema : Schema} {a b c : State} → ReadsTables schema a b → FailsToRead schema b c → FailsToRead schema a c
 fails_then {schema} {a} {b} {c} p q = record {
   clean = λ late. p.clean (q.clean late);
   kept = λ late has. let early = p.same (q.clean late) has in failed_then a b c early (q.kept late (has_then schema a b early has));
@@ -186,11 +186,11 @@ fails_then {schema} {a} {b} {c} p q = record {
 -- and at the end perhaps no query at all
 
 module _ {schema : Schema} {H : Type 0} (shown : H → State) {old new : H} where
-  pub reads_or : {a : State} → Reads schema a (shown old) → (new ≡ old) ⊎ Reads schema (shown old) (shown new) → Reads schema a (shown new)
-  reads_or {a} p (inl same) = subst (λ h. Reads schema a (shown h)) (sym same) p
+  pub reads_or : {a : State} → ReadsTables schema a (shown old) → (new ≡ old) ⊎ ReadsTables schema (shown old) (shown new) → ReadsTables schema a (shown new)
+  reads_or {a} p (inl same) = subst (λ h. ReadsTables schema a (shown h)) (sym same) p
   reads_or p (inr q) = reads_then p q
 
-  pub clean_or : (new ≡ old) ⊎ Reads schema (shown old) (shown new) → HasCleanDisk (shown new) → HasCleanDisk (shown old)
+  pub clean_or : (new ≡ old) ⊎ ReadsTables schema (shown old) (shown new) → HasCleanDisk (shown new) → HasCleanDisk (shown old)
   clean_or (inl same) late = subst (λ h. HasCleanDisk (shown h)) same late
   clean_or (inr q) late = q.clean late
 
@@ -203,10 +203,10 @@ module _ (schema : Schema) (sql : List ℕ) (known : IsPlain (understood schema 
   quiet : (HasCleanDisk old → HasTables schema old) → Survives old new (λ _. ⊥)
   quiet has = commits_nothing schema sql old new known has survives
 
-  pub reads : (HasCleanDisk new → IfOk r (λ rows. Shown sql [] old new rows.items)) → OnOk r (Reads schema old new)
+  pub reads : (HasCleanDisk new → IfOk r (λ rows. Shown sql [] old new rows.items)) → OnOk r (ReadsTables schema old new)
   reads ok = go r ok
     where
-      go : (r : Result (Vec Row Global) Error) → (HasCleanDisk new → IfOk r (λ rows. Shown sql [] old new rows.items)) → OnOk r (Reads schema old new)
+      go : (r : Result (Vec Row Global) Error) → (HasCleanDisk new → IfOk r (λ rows. Shown sql [] old new rows.items)) → OnOk r (ReadsTables schema old new)
       go (Err e) ok = tt
       go (Ok rows) ok = record {
         clean = clean_before old new _ survives;

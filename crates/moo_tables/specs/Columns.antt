@@ -59,5 +59,5 @@ abbrev pub pair_places : Table → List ℕ
 pair_places t = range_with_len 1 (length t.columns)
 
 -- the cell of a flag
-abbrev pub flag : Bool → Value
-flag b = Int (if b then pos 1 else pos 0)
+abbrev pub flag_cell : Bool → Value
+flag_cell b = Int (if b then pos 1 else pos 0)

@@ -57,15 +57,15 @@ abbrev pub Changes : (Tables → Tables) → State → State → Type 0
 Changes change old new = HasCleanDisk new → (tables : Tables) → Sees old tables → Sees new (change tables)
 
 -- a statement that succeeded ran, in the transaction
-abbrev pub Ran : List ℕ → Row → State → State → Result ℕ Error → Type 0
-Ran text params old new r = HasCleanDisk new → IfOk r (λ _. IsTrue new.in_transaction × Executes text params old new r)
+abbrev pub RanStatement : List ℕ → Row → State → State → Result ℕ Error → Type 0
+RanStatement text params old new r = HasCleanDisk new → IfOk r (λ _. IsTrue new.in_transaction × Executes text params old new r)
 
 -- a statement means the tables of this schema
 abbrev pub HasTables : Schema → State → Type 0
 HasTables schema s = s.now.schema ≡ schema
 
 -- Tables of this schema were read, and nothing changed.
-pub record Reads (schema : Schema) (old new : State) : Type 0 where
+pub record ReadsTables (schema : Schema) (old new : State) : Type 0 where
   pub clean : HasCleanDisk new → HasCleanDisk old
   pub same : HasCleanDisk new → HasTables schema old → IsUnchanged old new
   pub crash : (HasCleanDisk old → HasTables schema old) → Survives old new (λ _. ⊥)

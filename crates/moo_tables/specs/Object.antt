@@ -6,7 +6,7 @@ use Rattle.sqlite.specs.declared.types.Value.TheVariants.{Int, Text}
 use Rattle.moo_value.specs.declared.value.ObjNo.{ObjNo}
 use Rattle.moo_rows.specs.declared.row.ObjRow.{ObjRow}
 use Rattle.moo_tables.specs.declared.object.ObjectCells.{ObjectCells}
-use Rattle.moo_tables.specs.Columns.{numbered, number, text, flag}
+use Rattle.moo_tables.specs.Columns.{numbered, number, text, flag_cell}
 
 abbrev pub object_table : Table
 object_table = numbered (codes "object") 1
@@ -16,7 +16,7 @@ object_table = numbered (codes "object") 1
 -- a row, with its accept list printed
 abbrev pub object_row_cells : ObjNo → ObjRow → List ℕ → Row
 object_row_cells n row accept =
-    Int n.0 ∷ Text row.name ∷ Int row.owner.0 ∷ Int row.parent.0 ∷ Int row.location.0 ∷ flag row.player ∷ flag row.programmer ∷ flag row.wizard ∷ flag row.r ∷ flag row.w ∷ flag row.f ∷ Text accept ∷ []
+    Int n.0 ∷ Text row.name ∷ Int row.owner.0 ∷ Int row.parent.0 ∷ Int row.location.0 ∷ flag_cell row.player ∷ flag_cell row.programmer ∷ flag_cell row.wizard ∷ flag_cell row.r ∷ flag_cell row.w ∷ flag_cell row.f ∷ Text accept ∷ []
 
 abbrev pub object_cells : ObjNo → ObjectCells → Row
 object_cells n c = object_row_cells n c.row c.accept.items

@@ -6,7 +6,7 @@ ghost use Rattle.sqlite.specs.State.{HasCleanDisk};
 ghost use Rattle.sqlite.specs.Values.{bound};
 ghost use Rattle.moo_tables.specs.Cells.{with_counter};
 ghost use Rattle.moo_tables.specs.Head.{petition_head_table, petition_head_cells};
-ghost use Rattle.moo_tables.specs.Inside.{StaysInside, Changes, Holds, Sees, Rests, Reads, FailsToRead, IsGrown, grown};
+ghost use Rattle.moo_tables.specs.Inside.{StaysInside, Changes, Holds, Sees, Rests, ReadsTables, FailsToRead, IsGrown, grown};
 ghost use Rattle.moo_tables.specs.Listing.{ListsNumbers};
 ghost use Rattle.moo_tables.specs.Tables.{petition_schema, second_schema};
 ghost use Rattle.moo_tables.specs.declared.version.Version.TheVariants.{First, Second};
@@ -52,7 +52,7 @@ pub(crate) fn put_counter<S: Alter>(tx: &mut Transaction<'_, S>, next: u32) -> R
 /// The row of `petition_head`. The first version has no such table.
 pub(crate) fn counter_cells_of<S: Alter>(conn: &mut Connection<S>) -> Result<Vec<Row>, Error>
     ensures outside { (state S.Store conn.old).in_transaction ≡ false → (state S.Store conn.new).in_transaction ≡ false }
-    ensures read { OnOk result (Reads second_schema (state S.Store conn.old) (state S.Store conn.new)) }
+    ensures read { OnOk result (ReadsTables second_schema (state S.Store conn.old) (state S.Store conn.new)) }
     ensures listed { HasCleanDisk (state S.Store conn.new) → IfOk result (λ rows. (tables : _) → Rests (state S.Store conn.old) tables → tables.version ≡ Second → ListsNumbers rows.items tables.petition_head) }
     ensures failed { OnErr result (FailsToRead second_schema (state S.Store conn.old) (state S.Store conn.new)) }
 {

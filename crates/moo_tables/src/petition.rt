@@ -5,8 +5,8 @@ ghost use Rattle.sqlite.specs.Held.{state};
 ghost use Rattle.sqlite.specs.State.{HasCleanDisk};
 ghost use Rattle.sqlite.specs.Values.{bound};
 ghost use Rattle.sqlite.specs.declared.types.Value.TheVariants.{Int};
-ghost use Rattle.moo_tables.specs.Cells.{with_petition};
-ghost use Rattle.moo_tables.specs.Inside.{StaysInside, Rests, Reads, FailsToRead, IsGrown};
+ghost use Rattle.moo_tables.specs.Cells.{with_petition_cells};
+ghost use Rattle.moo_tables.specs.Inside.{StaysInside, Rests, ReadsTables, FailsToRead, IsGrown};
 ghost use Rattle.moo_tables.specs.Listing.{ListsNumbers};
 ghost use Rattle.moo_tables.specs.Petition.{petition_table, petition_cells};
 ghost use Rattle.moo_tables.specs.Tables.{slot2_schema, petition_schema, second_schema};
@@ -66,7 +66,7 @@ impl TableRow for PetitionCells {
 
     ghost remove_text = { remove_petition_text };
 
-    ghost with_row = { with_petition };
+    ghost with_row = { with_petition_cells };
 
     fn put_text() -> &'static str {
         "INSERT INTO petition VALUES (?1, ?2, ?3) ON CONFLICT (id) DO UPDATE SET who = ?2, calls = ?3"
@@ -97,7 +97,7 @@ impl TableRow for PetitionCells {
 /// The rows of `petition`, in the order of their numbers. The first version has no such table.
 pub(crate) fn petition_cells_of<S: Alter>(conn: &mut Connection<S>) -> Result<Vec<Row>, Error>
     ensures outside { (state S.Store conn.old).in_transaction ≡ false → (state S.Store conn.new).in_transaction ≡ false }
-    ensures read { OnOk result (Reads second_schema (state S.Store conn.old) (state S.Store conn.new)) }
+    ensures read { OnOk result (ReadsTables second_schema (state S.Store conn.old) (state S.Store conn.new)) }
     ensures listed { HasCleanDisk (state S.Store conn.new) → IfOk result (λ rows. (tables : _) → Rests (state S.Store conn.old) tables → tables.version ≡ Second → ListsNumbers rows.items tables.petition) }
     ensures failed { OnErr result (FailsToRead second_schema (state S.Store conn.old) (state S.Store conn.new)) }
 {

@@ -3,7 +3,7 @@
 ghost use Rattle.std.specs.Prelude.{◌≡◌, IfOk, OnOk, OnErr, false, ◌⊎◌};
 ghost use Rattle.sqlite.specs.Held.{state};
 ghost use Rattle.sqlite.specs.State.{HasCleanDisk};
-ghost use Rattle.moo_tables.specs.Inside.{Rests, Reads, FailsToRead};
+ghost use Rattle.moo_tables.specs.Inside.{Rests, ReadsTables, FailsToRead};
 ghost use Rattle.moo_tables.specs.Listing.{ListsNumbers, ListsTables};
 ghost use Rattle.moo_tables.specs.Tables.{schema_of};
 
@@ -41,7 +41,7 @@ fn both_petition_cells_of<S: Alter>(
     version: Version,
 ) -> Result<(Vec<Row>, Vec<Row>), Error>
     ensures outside { (state S.Store conn.old).in_transaction ≡ false → (state S.Store conn.new).in_transaction ≡ false }
-    ensures read { OnOk result ((conn.new ≡ conn.old) ⊎ Reads (schema_of version) (state S.Store conn.old) (state S.Store conn.new)) }
+    ensures read { OnOk result ((conn.new ≡ conn.old) ⊎ ReadsTables (schema_of version) (state S.Store conn.old) (state S.Store conn.new)) }
     ensures listed { HasCleanDisk (state S.Store conn.new) → IfOk result (λ lists. (tables : _) → Rests (state S.Store conn.old) tables → tables.version ≡ version → ListsNumbers lists.0.items tables.petition × ListsNumbers lists.1.items tables.petition_head) }
     ensures failed { OnErr result (FailsToRead (schema_of version) (state S.Store conn.old) (state S.Store conn.new)) }
 {
@@ -62,7 +62,7 @@ fn both_petition_cells_of<S: Alter>(
 /// a fault of the store the tables are as they were, unless the fault shut the connection.
 pub fn read_tables<S: Alter>(conn: &mut Connection<S>, version: Version) -> Result<CellLists, Error>
     ensures outside { (state S.Store conn.old).in_transaction ≡ false → (state S.Store conn.new).in_transaction ≡ false }
-    ensures read { OnOk result (Reads (schema_of version) (state S.Store conn.old) (state S.Store conn.new)) }
+    ensures read { OnOk result (ReadsTables (schema_of version) (state S.Store conn.old) (state S.Store conn.new)) }
     ensures version { IfOk result (λ lists. lists.version ≡ version) }
     ensures listed { HasCleanDisk (state S.Store conn.new) → IfOk result (λ lists. (tables : _) → tables.version ≡ version → Rests (state S.Store conn.old) tables → ListsTables lists tables) }
     ensures failed { OnErr result (FailsToRead (schema_of version) (state S.Store conn.old) (state S.Store conn.new)) }

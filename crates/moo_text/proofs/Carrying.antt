@@ -7,10 +7,10 @@ use Rattle.moo_world.specs.declared.call.Call.{Call}
 use Rattle.moo_text.specs.Line.{is_short, is_blank_line, is_end_line}
 use Rattle.moo_text.specs.LineReading.{header_of, call_of}
 use Rattle.moo_text.specs.Items.{between, within, skipping}
-use Rattle.moo_text.specs.Feed.{StandsFor, TakesLine, Carries, TakesFirst, TakesNext}
+use Rattle.moo_text.specs.Feed.{IsLineRead, TakesLine, Carries, TakesFirst, TakesNext}
 use Rattle.moo_text.specs.Side.{Side}
 use Rattle.moo_text.specs.Given.{ReadsLine, ReadsAlong, ReadsFirst, ReadsNext, BreaksOff}
-use Rattle.moo_text.proofs.Giving.{Reads-none, Reads-then, Reads-map, Reads-breaks, out_of_memory}
+use Rattle.moo_text.proofs.Giving.{ReadsOn-none, ReadsOn-then, ReadsOn-map, ReadsOn-breaks, out_of_memory}
 use Rattle.moo_text.specs.declared.fault.TextFault.{TextFault}
 use Rattle.moo_text.specs.declared.fault.TextFault.TheVariants.{OutOfMemory}
 use Rattle.moo_text.specs.declared.header.Header.{Header}
@@ -27,7 +27,7 @@ pub record AreAlike (read line : List ℕ) : Type 0 where
 long : (line : List ℕ) → 262144 < length line → is_short line ≡ false
 long line h = grind (arith, h)
 
-pub alike : (read line : List ℕ) → StandsFor read line → AreAlike read line
+pub alike : (read line : List ℕ) → IsLineRead read line → AreAlike read line
 alike read line (inl same) = record { blank = ap is_blank_line same; end = ap is_end_line same; header = ap header_of same; call = ap call_of same }
 alike read line (inr over) =
     let a = long read over.0 in
@@ -49,24 +49,24 @@ skipping_alike n read line rest a = rw a.end refl
 
 -- nothing is read yet
 pub along_none : (f : List (List ℕ) → List Next) (a : Side) → ReadsAlong f f a a
-along_none f a = Reads-none a (λ x y. Carries f f x y) (λ x. refl)
+along_none f a = ReadsOn-none a (λ x y. Carries f f x y) (λ x. refl)
 
 -- one line on
 pub along_line : (f g h : List (List ℕ) → List Next) (a b c : Side) (read : List ℕ) → SeesAlike g → ReadsAlong f g a b → ReadsLine b c (Some read) → ((rest : List (List ℕ)) → g (read ∷ rest) ≡ h rest) → ReadsAlong f h a c
 along_line f g h a b c read sees p q step =
-    Reads-then a b c (λ x y. Carries f g x y) (λ x y. TakesLine x y (Some read)) (λ x y. Carries f h x y) p q (λ x y z carries took. carries ∙ ap g took.2 ∙ sym (sees read took.0 (lines z) (alike read took.0 took.1)) ∙ step (lines z))
+    ReadsOn-then a b c (λ x y. Carries f g x y) (λ x y. TakesLine x y (Some read)) (λ x y. Carries f h x y) p q (λ x y z carries took. carries ∙ ap g took.2 ∙ sym (sees read took.0 (lines z) (alike read took.0 took.1)) ∙ step (lines z))
 
 -- at the end of the text
 pub along_end : (f g h : List (List ℕ) → List Next) (a b c : Side) → ReadsAlong f g a b → ReadsLine b c None → g [] ≡ h [] → ReadsAlong f h a c
 along_end f g h a b c p q step =
-    Reads-then a b c (λ x y. Carries f g x y) (λ x y. TakesLine x y None) (λ x y. Carries f h x y) p q (λ x y z carries took. carries ∙ ap (λ (t : List ℕ). g (lines t)) took.0 ∙ step ∙ sym (ap (λ (t : List ℕ). h (lines t)) took.1))
+    ReadsOn-then a b c (λ x y. Carries f g x y) (λ x y. TakesLine x y None) (λ x y. Carries f h x y) p q (λ x y z carries took. carries ∙ ap (λ (t : List ℕ). g (lines t)) took.0 ∙ step ∙ sym (ap (λ (t : List ℕ). h (lines t)) took.1))
 
 -- reading stops
 pub along_breaks : (f g : List (List ℕ) → List Next) (a b c : Side) (fault : TextFault) → ReadsAlong f g a b → BreaksOff b c fault → BreaksOff a c fault
-along_breaks f g a b c fault p q = Reads-breaks a b c (λ x y. Carries f g x y) fault p q
+along_breaks f g a b c fault p q = ReadsOn-breaks a b c (λ x y. Carries f g x y) fault p q
 
 pub along_refused : (f g : List (List ℕ) → List Next) (a b c : Side) (line : Option (List ℕ)) → ReadsAlong f g a b → ReadsLine b c line → BreaksOff a c OutOfMemory
-along_refused f g a b c line p q = Reads-breaks a b c (λ x y. Carries f g x y) OutOfMemory p (out_of_memory b c q.given q.gives q.room)
+along_refused f g a b c line p q = ReadsOn-breaks a b c (λ x y. Carries f g x y) OutOfMemory p (out_of_memory b c q.given q.gives q.room)
 
 -- ---- what a line says inside a batch
 
@@ -117,7 +117,7 @@ one_call header calls n line rest call not_blank not_end is few = let room = has
 
 pub first_after : (f g : List (List ℕ) → List Next) (a b c : Side) (r : Result Next TextFault) → ReadsAlong f g a b → IfOk r (λ item. ReadsFirst g b c item) → IfOk r (λ item. ReadsFirst f a c item)
 first_after f g a b c (Err e) p q = tt
-first_after f g a b c (Ok item) p q = Reads-then a b c (λ x y. Carries f g x y) (λ x y. TakesFirst g x y item) (λ x y. TakesFirst f x y item) p q (λ x y z carries took. by_item item x y z carries took)
+first_after f g a b c (Ok item) p q = ReadsOn-then a b c (λ x y. Carries f g x y) (λ x y. TakesFirst g x y item) (λ x y. TakesFirst f x y item) p q (λ x y z carries took. by_item item x y z carries took)
   where
     by_item : (item : Next) (x y z : List ℕ) → Carries f g x y → TakesFirst g y z item → TakesFirst f x z item
     by_item End x y z carries took = took
@@ -127,7 +127,7 @@ first_after f g a b c (Ok item) p q = Reads-then a b c (λ x y. Carries f g x y)
 
 pub first_is_next : (a b : Side) (r : Result Next TextFault) → IfOk r (λ item. ReadsFirst between a b item) → IfOk r (λ item. ReadsNext a b item)
 first_is_next a b (Err e) p = tt
-first_is_next a b (Ok item) p = Reads-map a b (λ x y. TakesFirst between x y item) (λ x y. TakesNext x y item) p (λ x y took. by_item item x y took)
+first_is_next a b (Ok item) p = ReadsOn-map a b (λ x y. TakesFirst between x y item) (λ x y. TakesNext x y item) p (λ x y took. by_item item x y took)
   where
     by_item : (item : Next) (x y : List ℕ) → TakesFirst between x y item → TakesNext x y item
     by_item End x y took = absurd took

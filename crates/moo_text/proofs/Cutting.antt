@@ -10,7 +10,7 @@ use Rattle.moo_text.specs.Line.{is_short, is_end_word, is_blank_line, is_end_lin
 use Rattle.moo_text.specs.Grammar.{SpellsHeader, SpellsCall}
 use Rattle.moo_text.specs.LineReading.{header_of, call_of}
 use Rattle.moo_text.specs.Items.{between, within, skipping}
-use Rattle.moo_text.specs.Cut.{AreBlankLines, HaveNoEnd, IsText, IsNoHeader, IsNoCall, AreCalls, IsBatch, IsFirstBad, IsMalformed, IsTruncated, Cuts}
+use Rattle.moo_text.specs.Cut.{AreBlankLines, HaveNoEnd, IsContentLine, IsNoHeader, IsNoCall, AreCalls, IsBatch, IsFirstBad, IsMalformed, IsTruncated, Cuts}
 use Rattle.moo_text.specs.declared.header.Header.{Header}
 use Rattle.moo_text.specs.declared.next.Next.{Next}
 use Rattle.moo_text.specs.declared.next.Next.TheVariants.{Batch as Whole, Malformed, Truncated, End}
@@ -161,7 +161,7 @@ calls-push_blank [] calls line are blank = inl (blank, are)
 calls-push_blank (b ∷ body) calls line (inl x) blank = inl (x.0, calls-push_blank body calls line x.1 blank)
 calls-push_blank (b ∷ body) calls line (inr x) blank = inr (x.0, (x.1.0, x.1.1, x.1.2, x.1.3, calls-push_blank body x.1.1 line x.1.4 blank))
 
-calls-push : (body : List (List ℕ)) (calls : List Call) (line : List ℕ) (call : Call) → AreCalls body calls → IsText line → SpellsCall call line → AreCalls (body ++ line ∷ []) (calls ++ call ∷ [])
+calls-push : (body : List (List ℕ)) (calls : List Call) (line : List ℕ) (call : Call) → AreCalls body calls → IsContentLine line → SpellsCall call line → AreCalls (body ++ line ∷ []) (calls ++ call ∷ [])
 calls-push [] calls line call are text is = inr (text, (call, [], is, ap (λ (t : List Call). t ++ call ∷ []) are, refl))
 calls-push (b ∷ body) calls line call (inl x) text is = inl (x.0, calls-push body calls line call x.1 text is)
 calls-push (b ∷ body) calls line call (inr x) text is = inr (x.0, (x.1.0, x.1.1 ++ call ∷ [], x.1.2, ap (λ (t : List Call). t ++ call ∷ []) x.1.3, calls-push body x.1.1 line call x.1.4 text is))
@@ -204,7 +204,7 @@ mutual
         | inr not_blank ↦ elim (to_test (is_end_line line)) [
           | inl end ↦ rw (not_blank, end) (blanks, line ∷ lines, lines, refl, all, inl (line, not_blank, end, refl, refl), cut_between [] lines tt)
           | inr not_end ↦
-              let text : IsText line = record { not_blank = not_blank; not_end = not_end } in
+              let text : IsContentLine line = record { not_blank = not_blank; not_end = not_end } in
               elim (to_header (header_of line)) [
                 | inl h ↦ rw (not_blank, not_end, h.1) (cut_within blanks line h.0 [] [] lines all text (header_taken line h.0 h.1) refl (omega arith))
                 | inr none ↦ rw (not_blank, not_end, none) (cut_skipping blanks (line ∷ lines) 1 [] lines all (inl (line, text, is_no_header line none, refl, refl)) tt)
@@ -220,7 +220,7 @@ mutual
         | inr not_end ↦ rw not_end (cut_skipping blanks lines n (over ++ line ∷ []) rest all (subst (IsFirstBad lines n) (sym (append_assoc over (line ∷ []) rest)) bad) (no_end-append over (line ∷ []) none (not_end, tt)))
       ]
 
-  cut_within : (blanks : List (List ℕ)) (header : List ℕ) (p : Header) (front : List (List ℕ)) (calls : List Call) (rest : List (List ℕ)) → AreBlankLines blanks → IsText header → SpellsHeader p header → AreCalls front calls → length calls ≤ 1000
+  cut_within : (blanks : List (List ℕ)) (header : List ℕ) (p : Header) (front : List (List ℕ)) (calls : List Call) (rest : List (List ℕ)) → AreBlankLines blanks → IsContentLine header → SpellsHeader p header → AreCalls front calls → length calls ≤ 1000
       → Cuts (blanks ++ header ∷ (front ++ rest)) (within p calls (1 + length front) rest)
   cut_within blanks header p front calls [] all text is are few = (blanks, header ∷ (front ++ []), refl, all, (header, front ++ [], refl, text, no_end-append front [] (calls_no_end front calls are) tt), refl)
   cut_within blanks header p front calls (line ∷ rest) all text is are few =
@@ -229,7 +229,7 @@ mutual
         | inr not_blank ↦ elim (to_test (is_end_line line)) [
           | inl end ↦ rw (not_blank, end) (blanks, header ∷ (front ++ line ∷ rest), rest, refl, all, record { header = header; body = front; last = line; whole = refl; is_text = text; is_header = is; are_calls = are; few = few; not_blank = not_blank; is_end = end }, cut_between [] rest tt)
           | inr not_end ↦
-              let here : IsText line = record { not_blank = not_blank; not_end = not_end } in
+              let here : IsContentLine line = record { not_blank = not_blank; not_end = not_end } in
               elim (to_call (call_of line)) [
                 | inl c ↦ elim (to_test (nat_lt (length calls) 1000)) [
                   | inl room ↦ rw (not_blank, not_end, c.1, room) (next_line blanks header p front (calls ++ c.0 ∷ []) line rest (cut_within blanks header p (front ++ line ∷ []) (calls ++ c.0 ∷ []) rest all text is (calls-push front calls line c.0 are here (call_taken line c.0 c.1)) (has_room calls c.0 room)))

@@ -6,7 +6,7 @@ use Rattle.std.specs.Result.{IsErrAnd}
 use Rattle.std.proofs.lemmas.Result.{err_from_is_err_and}
 use Rattle.std.proofs.lemmas.List.{length-append}
 use Rattle.moo_text.specs.Side.{Side}
-use Rattle.moo_text.specs.Given.{Gives, Reads, Explains, BreaksOff}
+use Rattle.moo_text.specs.Given.{ReaderGives, ReadsOn, Explains, BreaksOff}
 use Rattle.moo_text.specs.declared.fault.TextFault.{TextFault}
 use Rattle.moo_text.specs.declared.fault.TextFault.TheVariants.{Read, Write, OutOfMemory, Long}
 
@@ -20,35 +20,35 @@ Consumes-then (Some us) None c xs ys p q = absurd p
 Consumes-then (Some us) (Some vs) None xs ys p q = absurd q
 Consumes-then (Some us) (Some vs) (Some ws) xs ys p q = p ∙ ap (λ (t : List ℕ). xs ++ t) q ∙ sym (append_assoc xs ys ws)
 
-pub Gives-none : (a : Side) → Gives a a []
-Gives-none a = record { known = Consumes-none a.left; stays = λ e. (refl, e); at_end = λ was e. was e }
+pub ReaderGives-none : (a : Side) → ReaderGives a a []
+ReaderGives-none a = record { known = Consumes-none a.left; stays = λ e. (refl, e); at_end = λ was e. was e }
 
-pub Gives-then : (a b c : Side) (xs ys : List ℕ) → Gives a b xs → Gives b c ys → Gives a c (xs ++ ys)
-Gives-then a b c xs ys p q = record {
+pub ReaderGives-then : (a b c : Side) (xs ys : List ℕ) → ReaderGives a b xs → ReaderGives b c ys → ReaderGives a c (xs ++ ys)
+ReaderGives-then a b c xs ys p q = record {
   known = Consumes-then a.left b.left c.left xs ys p.known q.known;
   stays = λ e. let first = p.stays e in let second = q.stays first.1 in (ap (λ (t : List ℕ). t ++ ys) first.0 ∙ second.0, second.1);
   at_end = λ was e. q.at_end (p.at_end was) e;
 }
 
 -- what comes from the second reader's side is nothing, where the first has ended
-pub nothing_more : (b c : Side) (ys rest : List ℕ) → Gives b c ys → (c.ended ≡ true → rest ≡ []) → b.ended ≡ true → ys ++ rest ≡ []
+pub nothing_more : (b c : Side) (ys rest : List ℕ) → ReaderGives b c ys → (c.ended ≡ true → rest ≡ []) → b.ended ≡ true → ys ++ rest ≡ []
 nothing_more b c ys rest q none e = let second = q.stays e in ap (λ (t : List ℕ). t ++ rest) second.0 ∙ none second.1
 
-pub Reads-none : (a : Side) (P : List ℕ → List ℕ → Type 0) → ((x : List ℕ) → P x x) → Reads a a P
-Reads-none a P p = record { given = []; gives = Gives-none a; room = omega arith; holds = λ rest _. p (a.ahead ++ rest) }
+pub ReadsOn-none : (a : Side) (P : List ℕ → List ℕ → Type 0) → ((x : List ℕ) → P x x) → ReadsOn a a P
+ReadsOn-none a P p = record { given = []; gives = ReaderGives-none a; room = omega arith; holds = λ rest _. p (a.ahead ++ rest) }
 
 -- two calls
-pub Reads-then : (a b c : Side) (P Q S : List ℕ → List ℕ → Type 0) → Reads a b P → Reads b c Q → ((x y z : List ℕ) → P x y → Q y z → S x z) → Reads a c S
-Reads-then a b c P Q S p q join = record {
+pub ReadsOn-then : (a b c : Side) (P Q S : List ℕ → List ℕ → Type 0) → ReadsOn a b P → ReadsOn b c Q → ((x y z : List ℕ) → P x y → Q y z → S x z) → ReadsOn a c S
+ReadsOn-then a b c P Q S p q join = record {
   given = p.given ++ q.given;
-  gives = Gives-then a b c p.given q.given p.gives q.gives;
+  gives = ReaderGives-then a b c p.given q.given p.gives q.gives;
   room = omega (arith, p.room, q.room, length-append p.given q.given);
   holds = λ rest none. subst (λ (t : List ℕ). S (a.ahead ++ t) (c.ahead ++ rest)) (sym (append_assoc p.given q.given rest))
       (join (a.ahead ++ (p.given ++ (q.given ++ rest))) (b.ahead ++ (q.given ++ rest)) (c.ahead ++ rest) (p.holds (q.given ++ rest) (nothing_more b c q.given rest q.gives none)) (q.holds rest none));
 }
 
-pub Reads-map : (a b : Side) (P Q : List ℕ → List ℕ → Type 0) → Reads a b P → ((x y : List ℕ) → P x y → Q x y) → Reads a b Q
-Reads-map a b P Q p f = record { given = p.given; gives = p.gives; room = p.room; holds = λ rest none. f (a.ahead ++ (p.given ++ rest)) (b.ahead ++ rest) (p.holds rest none) }
+pub ReadsOn-map : (a b : Side) (P Q : List ℕ → List ℕ → Type 0) → ReadsOn a b P → ((x y : List ℕ) → P x y → Q x y) → ReadsOn a b Q
+ReadsOn-map a b P Q p f = record { given = p.given; gives = p.gives; room = p.room; holds = λ rest none. f (a.ahead ++ (p.given ++ rest)) (b.ahead ++ rest) (p.holds rest none) }
 
 -- a call, and one that is stopped
 pub Explains-then : (x y m n : ℕ) (fault : TextFault) → x ≡ m + y → Explains y n fault → Explains x (m + n) fault
@@ -57,24 +57,24 @@ Explains-then x y m n Write e s = s
 Explains-then x y m n Read e s = omega (arith, e, s)
 Explains-then x y m n OutOfMemory e s = omega (arith, e, s)
 
-pub gives_then_breaks : (a b c : Side) (given : List ℕ) (fault : TextFault) → Gives a b given → a.room ≡ length given + b.room → BreaksOff b c fault → BreaksOff a c fault
+pub gives_then_breaks : (a b c : Side) (given : List ℕ) (fault : TextFault) → ReaderGives a b given → a.room ≡ length given + b.room → BreaksOff b c fault → BreaksOff a c fault
 gives_then_breaks a b c given fault p room q = record {
   given = given ++ q.given;
-  gives = Gives-then a b c given q.given p q.gives;
+  gives = ReaderGives-then a b c given q.given p q.gives;
   count = subst (λ (n : ℕ). Explains a.room n fault) (sym (length-append given q.given)) (Explains-then a.room b.room (length given) (length q.given) fault room q.count);
 }
 
-pub Reads-breaks : (a b c : Side) (P : List ℕ → List ℕ → Type 0) (fault : TextFault) → Reads a b P → BreaksOff b c fault → BreaksOff a c fault
-Reads-breaks a b c P fault p q = gives_then_breaks a b c p.given fault p.gives p.room q
+pub ReadsOn-breaks : (a b c : Side) (P : List ℕ → List ℕ → Type 0) (fault : TextFault) → ReadsOn a b P → BreaksOff b c fault → BreaksOff a c fault
+ReadsOn-breaks a b c P fault p q = gives_then_breaks a b c p.given fault p.gives p.room q
 
 -- what was read before a call that is stopped stands, whatever the reader may give behind it
-pub Reads-stand : (a b c : Side) (P : List ℕ → List ℕ → Type 0) (fault : TextFault) (p : Reads a b P) (q : BreaksOff b c fault) (rest : List ℕ) → (c.ended ≡ true → rest ≡ [])
+pub ReadsOn-stand : (a b c : Side) (P : List ℕ → List ℕ → Type 0) (fault : TextFault) (p : ReadsOn a b P) (q : BreaksOff b c fault) (rest : List ℕ) → (c.ended ≡ true → rest ≡ [])
     → P (a.ahead ++ ((p.given ++ q.given) ++ rest)) (b.ahead ++ (q.given ++ rest))
-Reads-stand a b c P fault p q rest none =
+ReadsOn-stand a b c P fault p q rest none =
     subst (λ (t : List ℕ). P (a.ahead ++ t) (b.ahead ++ (q.given ++ rest))) (sym (append_assoc p.given q.given rest)) (p.holds (q.given ++ rest) (nothing_more b c q.given rest q.gives none))
 
 -- memory is refused behind these bytes
-pub out_of_memory : (a b : Side) (given : List ℕ) → Gives a b given → a.room ≡ length given + b.room → BreaksOff a b OutOfMemory
+pub out_of_memory : (a b : Side) (given : List ℕ) → ReaderGives a b given → a.room ≡ length given + b.room → BreaksOff a b OutOfMemory
 out_of_memory a b given p room = record { given = given; gives = p; count = omega (arith, room) }
 
 -- a fault that is handed on

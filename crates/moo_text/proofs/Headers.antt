@@ -11,9 +11,9 @@ use Rattle.moo_value.specs.declared.value.Value.TheVariants.{Int, Obj, Str, Erro
 use Rattle.moo_value.specs.Literal.{is_blank, is_digit, AreDigits, value_after, SpellsObject, Spells, InRange, an_object}
 use Rattle.moo_value.proofs.Results.{chosen}
 use Rattle.moo_world.specs.Objects.{same_text, same_text-Decides}
-use Rattle.moo_text.specs.Line.{is_short, words}
+use Rattle.moo_text.specs.Line.{is_short, words_of_line}
 use Rattle.moo_text.specs.Grammar.{SpellsPlace, SpellsAt, SpellsHeader}
-use Rattle.moo_text.specs.LineReading.{front_of, behind_word, object_value, begins_with, object_of, is_place, place_of, last_place, at_of, header_behind, header_of}
+use Rattle.moo_text.specs.LineReading.{front_of, behind_word, object_value, begins_with_byte, object_of, is_place, place_number, last_place, at_of, header_behind, header_of}
 use Rattle.moo_text.specs.declared.header.Header.{Header}
 use Rattle.moo_text.proofs.Reading.{front_read, front_again_of}
 
@@ -39,7 +39,7 @@ word_again w more = let same : same_text w w ≡ true = (same_text-Decides w w).
 
 -- ---- the programmer
 
-begun : (b : List ℕ) → begins_with 35 b ≡ true → (cs : List ℕ) × (b ≡ 35 ∷ cs)
+begun : (b : List ℕ) → begins_with_byte 35 b ≡ true → (cs : List ℕ) × (b ≡ 35 ∷ cs)
 begun [] e = absurd cc
 begun (c ∷ cs) e = (cs, ap (λ (d : ℕ). d ∷ cs) (eqb-true c 35 e))
 
@@ -64,7 +64,7 @@ object_whole : Value × List ℕ → Option ObjNo
 object_whole x = cond (length x.1 == 0) (object_value x.0) None
 
 pub object_taken : (w : List ℕ) (o : ObjNo) → object_of w ≡ Some o → SpellsObject o.0 w × InRange an_object o.0
-object_taken w o e = elim (chosen (begins_with 35 w) (option_and_then (λ x. cond (length x.1 == 0) (object_value x.0) None) (front_of w)) None (Some o) e) [
+object_taken w o e = elim (chosen (begins_with_byte 35 w) (option_and_then (λ x. cond (length x.1 == 0) (object_value x.0) None) (front_of w)) None (Some o) e) [
   | inl here ↦
       let hash = begun w here.0 in
       let t = then_some (λ x. cond (length x.1 == 0) (object_value x.0) None) (front_of w) o here.1 in
@@ -84,7 +84,7 @@ object_taken w o e = elim (chosen (begins_with 35 w) (option_and_then (λ x. con
 pub object_again : (w : List ℕ) (o : ObjNo) → SpellsObject o.0 w → InRange an_object o.0 → object_of w ≡ Some o
 object_again w o s range =
     let front : front_of w ≡ Some (Obj o, []) = ap front_of (sym (append-nil w)) ∙ front_again_of (Obj o) w [] ([], w, tt, s, refl) (range, omega arith) tt in
-    let hash : begins_with 35 w ≡ true = ap (begins_with 35) s.1 in
+    let hash : begins_with_byte 35 w ≡ true = ap (begins_with_byte 35) s.1 in
     rw (hash, front) refl
 
 -- ---- the number
@@ -110,7 +110,7 @@ le_taken a b e = grind (arith, e)
 pub le_again : (a b : ℕ) → a ≤ b → nat_le a b ≡ true
 le_again a b h = grind (arith, h)
 
-place_taken : (w : List ℕ) (n : ℕ) → place_of w ≡ Some n → SpellsPlace n w
+place_taken : (w : List ℕ) (n : ℕ) → place_number w ≡ Some n → SpellsPlace n w
 place_taken w n e = elim (chosen (is_place w) (Some (value_after 0 w)) None (Some n) e) [
   | inl here ↦
       let small = nat_le (value_after 0 w) 9223372036854775807 in
@@ -124,14 +124,14 @@ place_taken w n e = elim (chosen (is_place w) (Some (value_after 0 w)) None (Som
   | inr other ↦ absurd (let h : None ≡ Some n = other.1 in cc)
 ]
 
-place_again : (w : List ℕ) (n : ℕ) → SpellsPlace n w → place_of w ≡ Some n
+place_again : (w : List ℕ) (n : ℕ) → SpellsPlace n w → place_number w ≡ Some n
 place_again w n s =
     let digits = digits_again w s.each in
     let some = le_again 1 (length w) (omega (arith, s.some)) in
     let few = le_again (length w) 19 s.few in
     let small = le_again (value_after 0 w) 9223372036854775807 (subst (λ (m : ℕ). m ≤ 9223372036854775807) s.value s.in_range) in
     let is : is_place w ≡ true = joined (joined (joined digits some) few) small in
-    let here : place_of w ≡ Some (value_after 0 w) = rw is refl in
+    let here : place_number w ≡ Some (value_after 0 w) = rw is refl in
     here ∙ ap (λ (m : ℕ). Some m) (sym s.value)
 
 last_taken : (ws : List (List ℕ)) (n : ℕ) → last_place ws ≡ Some n → (w : List ℕ) × (ws ≡ w ∷ []) × SpellsPlace n w
@@ -168,17 +168,17 @@ short_taken : (line : List ℕ) → is_short line ≡ true → length line ≤ 2
 short_taken line e = le_taken (length line) 262144 e
 
 pub header_taken : (line : List ℕ) (h : Header) → header_of line ≡ Some h → SpellsHeader h line
-header_taken line h e = elim (chosen (is_short line) (option_and_then header_behind (option_and_then (behind_word (codes "as")) (behind_word (codes "batch") (words line)))) None (Some h) e) [
+header_taken line h e = elim (chosen (is_short line) (option_and_then header_behind (option_and_then (behind_word (codes "as")) (behind_word (codes "batch") (words_of_line line)))) None (Some h) e) [
   | inl here ↦
-      let a = then_some header_behind (option_and_then (behind_word (codes "as")) (behind_word (codes "batch") (words line))) h here.1 in
-      let b = then_some (behind_word (codes "as")) (behind_word (codes "batch") (words line)) a.0 a.1 in
+      let a = then_some header_behind (option_and_then (behind_word (codes "as")) (behind_word (codes "batch") (words_of_line line))) h here.1 in
+      let b = then_some (behind_word (codes "as")) (behind_word (codes "batch") (words_of_line line)) a.0 a.1 in
       let t = behind_taken a.0 h a.2 in
       let o = object_taken t.0 h.programmer t.3 in
       record {
         short = short_taken line here.0;
         object = t.0;
         more = t.1;
-        words_are = word_taken (codes "batch") (words line) b.0 b.1 ∙ ap (λ (ws : List (List ℕ)). codes "batch" ∷ ws) (word_taken (codes "as") b.0 a.0 b.2 ∙ ap (λ (ws : List (List ℕ)). codes "as" ∷ ws) t.2);
+        words_are = word_taken (codes "batch") (words_of_line line) b.0 b.1 ∙ ap (λ (ws : List (List ℕ)). codes "batch" ∷ ws) (word_taken (codes "as") b.0 a.0 b.2 ∙ ap (λ (ws : List (List ℕ)). codes "as" ∷ ws) t.2);
         programmer = o.0;
         in_range = o.1;
         place = at_taken t.1 h.at t.4;
@@ -192,9 +192,9 @@ header_again line h s =
     let object = object_again s.object h.programmer s.programmer s.in_range in
     let place = at_again s.more h.at s.place in
     let behind : header_behind (s.object ∷ s.more) ≡ Some h = rw (object, place) refl in
-    let first : behind_word (codes "batch") (words line) ≡ Some (codes "as" ∷ s.object ∷ s.more) = ap (behind_word (codes "batch")) s.words_are ∙ word_again (codes "batch") (codes "as" ∷ s.object ∷ s.more) in
+    let first : behind_word (codes "batch") (words_of_line line) ≡ Some (codes "as" ∷ s.object ∷ s.more) = ap (behind_word (codes "batch")) s.words_are ∙ word_again (codes "batch") (codes "as" ∷ s.object ∷ s.more) in
     let second = word_again (codes "as") (s.object ∷ s.more) in
-    let whole : option_and_then header_behind (option_and_then (behind_word (codes "as")) (behind_word (codes "batch") (words line))) ≡ Some h =
+    let whole : option_and_then header_behind (option_and_then (behind_word (codes "as")) (behind_word (codes "batch") (words_of_line line))) ≡ Some h =
     ap (λ (o : Option (List (List ℕ))). option_and_then header_behind (option_and_then (behind_word (codes "as")) o)) first ∙ ap (option_and_then header_behind) second ∙ behind in
-    let here : header_of line ≡ option_and_then header_behind (option_and_then (behind_word (codes "as")) (behind_word (codes "batch") (words line))) = rw short refl in
+    let here : header_of line ≡ option_and_then header_behind (option_and_then (behind_word (codes "as")) (behind_word (codes "batch") (words_of_line line))) = rw short refl in
     here ∙ whole

@@ -5,19 +5,19 @@ use Rattle.std.specs.Io.KnownBytes.{Consumes, IsAtEnd}
 use Rattle.moo_text.specs.Items.{items}
 use Rattle.moo_text.specs.Feed.{TakesNext}
 use Rattle.moo_text.specs.Side.{Side, untouched}
-use Rattle.moo_text.specs.Given.{Gives, Explains, BreaksOff, ReadsNext, ReadsItems, ReadsAll, StopsBehind, GivesAll, GivesFront}
+use Rattle.moo_text.specs.Given.{ReaderGives, Explains, BreaksOff, ReadsNext, ReadsItems, ReadsAll, StopsBehind, GivesAll, GivesFront}
 use Rattle.moo_text.specs.declared.fault.TextFault.{TextFault}
 use Rattle.moo_text.specs.declared.next.Next.{Next}
 use Rattle.moo_text.specs.declared.next.Next.TheVariants.{Batch as Whole, Malformed, Truncated, End}
-use Rattle.moo_text.proofs.Giving.{Gives-then, Explains-then, Reads-none, Reads-then, Reads-stand}
+use Rattle.moo_text.proofs.Giving.{ReaderGives-then, Explains-then, ReadsOn-none, ReadsOn-then, ReadsOn-stand}
 
 pub items_none : (a : Side) → ReadsItems a a []
-items_none a = Reads-none a (λ before behind. items before ≡ [] ++ items behind) (λ x. refl)
+items_none a = ReadsOn-none a (λ before behind. items before ≡ [] ++ items behind) (λ x. refl)
 
 -- one item more
 pub items_then : (a b c : Side) (done : List Next) (item : Next) → ReadsItems a b done → ReadsNext b c item → (item ≡ End → ⊥) → ReadsItems a c (done ++ item ∷ [])
 items_then a b c done item p q more =
-    Reads-then a b c (λ x y. items x ≡ done ++ items y) (λ x y. TakesNext x y item) (λ x y. items x ≡ (done ++ item ∷ []) ++ items y) p q
+    ReadsOn-then a b c (λ x y. items x ≡ done ++ items y) (λ x y. TakesNext x y item) (λ x y. items x ≡ (done ++ item ∷ []) ++ items y) p q
     (λ x y z front took. front ∙ ap (λ (t : List Next). done ++ t) (by_item item y z more took) ∙ sym (append_assoc done (item ∷ []) (items z)))
   where
     by_item : (item : Next) (y z : List ℕ) → (item ≡ End → ⊥) → TakesNext y z item → items y ≡ item ∷ items z
@@ -29,13 +29,13 @@ items_then a b c done item p q more =
 -- none more
 pub items_end : (a b c : Side) (done : List Next) → ReadsItems a b done → ReadsNext b c End → ReadsAll a c done
 items_end a b c done p q =
-    Reads-then a b c (λ x y. items x ≡ done ++ items y) (λ x y. TakesNext x y End) (λ x y. items x ≡ done) p q (λ x y z front none. front ∙ ap (λ (t : List Next). done ++ t) none ∙ append-nil done)
+    ReadsOn-then a b c (λ x y. items x ≡ done ++ items y) (λ x y. TakesNext x y End) (λ x y. items x ≡ done) p q (λ x y z front none. front ∙ ap (λ (t : List Next). done ++ t) none ∙ append-nil done)
 
 -- of a text from its start on
 pub whole_items : (left : Option (List ℕ)) (room : ℕ) (c : Side) (done : List Next) (p : ReadsAll (untouched left room) c done) → items p.given ≡ done
 whole_items left room c done p = ap items (sym (append-nil p.given)) ∙ p.holds [] (λ _. refl)
 
-pub all_given : (left : Option (List ℕ)) (room : ℕ) (c : Side) (given : List ℕ) → Gives (untouched left room) c given → c.ended ≡ true → GivesAll left given
+pub all_given : (left : Option (List ℕ)) (room : ℕ) (c : Side) (given : List ℕ) → ReaderGives (untouched left room) c given → c.ended ≡ true → GivesAll left given
 all_given left room c given g ended = by_known left c.left g.known (g.at_end (λ e. absurd cc) ended)
   where
     by_known : (left now : Option (List ℕ)) → Consumes left now given → IsAtEnd now → GivesAll left given
@@ -43,7 +43,7 @@ all_given left room c given g ended = by_known left c.left g.known (g.at_end (λ
     by_known (Some text) None known end = absurd known
     by_known (Some text) (Some rest) known end = sym (append-nil given) ∙ ap (λ (t : List ℕ). given ++ t) (sym end) ∙ sym known
 
-pub front_given : (a b : Side) (given : List ℕ) → Gives a b given → GivesFront a.left given
+pub front_given : (a b : Side) (given : List ℕ) → ReaderGives a b given → GivesFront a.left given
 front_given a b given g = by_known a.left b.left g.known
   where
     by_known : (left now : Option (List ℕ)) → Consumes left now given → GivesFront left given
@@ -57,7 +57,7 @@ items_stop left room b c done fault p q =
     let start = untouched left room in
     record {
       given = p.given ++ q.given;
-      gives = Gives-then start b c p.given q.given p.gives q.gives;
+      gives = ReaderGives-then start b c p.given q.given p.gives q.gives;
       count = subst (λ (n : ℕ). Explains room n fault) (sym (length-append p.given q.given)) (Explains-then room b.room (length p.given) (length q.given) fault p.room q.count);
-      front = λ rest none. (items (b.ahead ++ (q.given ++ rest)), Reads-stand start b c (λ x y. items x ≡ done ++ items y) fault p q rest none);
+      front = λ rest none. (items (b.ahead ++ (q.given ++ rest)), ReadsOn-stand start b c (λ x y. items x ≡ done ++ items y) fault p q rest none);
     }

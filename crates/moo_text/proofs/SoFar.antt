@@ -5,32 +5,32 @@ use Rattle.std.specs.Prelude.{◌==◌}
 use Rattle.std.specs.Str.Lines.{strip_carriage_return}
 use Rattle.moo_text.specs.Feed.{TakesLine}
 use Rattle.moo_text.specs.Side.{Side, IsOver}
-use Rattle.moo_text.specs.Given.{Gives, ReadsLine, BreaksOff}
+use Rattle.moo_text.specs.Given.{ReaderGives, ReadsLine, BreaksOff}
 use Rattle.moo_text.specs.declared.fault.TextFault.{TextFault}
 use Rattle.moo_text.specs.declared.fault.TextFault.TheVariants.{OutOfMemory}
 use Rattle.moo_text.proofs.Kept.{HasNoNewline, LineSoFar, NewlineAt, none-append, kept_again, end_found}
-use Rattle.moo_text.proofs.Giving.{Gives-none, Gives-then, gives_then_breaks, out_of_memory}
+use Rattle.moo_text.proofs.Giving.{ReaderGives-none, ReaderGives-then, gives_then_breaks, out_of_memory}
 
 pub record SoFar (start now : Side) (line : List ℕ) : Type 0 where
   pub given : List ℕ
   pub raw : List ℕ
-  pub gives : Gives start now given
+  pub gives : ReaderGives start now given
   pub room : start.room ≡ length given + now.room
   pub none : HasNoNewline raw
   pub kept : line ≡ take 262146 raw
   pub whole : start.ahead ++ given ≡ raw ++ now.ahead
 
 pub nothing_yet : (start : Side) (line : List ℕ) → line ≡ [] → SoFar start start line
-nothing_yet start line e = record { given = []; raw = []; gives = Gives-none start; room = omega arith; none = tt; kept = e; whole = append-nil start.ahead }
+nothing_yet start line e = record { given = []; raw = []; gives = ReaderGives-none start; room = omega arith; none = tt; kept = e; whole = append-nil start.ahead }
 
 -- the bytes that are read ahead change, and the reader isn't read
 abbrev pub beside : Side → List ℕ → Side
 beside a ahead = record { left = a.left; room = a.room; ended = a.ended; ahead = ahead }
 
-gives_from : (a b : Side) (ahead given : List ℕ) → Gives (beside a ahead) b given → Gives a b given
+gives_from : (a b : Side) (ahead given : List ℕ) → ReaderGives (beside a ahead) b given → ReaderGives a b given
 gives_from a b ahead given g = record { known = g.known; stays = g.stays; at_end = g.at_end }
 
-gives_to : (a b : Side) (ahead given : List ℕ) → Gives a b given → Gives a (beside b ahead) given
+gives_to : (a b : Side) (ahead given : List ℕ) → ReaderGives a b given → ReaderGives a (beside b ahead) given
 gives_to a b ahead given g = record { known = g.known; stays = g.stays; at_end = g.at_end }
 
 breaks_from : (a b : Side) (ahead : List ℕ) (fault : TextFault) → BreaksOff (beside a ahead) b fault → BreaksOff a b fault
@@ -38,11 +38,11 @@ breaks_from a b ahead fault o = record { given = o.given; gives = gives_from a b
 
 -- what was read ahead is used up, and a piece is read
 pub piece_read : (start now next : Side) (line longer used : List ℕ) → SoFar start now line → HasNoNewline now.ahead → longer ≡ take 262146 (line ++ now.ahead)
-    → Gives (beside now used) next next.ahead → now.room ≡ length next.ahead + next.room → SoFar start next longer
+    → ReaderGives (beside now used) next next.ahead → now.room ≡ length next.ahead + next.room → SoFar start next longer
 piece_read start now next line longer used s none put took less = record {
   given = s.given ++ next.ahead;
   raw = s.raw ++ now.ahead;
-  gives = Gives-then start now next s.given next.ahead s.gives (gives_from now next used next.ahead took);
+  gives = ReaderGives-then start now next s.given next.ahead s.gives (gives_from now next used next.ahead took);
   room = omega (arith, s.room, less, length-append s.given next.ahead);
   none = none-append s.raw now.ahead s.none none;
   kept = put ∙ ap (λ (t : List ℕ). take 262146 (t ++ now.ahead)) s.kept ∙ kept_again 262146 s.raw now.ahead;

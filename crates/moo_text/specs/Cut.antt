@@ -16,7 +16,7 @@ abbrev pub HaveNoEnd : List (List ℕ) → Type 0
 HaveNoEnd lines = AllByRecursion (λ line. is_end_line line ≡ false) lines
 
 -- a line that is neither blank nor `end`
-pub record IsText (line : List ℕ) : Type 0 where
+pub record IsContentLine (line : List ℕ) : Type 0 where
   pub not_blank : is_blank_line line ≡ false
   pub not_end : is_end_line line ≡ false
 
@@ -30,7 +30,7 @@ IsNoCall line = (call : Call) → ¬ (SpellsCall call line)
 abbrev pub AreCalls : List (List ℕ) → List Call → Type 0
 AreCalls [] calls = calls ≡ []
 AreCalls (line ∷ lines) calls = ((is_blank_line line ≡ true) × AreCalls lines calls)
-    ⊎ (IsText line × ((call : Call) × (others : List Call) × SpellsCall call line × (calls ≡ call ∷ others) × AreCalls lines others))
+    ⊎ (IsContentLine line × ((call : Call) × (others : List Call) × SpellsCall call line × (calls ≡ call ∷ others) × AreCalls lines others))
 
 -- a batch: a header, at most 1,000 calls, and an end
 pub record IsBatch (lines : List (List ℕ)) (batch : Batch) (rest : List (List ℕ)) : Type 0 where
@@ -38,7 +38,7 @@ pub record IsBatch (lines : List (List ℕ)) (batch : Batch) (rest : List (List 
   pub body : List (List ℕ)
   pub last : List ℕ
   pub whole : lines ≡ header ∷ (body ++ last ∷ rest)
-  pub is_text : IsText header
+  pub is_text : IsContentLine header
   pub is_header : SpellsHeader (record { programmer = batch.programmer; at = batch.at }) header
   pub are_calls : AreCalls body batch.calls
   pub few : length batch.calls ≤ 1000
@@ -48,9 +48,9 @@ pub record IsBatch (lines : List (List ℕ)) (batch : Batch) (rest : List (List 
 -- the first line of the batch that is bad is line n: a header that is none; a line that is no call, or a call too many
 abbrev pub IsFirstBad : List (List ℕ) → ℕ → List (List ℕ) → Type 0
 IsFirstBad lines n rest =
-    ((header : List ℕ) × IsText header × IsNoHeader header × (lines ≡ header ∷ rest) × (n ≡ 1))
-    ⊎ ((header : List ℕ) × (h : Header) × (body : List (List ℕ)) × (bad : List ℕ) × (calls : List Call) × IsText header × SpellsHeader h header
-    × AreCalls body calls × (length calls ≤ 1000) × IsText bad × (IsNoCall bad ⊎ (length calls ≡ 1000))
+    ((header : List ℕ) × IsContentLine header × IsNoHeader header × (lines ≡ header ∷ rest) × (n ≡ 1))
+    ⊎ ((header : List ℕ) × (h : Header) × (body : List (List ℕ)) × (bad : List ℕ) × (calls : List Call) × IsContentLine header × SpellsHeader h header
+    × AreCalls body calls × (length calls ≤ 1000) × IsContentLine bad × (IsNoCall bad ⊎ (length calls ≡ 1000))
     × (lines ≡ header ∷ (body ++ bad ∷ rest)) × (n ≡ length body + 2))
 
 -- a malformed batch goes on to its next end; a line `end` in a header's place is one by itself
@@ -61,7 +61,7 @@ IsMalformed lines n rest =
 
 -- the text ends inside a batch
 abbrev pub IsTruncated : List (List ℕ) → Type 0
-IsTruncated lines = (header : List ℕ) × (body : List (List ℕ)) × (lines ≡ header ∷ body) × IsText header × HaveNoEnd body
+IsTruncated lines = (header : List ℕ) × (body : List (List ℕ)) × (lines ≡ header ∷ body) × IsContentLine header × HaveNoEnd body
 
 -- a list of lines is cut into these items
 abbrev pub Cuts : List (List ℕ) → List Next → Type 0

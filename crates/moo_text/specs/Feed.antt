@@ -6,13 +6,13 @@ use Rattle.moo_text.specs.declared.next.Next.{Next}
 use Rattle.moo_text.specs.declared.next.Next.TheVariants.{End}
 
 -- a line that is read whole, or so much of it that it is seen to be too long
-abbrev pub StandsFor : List ℕ → List ℕ → Type 0
-StandsFor read line = (read ≡ line) ⊎ ((262144 < length read) × (262144 < length line))
+abbrev pub IsLineRead : List ℕ → List ℕ → Type 0
+IsLineRead read line = (read ≡ line) ⊎ ((262144 < length read) × (262144 < length line))
 
 -- the text has lost its first line; none at its end
 abbrev pub TakesLine : List ℕ → List ℕ → Option (List ℕ) → Type 0
 TakesLine old new None = (old ≡ []) × (new ≡ [])
-TakesLine old new (Some read) = (line : List ℕ) × StandsFor read line × (lines old ≡ line ∷ lines new)
+TakesLine old new (Some read) = (line : List ℕ) × IsLineRead read line × (lines old ≡ line ∷ lines new)
 
 -- what f says of the lines before is what g says of those behind
 abbrev pub Carries : (List (List ℕ) → List Next) → (List (List ℕ) → List Next) → List ℕ → List ℕ → Type 0

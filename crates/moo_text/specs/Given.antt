@@ -10,16 +10,16 @@ use Rattle.moo_text.specs.declared.next.Next.{Next}
 
 -- From old to new the reader gave these bytes. Where it tells its bytes they stood in front and are gone. Once it has given no bytes it
 -- gives none, and where it tells its bytes none are left then.
-pub record Gives (old new : Side) (given : List ℕ) : Type 0 where
+pub record ReaderGives (old new : Side) (given : List ℕ) : Type 0 where
   pub known : Consumes old.left new.left given
   pub stays : old.ended ≡ true → (given ≡ []) × (new.ended ≡ true)
   pub at_end : (old.ended ≡ true → IsAtEnd old.left) → new.ended ≡ true → IsAtEnd new.left
 
 -- The reader gave some bytes, as many as were taken of the room. P holds of the bytes that were not used before and of those that are
 -- not used now, whatever the reader may give behind them: nothing, where the text is at its end.
-pub record Reads (old new : Side) (P : List ℕ → List ℕ → Type 0) : Type 0 where
+pub record ReadsOn (old new : Side) (P : List ℕ → List ℕ → Type 0) : Type 0 where
   pub given : List ℕ
-  pub gives : Gives old new given
+  pub gives : ReaderGives old new given
   pub room : old.room ≡ length given + new.room
   pub holds : (rest : List ℕ) → (new.ended ≡ true → rest ≡ []) → P (old.ahead ++ (given ++ rest)) (new.ahead ++ rest)
 
@@ -34,37 +34,37 @@ Explains room count OutOfMemory = count ≤ room
 -- The reader gave some bytes, and there reading stopped.
 pub record BreaksOff (old new : Side) (fault : TextFault) : Type 0 where
   pub given : List ℕ
-  pub gives : Gives old new given
+  pub gives : ReaderGives old new given
   pub count : Explains old.room (length given) fault
 
 -- a line is read, and none at the end
 abbrev pub ReadsLine : Side → Side → Option (List ℕ) → Type 0
-ReadsLine old new line = Reads old new (λ before behind. TakesLine before behind line)
+ReadsLine old new line = ReadsOn old new (λ before behind. TakesLine before behind line)
 
 -- what f says of the lines before is what g says of those behind
 abbrev pub ReadsAlong : (List (List ℕ) → List Next) → (List (List ℕ) → List Next) → Side → Side → Type 0
-ReadsAlong f g old new = Reads old new (λ before behind. Carries f g before behind)
+ReadsAlong f g old new = ReadsOn old new (λ before behind. Carries f g before behind)
 
 -- f's first item is read
 abbrev pub ReadsFirst : (List (List ℕ) → List Next) → Side → Side → Next → Type 0
-ReadsFirst f old new item = Reads old new (λ before behind. TakesFirst f before behind item)
+ReadsFirst f old new item = ReadsOn old new (λ before behind. TakesFirst f before behind item)
 
 -- the next item is read, and End where there is none
 abbrev pub ReadsNext : Side → Side → Next → Type 0
-ReadsNext old new item = Reads old new (λ before behind. TakesNext before behind item)
+ReadsNext old new item = ReadsOn old new (λ before behind. TakesNext before behind item)
 
 -- these items are read
 abbrev pub ReadsItems : Side → Side → List Next → Type 0
-ReadsItems old new done = Reads old new (λ before behind. items before ≡ done ++ items behind)
+ReadsItems old new done = ReadsOn old new (λ before behind. items before ≡ done ++ items behind)
 
 -- these are all items that the text has
 abbrev pub ReadsAll : Side → Side → List Next → Type 0
-ReadsAll old new all = Reads old new (λ before behind. items before ≡ all)
+ReadsAll old new all = ReadsOn old new (λ before behind. items before ≡ all)
 
 -- From the start of a text on reading was stopped behind these items: whatever the reader may give behind what it gave, they come first.
 pub record StopsBehind (left : Option (List ℕ)) (room : ℕ) (new : Side) (done : List Next) (fault : TextFault) : Type 0 where
   pub given : List ℕ
-  pub gives : Gives (untouched left room) new given
+  pub gives : ReaderGives (untouched left room) new given
   pub count : Explains room (length given) fault
   pub front : (rest : List ℕ) → (new.ended ≡ true → rest ≡ []) → (more : List Next) × (items (given ++ rest) ≡ done ++ more)
 

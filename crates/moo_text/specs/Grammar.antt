@@ -7,7 +7,7 @@ use Rattle.moo_world.specs.Objects.{folded}
 use Rattle.moo_world.specs.Names.{spelling}
 use Rattle.moo_world.specs.declared.name.CallName.{CallName}
 use Rattle.moo_world.specs.declared.call.Call.{Call}
-use Rattle.moo_text.specs.Line.{words}
+use Rattle.moo_text.specs.Line.{words_of_line}
 use Rattle.moo_text.specs.declared.header.Header.{Header}
 
 -- 1 to 19 digits, with a value of at most 9223372036854775807
@@ -28,7 +28,7 @@ pub record SpellsHeader (header : Header) (line : List ℕ) : Type 0 where
   pub short : length line ≤ 262144
   pub object : List ℕ
   pub more : List (List ℕ)
-  pub words_are : words line ≡ codes "batch" ∷ codes "as" ∷ object ∷ more
+  pub words_are : words_of_line line ≡ codes "batch" ∷ codes "as" ∷ object ∷ more
   pub programmer : SpellsObject header.programmer.0 object
   pub in_range : InRange an_object header.programmer.0
   pub place : SpellsAt header.at more

@@ -23,8 +23,8 @@ abbrev pub is_end_line : List ℕ → Bool
 is_end_line line = is_short line && is_end_word (after_blanks line)
 
 -- what stands between blanks, in order
-abbrev pub words : List ℕ → List (List ℕ)
-words line = filter (λ word. not (length word == 0)) (slice_split is_blank line)
+abbrev pub words_of_line : List ℕ → List (List ℕ)
+words_of_line line = filter (λ word. not (length word == 0)) (slice_split is_blank line)
 
 -- what stands in front of the first blank, and what follows
 abbrev pub until_blank : List ℕ → List ℕ

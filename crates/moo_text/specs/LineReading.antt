@@ -11,7 +11,7 @@ use Rattle.moo_world.specs.Objects.{folded, same_text}
 use Rattle.moo_world.specs.Names.{spelling, all_names}
 use Rattle.moo_world.specs.declared.name.CallName.{CallName}
 use Rattle.moo_world.specs.declared.call.Call.{Call}
-use Rattle.moo_text.specs.Line.{is_short, is_all_blank, words}
+use Rattle.moo_text.specs.Line.{is_short, is_all_blank, words_of_line}
 use Rattle.moo_text.specs.declared.header.Header.{Header}
 
 abbrev pub found : Read Value → Option (Value × List ℕ)
@@ -34,24 +34,24 @@ abbrev pub object_value : Value → Option ObjNo
 object_value (Obj o) = Some o
 object_value v = None
 
-abbrev pub begins_with : ℕ → List ℕ → Bool
-begins_with c [] = false
-begins_with c (d ∷ ds) = d == c
+abbrev pub begins_with_byte : ℕ → List ℕ → Bool
+begins_with_byte c [] = false
+begins_with_byte c (d ∷ ds) = d == c
 
 -- the object whose literal a word is, from its `#` on
 abbrev pub object_of : List ℕ → Option ObjNo
-object_of w = if begins_with 35 w then option_and_then (λ x. if length x.1 == 0 then object_value x.0 else None) (front_of w) else None
+object_of w = if begins_with_byte 35 w then option_and_then (λ x. if length x.1 == 0 then object_value x.0 else None) (front_of w) else None
 
 abbrev pub is_place : List ℕ → Bool
 is_place digits = list_all is_digit digits && nat_le 1 (length digits) && nat_le (length digits) 19 && nat_le (value_after 0 digits) 9223372036854775807
 
-abbrev pub place_of : List ℕ → Option ℕ
-place_of digits = if is_place digits then Some (value_after 0 digits) else None
+abbrev pub place_number : List ℕ → Option ℕ
+place_number digits = if is_place digits then Some (value_after 0 digits) else None
 
 -- the number that is the last word
 abbrev pub last_place : List (List ℕ) → Option ℕ
 last_place [] = None
-last_place (n ∷ more) = if length more == 0 then place_of n else None
+last_place (n ∷ more) = if length more == 0 then place_number n else None
 
 -- the number that `at` gives, where it stands
 abbrev pub at_of : List (List ℕ) → Option (Option ℕ)
@@ -63,7 +63,7 @@ header_behind [] = None
 header_behind (o ∷ more) = option_and_then (λ p. option_map (λ at. record { programmer = p; at = at }) (at_of more)) (object_of o)
 
 abbrev pub header_of : List ℕ → Option Header
-header_of line = if is_short line then option_and_then header_behind (option_and_then (behind_word (codes "as")) (behind_word (codes "batch") (words line))) else None
+header_of line = if is_short line then option_and_then header_behind (option_and_then (behind_word (codes "as")) (behind_word (codes "batch") (words_of_line line))) else None
 
 -- ---- calls
 

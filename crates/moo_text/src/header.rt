@@ -3,8 +3,8 @@
 ghost use Rattle.std.specs.Prelude.{◌≡◌, ◌≤◌, ◌-◌, true, false, IfOk, MatchOption};
 ghost use Rattle.moo_value.specs.Literal.{is_digit};
 ghost use Rattle.std.specs.Option.{option_map};
-ghost use Rattle.moo_text.specs.Line.{words};
-ghost use Rattle.moo_text.specs.LineReading.{behind_word, begins_with as front_is, object_value as object_in, object_of as object_spelled, place_of as place_in, last_place as last_place_in, at_of as at_in, header_of};
+ghost use Rattle.moo_text.specs.Line.{words_of_line};
+ghost use Rattle.moo_text.specs.LineReading.{behind_word, begins_with_byte, object_value as object_in, object_of as object_spelled, place_number as place_in, last_place as last_place_in, at_of as at_in, header_of};
 
 use crate::line::{is_short, next_word};
 use crate::literal::read_front;
@@ -21,7 +21,7 @@ pub struct Header {
 /// What follows the word, where the bytes begin with it.
 #[tactic(auto, unfolding(moo_world::specs::Objects::same_text))]
 fn after_the_word<'a>(word: &[u8], bytes: &'a [u8]) -> Option<&'a [u8]>
-    ensures { option_map (λ rest. words rest.now) result ≡ behind_word word.now (words bytes.now) }
+    ensures { option_map (λ rest. words_of_line rest.now) result ≡ behind_word word.now (words_of_line bytes.now) }
 {
     match next_word(bytes) {
         Some((first, rest)) => { if first == word { Some(rest) } else { None } }
@@ -30,7 +30,7 @@ fn after_the_word<'a>(word: &[u8], bytes: &'a [u8]) -> Option<&'a [u8]>
 }
 
 fn begins_with(first: u8, bytes: &[u8]) -> bool
-    ensures { result ≡ front_is first bytes.now }
+    ensures { result ≡ begins_with_byte first bytes.now }
 {
     match bytes.split_first() {
         Some((byte, _)) => *byte == first,
@@ -96,7 +96,7 @@ fn place_of(digits: &[u8]) -> Option<u64>
 
 /// The number that is the last word.
 fn last_place(bytes: &[u8]) -> Option<u64>
-    ensures { result ≡ last_place_in (words bytes.now) }
+    ensures { result ≡ last_place_in (words_of_line bytes.now) }
 {
     match next_word(bytes) {
         Some((digits, rest)) => match next_word(rest) {
@@ -109,7 +109,7 @@ fn last_place(bytes: &[u8]) -> Option<u64>
 
 /// What stands behind the programmer: nothing, or `at` and a number.
 fn at_of(bytes: &[u8]) -> Option<Option<u64>>
-    ensures { result ≡ at_in (words bytes.now) }
+    ensures { result ≡ at_in (words_of_line bytes.now) }
 {
     if next_word(bytes).is_none() {
         return Some(None);

@@ -3,7 +3,7 @@
 ghost use Rattle.std.specs.Prelude.{◌≡◌, ◌∷◌, [], MatchOption};
 ghost use Rattle.moo_value.specs.Literal.{is_blank as blank_byte, is_word as word_byte};
 ghost use Rattle.moo_value.specs.Reading.{after_blanks, word, after_word};
-ghost use Rattle.moo_text.specs.Line.{is_short as short_line, is_all_blank as all_blank, is_blank_line as blank_line, is_end_line as end_line, words, until_blank, from_blank};
+ghost use Rattle.moo_text.specs.Line.{is_short as short_line, is_all_blank as all_blank, is_blank_line as blank_line, is_end_line as end_line, words_of_line, until_blank, from_blank};
 
 /// The most bytes of a line, its end left away.
 pub const LONGEST_LINE: usize = 262144;
@@ -94,7 +94,7 @@ fn split_at_blank(bytes: &[u8]) -> (&[u8], &[u8])
 
 /// The first of the words that stand between blanks, and what follows.
 pub fn next_word(bytes: &[u8]) -> Option<(&[u8], &[u8])>
-    ensures { MatchOption result (words bytes.now ≡ []) (λ x. words bytes.now ≡ x.0.now ∷ words x.1.now) }
+    ensures { MatchOption result (words_of_line bytes.now ≡ []) (λ x. words_of_line bytes.now ≡ x.0.now ∷ words_of_line x.1.now) }
 {
     let start = skip_blanks(bytes);
     if start.is_empty() {

@@ -58,7 +58,7 @@ impl<R: Read> LineReader<R> {
     ghost use Rattle.std.specs.Prelude.{◌≡◌, ◌<◌, Ok, true, false, ◌≤◌, [], min, MatchOption, OnOk, IfOk, IfErr, IfNone};
     ghost use Rattle.std.specs.Option.{option_map};
     ghost use Rattle.moo_text.specs.Side.{untouched, lines_side, lines_room, IsOver};
-    ghost use Rattle.moo_text.specs.Given.{Gives, ReadsLine, BreaksOff};
+    ghost use Rattle.moo_text.specs.Given.{ReaderGives, ReadsLine, BreaksOff};
 
     /// Reads nothing yet. Of the reader at most so many bytes are read, and never more than [`LONGEST_TEXT`].
     pub fn new(alloc: Global, reader: R, room: usize) -> Self
@@ -76,7 +76,7 @@ impl<R: Read> LineReader<R> {
     /// Reads one more piece, where none is left. False at the end of the text.
     fn read_piece(&mut self) -> Result<bool, TextFault>
         requires { self.old.ahead ≡ [] }
-        ensures gives { OnOk result (Gives (lines_side R.remaining self.old) (lines_side R.remaining self.new) self.new.ahead) }
+        ensures gives { OnOk result (ReaderGives (lines_side R.remaining self.old) (lines_side R.remaining self.new) self.new.ahead) }
         ensures room { OnOk result (self.old.room ≡ length self.new.ahead + self.new.room) }
         ensures falls { result ≡ Ok true → self.new.room < self.old.room }
         ensures more { result ≡ Ok true → self.new.ended ≡ false }

@@ -10,7 +10,7 @@ ghost use Rattle.moo_text.specs.LineReading.{header_of, object_of, call_of};
 ghost use Rattle.moo_text.specs.Items.{items};
 ghost use Rattle.moo_text.specs.Cut.{Cuts};
 ghost use Rattle.moo_text.specs.Side.{Side, untouched};
-ghost use Rattle.moo_text.specs.Given.{Gives, BreaksOff, ReadsNext, ReadsItems, ReadsAll, StopsBehind, GivesAll};
+ghost use Rattle.moo_text.specs.Given.{ReaderGives, BreaksOff, ReadsNext, ReadsItems, ReadsAll, StopsBehind, GivesAll};
 ghost use Rattle.moo_text.specs.declared.fault.TextFault.{TextFault};
 ghost use Rattle.moo_text.specs.declared.header.Header.{Header};
 ghost use Rattle.moo_text.specs.declared.next.Next.{Next};
@@ -45,5 +45,5 @@ pub fn items_are_joined()
     ensures end { (a b c : Side) (done : List Next) → ReadsItems a b done → ReadsNext b c End → ReadsAll a c done }
     ensures stop { (left : Option (List ℕ)) (room : ℕ) (b c : Side) (done : List Next) (fault : TextFault) → ReadsItems (untouched left room) b done → BreaksOff b c fault → StopsBehind left room c done fault }
     ensures whole { (left : Option (List ℕ)) (room : ℕ) (c : Side) (all : List Next) (read : ReadsAll (untouched left room) c all) → items read.given ≡ all }
-    ensures all { (left : Option (List ℕ)) (room : ℕ) (c : Side) (given : List ℕ) → Gives (untouched left room) c given → c.ended ≡ true → GivesAll left given }
+    ensures all { (left : Option (List ℕ)) (room : ℕ) (c : Side) (given : List ℕ) → ReaderGives (untouched left room) c given → c.ended ≡ true → GivesAll left given }
 {}

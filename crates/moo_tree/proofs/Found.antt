@@ -10,7 +10,7 @@ use Rattle.std.specs.FinMap.Entries.{below_all, find-where_key, is_sorted-where_
 use Rattle.moo_value.specs.declared.value.ObjNo.{ObjNo}
 use Rattle.moo_rows.specs.Exact.{object_exact}
 use Rattle.moo_rows.specs.Maps.{Maps, object_cmp}
-use Rattle.moo_rows.specs.Ordered.{contents}
+use Rattle.moo_ordered.specs.Ordered.{contents}
 use Rattle.moo_rows.proofs.Orders.{object_total}
 use Rattle.moo_rows.proofs.Walking.{first_of, second_of}
 use Rattle.moo_world.specs.Objects.{is_among}

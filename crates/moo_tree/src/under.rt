@@ -4,7 +4,7 @@ ghost use Rattle.std.specs.Prelude.{◌≡◌, ◌++◌, true, Some, IfOk, OnOk}
 ghost use Rattle.std.specs.FinMap.{get, insert};
 ghost use Rattle.moo_rows.specs.declared.row.ObjRow.{ObjRow};
 ghost use Rattle.moo_rows.specs.Maps.{object_cmp};
-ghost use Rattle.moo_rows.specs.Ordered.{contents};
+ghost use Rattle.moo_ordered.specs.Ordered.{contents};
 ghost use Rattle.moo_world.specs.ObjectLists.{children_of, subtree_of};
 ghost use Rattle.moo_world.specs.Rows.{world_of};
 ghost use Rattle.moo_world.specs.World.{IsTree, is_object};
@@ -12,7 +12,7 @@ ghost use Rattle.moo_tree.specs.Under.{IsFound, owners_under};
 
 use crate::lists::children;
 use crate::numbers::valid;
-use moo_rows::{Rows, ordered};
+use moo_rows::Rows;
 use moo_value::ObjNo;
 use std::alloc::{AllocError, Global};
 use std::collections::BTreeMap;
@@ -34,7 +34,7 @@ fn visit<R: Rows>(
         None => unreachable!(),
         Some(row) => row,
     };
-    ordered::put(found, y, row.owner)?;
+    moo_ordered::put(found, y, row.owner)?;
     let children = children(alloc, rows, y)?;
     below.extend_from_slice(children.as_slice())?;
     Ok(())

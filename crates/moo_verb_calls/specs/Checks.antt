@@ -21,8 +21,8 @@ reading_verb w p x desc then =
     check (may_read_verb w p found.1) (Failed Permission) (then found.1)))
 
 -- the owner is an object, the rights have the letters of a verb's alone, and the names have a word
-abbrev pub taking_info : World → Info → Name → (VerbBits → Outcome) → Outcome
-taking_info w info names then =
+abbrev pub taking_verb_info : World → Info → Name → (VerbBits → Outcome) → Outcome
+taking_verb_info w info names then =
     check (is_object w info.0) (Failed InvalidArgument)
     (found_or (verb_bits_of info.1) InvalidArgument (λ bits.
     check (has_word names) (Failed InvalidArgument) (then bits)))

@@ -12,7 +12,7 @@ ghost use Rattle.moo_world.specs.VerbReading.{args_of};
 ghost use Rattle.moo_world.specs.VerbCalls.{add_verb};
 ghost use Rattle.moo_world.specs.Keeps.{Keeps};
 ghost use Rattle.moo_call_parts.specs.Outcomes.{world_in, ComesTo, Answers};
-ghost use Rattle.moo_verb_calls.specs.Checks.{taking_info};
+ghost use Rattle.moo_verb_calls.specs.Checks.{taking_verb_info};
 
 use moo_call_parts::{ArgTexts, Fault, VerbInfo, ZERO, rights};
 use moo_rows::{ArgSpec, Rows, VerbBits, VerbRow};
@@ -34,7 +34,7 @@ pub(crate) fn bits_taken<R: Rows>(rows: &R, verb: VerbInfo<'_>) -> Result<VerbBi
     ensures owner { OnOk result (is_object (world_in (R.held rows.now)) verb.entry.info.owner ≡ true) }
     ensures bits { IfOk result (λ bits. verb_bits_of verb.entry.info.perms.now ≡ Some bits) }
     ensures names { OnOk result (has_word verb.entry.names.now ≡ true) }
-    ensures err { IfErr result (λ code. (then : VerbBits → Outcome) → taking_info (world_in (R.held rows.now)) (verb.entry.info.owner, verb.entry.info.perms.now) verb.entry.names.now then ≡ Failed code) }
+    ensures err { IfErr result (λ code. (then : VerbBits → Outcome) → taking_verb_info (world_in (R.held rows.now)) (verb.entry.info.owner, verb.entry.info.perms.now) verb.entry.names.now then ≡ Failed code) }
 {
     if !valid(rows, verb.info.owner) {
         return Err(Code::InvalidArgument);

@@ -20,7 +20,7 @@ use Rattle.moo_rows.proofs.Orders.{object_total, verb_total}
 use Rattle.moo_rows.proofs.Walking.{first_of, second_of}
 use Rattle.moo_rows.proofs.OfObject.{verbs_of_left-all}
 use Rattle.moo_world.specs.Rows.{IsSound, look_ups, world_of, world_shown, record_of, verb_id}
-use Rattle.moo_world.specs.World.{Record, verbs_of as verbs_in}
+use Rattle.moo_world.specs.World.{Record, directory_of as verbs_in}
 use Rattle.moo_world.proofs.Shown.MapLaws.{key-Decides}
 use Rattle.moo_verbs.proofs.Numbering.{below, made_below, step}
 

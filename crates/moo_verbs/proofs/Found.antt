@@ -10,7 +10,7 @@ use Rattle.moo_rows.specs.declared.row.VerbRow.{VerbRow}
 use Rattle.moo_rows.specs.Maps.{Maps}
 use Rattle.moo_rows.specs.Walk.{verbs_of_left}
 use Rattle.moo_world.specs.Rows.{IsSound, world_of}
-use Rattle.moo_world.specs.World.{verbs_of}
+use Rattle.moo_world.specs.World.{directory_of}
 use Rattle.moo_world.specs.Descriptors.{place_within}
 use Rattle.moo_verbs.specs.Places.{has_verb, verb_place}
 use Rattle.moo_verbs.proofs.Entries.{Entry, row_at, made, by_number, walked, verbs_shown}
@@ -36,7 +36,7 @@ id_of e = e.0.1
 
 module _ (m : Maps) (sound : IsSound m) (x : ObjNo) where
   -- what is read of the rows that the walk gives is read of the directory
-  pub walked_rows : {B : Type 0} (u : VerbRow → B) → map (λ (e : Entry). u e.1) (walk m x) ≡ map u (verbs_of (world_of m) x)
+  pub walked_rows : {B : Type 0} (u : VerbRow → B) → map (λ (e : Entry). u e.1) (walk m x) ≡ map u (directory_of (world_of m) x)
   walked_rows u =
       ap (map (λ (e : Entry). u e.1)) (walked m x sound) ∙ map-made (made m x) (row_at m x) (λ (e : Entry). u e.1) u (λ j v. refl) m.head.next_verb
       ∙ ap (map u) (sym (verbs_shown m x sound))
@@ -58,7 +58,7 @@ module _ (m : Maps) (sound : IsSound m) (x : ObjNo) where
           ap (λ (f : Entry). has_verb m x (id_of f)) at.is ∙ ap is_some at.held
 
   -- the first entry that passes stands at the place of the first verb that does
-  pub found_word : (test : VerbRow → Bool) → find (λ (e : Entry). test e.1) (walk m x) ≡ slice_get (walk m x) (position_or_len test (verbs_of (world_of m) x))
+  pub found_word : (test : VerbRow → Bool) → find (λ (e : Entry). test e.1) (walk m x) ≡ slice_get (walk m x) (position_or_len test (directory_of (world_of m) x))
   found_word test =
       find_at (λ (e : Entry). test e.1) (walk m x)
-      ∙ ap (slice_get (walk m x)) (sym (position_of_map (λ (e : Entry). e.1) test (walk m x)) ∙ ap (position_or_len test) (walked_rows (λ v. v) ∙ map_same (verbs_of (world_of m) x)))
+      ∙ ap (slice_get (walk m x)) (sym (position_of_map (λ (e : Entry). e.1) test (walk m x)) ∙ ap (position_or_len test) (walked_rows (λ v. v) ∙ map_same (directory_of (world_of m) x)))

@@ -3,7 +3,7 @@
 ghost use Rattle.std.specs.Prelude.{◌≡◌, ◌<◌, true, map, IfOk, OnOk};
 ghost use Rattle.std.specs.FinMap.{insert, remove};
 ghost use Rattle.moo_world.specs.Rows.{world_of, verb_id, IsSound, IsGood};
-ghost use Rattle.moo_world.specs.World.{is_object, has_word, verbs_of};
+ghost use Rattle.moo_world.specs.World.{is_object, has_word, directory_of};
 ghost use Rattle.moo_world.specs.Directories.{verb_added, verb_removed, verb_info_set, verb_args_set};
 ghost use Rattle.moo_verbs.specs.Places.{has_verb, verb_place};
 ghost use Rattle.moo_world.specs.Keeps.{Keeps};
@@ -17,7 +17,7 @@ use std::alloc::{AllocError, Global};
 /// LambdaMOO Programmer's Manual, 'Operations on Verbs': `verbs`.
 pub fn list<R: Rows>(alloc: Global, rows: &R, x: ObjNo) -> Result<Vec<MooStr>, AllocError>
     requires { IsSound (R.held rows.now).maps }
-    ensures { IfOk result (λ names. names.items ≡ map (λ v. v.names) (verbs_of (world_of (R.held rows.now).maps) x)) }
+    ensures { IfOk result (λ names. names.items ≡ map (λ v. v.names) (directory_of (world_of (R.held rows.now).maps) x)) }
 {
     let mut found = Vec::new(alloc);
     for (_, row) in each_verb_of(rows, x, VerbId(0)) {

@@ -95,8 +95,8 @@ parent_and_owner p (a ∷ b ∷ []) = Err wrong_type
 parent_and_owner p args = Err Arguments
 
 -- an object with what was read beside it, or the wrong type
-abbrev pub with_object : {A : Type 0} → ObjNo → Option A → Result (ObjNo × A) Code
-with_object x found = ok_or (option_map (λ a. (x, a)) found) wrong_type
+abbrev pub beside_object : {A : Type 0} → ObjNo → Option A → Result (ObjNo × A) Code
+beside_object x found = ok_or (option_map (λ a. (x, a)) found) wrong_type
 
 -- ---- accept lists
 
@@ -108,7 +108,7 @@ objects_among (v ∷ vs) = None
 
 -- what set_accept takes: an object, and a list of objects, or 0 for none
 abbrev pub object_and_accept : List Value → Result (ObjNo × Option (List ObjNo)) Code
-object_and_accept (Obj x ∷ a_list l ∷ []) = with_object x (option_map Some (objects_among (spread l)))
+object_and_accept (Obj x ∷ a_list l ∷ []) = beside_object x (option_map Some (objects_among (spread l)))
 object_and_accept (Obj x ∷ Int n ∷ []) = if int_eq n (pos 0) then Ok (x, None) else Err wrong_type
 object_and_accept (a ∷ b ∷ []) = Err wrong_type
 object_and_accept args = Err Arguments
@@ -132,13 +132,13 @@ info_and_name_in other = None
 
 -- what add_property takes
 abbrev pub new_property : List Value → Result (ObjNo × (Name × Value × Info)) Code
-new_property (Obj x ∷ Str name ∷ v ∷ a_list info ∷ []) = with_object x (option_map (λ i. (name, v, i)) (info_in (spread info)))
+new_property (Obj x ∷ Str name ∷ v ∷ a_list info ∷ []) = beside_object x (option_map (λ i. (name, v, i)) (info_in (spread info)))
 new_property (a ∷ b ∷ c ∷ d ∷ []) = Err wrong_type
 new_property args = Err Arguments
 
 -- what set_property_info takes
 abbrev pub new_property_info : List Value → Result (ObjNo × (Name × (Info × Option Name))) Code
-new_property_info (Obj x ∷ Str name ∷ a_list info ∷ []) = with_object x (option_map (λ i. (name, i)) (info_and_name_in (spread info)))
+new_property_info (Obj x ∷ Str name ∷ a_list info ∷ []) = beside_object x (option_map (λ i. (name, i)) (info_and_name_in (spread info)))
 new_property_info (a ∷ b ∷ c ∷ []) = Err wrong_type
 new_property_info args = Err Arguments
 
@@ -162,7 +162,7 @@ texts_in other = None
 
 -- what verb_info, verb_args and delete_verb take
 abbrev pub object_and_desc : List Value → Result (ObjNo × Desc) Code
-object_and_desc (Obj x ∷ d ∷ []) = with_object x (desc_of d)
+object_and_desc (Obj x ∷ d ∷ []) = beside_object x (desc_of d)
 object_and_desc (a ∷ b ∷ []) = Err wrong_type
 object_and_desc args = Err Arguments
 
@@ -173,18 +173,18 @@ both (Some a) b = option_map (λ y. (a, y)) b
 
 -- what add_verb takes
 abbrev pub new_verb : List Value → Result (ObjNo × ((Info × Name) × (Name × Name × Name))) Code
-new_verb (Obj x ∷ a_list info ∷ a_list args ∷ []) = with_object x (both (verb_info_in (spread info)) (texts_in (spread args)))
+new_verb (Obj x ∷ a_list info ∷ a_list args ∷ []) = beside_object x (both (verb_info_in (spread info)) (texts_in (spread args)))
 new_verb (a ∷ b ∷ c ∷ []) = Err wrong_type
 new_verb args = Err Arguments
 
 -- what set_verb_info takes
 abbrev pub new_verb_info : List Value → Result (ObjNo × (Desc × (Info × Name))) Code
-new_verb_info (Obj x ∷ d ∷ a_list info ∷ []) = with_object x (both (desc_of d) (verb_info_in (spread info)))
+new_verb_info (Obj x ∷ d ∷ a_list info ∷ []) = beside_object x (both (desc_of d) (verb_info_in (spread info)))
 new_verb_info (a ∷ b ∷ c ∷ []) = Err wrong_type
 new_verb_info args = Err Arguments
 
 -- what set_verb_args takes
 abbrev pub new_verb_args : List Value → Result (ObjNo × (Desc × (Name × Name × Name))) Code
-new_verb_args (Obj x ∷ d ∷ a_list args ∷ []) = with_object x (both (desc_of d) (texts_in (spread args)))
+new_verb_args (Obj x ∷ d ∷ a_list args ∷ []) = beside_object x (both (desc_of d) (texts_in (spread args)))
 new_verb_args (a ∷ b ∷ c ∷ []) = Err wrong_type
 new_verb_args args = Err Arguments

@@ -23,8 +23,8 @@ born q owner = record {
   verbs = [];
 }
 
-abbrev pub with_object : World → ObjNo → Record → World
-with_object w x r = record w { object = λ y. if same_object x y then Some r else w.object y; top = x.0 }
+abbrev pub with_new_record : World → ObjNo → Record → World
+with_new_record w x r = record w { object = λ y. if same_object x y then Some r else w.object y; top = x.0 }
 
 abbrev pub created : World → ObjNo → ObjNo → ObjNo → World
-created w x q owner = rebuilt w (with_object w x (born q owner)) q
+created w x q owner = rebuilt w (with_new_record w x (born q owner)) q

@@ -10,7 +10,7 @@ use Rattle.moo_rows.specs.declared.row.VerbRow.{VerbRow}
 use Rattle.moo_world.specs.declared.descriptor.Desc.{Desc}
 use Rattle.moo_world.specs.declared.descriptor.Desc.TheVariants.{Index, Name as a_word}
 use Rattle.moo_world.specs.Objects.{Name}
-use Rattle.moo_world.specs.World.{World, verbs_of}
+use Rattle.moo_world.specs.World.{World, directory_of}
 use Rattle.moo_world.specs.Directories.{verb_at}
 use Rattle.moo_world.specs.Matching.{one_matches}
 
@@ -22,13 +22,13 @@ place_numbered (negsuc n) = None
 
 -- a place within the directory
 abbrev pub place_within : World → ObjNo → ℕ → Option ℕ
-place_within w x place = if nat_lt place (length (verbs_of w x)) then Some place else None
+place_within w x place = if nat_lt place (length (directory_of w x)) then Some place else None
 
 abbrev pub verb_by_number : World → ObjNo → ℤ → Option ℕ
 verb_by_number w x number = option_and_then (place_within w x) (place_numbered number)
 
 abbrev pub verb_by_word : World → ObjNo → Name → Option ℕ
-verb_by_word w x word = position (λ v. one_matches v.names word) (verbs_of w x)
+verb_by_word w x word = position (λ v. one_matches v.names word) (directory_of w x)
 
 -- the place of the verb that a descriptor names
 abbrev pub described : World → ObjNo → Desc → Option ℕ

@@ -7,10 +7,10 @@ use Rattle.moo_rows.specs.declared.row.ArgSpec.{ArgSpec}
 use Rattle.moo_rows.specs.declared.row.VerbBits.{VerbBits}
 use Rattle.moo_rows.specs.declared.row.VerbRow.{VerbRow}
 use Rattle.moo_world.specs.Objects.{Name}
-use Rattle.moo_world.specs.World.{World, with_record, verbs_of}
+use Rattle.moo_world.specs.World.{World, with_record, directory_of}
 
 abbrev pub verb_at : World → ObjNo → ℕ → Option VerbRow
-verb_at w x place = slice_get (verbs_of w x) place
+verb_at w x place = slice_get (directory_of w x) place
 
 -- the directory of x changed
 abbrev pub with_verbs : World → ObjNo → (List VerbRow → List VerbRow) → World

@@ -31,9 +31,9 @@ field_changed w x change = with_row w x (changed change)
 
 -- the change leaves a well formed world: a place is an object outside x, or nothing, a name is a text, and owners and what an
 -- accept list names, at most 1,000 objects, are numbers of 32 bits
-abbrev pub is_allowed : World → ObjNo → Change → Bool
-is_allowed w x (Name name) = is_text name
-is_allowed w x (Owner owner) = is_number owner
-is_allowed w x (Location to) = (is_object w to || same_object nothing to) && not (is_within w to x)
-is_allowed w x (Accept list) = accept_fits list
-is_allowed w x change = true
+abbrev pub is_allowed_change : World → ObjNo → Change → Bool
+is_allowed_change w x (Name name) = is_text name
+is_allowed_change w x (Owner owner) = is_number owner
+is_allowed_change w x (Location to) = (is_object w to || same_object nothing to) && not (is_within w to x)
+is_allowed_change w x (Accept list) = accept_fits list
+is_allowed_change w x change = true

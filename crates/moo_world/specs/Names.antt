@@ -55,8 +55,8 @@ all_names =
     ∷ []
 
 -- the call that the bytes name, in any case
-abbrev pub named : List ℕ → Option CallName
-named bytes = find (λ name. same_text (folded bytes) (spelling name)) all_names
+abbrev pub call_name_of : List ℕ → Option CallName
+call_name_of bytes = find (λ name. same_text (folded bytes) (spelling name)) all_names
 
 -- ---- a call is found by its name
 

@@ -22,11 +22,11 @@ lies_in w x y = row_passes (λ r. same_object x r.location) w y
 abbrev pub contents_of : World → ObjNo → List ObjNo
 contents_of w x = filter (lies_in w x) (objects_of w)
 
-abbrev pub is_player : World → ObjNo → Bool
-is_player w x = row_passes (λ r. r.player) w x
+abbrev pub has_player_bit : World → ObjNo → Bool
+has_player_bit w x = row_passes (λ r. r.player) w x
 
 abbrev pub players_of : World → List ObjNo
-players_of w = filter (is_player w) (objects_of w)
+players_of w = filter (has_player_bit w) (objects_of w)
 
 -- x and its descendants
 abbrev pub subtree_of : World → ObjNo → List ObjNo

@@ -118,8 +118,8 @@ set w p x n v =
 -- ---- definitions
 
 -- the object itself defines a property of the name
-abbrev pub defines : World → ObjNo → Name → Bool
-defines w x n = list_any (λ m. same_text (folded m) (folded n)) (names_of w x)
+abbrev pub defines_name : World → ObjNo → Name → Bool
+defines_name w x n = list_any (λ m. same_text (folded m) (folded n)) (names_of w x)
 
 -- the name may be given to a new property of x
 abbrev pub may_define : World → ObjNo → Name → Bool
@@ -140,13 +140,13 @@ abbrev pub delete_property : World → ObjNo → ObjNo → Name → Outcome
 delete_property w p x n =
     check (is_object w x) (Failed InvalidArgument)
     (check (may_write_object w p x) (Failed Permission)
-    (check (defines w x n) (Failed PropertyNotFound)
+    (check (defines_name w x n) (Failed PropertyNotFound)
     (Done zero (undefined w x n))))
 
 -- a property that x itself defines may have a name that a new property of x might have
 abbrev pub may_rename : World → ObjNo → Name → Option Name → Bool
 may_rename w x n None = true
-may_rename w x n (Some new) = defines w x n && may_define w x new
+may_rename w x n (Some new) = defines_name w x n && may_define w x new
 
 abbrev pub renamed_to : World → ObjNo → Name → Option Name → World
 renamed_to w x n None = w

@@ -15,8 +15,8 @@ released x parent r = record r {
   };
 }
 
-abbrev pub without_object : World → ObjNo → World
-without_object w x = record w { object = λ y. if same_object x y then None else option_map (released x (unwrap_or (parent_of w x) nothing)) (w.object y) }
+abbrev pub without_record : World → ObjNo → World
+without_record w x = record w { object = λ y. if same_object x y then None else option_map (released x (unwrap_or (parent_of w x) nothing)) (w.object y) }
 
 abbrev pub recycled : World → ObjNo → World
-recycled w x = rebuilt w (without_object w x) nothing
+recycled w x = rebuilt w (without_record w x) nothing

@@ -19,7 +19,7 @@ use Rattle.moo_world.specs.declared.name.PetitionCall.{PetitionCall}
 use Rattle.moo_world.specs.declared.name.PetitionCall.TheVariants.{Petition as to_petition, Petitions as to_list, Grant as to_grant, Decline as to_decline}
 use Rattle.moo_world.specs.Answers.{zero, list_of}
 use Rattle.moo_world.specs.Arguments.{no_values}
-use Rattle.moo_world.specs.Names.{petition_call, named}
+use Rattle.moo_world.specs.Names.{petition_call, call_name_of}
 use Rattle.moo_world.specs.Objects.{same_object}
 use Rattle.moo_world.specs.Outcomes.{Outcome, Done, Failed, Full}
 use Rattle.moo_world.specs.Petitions.{is_named, are_few, are_shallow, PetitionsStand}
@@ -99,7 +99,7 @@ without id s = record s { petitions = remove s.petitions id }
 
 -- the name of a call and what it is given, of a name that names a call, and none of those of petitions
 abbrev pub call_in : List Value → Option Call
-call_in (Str name ∷ args) = option_and_then (λ n. if is_some (petition_call n) then None else Some (record { name = n; args = args })) (named name)
+call_in (Str name ∷ args) = option_and_then (λ n. if is_some (petition_call n) then None else Some (record { name = n; args = args })) (call_name_of name)
 call_in values = None
 
 -- the call that a petition holds

@@ -97,11 +97,11 @@ pub record IsGood (m : Maps) : Type 0 where
 
 -- ---- rows with one row put or removed
 
-abbrev pub with_row : LookUps → ObjNo → ObjRow → LookUps
-with_row m x row = record m { object = λ y. if same_object x y then Some row else m.object y }
+abbrev pub with_object_row : LookUps → ObjNo → ObjRow → LookUps
+with_object_row m x row = record m { object = λ y. if same_object x y then Some row else m.object y }
 
-abbrev pub with_slot : LookUps → ObjNo → ℕ → SlotRow → LookUps
-with_slot m x id k = record m { slot = λ y j. if same_object x y && (id == j) then Some k else m.slot y j }
+abbrev pub with_slot_row : LookUps → ObjNo → ℕ → SlotRow → LookUps
+with_slot_row m x id k = record m { slot = λ y j. if same_object x y && (id == j) then Some k else m.slot y j }
 
 abbrev pub less_slot : LookUps → ObjNo → ℕ → LookUps
 less_slot m x id = record m { slot = λ y j. if same_object x y && (id == j) then None else m.slot y j }

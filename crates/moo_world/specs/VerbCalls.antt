@@ -8,7 +8,7 @@ use Rattle.moo_value.specs.declared.code.Code.TheVariants.{Permission, VerbNotFo
 use Rattle.moo_rows.specs.Bits.{verb_bits_of, verb_letters_of}
 use Rattle.moo_world.specs.declared.descriptor.Desc.{Desc}
 use Rattle.moo_world.specs.Objects.{Name}
-use Rattle.moo_world.specs.World.{World, is_object, has_word, verbs_of}
+use Rattle.moo_world.specs.World.{World, is_object, has_word, directory_of}
 use Rattle.moo_world.specs.Outcomes.{Outcome, Done, Failed, Full, check, found_or}
 use Rattle.moo_world.specs.Arguments.{Info}
 use Rattle.moo_world.specs.Answers.{zero, list_of, text_list}
@@ -24,7 +24,7 @@ abbrev pub verbs : World → ObjNo → ObjNo → Outcome
 verbs w p x =
     check (is_object w x) (Failed InvalidArgument)
     (check (may_read_object w p x) (Failed Permission)
-    (Done (text_list (map (λ v. v.names) (verbs_of w x))) w))
+    (Done (text_list (map (λ v. v.names) (directory_of w x))) w))
 
 abbrev pub verb_info : World → ObjNo → ObjNo → Desc → Outcome
 verb_info w p x desc =

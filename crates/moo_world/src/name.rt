@@ -2,7 +2,7 @@
 
 ghost use Rattle.std.specs.Prelude.{◌≡◌, ◌↔◌, Some};
 ghost use Rattle.moo_world.specs.Objects.{same_text, folded};
-ghost use Rattle.moo_world.specs.Names.{spelling, all_names, named, petition_call};
+ghost use Rattle.moo_world.specs.Names.{spelling, all_names, call_name_of, petition_call};
 
 /// The calls on the world, those that only read first, and then those of petitions.
 #[derive(Clone, Copy, Debug, PartialEq, Eq)]
@@ -151,14 +151,14 @@ impl CallName {
     }
 
     fn first_spelled(bytes: &[u8]) -> Option<CallName>
-        ensures { result ≡ named bytes.now }
+        ensures { result ≡ call_name_of bytes.now }
     {
         ALL.iter().copied().find(|name| name.is_spelled(bytes))
     }
 
     /// The call that the bytes name, in any case; none where they name no call.
     pub fn read(bytes: &[u8]) -> Option<CallName>
-        ensures named { result ≡ named bytes.now }
+        ensures call_name_of { result ≡ call_name_of bytes.now }
         ensures one { (name : CallName) → (result ≡ Some name) ↔ (folded bytes.now ≡ spelling name) }
     {
         CallName::first_spelled(bytes)

@@ -6,9 +6,8 @@
 ghost use Rattle.std.specs.Prelude.{◌<◌};
 
 use moo_draft::{Changes, Draft, apply_changes};
-use moo_rows::{
-    Bits, Flat, PropId, Rows, SlotRow, SlotState, each_slot, each_slot_of, opening_world,
-};
+use moo_flat::{Flat, opening_world};
+use moo_rows::{Bits, PropId, Rows, SlotRow, SlotState, each_slot, each_slot_of};
 use moo_value::{ObjNo, Value};
 use std::alloc::{AllocError, Global};
 use std::process::Abort;

@@ -5,7 +5,7 @@ ghost use Rattle.std.specs.FinMap.{empty, insert};
 ghost use Rattle.sqlite.specs.Tree.{has_rowid};
 ghost use Rattle.moo_tables.specs.Inside.{AreKeyed};
 ghost use Rattle.moo_cells.specs.Reading.{ReadsObject, IsRead};
-ghost use Rattle.moo_cells.specs.Holding.{object_number, object_key, IsLess, HoldsTable, SaysUnread, Takes};
+ghost use Rattle.moo_cells.specs.Holding.{object_number, object_key, IsLess, HoldsTable, SaysUnread, TakesRow};
 ghost use Rattle.moo_cells.specs.declared.fault.RowFault.TheVariants.{Unreadable};
 
 use crate::cell::int_in;
@@ -13,7 +13,8 @@ use crate::fault::{CellFault, RowFault};
 use crate::object::read_object;
 use crate::table_row::TableRow;
 use moo_damage::{Key, Kind};
-use moo_rows::{Flat, ObjRow, Rows};
+use moo_flat::Flat;
+use moo_rows::{ObjRow, Rows};
 use moo_tables::Version;
 use moo_value::ObjNo;
 use sqlite::Row;
@@ -31,7 +32,7 @@ impl TableRow for ObjRow {
 
 /// Puts the object that these cells show.
 fn take_object(alloc: Global, cells: &Row, rows: &mut Flat) -> Result<(), RowFault>
-    ensures ok { OnOk result (Takes ReadsObject cells.now rows.old.maps.objects rows.new.maps.objects) }
+    ensures ok { OnOk result (TakesRow ReadsObject cells.now rows.old.maps.objects rows.new.maps.objects) }
     ensures kept { OnOk result (rows.new.maps ≡ record rows.old.maps { objects = rows.new.maps.objects }) }
     ensures err { IfErr result (λ fault. fault ≡ Unreadable → ¬ (IsRead ReadsObject cells.now)) }
 {

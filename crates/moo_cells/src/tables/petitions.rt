@@ -5,7 +5,7 @@ ghost use Rattle.std.specs.FinMap.{empty, insert};
 ghost use Rattle.sqlite.specs.Tree.{has_rowid};
 ghost use Rattle.moo_tables.specs.Inside.{AreKeyed};
 ghost use Rattle.moo_cells.specs.Reading.{ReadsPetition, IsRead};
-ghost use Rattle.moo_cells.specs.Holding.{petition_number, petition_key, IsLess, HoldsTable, SaysUnread, Takes};
+ghost use Rattle.moo_cells.specs.Holding.{petition_number, petition_key, IsLess, HoldsTable, SaysUnread, TakesRow};
 ghost use Rattle.moo_cells.specs.declared.fault.RowFault.TheVariants.{Unreadable};
 
 use crate::cell::int_in;
@@ -13,7 +13,8 @@ use crate::fault::{CellFault, RowFault};
 use crate::petition::read_petition;
 use crate::table_row::TableRow;
 use moo_damage::{Key, Kind};
-use moo_rows::{Flat, PetitionId, PetitionRow, Rows};
+use moo_flat::Flat;
+use moo_rows::{PetitionId, PetitionRow, Rows};
 use moo_tables::Version;
 use sqlite::Row;
 use std::alloc::Global;
@@ -34,7 +35,7 @@ impl TableRow for PetitionRow {
 
 /// Puts the petition that these cells show.
 fn take_petition(alloc: Global, cells: &Row, rows: &mut Flat) -> Result<(), RowFault>
-    ensures ok { OnOk result (Takes ReadsPetition cells.now rows.old.maps.petitions rows.new.maps.petitions) }
+    ensures ok { OnOk result (TakesRow ReadsPetition cells.now rows.old.maps.petitions rows.new.maps.petitions) }
     ensures kept { OnOk result (rows.new.maps ≡ record rows.old.maps { petitions = rows.new.maps.petitions }) }
     ensures err { IfErr result (λ fault. fault ≡ Unreadable → ¬ (IsRead ReadsPetition cells.now)) }
 {

@@ -5,7 +5,7 @@ ghost use Rattle.std.specs.FinMap.{empty, insert};
 ghost use Rattle.sqlite.specs.Tree.{has_rowid};
 ghost use Rattle.moo_tables.specs.Inside.{AreKeyed};
 ghost use Rattle.moo_cells.specs.Reading.{ReadsProp, IsRead};
-ghost use Rattle.moo_cells.specs.Holding.{prop_number, prop_key, IsLess, HoldsTable, SaysUnread, Takes};
+ghost use Rattle.moo_cells.specs.Holding.{prop_number, prop_key, IsLess, HoldsTable, SaysUnread, TakesRow};
 ghost use Rattle.moo_cells.specs.declared.fault.RowFault.TheVariants.{Unreadable};
 
 use crate::cell::int_in;
@@ -13,7 +13,8 @@ use crate::fault::{CellFault, RowFault};
 use crate::prop::read_prop;
 use crate::table_row::TableRow;
 use moo_damage::{Key, Kind};
-use moo_rows::{Flat, PropId, PropRow, Rows};
+use moo_flat::Flat;
+use moo_rows::{PropId, PropRow, Rows};
 use moo_tables::Version;
 use sqlite::Row;
 use std::alloc::Global;
@@ -30,7 +31,7 @@ impl TableRow for PropRow {
 
 /// Puts the property that these cells show.
 fn take_prop(alloc: Global, cells: &Row, rows: &mut Flat) -> Result<(), RowFault>
-    ensures ok { OnOk result (Takes ReadsProp cells.now rows.old.maps.props rows.new.maps.props) }
+    ensures ok { OnOk result (TakesRow ReadsProp cells.now rows.old.maps.props rows.new.maps.props) }
     ensures kept { OnOk result (rows.new.maps ≡ record rows.old.maps { props = rows.new.maps.props }) }
     ensures err { IfErr result (λ fault. fault ≡ Unreadable → ¬ (IsRead ReadsProp cells.now)) }
 {

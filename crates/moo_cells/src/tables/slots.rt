@@ -2,9 +2,9 @@
 
 ghost use Rattle.std.specs.Prelude.{◌≡◌, IfErr, OnOk};
 ghost use Rattle.std.specs.FinMap.{empty, insert};
-ghost use Rattle.moo_tables.specs.Listing.{begins_with, ArePaired};
+ghost use Rattle.moo_tables.specs.Listing.{has_key_pair, ArePaired};
 ghost use Rattle.moo_cells.specs.Reading.{ReadsSlot, IsRead};
-ghost use Rattle.moo_cells.specs.Holding.{slot_number, slot_key, IsPairLess, HoldsTable, SaysUnread, Takes};
+ghost use Rattle.moo_cells.specs.Holding.{slot_number, slot_key, IsPairLess, HoldsTable, SaysUnread, TakesRow};
 ghost use Rattle.moo_cells.specs.declared.fault.RowFault.TheVariants.{Unreadable};
 
 use crate::cell::int_in;
@@ -12,7 +12,8 @@ use crate::fault::{CellFault, RowFault};
 use crate::slot::read_slot;
 use crate::table_row::TableRow;
 use moo_damage::{Key, Kind};
-use moo_rows::{Flat, PropId, Rows, SlotRow};
+use moo_flat::Flat;
+use moo_rows::{PropId, Rows, SlotRow};
 use moo_tables::Version;
 use moo_value::ObjNo;
 use sqlite::Row;
@@ -34,7 +35,7 @@ impl TableRow for SlotRow {
 
 /// Puts the slot that these cells show.
 fn take_slot(alloc: Global, version: Version, cells: &Row, rows: &mut Flat) -> Result<(), RowFault>
-    ensures ok { OnOk result (Takes (ReadsSlot version) cells.now rows.old.maps.slots rows.new.maps.slots) }
+    ensures ok { OnOk result (TakesRow (ReadsSlot version) cells.now rows.old.maps.slots rows.new.maps.slots) }
     ensures kept { OnOk result (rows.new.maps ≡ record rows.old.maps { slots = rows.new.maps.slots }) }
     ensures err { IfErr result (λ fault. fault ≡ Unreadable → ¬ (IsRead (ReadsSlot version) cells.now)) }
 {
@@ -52,9 +53,9 @@ pub(crate) fn read_slots(
 ) -> Result<(), CellFault>
     requires listed { ArePaired cells.now }
     requires none { rows.old.maps.slots ≡ empty }
-    ensures holds { OnOk result (HoldsTable begins_with slot_number (ReadsSlot version) cells.now rows.new.maps.slots) }
+    ensures holds { OnOk result (HoldsTable has_key_pair slot_number (ReadsSlot version) cells.now rows.new.maps.slots) }
     ensures kept { OnOk result (rows.new.maps ≡ record rows.old.maps { slots = rows.new.maps.slots }) }
-    ensures fault { IfErr result (SaysUnread begins_with (ReadsSlot version) IsPairLess slot_key cells.now) }
+    ensures fault { IfErr result (SaysUnread has_key_pair (ReadsSlot version) IsPairLess slot_key cells.now) }
 {
     for row in cells {
         match take_slot(alloc, version, row, rows) {

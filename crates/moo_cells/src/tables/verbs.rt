@@ -2,9 +2,9 @@
 
 ghost use Rattle.std.specs.Prelude.{◌≡◌, IfErr, OnOk};
 ghost use Rattle.std.specs.FinMap.{empty, insert};
-ghost use Rattle.moo_tables.specs.Listing.{begins_with, ArePaired};
+ghost use Rattle.moo_tables.specs.Listing.{has_key_pair, ArePaired};
 ghost use Rattle.moo_cells.specs.Reading.{ReadsVerb, IsRead};
-ghost use Rattle.moo_cells.specs.Holding.{verb_number, verb_key, IsPairLess, HoldsTable, SaysUnread, Takes};
+ghost use Rattle.moo_cells.specs.Holding.{verb_number, verb_key, IsPairLess, HoldsTable, SaysUnread, TakesRow};
 ghost use Rattle.moo_cells.specs.declared.fault.RowFault.TheVariants.{Unreadable};
 
 use crate::cell::int_in;
@@ -12,7 +12,8 @@ use crate::fault::{CellFault, RowFault};
 use crate::table_row::TableRow;
 use crate::verb::read_verb;
 use moo_damage::{Key, Kind};
-use moo_rows::{Flat, Rows, VerbId, VerbRow};
+use moo_flat::Flat;
+use moo_rows::{Rows, VerbId, VerbRow};
 use moo_tables::Version;
 use moo_value::ObjNo;
 use sqlite::Row;
@@ -34,7 +35,7 @@ impl TableRow for VerbRow {
 
 /// Puts the verb that these cells show.
 fn take_verb(alloc: Global, cells: &Row, rows: &mut Flat) -> Result<(), RowFault>
-    ensures ok { OnOk result (Takes ReadsVerb cells.now rows.old.maps.verbs rows.new.maps.verbs) }
+    ensures ok { OnOk result (TakesRow ReadsVerb cells.now rows.old.maps.verbs rows.new.maps.verbs) }
     ensures kept { OnOk result (rows.new.maps ≡ record rows.old.maps { verbs = rows.new.maps.verbs }) }
     ensures err { IfErr result (λ fault. fault ≡ Unreadable → ¬ (IsRead ReadsVerb cells.now)) }
 {
@@ -47,9 +48,9 @@ fn take_verb(alloc: Global, cells: &Row, rows: &mut Flat) -> Result<(), RowFault
 pub(crate) fn read_verbs(alloc: Global, cells: &[Row], rows: &mut Flat) -> Result<(), CellFault>
     requires listed { ArePaired cells.now }
     requires none { rows.old.maps.verbs ≡ empty }
-    ensures holds { OnOk result (HoldsTable begins_with verb_number ReadsVerb cells.now rows.new.maps.verbs) }
+    ensures holds { OnOk result (HoldsTable has_key_pair verb_number ReadsVerb cells.now rows.new.maps.verbs) }
     ensures kept { OnOk result (rows.new.maps ≡ record rows.old.maps { verbs = rows.new.maps.verbs }) }
-    ensures fault { IfErr result (SaysUnread begins_with ReadsVerb IsPairLess verb_key cells.now) }
+    ensures fault { IfErr result (SaysUnread has_key_pair ReadsVerb IsPairLess verb_key cells.now) }
 {
     for row in cells {
         match take_verb(alloc, row, rows) {

@@ -11,7 +11,7 @@ use Rattle.moo_rows.specs.declared.row.Head.{Head}
 use Rattle.moo_rows.specs.declared.row.ObjRow.{ObjRow}
 use Rattle.moo_rows.specs.Maps.{Maps}
 use Rattle.moo_world.specs.Objects.{nothing, same_object, same_object-Decides}
-use Rattle.moo_world.specs.Rows.{LookUps, look_ups, world_of, world_shown, record_of, with_row}
+use Rattle.moo_world.specs.Rows.{LookUps, look_ups, world_of, world_shown, record_of, with_object_row}
 use Rattle.moo_world.specs.World.{World, Record, IsTree, Climbs, is_object}
 use Rattle.moo_world.proofs.Shown.MapLaws.{look_ups-put_object}
 use Rattle.moo_world.proofs.Shown.Seen.{is_object_seen}
@@ -34,7 +34,7 @@ link_seen m f y = by (m.object y)
 
 module _ (m : LookUps) (head : Head) (x : ObjNo) (row : ObjRow) (t : IsTree (world_shown m)) (free : is_object (world_shown m) x ≡ false) where
   abbrev n : LookUps
-  n = record (with_row m x row) { head = head }
+  n = record (with_object_row m x row) { head = head }
 
   which : (y : ObjNo) → is_object (world_shown n) y ≡ true → (y ≡ x) ⊎ (is_object (world_shown m) y ≡ true)
   which y h = by (same_object x y) refl (sym (is_object_seen n y) ∙ h)

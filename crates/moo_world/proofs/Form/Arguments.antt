@@ -15,9 +15,9 @@ use Rattle.moo_value.specs.Values.{Values, no_values as no_more, int, object, st
 use Rattle.moo_world.specs.declared.built_in.BuiltIn.{BuiltIn}
 use Rattle.moo_world.specs.declared.built_in.BuiltIn.TheVariants as field
 use Rattle.moo_world.specs.declared.change.Change.{Change}
-use Rattle.moo_world.specs.Arguments.{Info, is_integer, in_range, is_number, is_text, all_within_limits, is_within_limits, fits, with_object, object_text_and_value, info_in, new_property, objects_among, object_and_accept, both, desc_of, verb_info_in, texts_in, new_verb, new_verb_info}
+use Rattle.moo_world.specs.Arguments.{Info, is_integer, in_range, is_number, is_text, all_within_limits, is_within_limits, fits, beside_object, object_text_and_value, info_in, new_property, objects_among, object_and_accept, both, desc_of, verb_info_in, texts_in, new_verb, new_verb_info}
 use Rattle.moo_world.specs.declared.descriptor.Desc.{Desc}
-use Rattle.moo_world.specs.Fields.{is_allowed}
+use Rattle.moo_world.specs.Fields.{is_allowed_change}
 use Rattle.moo_world.specs.Objects.{Name}
 use Rattle.moo_world.specs.PropertyCalls.{change_of}
 use Rattle.moo_world.specs.World.{World}
@@ -53,7 +53,7 @@ set_fits (a ∷ b ∷ c ∷ d ∷ args) h = refl
 new_fits : (args : List Value) → list_all fits args ≡ true → new_value (new_property args) ≡ true
 new_fits (Obj x ∷ Str name ∷ v ∷ a_list info ∷ []) h = by (info_in (spread info)) (third (fits (Obj x)) (fits (Str name)) (fits v) (fits (a_list info) && true) h)
   where
-    by : (o : Option Info) → fits v ≡ true → new_value (with_object x (option_map (λ i. (name, v, i)) o)) ≡ true
+    by : (o : Option Info) → fits v ≡ true → new_value (beside_object x (option_map (λ i. (name, v, i)) o)) ≡ true
     by None e = refl
     by (Some i) e = e
 new_fits [] h = refl
@@ -105,7 +105,7 @@ objects_numbered (v ∷ vs) h = refl
 accept_numbered : (args : List Value) → list_all fits args ≡ true → numbered (object_and_accept args) ≡ true
 accept_numbered (Obj x ∷ a_list l ∷ []) h = by (objects_among (spread l)) (objects_numbered (spread l) (each_within l (second (fits (Obj x)) (fits (a_list l)) true h)))
   where
-    by : (o : Option (List ObjNo)) → unwrap_or (option_map (list_all is_number) o) true ≡ true → numbered (with_object x (option_map Some o)) ≡ true
+    by : (o : Option (List ObjNo)) → unwrap_or (option_map (list_all is_number) o) true ≡ true → numbered (beside_object x (option_map Some o)) ≡ true
     by None e = refl
     by (Some objects) e = e
 accept_numbered (Obj x ∷ Int n ∷ []) h = by (int_eq n (pos 0))
@@ -149,7 +149,7 @@ renamed r = passes (λ a. is_text a.1.1.1) r
 added_named : (args : List Value) → list_all fits args ≡ true → added (new_verb args) ≡ true
 added_named (Obj x ∷ a_list info ∷ a_list texts ∷ []) h = by (verb_info_in (spread info)) (texts_in (spread texts)) (info_named (spread info) (each_within info (second (fits (Obj x)) (fits (a_list info)) (fits (a_list texts) && true) h)))
   where
-    by : (i : Option (Info × Name)) (t : Option (Name × Name × Name)) → names_texts i ≡ true → added (with_object x (both i t)) ≡ true
+    by : (i : Option (Info × Name)) (t : Option (Name × Name × Name)) → names_texts i ≡ true → added (beside_object x (both i t)) ≡ true
     by None t e = refl
     by (Some i) None e = refl
     by (Some i) (Some t) e = e
@@ -165,7 +165,7 @@ added_named (a ∷ b ∷ c ∷ d ∷ args) h = refl
 renamed_named : (args : List Value) → list_all fits args ≡ true → renamed (new_verb_info args) ≡ true
 renamed_named (Obj x ∷ d ∷ a_list info ∷ []) h = by (desc_of d) (verb_info_in (spread info)) (info_named (spread info) (each_within info (third (fits (Obj x)) (fits d) (fits (a_list info)) true h)))
   where
-    by : (o : Option Desc) (i : Option (Info × Name)) → names_texts i ≡ true → renamed (with_object x (both o i)) ≡ true
+    by : (o : Option Desc) (i : Option (Info × Name)) → names_texts i ≡ true → renamed (beside_object x (both o i)) ≡ true
     by None i e = refl
     by (Some o) None e = refl
     by (Some o) (Some i) e = e
@@ -187,7 +187,7 @@ new_verb_info_named args a e h = sym (ap renamed e) ∙ renamed_named args h
 
 -- ---- fields
 
-field_allowed : (w : World) (x : ObjNo) (f : BuiltIn) (v : Value) → fits v ≡ true → passes (is_allowed w x) (change_of f v) ≡ true
+field_allowed : (w : World) (x : ObjNo) (f : BuiltIn) (v : Value) → fits v ≡ true → passes (is_allowed_change w x) (change_of f v) ≡ true
 field_allowed w x field.Location v h = refl
 field_allowed w x field.Contents v h = refl
 field_allowed w x field.Name (Str s) h = h
@@ -197,5 +197,5 @@ field_allowed w x field.Owner v h = refl
 field_allowed w x f v h = refl
 
 -- what `set` changes of a field is allowed, where the value fits: it never is a place or an accept list
-pub change_allowed : (w : World) (x : ObjNo) (f : BuiltIn) (v : Value) (c : Change) → change_of f v ≡ Ok c → fits v ≡ true → is_allowed w x c ≡ true
-change_allowed w x f v c e h = sym (ap (passes (is_allowed w x)) e) ∙ field_allowed w x f v h
+pub change_allowed : (w : World) (x : ObjNo) (f : BuiltIn) (v : Value) (c : Change) → change_of f v ≡ Ok c → fits v ≡ true → is_allowed_change w x c ≡ true
+change_allowed w x f v c e h = sym (ap (passes (is_allowed_change w x)) e) ∙ field_allowed w x f v h

@@ -35,7 +35,7 @@ use Rattle.moo_world.specs.Objects.{Name, nothing, same_object, folded, is_among
 use Rattle.moo_world.specs.ObjectLists.{meets}
 use Rattle.moo_world.specs.Outcomes.{Outcome, Done, Failed, found_or, check}
 use Rattle.moo_world.specs.Ownership.{KeepsOwnership, NoWizardKeepsOwnership, name_by, name_after}
-use Rattle.moo_world.specs.PropertyCalls.{get, change_of, may_set, names_object, set_built_in, set, defines, may_define, add_property, delete_property, may_rename, renamed_to, set_property_info, clear_property}
+use Rattle.moo_world.specs.PropertyCalls.{get, change_of, may_set, names_object, set_built_in, set, defines_name, may_define, add_property, delete_property, may_rename, renamed_to, set_property_info, clear_property}
 use Rattle.moo_world.specs.Recycling.{recycled}
 use Rattle.moo_world.specs.Rights.{is_wizard, controls, may_be_parent, may_own, may_read_object, may_write_object, may_read_slot, may_write_slot, may_read_verb, may_write_verb, accepts, is_within}
 use Rattle.moo_world.specs.Calls.{named_call, step}
@@ -266,7 +266,7 @@ module _ (w : World) (p : ObjNo) (values : List Value) (wf : IsWellFormed w) (po
   delete_kept x n =
       on_check _ (is_object w x) _ _ (λ xo.
       on_check _ (may_write_object w p x) _ _ (λ may.
-      on_check _ (defines w x n) _ _ (λ mine.
+      on_check _ (defines_name w x n) _ _ (λ mine.
       on_done _ _ _ (record { form = λ fit. IsWellFormed-undefined w wf x n; ownership = λ none. by_undefining w wf p x n }))))
 
   -- another owner and other rights
@@ -280,7 +280,7 @@ module _ (w : World) (p : ObjNo) (values : List Value) (wf : IsWellFormed w) (po
   renaming x n info bits xo numbered owned (Some name) good =
       let v = info_set w x n info.0 bits in
       let links = same_links w x n (λ z. record z { owner = info.0; bits = bits }) in
-      let parts = and_parts (defines w x n) (may_define w x name) good in
+      let parts = and_parts (defines_name w x n) (may_define w x name) good in
       let named = definable x name parts.1 in (record {
         form = λ fit. renamed_formed v x n name (objects_same v w links x ∙ xo) (defines_same v w links x n ∙ parts.0) named.0 (clashes_same v w links x name ∙ named.1) (info_formed x n info.0 bits numbered);
         ownership = λ none. by_renaming w p wf x name xo named.1 n info.0 bits (owned none);

@@ -12,7 +12,7 @@ use Rattle.moo_world.specs.Arguments.{is_number, is_text}
 use Rattle.moo_world.specs.Objects.{Name, nothing, same_object, same_object-Decides}
 use Rattle.moo_world.specs.World.{World, Record, IsTree, IsWellFormed, Places, is_object, location_of, places, accept_fits, row_fits}
 use Rattle.moo_world.specs.Rights.{is_within}
-use Rattle.moo_world.specs.Fields.{changed, with_row, field_changed, is_allowed}
+use Rattle.moo_world.specs.Fields.{changed, with_row, field_changed, is_allowed_change}
 use Rattle.moo_world.proofs.Ancestry.Places.{places_is, Places-places}
 use Rattle.moo_world.proofs.Form.Shapes.{IsWellFormed-same_shape}
 use Rattle.moo_world.proofs.Form.Rows.{same_objects, SameShape-with_row, same_places, fitting_rows}
@@ -82,7 +82,7 @@ not_true : (b : Bool) → not b ≡ true → b ≡ false
 not_true false e = refl
 not_true true e = absurd (false≢true e)
 
-pub IsWellFormed-field_changed : (w : World) (x : ObjNo) (change : Change) → is_object w x ≡ true → is_allowed w x change ≡ true → IsWellFormed w → IsWellFormed (field_changed w x change)
+pub IsWellFormed-field_changed : (w : World) (x : ObjNo) (change : Change) → is_object w x ≡ true → is_allowed_change w x change ≡ true → IsWellFormed w → IsWellFormed (field_changed w x change)
 IsWellFormed-field_changed w x (Location to) there allowed wf =
     let parts = and_parts (is_object w to || same_object nothing to) (not (is_within w to x)) allowed in
     placed w x to there parts.0 (not_true (is_within w to x) parts.1) wf

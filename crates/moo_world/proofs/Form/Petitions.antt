@@ -21,7 +21,7 @@ use Rattle.moo_world.specs.declared.call.Call.{Call}
 use Rattle.moo_world.specs.declared.name.CallName.{CallName}
 use Rattle.moo_world.specs.Arguments.{is_integer, in_range, is_number, is_text, all_within_limits, is_within_limits, fits}
 use Rattle.moo_world.specs.KeptForm.{arguments_fit, RequestsKeepForm}
-use Rattle.moo_world.specs.Names.{named, petition_call}
+use Rattle.moo_world.specs.Names.{call_name_of, petition_call}
 use Rattle.moo_world.specs.Outcomes.{Outcome, Done, Failed, Full}
 use Rattle.moo_world.specs.Petitions.{PetitionsStand, petition_fits, is_named, are_few, are_shallow}
 use Rattle.moo_world.specs.Requests.{State, Answered, IsFormed, petition_id, without, call_in, held_call, held_step, held_steps, last_petition, asked, request}
@@ -86,7 +86,7 @@ pub held_args_fit : (held : Value) (call : Call) → held_call held ≡ Some cal
 held_args_fit (a_list vs) call e h = by (spread vs) e (spread_fits vs h)
   where
     by : (values : List Value) → call_in values ≡ Some call → list_all fits values ≡ true → arguments_fit call ≡ true
-    by (Str name ∷ args) e h = found (named name) e (and_parts (fits (Str name)) (list_all fits args) h).1
+    by (Str name ∷ args) e h = found (call_name_of name) e (and_parts (fits (Str name)) (list_all fits args) h).1
       where
         found : (o : Option CallName) → option_and_then (λ n. if is_some (petition_call n) then None else Some (record { name = n; args = args })) o ≡ Some call → list_all fits args ≡ true → arguments_fit call ≡ true
         found None e h = absurd (none-some call e)
@@ -189,10 +189,10 @@ one_more_stands petitions next new h fits_new less = record {
 
 asked_fits : (s : State) (p : ObjNo) (calls : Values) → IsFormed s → is_object s.world p ≡ true → list_all is_named (spread calls) ≡ true → are_few calls ≡ true → are_shallow calls ≡ true
     → list_all fits (a_list calls ∷ []) ≡ true → petition_fits (record { who = p; calls = calls }) ≡ true
-asked_fits s p calls formed there named few shallow fit =
+asked_fits s p calls formed there call_name_of few shallow fit =
     let given = (and_parts (fits (a_list calls)) true fit).0 in
     let within = (and_parts (nat_le (nesting (a_list calls)) 32) (all_within_limits calls) given).1 in
-    both _ _ (object_numbered s.world formed.world p there) (both _ _ named (both _ _ few (both _ _ shallow within)))
+    both _ _ (object_numbered s.world formed.world p there) (both _ _ call_name_of (both _ _ few (both _ _ shallow within)))
 
 pub requests_keep_form : RequestsKeepForm
 requests_keep_form s next p call v formed fit e = of_answered IsFormed (request s p call) v next (request_leaves IsFormed s p call led) e
@@ -201,10 +201,10 @@ requests_keep_form s next p call v formed fit e = of_answered IsFormed (request 
     led = record {
       stepped = λ v w e. record { world = calls_keep_form s.world w p call v formed.world fit e; petitions = formed.petitions };
       same = formed;
-      asked = λ calls given there named few shallow left. record {
+      asked = λ calls given there call_name_of few shallow left. record {
         world = formed.world;
         petitions = one_more_stands s.petitions s.next_petition (record { who = p; calls = calls }) formed.petitions
-            (asked_fits s p calls formed there named few shallow (subst (λ args. list_all fits args ≡ true) given fit)) (ltb-true s.next_petition last_petition left);
+            (asked_fits s p calls formed there call_name_of few shallow (subst (λ args. list_all fits args ≡ true) given fit)) (ltb-true s.next_petition last_petition left);
       };
       granted = λ id row there v w e. record {
         world = held_steps_keep s.world w p (spread row.calls) v formed.world (held_fit row (formed.petitions.fit id row there)) e;

@@ -4,7 +4,7 @@ use Rattle.std.specs.Prelude.{◌<◌, ◌≤ℤ◌, pos, negsuc, map, unwrap_or
 use Rattle.std.specs.Option.{option_map, option_and_then}
 use Rattle.std.specs.List.{list_all, flat_map}
 use Rattle.moo_value.specs.declared.value.ObjNo.{ObjNo}
-use Rattle.moo_world.specs.World.{World, Record, IsWellFormed, KeepsLimits, Climbs, Chain, Places, NamesDiffer, is_object, parent_of, names_of, owed_by, pair_named, slot_of, verbs_of, row_of, without_slots, with_slots, is_property_name, verb_fits, row_fits}
+use Rattle.moo_world.specs.World.{World, Record, IsWellFormed, KeepsLimits, Climbs, Chain, Places, NamesDiffer, is_object, parent_of, names_of, owed_by, pair_named, slot_of, directory_of, row_of, without_slots, with_slots, is_property_name, verb_fits, row_fits}
 
 -- the worlds differ in fields of rows alone, and not in parents
 pub record SameShape (w v : World) : Type 0 where
@@ -15,7 +15,7 @@ pub record SameShape (w v : World) : Type 0 where
   pub parents : parent_of v ≡ parent_of w
   pub names : names_of v ≡ names_of w
   pub slots : slot_of v ≡ slot_of w
-  pub verbs : verbs_of v ≡ verbs_of w
+  pub verbs : directory_of v ≡ directory_of w
 
 module _ (w : World) where
   bare_names : names_of (without_slots w) ≡ names_of w
@@ -25,7 +25,7 @@ module _ (w : World) where
       by None = refl
       by (Some r) = refl
 
-  bare_verbs : verbs_of (without_slots w) ≡ verbs_of w
+  bare_verbs : directory_of (without_slots w) ≡ directory_of w
   bare_verbs = λ i x. by (w.object x) i
     where
       by : (o : Option Record) → unwrap_or (option_map (λ r. r.verbs) (option_map (with_slots (λ n. None)) o)) [] ≡ unwrap_or (option_map (λ r. r.verbs) o) []

@@ -11,7 +11,7 @@ use Rattle.moo_rows.specs.declared.row.SlotState.TheVariants.{Set}
 use Rattle.moo_world.specs.Arguments.{fits}
 use Rattle.moo_world.specs.Changes.{clashes, renamed, with_slot_of}
 use Rattle.moo_world.specs.Objects.{Name, object_at, same_object, same_text, same_pair, folded, is_among, same_text-Decides, same_pair-self}
-use Rattle.moo_world.specs.PropertyCalls.{defines}
+use Rattle.moo_world.specs.PropertyCalls.{defines_name}
 use Rattle.moo_world.specs.Rows.{numbers_below}
 use Rattle.moo_world.specs.World.{World, Record, IsWellFormed, SameButSlots, is_object, is_property_name, names_of, numbers_to, pair_named, chain}
 use Rattle.moo_world.proofs.Form.Slots.{IsWellFormed-with_slot_of}
@@ -49,7 +49,7 @@ renamed_alike w x m n new e = ap (λ (old : Name). record w {
   }) (w.object y);
 }) e
 
-pub renamed_formed : (w : World) (x : ObjNo) (old new : Name) → is_object w x ≡ true → defines w x old ≡ true → is_property_name new ≡ true → clashes w x new ≡ false → IsWellFormed w → IsWellFormed (renamed w x old new)
+pub renamed_formed : (w : World) (x : ObjNo) (old new : Name) → is_object w x ≡ true → defines_name w x old ≡ true → is_property_name new ≡ true → clashes w x new ≡ false → IsWellFormed w → IsWellFormed (renamed w x old new)
 renamed_formed w x old new xo mine good free wf =
     let m = spelled x old (names_of w x) mine in
     subst IsWellFormed (renamed_alike w x m.0 old new m.1) (IsWellFormed-renamed w wf x m.0 new xo m.2 free good)
@@ -60,5 +60,5 @@ clashes_same v w same x n = λ i.
     is_some (pair_named (flat_map (λ d. map (λ m. (d, m)) (names_same v w same i d)) (chains_same v w same x i)) (folded n))
     || is_some (pair_named (flat_map (λ d. map (λ m. (d, m)) (names_same v w same i d)) (filter (λ y. is_among x (chains_same v w same y i)) (filter (λ y. objects_same v w same y i) (map object_at (numbers_below (numbers_to (same i).top)))))) (folded n))
 
-pub defines_same : (v w : World) → SameButSlots v w → (x : ObjNo) (n : Name) → defines v x n ≡ defines w x n
+pub defines_same : (v w : World) → SameButSlots v w → (x : ObjNo) (n : Name) → defines_name v x n ≡ defines_name w x n
 defines_same v w same x n = λ i. list_any (λ m. same_text (folded m) (folded n)) (names_same v w same i x)

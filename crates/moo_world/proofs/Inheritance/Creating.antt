@@ -10,7 +10,7 @@ use Rattle.moo_value.specs.declared.value.ObjNo.{ObjNo}
 use Rattle.moo_world.specs.Objects.{Name, Pair, nothing, same_object, same_pair, same_object-Decides}
 use Rattle.moo_world.specs.Arguments.{is_number}
 use Rattle.moo_world.specs.World.{World, Record, IsTree, IsWellFormed, Climbs, Chain, Places, NamesDiffer, is_object, chain, names_of, slot_of, defined_by, owed_by, pair_named, owes, with_slots, is_property_name, verb_fits, row_fits}
-use Rattle.moo_world.specs.Creation.{born, with_object, created}
+use Rattle.moo_world.specs.Creation.{born, with_new_record, created}
 use Rattle.moo_world.proofs.Ancestry.Trees.{chain_is, Chain-chain, chain-nothing, chain_of_none, linked}
 use Rattle.moo_world.proofs.Inheritance.Owed.{named_owed}
 use Rattle.moo_world.proofs.Inheritance.Keeping.{MayBeRebuilt, IsWellFormed-rebuilt}
@@ -18,7 +18,7 @@ use Rattle.moo_world.proofs.Inheritance.Recycling.{own_owed}
 
 module _ (w : World) (x q owner : ObjNo) (wf : IsWellFormed w) (free : is_object w x ≡ false) (next : x.0 ≡ w.top +ℤ pos 1) (room : w.top <ℤ pos 2147483647) (qo : (is_object w q ≡ true) ⊎ (q ≡ nothing)) where
   abbrev pub s : World
-  s = with_object w x (born q owner)
+  s = with_new_record w x (born q owner)
 
   same_link : (f : Record → ObjNo) (y k : ObjNo) → option_map f (w.object y) ≡ Some k → option_map f (s.object y) ≡ Some k
   same_link f y k e = by (same_object x y) refl

@@ -11,7 +11,7 @@ use Rattle.moo_world.specs.Laws.{MayReparent}
 use Rattle.moo_world.specs.Manual.{kept_from, manual_slot}
 use Rattle.moo_world.specs.ObjectLists.{has_parent, children_of, objects_of}
 use Rattle.moo_world.specs.OneByOne.{manually_moved, moved_one_by_one, MayMoveOneByOne, emptied, taken_out, ChildrenMoveOneByOne, ChildrenMoveAscending}
-use Rattle.moo_world.specs.Recycling.{released, without_object, recycled}
+use Rattle.moo_world.specs.Recycling.{released, without_record, recycled}
 use Rattle.moo_world.proofs.Ancestry.Chains.{Climbs-once}
 use Rattle.moo_world.proofs.Ancestry.Trees.{Chain-chain, chain-step, linked, no_parent}
 use Rattle.moo_world.proofs.Inheritance.Owed.{definer_among, named_owed}
@@ -185,7 +185,7 @@ module _ (w : World) (x q : ObjNo) (wf : IsWellFormed w) (xp : parent_of w x ≡
     left f (Some r) false true k = ap (λ p. Some (linked_to r p)) (one_parent r.row.parent (k refl))
     left f (Some r) false false k = refl
 
-    same_left : SameButSlots (without_object v x) (without_object w x)
+    same_left : SameButSlots (without_record v x) (without_record w x)
     same_left =
         (λ i. record w { object = λ y. option_map (with_slots (λ n. None)) (if same_object x y then None else option_map (released x (unwrap_or (heir_moved i) nothing)) (v.object y)) })
         ∙ (λ i. record w { object = λ y. left (manual_slot w c q y) (w.object y) (same_object x y) (same_object c y) (λ h. subst (λ z. (parent_of w z ≡ Some x) ⊎ (parent_of w z ≡ Some q)) ((same_object-Decides c y).0 h) cp) i })
@@ -193,9 +193,9 @@ module _ (w : World) (x q : ObjNo) (wf : IsWellFormed w) (xp : parent_of w x ≡
 
     -- to recycle x after c was moved is to recycle x
     pub recycled_moved : recycled v x ≡ recycled w x
-    recycled_moved = one_world (recycled v x) (recycled w x) (SameButSlots-rebuilt v (without_object v x) nothing ∙ same_left ∙ sym (SameButSlots-rebuilt w (without_object w x) nothing)) (λ y n o.
-        let vo : is_object (without_object v x) y ≡ true = sym (objects_same (recycled v x) (without_object v x) (SameButSlots-rebuilt v (without_object v x) nothing) y) ∙ o in
-        let wo : is_object (without_object w x) y ≡ true = sym (objects_same (without_object v x) (without_object w x) same_left y) ∙ vo in
+    recycled_moved = one_world (recycled v x) (recycled w x) (SameButSlots-rebuilt v (without_record v x) nothing ∙ same_left ∙ sym (SameButSlots-rebuilt w (without_record w x) nothing)) (λ y n o.
+        let vo : is_object (without_record v x) y ≡ true = sym (objects_same (recycled v x) (without_record v x) (SameButSlots-rebuilt v (without_record v x) nothing) y) ∙ o in
+        let wo : is_object (without_record w x) y ≡ true = sym (objects_same (without_record v x) (without_record w x) same_left y) ∙ vo in
         recycle_law v x form_moved (linked (v.object x) (λ r. r.row.parent) q heir_moved) y n vo ∙ same_kept y n (stays w x wf.tree xo y wo).1 ∙ sym (recycle_law w x wf xo y n wo))
 
 -- ---- no child
@@ -211,7 +211,7 @@ module _ (w : World) (x : ObjNo) (wf : IsWellFormed w) (xo : is_object w x ≡ t
       other : same_object x r.row.parent ≡ false
       other = false_from_ne_true (same_object x r.row.parent) (λ h. none y (ap (option_map (λ k. k.row.parent)) e ∙ ap Some (sym ((same_object-Decides x r.row.parent).0 h))))
 
-  out_is : taken_out w x ≡ without_object w x
+  out_is : taken_out w x ≡ without_record w x
   unfolding heir
   out_is = λ i. record w { object = λ y. if same_object x y then None else untouched y (w.object y) refl i }
 
@@ -245,8 +245,8 @@ module _ (w : World) (x : ObjNo) (wf : IsWellFormed w) (xo : is_object w x ≡ t
 
   -- where x has no child, taking it out is recycling it
   pub taken_out_is : taken_out w x ≡ recycled w x
-  taken_out_is = one_world (taken_out w x) (recycled w x) (ap without_slots out_is ∙ sym (SameButSlots-rebuilt w (without_object w x) nothing)) (λ y n o.
-      let so : is_object (without_object w x) y ≡ true = ap (λ v. is_object v y) (sym out_is) ∙ o in
+  taken_out_is = one_world (taken_out w x) (recycled w x) (ap without_slots out_is ∙ sym (SameButSlots-rebuilt w (without_record w x) nothing)) (λ y n o.
+      let so : is_object (without_record w x) y ≡ true = ap (λ v. is_object v y) (sym out_is) ∙ o in
       let k = stays w x wf.tree xo y so in
       slot_left y n k.0 ∙ sym (all_kept y n k.1 k.0) ∙ sym (recycle_law w x wf xo y n so))
 

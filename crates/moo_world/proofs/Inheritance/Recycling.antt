@@ -9,7 +9,7 @@ use Rattle.moo_value.specs.declared.value.ObjNo.{ObjNo}
 use Rattle.moo_world.specs.Objects.{Name, Pair, nothing, same_object, same_text, same_pair, folded, is_among, same_object-Decides}
 use Rattle.moo_world.specs.World.{World, Record, IsTree, IsWellFormed, Chain, Places, NamesDiffer, is_object, parent_of, chain, names_of, owner_of, slot_of, defined_by, owed_by, pair_named, owes, fresh, slot_for, with_slots, is_property_name, verb_fits, row_fits}
 use Rattle.moo_world.specs.Manual.{kept_from}
-use Rattle.moo_world.specs.Recycling.{released, without_object, recycled}
+use Rattle.moo_world.specs.Recycling.{released, without_record, recycled}
 use Rattle.moo_world.proofs.Ancestry.Chains.{front_of, Climbs-once}
 use Rattle.moo_world.proofs.Inheritance.Owed.{any-append, all_right, own_pair, in_owed, definer_among, named_owed, named_so, some_named}
 use Rattle.moo_world.proofs.Inheritance.Rebuilding.{slot_of-rebuilt}
@@ -25,7 +25,7 @@ left_out x (y ∷ l) = cond (same_object x y) (left_out x l) (y ∷ left_out x l
 
 module _ (w : World) (x : ObjNo) (t : IsTree w) (xo : is_object w x ≡ true) where
   abbrev pub lessened : World
-  lessened = without_object w x
+  lessened = without_record w x
 
   abbrev heir : ObjNo
   heir = unwrap_or (parent_of w x) nothing
@@ -120,21 +120,21 @@ module _ (w : World) (x : ObjNo) (t : IsTree w) (xo : is_object w x ≡ true) wh
 -- ---- what is owed without x
 
 module _ (w : World) (x : ObjNo) where
-  kept_names : (d : ObjNo) → same_object x d ≡ false → names_of (without_object w x) d ≡ names_of w d
+  kept_names : (d : ObjNo) → same_object x d ≡ false → names_of (without_record w x) d ≡ names_of w d
   kept_names d e = ap (λ b. unwrap_or (option_map (λ (r : Record). r.defines) (if b then None else option_map (released x (unwrap_or (parent_of w x) nothing)) (w.object d))) []) e ∙ by (w.object d)
     where
       by : (o : Option Record) → unwrap_or (option_map (λ (r : Record). r.defines) (option_map (released x (unwrap_or (parent_of w x) nothing)) o)) [] ≡ unwrap_or (option_map (λ (r : Record). r.defines) o) []
       by None = refl
       by (Some r) = refl
 
-  kept_defined : (d : ObjNo) → same_object x d ≡ false → defined_by (without_object w x) d ≡ defined_by w d
+  kept_defined : (d : ObjNo) → same_object x d ≡ false → defined_by (without_record w x) d ≡ defined_by w d
   kept_defined d e = ap (map (λ n. (d, n))) (kept_names d e)
 
-  pub owed_lessened : (l : List ObjNo) → owed_by (without_object w x) (left_out x l) ≡ owed_by w (left_out x l)
+  pub owed_lessened : (l : List ObjNo) → owed_by (without_record w x) (left_out x l) ≡ owed_by w (left_out x l)
   owed_lessened [] = refl
   owed_lessened (y ∷ l) = by (same_object x y) refl (owed_lessened l)
     where
-      by : (b : Bool) → same_object x y ≡ b → owed_by (without_object w x) (left_out x l) ≡ owed_by w (left_out x l) → owed_by (without_object w x) (cond b (left_out x l) (y ∷ left_out x l)) ≡ owed_by w (cond b (left_out x l) (y ∷ left_out x l))
+      by : (b : Bool) → same_object x y ≡ b → owed_by (without_record w x) (left_out x l) ≡ owed_by w (left_out x l) → owed_by (without_record w x) (cond b (left_out x l) (y ∷ left_out x l)) ≡ owed_by w (cond b (left_out x l) (y ∷ left_out x l))
       by true e r = r
       by false e r = λ i. kept_defined y e i ++ r i
 
@@ -211,7 +211,7 @@ own_owed w t y p yo mine = first (chain w y) (Chain-chain w t y yo)
 
 module _ (w : World) (x : ObjNo) (wf : IsWellFormed w) (xo : is_object w x ≡ true) where
   abbrev s : World
-  s = without_object w x
+  s = without_record w x
 
   owed_at : (y : ObjNo) → is_object s y ≡ true → owed_by s (chain s y) ≡ owed_by w (left_out x (chain w y))
   owed_at y o = ap (owed_by s) (chain_lessened w x wf.tree xo y o) ∙ owed_lessened w x (chain w y)

@@ -7,7 +7,7 @@ use Rattle.std.proofs.lemmas.Int.{ints}
 use Rattle.std.proofs.lemmas.Option.{none-some, same_Some}
 use Rattle.moo_value.specs.declared.value.ObjNo.{ObjNo}
 use Rattle.moo_world.specs.Arguments.{is_number}
-use Rattle.moo_world.specs.Creation.{born, next_object, with_object, created}
+use Rattle.moo_world.specs.Creation.{born, next_object, with_new_record, created}
 use Rattle.moo_world.specs.Objects.{Name, Pair, nothing, same_object, same_object-Decides}
 use Rattle.moo_world.specs.World.{World, Record, Slot, IsWellFormed, SameButSlots, Chain, is_object, owner_of, chain, climb, numbers_to, slot_of, owed_by, pair_named, slot_for, fresh, read_in, read_along, read_of}
 use Rattle.moo_world.proofs.Inheritance.Creating.{IsWellFormed-created, chain_other, owed_still}
@@ -23,7 +23,7 @@ chains_same a b same y = λ i. climb (numbers_to (same i).top) (parents_same a b
 
 module _ (w : World) (x q owner : ObjNo) (wf : IsWellFormed w) (is_next : next_object w ≡ Some x) (parent : (is_object w q || same_object nothing q) ≡ true) where
   abbrev s : World
-  s = with_object w x (born q owner)
+  s = with_new_record w x (born q owner)
 
   same : SameButSlots (created w x q owner) s
   same = SameButSlots-rebuilt w s q

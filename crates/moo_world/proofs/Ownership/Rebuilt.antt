@@ -7,11 +7,11 @@ use Rattle.std.proofs.lemmas.Bool.{false≢true, both_ways, or_cases}
 use Rattle.std.proofs.lemmas.Option.{none-some, same_Some}
 use Rattle.moo_value.specs.declared.value.ObjNo.{ObjNo}
 use Rattle.moo_world.specs.Changes.{undefined}
-use Rattle.moo_world.specs.Creation.{born, next_object, with_object, created}
+use Rattle.moo_world.specs.Creation.{born, next_object, with_new_record, created}
 use Rattle.moo_world.specs.Manual.{kept_from}
 use Rattle.moo_world.specs.Objects.{Name, Pair, nothing, same_object, same_text, same_pair, folded, is_among}
 use Rattle.moo_world.specs.Ownership.{KeepsOwnership}
-use Rattle.moo_world.specs.Recycling.{released, without_object, recycled}
+use Rattle.moo_world.specs.Recycling.{released, without_record, recycled}
 use Rattle.moo_world.specs.World.{World, Record, Slot, IsWellFormed, is_object, parent_of, owner_of, chain, slot_of, defined_by, owed_by, owes, pair_named, slot_for, fresh, rebuilt, with_parent, reparented}
 use Rattle.moo_world.proofs.Inheritance.Keeping.{MayBeRebuilt}
 use Rattle.moo_world.proofs.Inheritance.ManualLaw.{NoClash}
@@ -85,16 +85,16 @@ module _ (w : World) (wf : IsWellFormed w) (p : ObjNo) where
   pub by_recycling : (x : ObjNo) → is_object w x ≡ true → KeepsOwnership w (recycled w x) p (λ y n. n)
   by_recycling x xo = from_slots w p (recycled w x) (λ y n. n) (λ y f. ranks y (here y f)) slots
     where
-      here : (y : ObjNo) → is_object (recycled w x) y ≡ true → is_object (without_object w x) y ≡ true
-      here y f = sym (objects_same (recycled w x) (without_object w x) (SameButSlots-rebuilt w (without_object w x) nothing) y) ∙ f
+      here : (y : ObjNo) → is_object (recycled w x) y ≡ true → is_object (without_record w x) y ≡ true
+      here y f = sym (objects_same (recycled w x) (without_record w x) (SameButSlots-rebuilt w (without_record w x) nothing) y) ∙ f
 
       by : (b : Bool) (o : Option Record) → is_some (if b then None else option_map (released x (unwrap_or (parent_of w x) nothing)) o) ≡ true → option_map rank (if b then None else option_map (released x (unwrap_or (parent_of w x) nothing)) o) ≡ option_map rank o
       by true o h = absurd (false≢true h)
       by false None h = refl
       by false (Some r) h = refl
 
-      ranks : (y : ObjNo) → is_object (without_object w x) y ≡ true → ranked (recycled w x) y ≡ ranked w y
-      ranks y o = ranked_rebuilt w (without_object w x) nothing y ∙ by (same_object x y) (w.object y) o
+      ranks : (y : ObjNo) → is_object (without_record w x) y ≡ true → ranked (recycled w x) y ≡ ranked w y
+      ranks y o = ranked_rebuilt w (without_record w x) nothing y ∙ by (same_object x y) (w.object y) o
 
       kept : (a b : Slot) (gone : Bool) → (if gone then None else Some a) ≡ Some b → b.owner ≡ a.owner
       kept a b true g = absurd (none-some b g)
@@ -127,7 +127,7 @@ module _ (w : World) (wf : IsWellFormed w) (p : ObjNo) where
   }
     where
       s : World
-      s = with_object w x (born q p)
+      s = with_new_record w x (born q p)
 
       is_new : (y : ObjNo) → is_object w y ≡ false → is_object (created w x q p) y ≡ true → same_object x y ≡ true
       is_new y e f = elim (or_cases (same_object x y) (is_object w y) (sym (objects_now w x q p wf is_next parent y) ∙ f)) [ inl h ↦ h | inr h ↦ absurd (both_ways (is_object w y) e h) ]

@@ -15,7 +15,7 @@ use Rattle.moo_rows.specs.Maps.{Maps, object_cmp, slot_cmp}
 use Rattle.moo_rows.specs.Exact.{object_exact, slot_exact}
 use Rattle.moo_rows.proofs.Orders.{object_total, slot_total}
 use Rattle.moo_world.specs.Objects.{same_object, same_object-Decides}
-use Rattle.moo_world.specs.Rows.{look_ups, prop_id, with_row, with_slot, less_slot}
+use Rattle.moo_world.specs.Rows.{look_ups, prop_id, with_object_row, with_slot_row, less_slot}
 
 -- two tests of one thing answer alike
 pub decided_alike : (a b : Bool) (P : Type 0) → Decides a P → Decides b P → a ≡ b
@@ -40,10 +40,10 @@ pub slot_key : (x y : ObjNo) (id j : ℕ) → eq_by_cmp slot_cmp (y, prop_id j) 
 slot_key x y id j = decided_alike _ _ (◌≡◌ {A = ObjNo × PropId} (y, prop_id j) (x, prop_id id)) (key-Decides slot_cmp slot_total slot_exact (y, prop_id j) (x, prop_id id)) (slot_key-Decides x y id j)
 
 -- what the look-ups answer after a put or a removal
-pub look_ups-put_object : (t : Maps) (x : ObjNo) (row : ObjRow) → look_ups (record t { objects = insert t.objects x row }) ≡ with_row (look_ups t) x row
+pub look_ups-put_object : (t : Maps) (x : ObjNo) (row : ObjRow) → look_ups (record t { objects = insert t.objects x row }) ≡ with_object_row (look_ups t) x row
 look_ups-put_object t x row = λ i. record (look_ups t) { object = λ y. (get-insert object_total t.objects x row y ∙ ap (λ b. cond b (Some row) (get t.objects y)) (object_key x y)) i }
 
-pub look_ups-put_slot : (t : Maps) (x : ObjNo) (id : PropId) (row : SlotRow) → look_ups (record t { slots = insert t.slots (x, id) row }) ≡ with_slot (look_ups t) x id.0 row
+pub look_ups-put_slot : (t : Maps) (x : ObjNo) (id : PropId) (row : SlotRow) → look_ups (record t { slots = insert t.slots (x, id) row }) ≡ with_slot_row (look_ups t) x id.0 row
 look_ups-put_slot t x id row = λ i. record (look_ups t) { slot = λ y j. (get-insert slot_total t.slots (x, id) row (y, prop_id j) ∙ ap (λ b. cond b (Some row) (get t.slots (y, prop_id j))) (slot_key x y id.0 j)) i }
 
 pub look_ups-remove_slot : (t : Maps) (x : ObjNo) (id : PropId) → look_ups (record t { slots = remove t.slots (x, id) }) ≡ less_slot (look_ups t) x id.0

@@ -12,7 +12,7 @@ use Rattle.moo_rows.specs.declared.row.PropRow.{PropRow}
 use Rattle.moo_rows.specs.declared.row.SlotRow.{SlotRow}
 use Rattle.moo_world.specs.Objects.{Name, same_object, same_text, folded, same_object-Decides, same_text-Decides}
 use Rattle.moo_world.specs.World.{Record, slot_of, names_of, with_record}
-use Rattle.moo_world.specs.Rows.{LookUps, AreSound, with_row, with_slot, numbers_below, name_on, slot_on, slot_seen, record_of, world_shown}
+use Rattle.moo_world.specs.Rows.{LookUps, AreSound, with_object_row, with_slot_row, numbers_below, name_on, slot_on, slot_seen, record_of, world_shown}
 
 module _ {X : Type 0} (h : ℕ → Option X) where
   none_below : (n : ℕ) → ((j : ℕ) → j < n → h j ≡ None) → filter_map h (numbers_below n) ≡ []
@@ -116,9 +116,9 @@ module _ (m : LookUps) (p : PropRow) where
 -- ---- a row put
 
 -- the row of an object changed and put: the world with that object's row changed
-pub world_shown-with_row : (m : LookUps) (x : ObjNo) (row : ObjRow) (f : ObjRow → ObjRow) → m.object x ≡ Some row → world_shown (with_row m x (f row)) ≡ with_record (world_shown m) x (λ r. record r { row = f r.row })
+pub world_shown-with_object_row : (m : LookUps) (x : ObjNo) (row : ObjRow) (f : ObjRow → ObjRow) → m.object x ≡ Some row → world_shown (with_object_row m x (f row)) ≡ with_record (world_shown m) x (λ r. record r { row = f r.row })
 unfolding world_shown
-world_shown-with_row m x row f e = λ i. record (world_shown m) { object = λ y. at y (same_object x y) refl (m.object y) refl i }
+world_shown-with_object_row m x row f e = λ i. record (world_shown m) { object = λ y. at y (same_object x y) refl (m.object y) refl i }
   where
     at : (y : ObjNo) (b : Bool) → same_object x y ≡ b → (o : Option ObjRow) → m.object y ≡ o → option_map (record_of m y) (if b then Some (f row) else o) ≡ option_map (λ r. if b then (record r { row = f r.row }) else r) (option_map (record_of m y) o)
     at y true g (Some r) h =
@@ -131,7 +131,7 @@ world_shown-with_row m x row f e = λ i. record (world_shown m) { object = λ y.
 -- a slot put: the world with that slot of that object, where no other property of the name has a slot there
 module _ (m : LookUps) (x : ObjNo) (id : ℕ) (k : SlotRow) (p : PropRow) (there : m.prop id ≡ Some p) (low : id < m.head.next_prop) (alone : (j : ℕ) (r : PropRow) → m.prop j ≡ Some r → is_some (m.slot x j) ≡ true → folded r.name ≡ folded p.name → j ≡ id) where
   abbrev put : LookUps
-  put = with_slot m x id k
+  put = with_slot_row m x id k
 
   put_other : (y : ObjNo) (n : Name) (j : ℕ) → (same_object x y && eqb id j) ≡ false → slot_on put y n j ≡ slot_on m y n j
   put_other y n j e = ap (λ b. option_and_then (λ (r : PropRow). if same_text (folded r.name) n then option_map (slot_seen r.definer) (if b then Some k else m.slot y j) else None) (m.prop j)) e
@@ -185,9 +185,9 @@ module _ (m : LookUps) (x : ObjNo) (id : ℕ) (k : SlotRow) (p : PropRow) (there
   slot_there : (y : ObjNo) (n : Name) → same_object x y ≡ false → slice_get (filter_map (slot_on put y n) (numbers_below m.head.next_prop)) 0 ≡ slice_get (filter_map (slot_on m y n) (numbers_below m.head.next_prop)) 0
   slot_there y n e = ap (λ l. slice_get l 0) (same_below (slot_on put y n) (slot_on m y n) m.head.next_prop (λ j l. put_other y n j (ap (λ b. b && eqb id j) e)))
 
-  pub world_shown-with_slot : world_shown put ≡ with_record (world_shown m) x (λ r. record r { slot = λ n. if same_text (folded p.name) n then Some (slot_seen p.definer k) else r.slot n })
+  pub world_shown-with_slot_row : world_shown put ≡ with_record (world_shown m) x (λ r. record r { slot = λ n. if same_text (folded p.name) n then Some (slot_seen p.definer k) else r.slot n })
   unfolding world_shown
-  world_shown-with_slot = λ i. record (world_shown m) { object = λ y. at y (same_object x y) refl (m.object y) i }
+  world_shown-with_slot_row = λ i. record (world_shown m) { object = λ y. at y (same_object x y) refl (m.object y) i }
     where
       at : (y : ObjNo) (b : Bool) → same_object x y ≡ b → (o : Option ObjRow) → option_map (record_of put y) o ≡ option_map (λ r. if b then (record r { slot = λ n. if same_text (folded p.name) n then Some (slot_seen p.definer k) else r.slot n }) else r) (option_map (record_of m y) o)
       at y b e None = refl

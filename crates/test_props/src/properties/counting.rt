@@ -3,9 +3,9 @@
 ghost use Rattle.std.specs.Prelude.{◌≡◌, OnErr, OnOk};
 ghost use Rattle.moo_rows.specs.Maps.{wrote};
 
+use moo_flat::Flat;
 use moo_rows::{
-    Flat, Head, Link, ObjRow, PetitionId, PetitionRow, PropId, PropRow, Rows, SlotRow, VerbId,
-    VerbRow,
+    Head, Link, ObjRow, PetitionId, PetitionRow, PropId, PropRow, Rows, SlotRow, VerbId, VerbRow,
 };
 use moo_value::ObjNo;
 use std::alloc::AllocError;

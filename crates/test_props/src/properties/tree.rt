@@ -6,10 +6,11 @@ ghost use Rattle.moo_world.specs.Rows.{IsGood};
 
 use super::counting::{Counting, NONE};
 use super::steps::{READ, added, made, set};
+use moo_flat::{Flat, opening_world};
 use moo_rows::{PropId, Rows};
 use moo_value::{LiteralFault, ObjNo};
-use moo_world::good_opening;
-use std::alloc::Global;
+use moo_world::laws::good_opening;
+use std::alloc::{AllocError, Global};
 use std::process::Abort;
 
 /// Plants it over any rows that hold the opening world. They are borrowed, so that nothing is let go where this ends early.
@@ -27,11 +28,20 @@ fn plant<R: Rows>(rt: &impl Abort, alloc: Global, rows: &mut R) -> Result<(), Li
     set(rt, alloc, rows, 6, b"b", 21)
 }
 
+/// The rows that a new world begins with, as rows that calls may be run on.
+fn opening(alloc: Global) -> Result<Flat, AllocError>
+    ensures { IfOk result (λ rows. IsGood rows.maps) }
+{
+    let rows = opening_world(alloc)?;
+    good_opening();
+    Ok(rows)
+}
+
 pub(super) fn planted(rt: &impl Abort, alloc: Global) -> Result<Counting, LiteralFault>
     ensures { IfOk result (λ rows. IsGood rows.rows.maps) }
 {
     let mut rows = Counting {
-        rows: good_opening(alloc)?,
+        rows: opening(alloc)?,
         counts: NONE,
     };
     plant(rt, alloc, &mut rows)?;

@@ -5,7 +5,7 @@ use Rattle.moo_value.specs.declared.value.Value.{Value}
 use Rattle.moo_value.specs.declared.value.Value.TheVariants.{Obj, List as a_list}
 use Rattle.moo_value.specs.Literal.{Spells, Fits}
 use Rattle.moo_world.specs.World.{accept_fits}
-use Rattle.moo_cells.specs.Shows.{object_list}
+use Rattle.moo_world.specs.Answers.{object_list}
 use Rattle.moo_cells.specs.declared.fault.RowFault.{RowFault}
 use Rattle.moo_cells.specs.declared.fault.RowFault.TheVariants.{Unreadable}
 use Rattle.moo_cells.proofs.Exits.{both_ok, err_then}

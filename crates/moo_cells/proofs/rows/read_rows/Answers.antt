@@ -4,7 +4,7 @@ use Rattle.sqlite.specs.Order.{Row}
 use Rattle.sqlite.specs.Tree.{has_rowid}
 use Rattle.moo_rows.specs.declared.row.Head.{Head}
 use Rattle.moo_rows.specs.Maps.{Maps}
-use Rattle.moo_tables.specs.Listing.{tables_of, begins_with}
+use Rattle.moo_tables.specs.Listing.{tables_of, has_key_pair}
 use Rattle.moo_tables.specs.Version.{version_number}
 use Rattle.moo_cells.specs.Head.{greatest, HeadIs, ReadsHead, HasHead, IsNewerThan, ReadsCounter, HasCounter, SaysOfHead}
 use Rattle.moo_cells.specs.Reading.{ReadsObject, ReadsProp, ReadsSlot, ReadsVerb, ReadsPetition}
@@ -53,7 +53,7 @@ returns-in_err-read_slots-clause-fault c =
     subst (λ (rows : List Row). HoldsTable has_rowid object_number ReadsObject rows c.read_objects.new.rows.maps.objects) c.deref-3.ensures.value c.in_ok-read_objects.ensures.holds in
     let props : HoldsTable has_rowid prop_number ReadsProp c.args.lists.now.prop.items c.read_props.new.rows.maps.props =
     subst (λ (rows : List Row). HoldsTable has_rowid prop_number ReadsProp rows c.read_props.new.rows.maps.props) c.deref-4.ensures.value c.in_ok-read_props.ensures.holds in
-    let says = subst (λ (rows : List Row). SaysUnread begins_with (ReadsSlot c.args.lists.now.version) IsPairLess slot_key rows c.in_err-read_slots.field-0.0) c.deref-5.ensures.value c.in_err-read_slots.ensures.fault in
+    let says = subst (λ (rows : List Row). SaysUnread has_key_pair (ReadsSlot c.args.lists.now.version) IsPairLess slot_key rows c.in_err-read_slots.field-0.0) c.deref-5.ensures.value c.in_err-read_slots.ensures.fault in
     rw p.1 (subst (SaysOfCells (tables_of c.args.lists.now)) (sym p.2) (says_slot c.args.lists.now c.in_ok-head.head head.0 head.1 head.2 counter objects.read props.read c.in_err-read_slots.field-0.0 says))
 
 pub returns-in_err-read_verbs-clause-fault : goal.returns-in_err-read_verbs-clause-fault
@@ -67,9 +67,9 @@ returns-in_err-read_verbs-clause-fault c =
     subst (λ (rows : List Row). HoldsTable has_rowid object_number ReadsObject rows c.read_objects.new.rows.maps.objects) c.deref-3.ensures.value c.in_ok-read_objects.ensures.holds in
     let props : HoldsTable has_rowid prop_number ReadsProp c.args.lists.now.prop.items c.read_props.new.rows.maps.props =
     subst (λ (rows : List Row). HoldsTable has_rowid prop_number ReadsProp rows c.read_props.new.rows.maps.props) c.deref-4.ensures.value c.in_ok-read_props.ensures.holds in
-    let slots : HoldsTable begins_with slot_number (ReadsSlot c.args.lists.now.version) c.args.lists.now.slot.items c.read_slots.new.rows.maps.slots =
-    subst (λ (rows : List Row). HoldsTable begins_with slot_number (ReadsSlot c.args.lists.now.version) rows c.read_slots.new.rows.maps.slots) c.deref-5.ensures.value c.in_ok-read_slots.ensures.holds in
-    let says = subst (λ (rows : List Row). SaysUnread begins_with ReadsVerb IsPairLess verb_key rows c.in_err-read_verbs.field-0.0) c.deref-6.ensures.value c.in_err-read_verbs.ensures.fault in
+    let slots : HoldsTable has_key_pair slot_number (ReadsSlot c.args.lists.now.version) c.args.lists.now.slot.items c.read_slots.new.rows.maps.slots =
+    subst (λ (rows : List Row). HoldsTable has_key_pair slot_number (ReadsSlot c.args.lists.now.version) rows c.read_slots.new.rows.maps.slots) c.deref-5.ensures.value c.in_ok-read_slots.ensures.holds in
+    let says = subst (λ (rows : List Row). SaysUnread has_key_pair ReadsVerb IsPairLess verb_key rows c.in_err-read_verbs.field-0.0) c.deref-6.ensures.value c.in_err-read_verbs.ensures.fault in
     rw p.1 (subst (SaysOfCells (tables_of c.args.lists.now)) (sym p.2) (says_verb c.args.lists.now c.in_ok-head.head head.0 head.1 head.2 counter objects.read props.read slots.read c.in_err-read_verbs.field-0.0 says))
 
 pub returns-in_err-read_petitions-clause-fault : goal.returns-in_err-read_petitions-clause-fault
@@ -83,10 +83,10 @@ returns-in_err-read_petitions-clause-fault c =
     subst (λ (rows : List Row). HoldsTable has_rowid object_number ReadsObject rows c.read_objects.new.rows.maps.objects) c.deref-3.ensures.value c.in_ok-read_objects.ensures.holds in
     let props : HoldsTable has_rowid prop_number ReadsProp c.args.lists.now.prop.items c.read_props.new.rows.maps.props =
     subst (λ (rows : List Row). HoldsTable has_rowid prop_number ReadsProp rows c.read_props.new.rows.maps.props) c.deref-4.ensures.value c.in_ok-read_props.ensures.holds in
-    let slots : HoldsTable begins_with slot_number (ReadsSlot c.args.lists.now.version) c.args.lists.now.slot.items c.read_slots.new.rows.maps.slots =
-    subst (λ (rows : List Row). HoldsTable begins_with slot_number (ReadsSlot c.args.lists.now.version) rows c.read_slots.new.rows.maps.slots) c.deref-5.ensures.value c.in_ok-read_slots.ensures.holds in
-    let verbs : HoldsTable begins_with verb_number ReadsVerb c.args.lists.now.verb.items c.read_verbs.new.rows.maps.verbs =
-    subst (λ (rows : List Row). HoldsTable begins_with verb_number ReadsVerb rows c.read_verbs.new.rows.maps.verbs) c.deref-6.ensures.value c.in_ok-read_verbs.ensures.holds in
+    let slots : HoldsTable has_key_pair slot_number (ReadsSlot c.args.lists.now.version) c.args.lists.now.slot.items c.read_slots.new.rows.maps.slots =
+    subst (λ (rows : List Row). HoldsTable has_key_pair slot_number (ReadsSlot c.args.lists.now.version) rows c.read_slots.new.rows.maps.slots) c.deref-5.ensures.value c.in_ok-read_slots.ensures.holds in
+    let verbs : HoldsTable has_key_pair verb_number ReadsVerb c.args.lists.now.verb.items c.read_verbs.new.rows.maps.verbs =
+    subst (λ (rows : List Row). HoldsTable has_key_pair verb_number ReadsVerb rows c.read_verbs.new.rows.maps.verbs) c.deref-6.ensures.value c.in_ok-read_verbs.ensures.holds in
     let says = subst (λ (rows : List Row). SaysUnread has_rowid ReadsPetition IsLess petition_key rows c.in_err-read_petitions.field-0.0) c.deref-7.ensures.value c.in_err-read_petitions.ensures.fault in
     rw p.1 (subst (SaysOfCells (tables_of c.args.lists.now)) (sym p.2) (says_petition c.args.lists.now c.in_ok-head.head head.0 head.1 head.2 counter objects.read props.read slots.read verbs.read c.in_err-read_petitions.field-0.0 says))
 
@@ -100,10 +100,10 @@ returns-clause-shown c =
     subst (λ (rows : List Row). HoldsTable has_rowid object_number ReadsObject rows c.read_objects.new.rows.maps.objects) c.deref-3.ensures.value c.in_ok-read_objects.ensures.holds in
     let props : HoldsTable has_rowid prop_number ReadsProp c.args.lists.now.prop.items c.read_props.new.rows.maps.props =
     subst (λ (rows : List Row). HoldsTable has_rowid prop_number ReadsProp rows c.read_props.new.rows.maps.props) c.deref-4.ensures.value c.in_ok-read_props.ensures.holds in
-    let slots : HoldsTable begins_with slot_number (ReadsSlot c.args.lists.now.version) c.args.lists.now.slot.items c.read_slots.new.rows.maps.slots =
-    subst (λ (rows : List Row). HoldsTable begins_with slot_number (ReadsSlot c.args.lists.now.version) rows c.read_slots.new.rows.maps.slots) c.deref-5.ensures.value c.in_ok-read_slots.ensures.holds in
-    let verbs : HoldsTable begins_with verb_number ReadsVerb c.args.lists.now.verb.items c.read_verbs.new.rows.maps.verbs =
-    subst (λ (rows : List Row). HoldsTable begins_with verb_number ReadsVerb rows c.read_verbs.new.rows.maps.verbs) c.deref-6.ensures.value c.in_ok-read_verbs.ensures.holds in
+    let slots : HoldsTable has_key_pair slot_number (ReadsSlot c.args.lists.now.version) c.args.lists.now.slot.items c.read_slots.new.rows.maps.slots =
+    subst (λ (rows : List Row). HoldsTable has_key_pair slot_number (ReadsSlot c.args.lists.now.version) rows c.read_slots.new.rows.maps.slots) c.deref-5.ensures.value c.in_ok-read_slots.ensures.holds in
+    let verbs : HoldsTable has_key_pair verb_number ReadsVerb c.args.lists.now.verb.items c.read_verbs.new.rows.maps.verbs =
+    subst (λ (rows : List Row). HoldsTable has_key_pair verb_number ReadsVerb rows c.read_verbs.new.rows.maps.verbs) c.deref-6.ensures.value c.in_ok-read_verbs.ensures.holds in
     let petitions : HoldsTable has_rowid petition_number ReadsPetition c.args.lists.now.petition.items c.read_petitions.new.rows.maps.petitions =
     subst (λ (rows : List Row). HoldsTable has_rowid petition_number ReadsPetition rows c.read_petitions.new.rows.maps.petitions) c.deref-7.ensures.value c.in_ok-read_petitions.ensures.holds in
     let same : c.under-rows.result.maps.head ≡ c.in_ok-head.head = ap (λ (m : Maps). m.head) c.under-rows.ensures in
@@ -123,10 +123,10 @@ returns-clause-within c =
     subst (λ (rows : List Row). HoldsTable has_rowid object_number ReadsObject rows c.read_objects.new.rows.maps.objects) c.deref-3.ensures.value c.in_ok-read_objects.ensures.holds in
     let props : HoldsTable has_rowid prop_number ReadsProp c.args.lists.now.prop.items c.read_props.new.rows.maps.props =
     subst (λ (rows : List Row). HoldsTable has_rowid prop_number ReadsProp rows c.read_props.new.rows.maps.props) c.deref-4.ensures.value c.in_ok-read_props.ensures.holds in
-    let slots : HoldsTable begins_with slot_number (ReadsSlot c.args.lists.now.version) c.args.lists.now.slot.items c.read_slots.new.rows.maps.slots =
-    subst (λ (rows : List Row). HoldsTable begins_with slot_number (ReadsSlot c.args.lists.now.version) rows c.read_slots.new.rows.maps.slots) c.deref-5.ensures.value c.in_ok-read_slots.ensures.holds in
-    let verbs : HoldsTable begins_with verb_number ReadsVerb c.args.lists.now.verb.items c.read_verbs.new.rows.maps.verbs =
-    subst (λ (rows : List Row). HoldsTable begins_with verb_number ReadsVerb rows c.read_verbs.new.rows.maps.verbs) c.deref-6.ensures.value c.in_ok-read_verbs.ensures.holds in
+    let slots : HoldsTable has_key_pair slot_number (ReadsSlot c.args.lists.now.version) c.args.lists.now.slot.items c.read_slots.new.rows.maps.slots =
+    subst (λ (rows : List Row). HoldsTable has_key_pair slot_number (ReadsSlot c.args.lists.now.version) rows c.read_slots.new.rows.maps.slots) c.deref-5.ensures.value c.in_ok-read_slots.ensures.holds in
+    let verbs : HoldsTable has_key_pair verb_number ReadsVerb c.args.lists.now.verb.items c.read_verbs.new.rows.maps.verbs =
+    subst (λ (rows : List Row). HoldsTable has_key_pair verb_number ReadsVerb rows c.read_verbs.new.rows.maps.verbs) c.deref-6.ensures.value c.in_ok-read_verbs.ensures.holds in
     let petitions : HoldsTable has_rowid petition_number ReadsPetition c.args.lists.now.petition.items c.read_petitions.new.rows.maps.petitions =
     subst (λ (rows : List Row). HoldsTable has_rowid petition_number ReadsPetition rows c.read_petitions.new.rows.maps.petitions) c.deref-7.ensures.value c.in_ok-read_petitions.ensures.holds in
     let same : c.under-rows.result.maps.head ≡ c.in_ok-head.head = ap (λ (m : Maps). m.head) c.under-rows.ensures in
@@ -146,10 +146,10 @@ returns-clause-read c =
     subst (λ (rows : List Row). HoldsTable has_rowid object_number ReadsObject rows c.read_objects.new.rows.maps.objects) c.deref-3.ensures.value c.in_ok-read_objects.ensures.holds in
     let props : HoldsTable has_rowid prop_number ReadsProp c.args.lists.now.prop.items c.read_props.new.rows.maps.props =
     subst (λ (rows : List Row). HoldsTable has_rowid prop_number ReadsProp rows c.read_props.new.rows.maps.props) c.deref-4.ensures.value c.in_ok-read_props.ensures.holds in
-    let slots : HoldsTable begins_with slot_number (ReadsSlot c.args.lists.now.version) c.args.lists.now.slot.items c.read_slots.new.rows.maps.slots =
-    subst (λ (rows : List Row). HoldsTable begins_with slot_number (ReadsSlot c.args.lists.now.version) rows c.read_slots.new.rows.maps.slots) c.deref-5.ensures.value c.in_ok-read_slots.ensures.holds in
-    let verbs : HoldsTable begins_with verb_number ReadsVerb c.args.lists.now.verb.items c.read_verbs.new.rows.maps.verbs =
-    subst (λ (rows : List Row). HoldsTable begins_with verb_number ReadsVerb rows c.read_verbs.new.rows.maps.verbs) c.deref-6.ensures.value c.in_ok-read_verbs.ensures.holds in
+    let slots : HoldsTable has_key_pair slot_number (ReadsSlot c.args.lists.now.version) c.args.lists.now.slot.items c.read_slots.new.rows.maps.slots =
+    subst (λ (rows : List Row). HoldsTable has_key_pair slot_number (ReadsSlot c.args.lists.now.version) rows c.read_slots.new.rows.maps.slots) c.deref-5.ensures.value c.in_ok-read_slots.ensures.holds in
+    let verbs : HoldsTable has_key_pair verb_number ReadsVerb c.args.lists.now.verb.items c.read_verbs.new.rows.maps.verbs =
+    subst (λ (rows : List Row). HoldsTable has_key_pair verb_number ReadsVerb rows c.read_verbs.new.rows.maps.verbs) c.deref-6.ensures.value c.in_ok-read_verbs.ensures.holds in
     let petitions : HoldsTable has_rowid petition_number ReadsPetition c.args.lists.now.petition.items c.read_petitions.new.rows.maps.petitions =
     subst (λ (rows : List Row). HoldsTable has_rowid petition_number ReadsPetition rows c.read_petitions.new.rows.maps.petitions) c.deref-7.ensures.value c.in_ok-read_petitions.ensures.holds in
     none_met c.args.lists.now c.in_ok-head.head head.0 head.1 head.2 counter objects.read props.read slots.read verbs.read petitions.read

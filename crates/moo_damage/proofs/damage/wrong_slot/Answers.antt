@@ -2,7 +2,7 @@ use Rattle.std.proofs.Common.{None, refl, subst}
 use Rattle.moo_rows.specs.Maps.{Maps}
 use Rattle.moo_damage.specs.declared.kind.Kind.TheVariants.{StrangeSlot, MissingSlot, ClearDefiner, StrangeVerb}
 use Rattle.moo_damage.specs.Damage.{is_strange}
-use Rattle.moo_damage.specs.First.{IsFirst}
+use Rattle.moo_damage.specs.First.{IsLeastBad}
 use Rattle.moo_damage.specs.Kinds.{InRows, IsLeast, NoneBefore}
 use Rattle.moo_damage.specs.Missing.{IsFirstMissing}
 use Rattle.std.specs.Prelude.{◌≡◌, true, false}
@@ -10,7 +10,7 @@ use Rattle.moo_damage.proofs.InTurn.{none_more}
 use Rattle.moo_damage.proofs.Searched.{of_slot, of_verb, strange_least, missing_least, clear_least, verb_least, told}
 use Rattle.moo_damage.proofs.damage.wrong_slot.Goals as goal
 
-slots_owed : (m : Maps) → NoneBefore (InRows m) 10 → IsFirst m.slots (λ k r. is_strange m k ≡ false) (λ k r. is_strange m k ≡ true) None → IsFirstMissing m None → NoneBefore (InRows m) 12
+slots_owed : (m : Maps) → NoneBefore (InRows m) 10 → IsLeastBad m.slots (λ k r. is_strange m k ≡ false) (λ k r. is_strange m k ≡ true) None → IsFirstMissing m None → NoneBefore (InRows m) 12
 slots_owed m before strange missing = none_more (InRows m) MissingSlot (none_more (InRows m) StrangeSlot before (strange_least m None strange)) (missing_least m None missing)
 
 pub returns-in-Some-first_clear-clause-first : goal.returns-in-Some-first_clear-clause-first

@@ -5,7 +5,7 @@ use Rattle.std.specs.FinMap.{get}
 use Rattle.moo_world.specs.Objects.{nothing}
 use Rattle.moo_world.specs.World.{Climbs}
 use Rattle.moo_world.proofs.Shown.EntriesInOrder.{all_then}
-use Rattle.moo_damage.specs.Damage.{next_of, Ends}
+use Rattle.moo_damage.specs.Damage.{next_of, HasEnd}
 use Rattle.moo_damage.proofs.Ending.{ends_here, step_up, step_down, bound}
 use Rattle.moo_damage.proofs.trees.climb.Goals as goal
 
@@ -22,9 +22,9 @@ loop-preserved g c =
     record {
       here = subst (λ z. (z ≡ nothing) ⊎ (is_some (get m.objects z) ≡ true)) (sym c.of-at.ensures) (c.requires.links.links c.loop.at row there);
       up = λ e.
-          let ends = step_up link m c.requires.links c.loop.at row there (subst (Ends link m) c.of-at.ensures e) in
+          let ends = step_up link m c.requires.links c.loop.at row there (subst (HasEnd link m) c.of-at.ensures e) in
           let p = c.loop.invariant.up ends in
-          (subst (AllByRecursion (Ends link m)) (sym c.in_ok-push.ensures.items) (all_then (Ends link m) c.loop.path.items c.loop.at p.0 ends), p.1);
+          (subst (AllByRecursion (HasEnd link m)) (sym c.in_ok-push.ensures.items) (all_then (HasEnd link m) c.loop.path.items c.loop.at p.0 ends), p.1);
       down = λ l p.
           let d = c.loop.invariant.down l p in
           let s = step_down link m c.requires.links c.loop.at row there d.0 d.1 in

@@ -5,7 +5,7 @@ use Rattle.std.specs.FinMap.{get}
 use Rattle.moo_value.specs.declared.value.ObjNo.{ObjNo}
 use Rattle.moo_world.specs.Objects.{nothing}
 use Rattle.moo_world.specs.World.{Climbs}
-use Rattle.moo_damage.specs.Damage.{next_of, Ends}
+use Rattle.moo_damage.specs.Damage.{next_of, HasEnd}
 use Rattle.moo_damage.proofs.trees.climb.Given as goal
 
 -- where the chain ends from here, it does from each object on the way; and it has as many fewer objects
@@ -14,6 +14,6 @@ invariant-loop g l =
     let m = (g.R.Rows.held l.rows).maps in
     record {
       here : (l.at ≡ nothing) ⊎ (is_some (get m.objects l.at) ≡ true);
-      up : Ends l.link m l.at → AllByRecursion (Ends l.link m) l.path.items × Ends l.link m l.fn.x;
+      up : HasEnd l.link m l.at → AllByRecursion (HasEnd l.link m) l.path.items × HasEnd l.link m l.fn.x;
       down : (c : List ObjNo) → Climbs (next_of l.link m) l.fn.x c → (rest : List ObjNo) × Climbs (next_of l.link m) l.at rest × (length rest + l.counter ≡ length c);
     }

@@ -9,14 +9,14 @@ use Rattle.moo_rows.specs.Exact.{object_exact}
 use Rattle.moo_rows.specs.Maps.{object_cmp}
 use Rattle.moo_rows.specs.Walk.{objects_left}
 use Rattle.moo_rows.proofs.Orders.{object_total}
-use Rattle.moo_damage.specs.Damage.{Ends, Loops}
+use Rattle.moo_damage.specs.Damage.{HasEnd, Loops}
 use Rattle.moo_damage.proofs.Firsts.{FirstIn, held_entries, ended, stopped}
 use Rattle.moo_damage.proofs.trees.first_loop.Goals as goal
 
 pub loop-x-init : goal.loop-x-init
 loop-x-init g c =
     let m = (g.R.Rows.held c.args.rows.now).maps in
-    let right : ObjNo → ObjRow → Type 0 = λ x _. Ends c.args.link m x in
+    let right : ObjNo → ObjRow → Type 0 = λ x _. HasEnd c.args.link m x in
     let bad : ObjNo → ObjRow → Type 0 = λ x _. Loops c.args.link m x in
     let left = objects_left c.into_iter-x-iterator.result.last (g.R.Rows.held c.into_iter-x-iterator.result.rows.now).maps in
     let whole : left ≡ entries m.objects = search rules in
@@ -29,10 +29,10 @@ loop-x-init g c =
 pub returns-in-None-2 : goal.returns-in-None-2
 returns-in-None-2 g c =
     let m = (g.R.Rows.held c.args.rows.now).maps in
-    stopped (λ x _. Ends c.args.link m x) (λ x _. Loops c.args.link m x) object_total object_exact m.objects _ _ (c.in-Some.x, c.in-Some._row.now) c.in-Some.ensures.steps c.loop-x.invariant.first
+    stopped (λ x _. HasEnd c.args.link m x) (λ x _. Loops c.args.link m x) object_total object_exact m.objects _ _ (c.in-Some.x, c.in-Some._row.now) c.in-Some.ensures.steps c.loop-x.invariant.first
     (subst (λ o. IfNone o (Loops c.args.link m c.in-Some.x)) c.in-None-2.is c.in_ok-climb.ensures.loops)
 
 pub returns : goal.returns
 returns g c =
     let m = (g.R.Rows.held c.args.rows.now).maps in
-    ended (λ x _. Ends c.args.link m x) (λ x _. Loops c.args.link m x) object_total object_exact m.objects _ c.in-None.ensures.steps.0 c.loop-x.invariant.first
+    ended (λ x _. HasEnd c.args.link m x) (λ x _. Loops c.args.link m x) object_total object_exact m.objects _ c.in-None.ensures.steps.0 c.loop-x.invariant.first

@@ -2,9 +2,9 @@ use Rattle.std.proofs.Common.{◌≡◌, Some}
 use Rattle.std.specs.List.{AllByRecursion}
 use Rattle.std.specs.FinMap.{get, entries}
 use Rattle.moo_rows.specs.Maps.{object_cmp}
-use Rattle.moo_rows.specs.Ordered.{contents}
+use Rattle.moo_ordered.specs.Ordered.{contents}
 use Rattle.moo_rows.specs.Walk.{objects_left}
-use Rattle.moo_damage.specs.Damage.{Ends, Loops}
+use Rattle.moo_damage.specs.Damage.{HasEnd, Loops}
 use Rattle.moo_damage.specs.Noted.{AreEnding}
 use Rattle.moo_damage.proofs.Firsts.{FirstLeft}
 use Rattle.moo_damage.proofs.trees.first_loop.Given as goal
@@ -15,7 +15,7 @@ invariant-loop-x g l =
     let m = (g.R.Rows.held l.rows).maps in
     let left = objects_left l.x-iterator.last (g.R.Rows.held l.x-iterator.rows.now).maps in
     record {
-      first : FirstLeft (λ x _. Ends l.link m x) (λ x _. Loops l.link m x) left (entries m.objects);
+      first : FirstLeft (λ x _. HasEnd l.link m x) (λ x _. Loops l.link m x) left (entries m.objects);
       held : AllByRecursion (λ e. get m.objects e.0 ≡ Some e.1) left;
       known : AreEnding l.link m (contents object_cmp l.known);
     }

@@ -2,7 +2,7 @@ use Rattle.std.proofs.Common.{ℕ, suc, ◌+◌, ◌<◌, ◌≡◌, drop, lengt
 use Rattle.std.specs.List.{AllByRecursion}
 use Rattle.std.proofs.Math.Seq.{drop-cons}
 use Rattle.moo_value.specs.declared.value.ObjNo.{ObjNo}
-use Rattle.moo_damage.specs.Damage.{Ends}
+use Rattle.moo_damage.specs.Damage.{HasEnd}
 use Rattle.moo_damage.specs.Noted.{AreEnding}
 use Rattle.moo_damage.proofs.Ending.{AreEnding-noted}
 use Rattle.moo_damage.proofs.trees.note.Goals as goal
@@ -17,5 +17,5 @@ split P l i d h a =
 pub loop-x-preserved : goal.loop-x-preserved
 loop-x-preserved c link m all before =
     let now = c.loop-x.invariant link m all before in
-    let parts = split (Ends link m) c.args.path.now c.loop-x.x-index (record { 0 = pos 0 }) c.loop-x-test.true now.1 in
+    let parts = split (HasEnd link m) c.args.path.now c.loop-x.x-index (record { 0 = pos 0 }) c.loop-x-test.true now.1 in
     (subst (AreEnding link m) (sym c.in_ok-put.ensures.ok) (AreEnding-noted link m _ _ parts.0 now.0), parts.1)

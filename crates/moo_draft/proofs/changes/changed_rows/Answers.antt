@@ -1,6 +1,6 @@
 use Rattle.std.proofs.Common.{sym, ◌∙◌, subst, rules}
 use Rattle.std.proofs.lemmas.List.{nil_from_length}
-use Rattle.moo_rows.specs.Ordered.{contents}
+use Rattle.moo_ordered.specs.Ordered.{contents}
 use Rattle.moo_draft.specs.Overlay.{row_over}
 use Rattle.moo_draft.specs.Changes.{IsChanges}
 use Rattle.moo_draft.proofs.Changing.{nothing-changed}

@@ -1,7 +1,7 @@
 use Rattle.std.specs.Prelude.{is_some}
 use Rattle.std.specs.FinMap.{get}
 use Rattle.moo_rows.specs.declared.row.PropId.{PropId}
-use Rattle.moo_rows.specs.Ordered.{contents}
+use Rattle.moo_ordered.specs.Ordered.{contents}
 use Rattle.moo_rows.specs.Maps.{slot_cmp}
 use Rattle.moo_rows.specs.Links.{is_definer}
 use Rattle.moo_rows.specs.Exact.{prop_exact}

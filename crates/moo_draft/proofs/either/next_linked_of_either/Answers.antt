@@ -1,6 +1,6 @@
 use Rattle.std.specs.Prelude.{◌||◌}
 use Rattle.moo_value.specs.declared.value.ObjNo.{ObjNo}
-use Rattle.moo_rows.specs.Ordered.{contents}
+use Rattle.moo_ordered.specs.Ordered.{contents}
 use Rattle.moo_rows.specs.Maps.{object_cmp}
 use Rattle.moo_rows.specs.Links.{is_linked, is_candidate}
 use Rattle.moo_rows.specs.Exact.{object_exact}

@@ -1,11 +1,11 @@
 use Rattle.std.proofs.Common.{◌≡◌, ◌++◌}
 use Rattle.moo_value.specs.declared.value.ObjNo.{ObjNo}
 use Rattle.moo_rows.specs.Walk.{props_left}
-use Rattle.moo_dump.specs.Lines.{ids_among, ids_listed, ids_defined}
+use Rattle.moo_dump.specs.Lines.{ids_defined_by, ids_listed, ids_defined}
 use Rattle.moo_dump.proofs.definitions.all_definitions.Given as goal
 
 -- those so far, and those of the properties that are left
 abbrev pub invariant-loop-id : goal.invariant-loop-id
 invariant-loop-id g l =
     let left = props_left l.id-iterator.last (g.R.Rows.held l.id-iterator.rows.now).maps in
-    (d : ObjNo) → ids_listed l.definitions d ++ ids_among d left ≡ ids_defined (g.R.Rows.held l.rows).maps d
+    (d : ObjNo) → ids_listed l.definitions d ++ ids_defined_by d left ≡ ids_defined (g.R.Rows.held l.rows).maps d

@@ -1,5 +1,5 @@
 use Rattle.std.proofs.Common.{◌≡◌, ◌+◌, arith, refl, sym, subst, rules}
-use Rattle.moo_http.specs.Connections.{AfterConnections, Reaches}
+use Rattle.moo_http.specs.Connections.{AfterConnections, StandsAtEnd}
 use Rattle.moo_http.specs.declared.listen.Served.{Served}
 use Rattle.moo_http.proofs.Connections.{none_taken, taken_on}
 use Rattle.moo_http.proofs.listen.serve_on.Goals as goal
@@ -20,4 +20,4 @@ loop-preserved g c = record {
 pub returns-clause-serves : goal.returns-clause-serves
 returns-clause-serves g c known stand at =
     let all : c.loop.counter ≡ c.args.count = search rules in
-    subst (λ n. Reaches g.S.Store known c.loop.world (λ end. AfterConnections n stand end)) all (c.loop.invariant.taken.reaches known stand at)
+    subst (λ n. StandsAtEnd g.S.Store known c.loop.world (λ end. AfterConnections n stand end)) all (c.loop.invariant.taken.reaches known stand at)

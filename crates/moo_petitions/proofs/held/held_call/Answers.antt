@@ -1,6 +1,6 @@
 use Rattle.std.proofs.Common.{sym, ap, ◌∙◌}
 use Rattle.moo_value.specs.Value.{spread}
-use Rattle.moo_world.specs.Names.{named}
+use Rattle.moo_world.specs.Names.{call_name_of}
 use Rattle.moo_world.specs.Requests.{held_call}
 use Rattle.moo_petitions.proofs.HeldCalls.{on_world, call_in-some}
 use Rattle.moo_petitions.proofs.held.held_call.Goals as goal
@@ -9,4 +9,4 @@ pub returns-clause-some : goal.returns-clause-some
 returns-clause-some c =
     ap held_call c.in-List.is
     ∙ call_in-some (spread c.in-List.values) c.in_ok-name.args.now c.in_ok-name.name.now c.in_ok-name-2.name (sym c.items.ensures.plain ∙ c.in_ok-name.ensures.some)
-    (c.in_ok-name-2.ensures ∙ ap (λ b. on_world (named b)) c.bytes.ensures.value)
+    (c.in_ok-name-2.ensures ∙ ap (λ b. on_world (call_name_of b)) c.bytes.ensures.value)

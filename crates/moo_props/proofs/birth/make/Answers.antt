@@ -4,7 +4,7 @@ use Rattle.moo_world.specs.Creation.{created}
 use Rattle.moo_world.specs.Rows.{LookUps, AreSound, look_ups, world_of, world_shown}
 use Rattle.moo_world.specs.World.{World, IsWellFormed, read_of}
 use Rattle.moo_world.proofs.Form.Limits.{number_within}
-use Rattle.moo_props.specs.Birth.{objects_with}
+use Rattle.moo_props.specs.Birth.{with_new_row}
 use Rattle.moo_props.specs.Slots.{origins_among, with_fresh}
 use Rattle.moo_props.proofs.NewSlots.{with_new, look_ups-new}
 use Rattle.moo_props.proofs.Moved.{base-fresh, only-fresh}
@@ -18,7 +18,7 @@ use Rattle.moo_props.proofs.birth.make.Goals as goal
 abbrev t : (g : _) → goal.After-drop-inherited-2 g → Maps
 t g c = (g.R.Rows.held c.args.rows.now).maps
 
-ends : (g : _) (c : goal.After-drop-inherited-2 g) → g.R.Rows.held c.put_fresh.new.rows ≡ with_fresh c.args.x c.args.owner (origins_among (walk (t g c) c.args.parent)) (objects_with c.args.x c.args.parent c.args.owner (g.R.Rows.held c.args.rows.now))
+ends : (g : _) (c : goal.After-drop-inherited-2 g) → g.R.Rows.held c.put_fresh.new.rows ≡ with_fresh c.args.x c.args.owner (origins_among (walk (t g c) c.args.parent)) (with_new_row c.args.x c.args.parent c.args.owner (g.R.Rows.held c.args.rows.now))
 ends g c = c.in_ok-put_fresh.ensures ∙ (λ i. with_fresh c.args.x c.args.owner ((c.as_slice.ensures.value ∙ c.in_ok-inherited.ensures) i) (c.in_ok-put_new.ensures i))
 
 shown : (g : _) (c : goal.After-drop-inherited-2 g) → look_ups (g.R.Rows.held c.put_fresh.new.rows).maps ≡ with_new (look_ups (t g c)) c.args.x c.args.parent c.args.owner
@@ -37,7 +37,7 @@ returns-clause-kept g c =
     let m = look_ups (t g c) in
     let owner : FitsSigned w32 c.args.owner.0 = search rules in
     let os = origins_among (walk (t g c) c.args.parent) in
-    let held1 = objects_with c.args.x c.args.parent c.args.owner (g.R.Rows.held c.args.rows.now) in
+    let held1 = with_new_row c.args.x c.args.parent c.args.owner (g.R.Rows.held c.args.rows.now) in
     let rest = ap (λ (h : Held). h.maps) (ends g c) ∙ only-fresh c.args.x c.args.owner os held1 in
     record {
       good = record {

@@ -4,7 +4,7 @@ use Rattle.moo_text.specs.Given.{BreaksOff, ReadsNext}
 use Rattle.moo_text.specs.declared.fault.TextFault.{TextFault}
 use Rattle.moo_text.specs.Side.{feed_side, feed_room, EndsAt}
 use Rattle.moo_text.proofs.Giving.{handed_on}
-use Rattle.moo_store.specs.Turns.{is_batch, is_lost, Completes, Halts}
+use Rattle.moo_store.specs.Turns.{is_batch, is_lost_answer, Completes, Halts}
 use Rattle.moo_store.proofs.Going.{going_starts, going_on, going_through, halts_before, halts_inside, one_more, falls_at_turn}
 use Rattle.moo_store.proofs.answering.answer_all.Goals as goal
 
@@ -28,7 +28,7 @@ loop-feed-preserved g c =
           c.loop-feed.invariant.going c.in_ok-item.ensures.next c.in-Some.ensures.some c.in_ok-put_answer.ensures.ok c.count.ensures.batches c.count.ensures.lost;
       works = c.in_ok-item.ensures.works;
       batches = one_more (is_batch c.in-Some.answer) c.loop-feed.tally.batches c.count.new.self.batches room less c.loop-feed.invariant.batches falls c.count.ensures.batches;
-      lost = one_more (is_lost c.in-Some.answer) c.loop-feed.tally.lost c.count.new.self.lost room less c.loop-feed.invariant.lost falls c.count.ensures.lost;
+      lost = one_more (is_lost_answer c.in-Some.answer) c.loop-feed.tally.lost c.count.new.self.lost room less c.loop-feed.invariant.lost falls c.count.ensures.lost;
     }
 
 pub loop-feed-preserved-in_ok-put_answer : goal.loop-feed-preserved-in_ok-put_answer
@@ -43,7 +43,7 @@ loop-feed-preserved-in_ok-put_answer g c =
           c.loop-feed.invariant.going c.in_ok-item.ensures.next c.in-Some.ensures.some c.in_ok-put_answer.ensures.ok c.count.ensures.batches c.count.ensures.lost;
       works = c.in_ok-item.ensures.works;
       batches = one_more (is_batch c.in-Some.answer) c.loop-feed.tally.batches c.count.new.self.batches room less c.loop-feed.invariant.batches falls c.count.ensures.batches;
-      lost = one_more (is_lost c.in-Some.answer) c.loop-feed.tally.lost c.count.new.self.lost room less c.loop-feed.invariant.lost falls c.count.ensures.lost;
+      lost = one_more (is_lost_answer c.in-Some.answer) c.loop-feed.tally.lost c.count.new.self.lost room less c.loop-feed.invariant.lost falls c.count.ensures.lost;
     }
 
 pub returns-in_err-put_answer-clause-halts : goal.returns-in_err-put_answer-clause-halts

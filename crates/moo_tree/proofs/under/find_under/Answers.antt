@@ -1,7 +1,7 @@
 use Rattle.std.proofs.Common.{◌≡◌, ◌≢◌, suc, ◌+◌, ◌<◌, ◌≤◌, [], ◌∷◌, ◌++◌, length, drop, sym, ap, ◌∙◌, subst, rules, slice_index_or}
 use Rattle.std.specs.FinMap.{get, insert, get-empty, from_entries}
 use Rattle.moo_rows.specs.Maps.{object_cmp}
-use Rattle.moo_rows.specs.Ordered.{contents}
+use Rattle.moo_ordered.specs.Ordered.{contents}
 use Rattle.moo_world.specs.Objects.{is_among}
 use Rattle.moo_world.specs.ObjectLists.{children_of}
 use Rattle.moo_world.specs.Rows.{world_of}

@@ -4,7 +4,7 @@ use Rattle.std.specs.Option.{option_map, option_and_then}
 use Rattle.std.specs.List.{position, position_or_len}
 use Rattle.moo_rows.specs.declared.row.VerbRow.{VerbRow}
 use Rattle.moo_world.specs.Rows.{world_of}
-use Rattle.moo_world.specs.World.{verbs_of}
+use Rattle.moo_world.specs.World.{directory_of}
 use Rattle.moo_world.specs.Descriptors.{place_within, described}
 use Rattle.moo_world.specs.Matching.{one_matches}
 use Rattle.moo_verbs.specs.Places.{has_verb, verb_place}
@@ -27,8 +27,8 @@ returns-in-Name-clause-place g c =
     let m = (g.R.Rows.held c.args.rows.now).maps in
     let test = λ (v : VerbRow). one_matches v.names c.bytes.result.now in
     ap (option_map (verb_place m c.args.x)) (c.verb_named.ensures ∙ ap (option_map id_of) (found_word m c.requires c.args.x test))
-    ∙ found_place m c.requires c.args.x (position_or_len test (verbs_of (world_of m) c.args.x))
-    ∙ ap (λ b. position (λ (v : VerbRow). one_matches v.names b) (verbs_of (world_of m) c.args.x)) c.bytes.ensures.value
+    ∙ found_place m c.requires c.args.x (position_or_len test (directory_of (world_of m) c.args.x))
+    ∙ ap (λ b. position (λ (v : VerbRow). one_matches v.names b) (directory_of (world_of m) c.args.x)) c.bytes.ensures.value
     ∙ ap (described (world_of m) c.args.x) (sym c.in-Name.is)
 
 pub returns-in-Name-clause-held : goal.returns-in-Name-clause-held
@@ -36,4 +36,4 @@ returns-in-Name-clause-held g c =
     let m = (g.R.Rows.held c.args.rows.now).maps in
     let test = λ (v : VerbRow). one_matches v.names c.bytes.result.now in
     subst (λ o. IfSome o (λ id. has_verb m c.args.x id ≡ true)) (sym (c.verb_named.ensures ∙ ap (option_map id_of) (found_word m c.requires c.args.x test)))
-    (found_held m c.requires c.args.x (position_or_len test (verbs_of (world_of m) c.args.x)))
+    (found_held m c.requires c.args.x (position_or_len test (directory_of (world_of m) c.args.x)))

@@ -2,7 +2,7 @@ use Rattle.std.proofs.Common.{◌≡◌, true, false, ◌||◌, Some, None, sym,
 use Rattle.std.specs.Prelude.{is_some}
 use Rattle.std.specs.FinMap.{get}
 use Rattle.moo_rows.specs.declared.row.PropId.{PropId}
-use Rattle.moo_rows.specs.Ordered.{contents}
+use Rattle.moo_ordered.specs.Ordered.{contents}
 use Rattle.moo_rows.specs.Maps.{prop_cmp, slot_cmp}
 use Rattle.moo_rows.specs.Exact.{prop_exact}
 use Rattle.moo_rows.specs.Links.{row_defined}

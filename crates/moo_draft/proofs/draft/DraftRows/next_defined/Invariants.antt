@@ -1,7 +1,7 @@
 use Rattle.std.proofs.Common.{Option, ◌-◌}
 use Rattle.std.specs.FinMap.{get}
 use Rattle.moo_rows.specs.declared.row.PropId.{PropId}
-use Rattle.moo_rows.specs.Ordered.{contents}
+use Rattle.moo_ordered.specs.Ordered.{contents}
 use Rattle.moo_rows.specs.Maps.{prop_cmp}
 use Rattle.moo_rows.specs.Links.{IsFirst, row_defined}
 use Rattle.moo_draft.specs.Overlay.{overlaid}

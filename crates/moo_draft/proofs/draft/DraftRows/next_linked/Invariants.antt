@@ -1,7 +1,7 @@
 use Rattle.std.proofs.Common.{Option, pos, ◌-ℤ◌, nat_abs}
 use Rattle.std.specs.FinMap.{get}
 use Rattle.moo_value.specs.declared.value.ObjNo.{ObjNo}
-use Rattle.moo_rows.specs.Ordered.{contents}
+use Rattle.moo_ordered.specs.Ordered.{contents}
 use Rattle.moo_rows.specs.Maps.{object_cmp}
 use Rattle.moo_rows.specs.Links.{IsFirst, row_has}
 use Rattle.moo_draft.specs.Overlay.{overlaid}

@@ -1,5 +1,5 @@
 use Rattle.std.proofs.Common.{sym, ◌∙◌}
-use Rattle.moo_rows.specs.Ordered.{contents}
+use Rattle.moo_ordered.specs.Ordered.{contents}
 use Rattle.moo_rows.specs.Maps.{petition_cmp}
 use Rattle.moo_rows.proofs.Orders.{petition_total}
 use Rattle.moo_draft.proofs.Overlays.{get-overlaid}

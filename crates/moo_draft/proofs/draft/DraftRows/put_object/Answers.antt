@@ -1,12 +1,12 @@
 use Rattle.std.proofs.Common.{◌≡◌, Some, ap, ◌∙◌}
 use Rattle.std.specs.FinMap as map
-use Rattle.moo_rows.specs.Ordered.{contents}
+use Rattle.moo_ordered.specs.Ordered.{contents}
 use Rattle.moo_rows.specs.Maps.{object_cmp}
 use Rattle.moo_rows.specs.Links.{has_link}
 use Rattle.moo_rows.specs.Exact.{object_exact}
 use Rattle.moo_rows.proofs.Orders.{object_total}
 use Rattle.moo_draft.specs.Overlay.{overlaid}
-use Rattle.moo_draft.specs.Either.{of_changes, may_own}
+use Rattle.moo_draft.specs.Either.{of_changes, may_have_own}
 use Rattle.moo_draft.proofs.Overlays.{overlaid-insert}
 use Rattle.moo_draft.proofs.Drafts.{either-change, either-more, put-there}
 use Rattle.moo_draft.proofs.draft.DraftRows.put_object.Goals as goal
@@ -26,7 +26,7 @@ invariant_of-self-2 g c =
     let ties = c.ties.ensures in (
       either-change below (contents object_cmp d.objects) (contents object_cmp c.put.new.rows) c.add.new.self c.args.key (Some c.args.row)
           (either-more below (of_changes (contents object_cmp d.objects)) d.links c.add.new.self c.self.invariant.0 c.in_ok-add.ensures.others)
-          (λ l e f. put-there l c.args.row (may_own c.add.new.self l c.args.key) (λ h. c.in_ok-add.ensures.there l (ap (has_link l) ties ∙ h) f) e)
+          (λ l e f. put-there l c.args.row (may_have_own c.add.new.self l c.args.key) (λ h. c.in_ok-add.ensures.there l (ap (has_link l) ties ∙ h) f) e)
           c.in_ok-put.ensures.ok,
       c.self.invariant.1,
     )

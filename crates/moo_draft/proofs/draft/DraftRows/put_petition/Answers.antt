@@ -1,6 +1,6 @@
 use Rattle.std.proofs.Common.{◌≡◌, Some, ap, ◌∙◌}
 use Rattle.std.specs.FinMap as map
-use Rattle.moo_rows.specs.Ordered.{contents}
+use Rattle.moo_ordered.specs.Ordered.{contents}
 use Rattle.moo_rows.specs.Maps.{petition_cmp}
 use Rattle.moo_rows.specs.Exact.{petition_exact}
 use Rattle.moo_rows.proofs.Orders.{petition_total}

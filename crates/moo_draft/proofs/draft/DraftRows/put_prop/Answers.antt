@@ -1,6 +1,6 @@
 use Rattle.std.proofs.Common.{◌≡◌, Some, is_some, sym, ap, ◌∙◌}
 use Rattle.std.specs.FinMap as map
-use Rattle.moo_rows.specs.Ordered.{contents}
+use Rattle.moo_ordered.specs.Ordered.{contents}
 use Rattle.moo_rows.specs.Maps.{prop_cmp, slot_cmp}
 use Rattle.moo_rows.specs.Links.{row_defined}
 use Rattle.moo_rows.specs.Exact.{prop_exact}

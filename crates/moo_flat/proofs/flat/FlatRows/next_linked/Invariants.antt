@@ -1,0 +1,17 @@
+use Rattle.std.proofs.Common.{Option, pos, ◌-ℤ◌, nat_abs}
+use Rattle.std.specs.FinMap.{get}
+use Rattle.moo_value.specs.declared.value.ObjNo.{ObjNo}
+use Rattle.moo_ordered.specs.Ordered.{contents}
+use Rattle.moo_rows.specs.Maps.{object_cmp}
+use Rattle.moo_rows.specs.Links.{IsFirst, row_has}
+use Rattle.moo_flat.proofs.flat.FlatRows.next_linked.Given as goal
+
+-- what is first past `last` is first past `after`
+abbrev pub invariant-loop-key : goal.invariant-loop-key
+invariant-loop-key l =
+    let passes = λ (q : ObjNo). row_has l.link (get (contents object_cmp l.self-inside.objects) q) in
+    (r : Option ObjNo) → IsFirst object_cmp passes l.last r → IsFirst object_cmp passes l.fn.after r
+
+-- the numbers past `last`
+abbrev pub decreases-loop-key : goal.decreases-loop-key
+decreases-loop-key l = nat_abs (pos 2147483647 -ℤ l.last.0)

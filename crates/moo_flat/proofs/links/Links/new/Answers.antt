@@ -1,0 +1,12 @@
+use Rattle.std.proofs.Common.{ap, ◌∙◌}
+use Rattle.std.specs.FinMap.{get, get-empty, from_entries}
+use Rattle.moo_rows.specs.Maps.{object_cmp}
+use Rattle.moo_rows.specs.Links.{tie_cmp}
+use Rattle.moo_rows.proofs.Linking.{none-may}
+use Rattle.moo_flat.proofs.links.Links.new.Goals as goal
+
+pub returns : goal.returns
+returns c =
+    none-may _ (λ p. ap (λ es. get (from_entries {R = tie_cmp} es) p) c.new.ensures.empty ∙ get-empty tie_cmp p)
+    (λ p. ap (λ es. get (from_entries {R = tie_cmp} es) p) c.new-2.ensures.empty ∙ get-empty tie_cmp p)
+    (λ p. ap (λ es. get (from_entries {R = object_cmp} es) p) c.new-3.ensures.empty ∙ get-empty object_cmp p)

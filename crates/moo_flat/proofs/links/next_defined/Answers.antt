@@ -1,0 +1,9 @@
+use Rattle.std.proofs.Common.{◌≡◌, None, rules}
+use Rattle.moo_rows.specs.Maps.{prop_cmp}
+use Rattle.moo_rows.proofs.Firsts.{pair-none}
+use Rattle.moo_flat.proofs.links.next_defined.Goals as goal
+
+pub returns-in_err-of : goal.returns-in_err-of
+returns-in_err-of c =
+    let none : c.from_residual.result ≡ None = search rules in
+    rw none (pair-none prop_cmp _ c.args.x c.args.after c.in_err-of.ensures)
