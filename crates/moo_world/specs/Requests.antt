@@ -1,7 +1,7 @@
 -- The calls of petitions, and what any call of a batch comes to. Petitions are this server's own: LambdaMOO has none.
-use Rattle.std.specs.Prelude.{◌≡◌, ℕ, ◌+◌, ◌<◌, ◌≤◌, ℤ, pos, negsuc, nat_lt, Bool, true, false, not, ◌&&◌, ◌||◌, List, [], ◌∷◌, map, Option, Some, None, is_some, Result, Ok, Err, if◌then◌else◌}
+use Rattle.std.specs.Prelude.{◌≡◌, ℕ, ◌+◌, ◌<◌, ◌≤◌, ℤ, pos, negsuc, nat_lt, Bool, true, false, ◌&&◌, ◌||◌, List, [], ◌∷◌, map, Option, Some, None, is_some, Result, Ok, Err, if◌then◌else◌}
 use Rattle.std.specs.Option.{option_map, option_and_then}
-use Rattle.std.specs.List.{find, filter, list_all}
+use Rattle.std.specs.List.{filter, list_all}
 use Rattle.std.specs.FinMap.{FinMap, get, insert, remove, entries}
 use Rattle.moo_value.specs.declared.code.Code.{Code}
 use Rattle.moo_value.specs.declared.code.Code.TheVariants.{«Type» as wrong_type, Arguments, Permission, InvalidArgument}
@@ -14,7 +14,6 @@ use Rattle.moo_rows.specs.declared.row.PetitionId.{PetitionId}
 use Rattle.moo_rows.specs.declared.row.PetitionRow.{PetitionRow}
 use Rattle.moo_rows.specs.Maps.{Maps, petition_cmp}
 use Rattle.moo_world.specs.declared.call.Call.{Call}
-use Rattle.moo_world.specs.declared.name.CallName.{CallName}
 use Rattle.moo_world.specs.declared.name.PetitionCall.{PetitionCall}
 use Rattle.moo_world.specs.declared.name.PetitionCall.TheVariants.{Petition as to_petition, Petitions as to_list, Grant as to_grant, Decline as to_decline}
 use Rattle.moo_world.specs.Answers.{zero, list_of}
