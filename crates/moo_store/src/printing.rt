@@ -2,7 +2,8 @@
 
 ghost use Rattle.std.specs.Prelude.{◌≡◌, IfOk, map};
 ghost use Rattle.moo_value.specs.Literal.{Spells};
-ghost use Rattle.moo_cells.specs.Shows.{object_list, ShowsAccept, ShowsSlotState, ShowsOrNone};
+ghost use Rattle.moo_world.specs.Answers.{object_list};
+ghost use Rattle.moo_cells.specs.Shows.{ShowsAccept, ShowsSlotState, ShowsOrNone};
 ghost use Rattle.moo_store.specs.Printed.{PrintEach, PrintsSlot, Prints, all_of};
 
 use moo_draft::{ChangeList, Changes};
