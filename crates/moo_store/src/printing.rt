@@ -1,6 +1,6 @@
 //! Rows that change, printed as the cells of their tables.
 
-ghost use Rattle.std.specs.Prelude.{◌≡◌, IfOk, map};
+ghost use Rattle.std.specs.Prelude.{◌≡◌, IfOk};
 ghost use Rattle.moo_value.specs.Literal.{Spells};
 ghost use Rattle.moo_world.specs.Answers.{object_list};
 ghost use Rattle.moo_cells.specs.Shows.{ShowsAccept, ShowsSlotState, ShowsOrNone};
