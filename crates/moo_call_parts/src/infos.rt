@@ -97,7 +97,7 @@ pub struct NewPropertyInfo<'a> {
 
 /// What `set_property_info` takes.
 pub fn new_property_info(args: &[Value]) -> Result<NewPropertyInfo<'_>, Code>
-    ensures ok { IfOk result (λ p. new_property_info args.now ≡ Ok (p.object, (p.name.now, ((p.info.owner, p.info.perms.now), option_map (λ n. n.now) p.new_name)))) }
+    ensures ok { IfOk result (λ p. new_property_info args.now ≡ Ok (record { object = p.object; name = p.name.now; info = (p.info.owner, p.info.perms.now); new_name = option_map (λ n. n.now) p.new_name })) }
     ensures err { IfErr result (λ code. new_property_info args.now ≡ Err code) }
 {
     match args {

@@ -4,8 +4,6 @@ use Rattle.std.specs.Prelude.{ℕ, nat_le, nat_lt, ℤ, pos, negsuc, Bool, true,
 use Rattle.std.specs.List.{list_all}
 use Rattle.std.specs.Option.{option_map}
 use Rattle.std.specs.Ordering.{int_eq}
-use Rattle.moo_value.specs.declared.code.Code.{Code}
-use Rattle.moo_value.specs.declared.code.Code.TheVariants.{«Type» as wrong_type, Arguments}
 use Rattle.moo_value.specs.declared.value.ObjNo.{ObjNo}
 use Rattle.moo_value.specs.declared.value.Value.{Value}
 use Rattle.moo_value.specs.declared.value.Value.TheVariants.{Int, Obj, Str, Error, List as a_list}
@@ -15,6 +13,7 @@ use Rattle.moo_value.specs.Values.{Values, no_values as none_left, int, object, 
 use Rattle.moo_world.specs.declared.descriptor.Desc.{Desc}
 use Rattle.moo_world.specs.declared.descriptor.Desc.TheVariants.{Index, Name as a_word}
 use Rattle.moo_world.specs.Objects.{Name}
+use Rattle.moo_world.specs.Codes.{Code, E_TYPE, E_ARGS}
 
 -- an integer has 64 bits
 abbrev pub is_integer : ℤ → Bool
@@ -59,44 +58,44 @@ fits v = nat_le (nesting v) 32 && is_within_limits v
 
 abbrev pub no_values : List Value → Result (Unit {0}) Code
 no_values [] = Ok tt
-no_values args = Err Arguments
+no_values args = Err E_ARGS
 
 abbrev pub one_object : List Value → Result ObjNo Code
 one_object (Obj x ∷ []) = Ok x
-one_object (a ∷ []) = Err wrong_type
-one_object args = Err Arguments
+one_object (a ∷ []) = Err E_TYPE
+one_object args = Err E_ARGS
 
 abbrev pub two_objects : List Value → Result (ObjNo × ObjNo) Code
 two_objects (Obj x ∷ Obj y ∷ []) = Ok (x, y)
-two_objects (a ∷ b ∷ []) = Err wrong_type
-two_objects args = Err Arguments
+two_objects (a ∷ b ∷ []) = Err E_TYPE
+two_objects args = Err E_ARGS
 
 abbrev pub object_and_text : List Value → Result (ObjNo × List ℕ) Code
 object_and_text (Obj x ∷ Str name ∷ []) = Ok (x, name)
-object_and_text (a ∷ b ∷ []) = Err wrong_type
-object_and_text args = Err Arguments
+object_and_text (a ∷ b ∷ []) = Err E_TYPE
+object_and_text args = Err E_ARGS
 
 abbrev pub object_and_value : List Value → Result (ObjNo × Value) Code
 object_and_value (Obj x ∷ v ∷ []) = Ok (x, v)
-object_and_value (a ∷ b ∷ []) = Err wrong_type
-object_and_value args = Err Arguments
+object_and_value (a ∷ b ∷ []) = Err E_TYPE
+object_and_value args = Err E_ARGS
 
 abbrev pub object_text_and_value : List Value → Result (ObjNo × List ℕ × Value) Code
 object_text_and_value (Obj x ∷ Str name ∷ v ∷ []) = Ok (x, name, v)
-object_text_and_value (a ∷ b ∷ c ∷ []) = Err wrong_type
-object_text_and_value args = Err Arguments
+object_text_and_value (a ∷ b ∷ c ∷ []) = Err E_TYPE
+object_text_and_value args = Err E_ARGS
 
 -- what create takes: a parent, and an owner, which is the programmer where none is given
 abbrev pub parent_and_owner : ObjNo → List Value → Result (ObjNo × ObjNo) Code
 parent_and_owner p (Obj q ∷ []) = Ok (q, p)
 parent_and_owner p (Obj q ∷ Obj owner ∷ []) = Ok (q, owner)
-parent_and_owner p (a ∷ []) = Err wrong_type
-parent_and_owner p (a ∷ b ∷ []) = Err wrong_type
-parent_and_owner p args = Err Arguments
+parent_and_owner p (a ∷ []) = Err E_TYPE
+parent_and_owner p (a ∷ b ∷ []) = Err E_TYPE
+parent_and_owner p args = Err E_ARGS
 
 -- an object with what was read beside it, or the wrong type
 abbrev pub beside_object : {A : Type 0} → ObjNo → Option A → Result (ObjNo × A) Code
-beside_object x found = ok_or (option_map (λ a. (x, a)) found) wrong_type
+beside_object x found = ok_or (option_map (λ a. (x, a)) found) E_TYPE
 
 -- ---- accept lists
 
@@ -109,9 +108,9 @@ objects_among (v ∷ vs) = None
 -- what set_accept takes: an object, and a list of objects, or 0 for none
 abbrev pub object_and_accept : List Value → Result (ObjNo × Option (List ObjNo)) Code
 object_and_accept (Obj x ∷ a_list l ∷ []) = beside_object x (option_map Some (objects_among (spread l)))
-object_and_accept (Obj x ∷ Int n ∷ []) = if int_eq n (pos 0) then Ok (x, None) else Err wrong_type
-object_and_accept (a ∷ b ∷ []) = Err wrong_type
-object_and_accept args = Err Arguments
+object_and_accept (Obj x ∷ Int n ∷ []) = if int_eq n (pos 0) then Ok (x, None) else Err E_TYPE
+object_and_accept (a ∷ b ∷ []) = Err E_TYPE
+object_and_accept args = Err E_ARGS
 
 -- ---- properties
 
@@ -133,14 +132,21 @@ info_and_name_in other = None
 -- what add_property takes
 abbrev pub new_property : List Value → Result (ObjNo × (Name × Value × Info)) Code
 new_property (Obj x ∷ Str name ∷ v ∷ a_list info ∷ []) = beside_object x (option_map (λ i. (name, v, i)) (info_in (spread info)))
-new_property (a ∷ b ∷ c ∷ d ∷ []) = Err wrong_type
-new_property args = Err Arguments
+new_property (a ∷ b ∷ c ∷ d ∷ []) = Err E_TYPE
+new_property args = Err E_ARGS
 
 -- what set_property_info takes
-abbrev pub new_property_info : List Value → Result (ObjNo × (Name × (Info × Option Name))) Code
-new_property_info (Obj x ∷ Str name ∷ a_list info ∷ []) = beside_object x (option_map (λ i. (name, i)) (info_and_name_in (spread info)))
-new_property_info (a ∷ b ∷ c ∷ []) = Err wrong_type
-new_property_info args = Err Arguments
+pub record NewPropertyInfo : Type 0 where
+  pub object : ObjNo
+  pub name : Name
+  pub info : Info
+  pub new_name : Option Name
+
+abbrev pub new_property_info : List Value → Result NewPropertyInfo Code
+new_property_info (Obj x ∷ Str name ∷ a_list info ∷ []) =
+    ok_or (option_map (λ i. record { object = x; name = name; info = i.0; new_name = i.1 }) (info_and_name_in (spread info))) E_TYPE
+new_property_info (a ∷ b ∷ c ∷ []) = Err E_TYPE
+new_property_info args = Err E_ARGS
 
 -- ---- verbs
 
@@ -163,8 +169,8 @@ texts_in other = None
 -- what verb_info, verb_args and delete_verb take
 abbrev pub object_and_desc : List Value → Result (ObjNo × Desc) Code
 object_and_desc (Obj x ∷ d ∷ []) = beside_object x (desc_of d)
-object_and_desc (a ∷ b ∷ []) = Err wrong_type
-object_and_desc args = Err Arguments
+object_and_desc (a ∷ b ∷ []) = Err E_TYPE
+object_and_desc args = Err E_ARGS
 
 -- both, or none
 abbrev pub both : {A B : Type 0} → Option A → Option B → Option (A × B)
@@ -174,17 +180,17 @@ both (Some a) b = option_map (λ y. (a, y)) b
 -- what add_verb takes
 abbrev pub new_verb : List Value → Result (ObjNo × ((Info × Name) × (Name × Name × Name))) Code
 new_verb (Obj x ∷ a_list info ∷ a_list args ∷ []) = beside_object x (both (verb_info_in (spread info)) (texts_in (spread args)))
-new_verb (a ∷ b ∷ c ∷ []) = Err wrong_type
-new_verb args = Err Arguments
+new_verb (a ∷ b ∷ c ∷ []) = Err E_TYPE
+new_verb args = Err E_ARGS
 
 -- what set_verb_info takes
 abbrev pub new_verb_info : List Value → Result (ObjNo × (Desc × (Info × Name))) Code
 new_verb_info (Obj x ∷ d ∷ a_list info ∷ []) = beside_object x (both (desc_of d) (verb_info_in (spread info)))
-new_verb_info (a ∷ b ∷ c ∷ []) = Err wrong_type
-new_verb_info args = Err Arguments
+new_verb_info (a ∷ b ∷ c ∷ []) = Err E_TYPE
+new_verb_info args = Err E_ARGS
 
 -- what set_verb_args takes
 abbrev pub new_verb_args : List Value → Result (ObjNo × (Desc × (Name × Name × Name))) Code
 new_verb_args (Obj x ∷ d ∷ a_list args ∷ []) = beside_object x (both (desc_of d) (texts_in (spread args)))
-new_verb_args (a ∷ b ∷ c ∷ []) = Err wrong_type
-new_verb_args args = Err Arguments
+new_verb_args (a ∷ b ∷ c ∷ []) = Err E_TYPE
+new_verb_args args = Err E_ARGS

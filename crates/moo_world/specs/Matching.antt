@@ -2,14 +2,15 @@
 -- LambdaMOO Programmer's Manual, 'Verbs on Objects' in the chapter on the database. That names
 -- compare without case, and that only the first star of a name counts and a later one stands for itself, are this server's own.
 use Rattle.std.specs.Prelude.{ℕ, ◌+◌, ◌==◌, ◌&&◌, ◌||◌, not, Bool, List, length, take, drop, Option, None, Some}
+use Prim.Native.Char.{code}
 use Rattle.std.specs.List.{filter, list_any, position, slice_split}
 use Rattle.moo_world.specs.Objects.{Name, same_text, folded}
 
 abbrev pub is_star : ℕ → Bool
-is_star byte = byte == 42
+is_star byte = byte == code "*"
 
 abbrev pub is_space : ℕ → Bool
-is_space byte = byte == 32
+is_space byte = byte == code " "
 
 abbrev pub is_empty : Name → Bool
 is_empty text = length text == 0

@@ -30,3 +30,26 @@ with_next (Some x) rest = rest x
 abbrev pub found_or : {A : Type 0} → Option A → Code → (A → Outcome) → Outcome
 found_or None code rest = Failed code
 found_or (Some a) code rest = rest a
+
+-- ---- how the steps of a call are written, one to a line, in their order
+
+-- what follows a step is done where the step lets it
+abbrev pub ◌>>◌ : {R : Type 0} → (R → R) → R → R
+◌>>◌ step rest = step rest
+
+abbrev pub ◌>>=◌ : {A R : Type 0} → ((A → R) → R) → (A → R) → R
+◌>>=◌ step rest = step rest
+
+-- the fact has to hold, or the call is this error
+infix 5 require◌else◌
+abbrev pub require◌else◌ : Bool → Code → Outcome → Outcome
+require b else code = check b (Failed code)
+
+-- what is there, or the call is this error
+infix 5 ◌or_else◌
+abbrev pub ◌or_else◌ : {A : Type 0} → Option A → Code → (A → Outcome) → Outcome
+o or_else code = found_or o code
+
+-- a number has to be left
+abbrev pub require_room : Bool → Outcome → Outcome
+require_room b = check b Full

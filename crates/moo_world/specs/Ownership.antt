@@ -1,14 +1,14 @@
 -- What quotas count, and what only a wizard may do.
-use Rattle.std.specs.Prelude.{◌≡◌, ℤ, pos, negsuc, ◌+ℤ◌, int_lt, true, false, ◌&&◌, ◌||◌, is_some, Option, None, Some, Result, Ok, Err, if◌then◌else◌}
+use Rattle.std.specs.Prelude.{◌≡◌, ℤ, pos, ◌+ℤ◌, int_lt, true, false, ◌&&◌, ◌||◌, is_some, Option, None, Some, Result, Ok, Err, if◌then◌else◌}
 use Rattle.moo_value.specs.declared.code.Code.{Code}
 use Rattle.moo_value.specs.declared.value.ObjNo.{ObjNo}
 use Rattle.moo_value.specs.declared.value.Value.{Value}
 use Rattle.moo_value.specs.declared.value.Value.TheVariants.{Obj}
 use Rattle.moo_world.specs.declared.call.Call.{Call}
 use Rattle.moo_world.specs.declared.name.CallName.TheVariants.{SetPropertyInfo}
-use Rattle.moo_world.specs.Objects.{Name, nothing, same_object, same_text, folded, is_among}
+use Rattle.moo_world.specs.Objects.{Name, nothing, same_object, same_text, folded, is_among, -1}
 use Rattle.moo_world.specs.World.{World, Slot, IsWellFormed, is_object, row_passes, owner_of, slot_of, chain}
-use Rattle.moo_world.specs.Arguments.{Info, new_property_info}
+use Rattle.moo_world.specs.Arguments.{NewPropertyInfo, new_property_info}
 use Rattle.moo_world.specs.Outcomes.{Done}
 use Rattle.moo_world.specs.Calls.{create, recycle}
 use Rattle.moo_world.specs.Quota.{quota_of}
@@ -30,9 +30,13 @@ SameRights w next y =
 abbrev pub name_changed : World → ObjNo → Name → Name → ObjNo → Name → Name
 name_changed w x old new y n = if is_among x (chain w y) && same_text (folded old) n then folded new else n
 
-abbrev pub name_by : World → Result (ObjNo × (Name × (Info × Option Name))) Code → ObjNo → Name → Name
-name_by w (Ok (x, (old, (info, Some new)))) y n = name_changed w x old new y n
-name_by w (Ok (x, (old, (info, None)))) y n = n
+-- the folded name that a slot of y has after x's property got the new name, if any
+abbrev pub name_given : World → ObjNo → Name → Option Name → ObjNo → Name → Name
+name_given w x old None y n = n
+name_given w x old (Some new) y n = name_changed w x old new y n
+
+abbrev pub name_by : World → Result NewPropertyInfo Code → ObjNo → Name → Name
+name_by w (Ok a) y n = name_given w a.object a.name a.new_name y n
 name_by w (Err code) y n = n
 
 -- the same after a call: set_property_info alone gives other names
@@ -58,7 +62,7 @@ PetitionsLeaveTheWorld = (s next : State) (p : ObjNo) (call : Call) (v : Value) 
 abbrev pub CreateTakesOne : Type 0
 CreateTakesOne =
     (w next : World) (p q owner : ObjNo) (v : Value) (k : ℤ) → IsWellFormed w → same_object nothing owner ≡ false → quota_of w owner ≡ Some k → create w p q owner ≡ Done v next →
-    (quota_of next owner ≡ Some (k +ℤ negsuc 0))
+    (quota_of next owner ≡ Some (k +ℤ -1))
     × ((x : ObjNo) × (v ≡ Obj x) × (is_object w x ≡ false) × (owner_of next x ≡ owner)
     × ((y : ObjNo) → is_object next y ≡ (same_object x y || is_object w y))
     × ((y : ObjNo) → is_object w y ≡ true → owner_of next y ≡ owner_of w y))

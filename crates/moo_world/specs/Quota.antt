@@ -1,14 +1,14 @@
 -- The quota of an owner.
 -- LambdaMOO Programmer's Manual, 'Fundamental Operations on Objects': `create` and `recycle`. That none is consulted where #-1 was
 -- given as owner, and that one at the greatest integer stays, are this server's own.
-use Rattle.std.specs.Prelude.{ℤ, pos, negsuc, ◌+ℤ◌, int_lt, Bool, true, false, ◌||◌, codes, Option, Some, None, unwrap_or, if◌then◌else◌}
+use Rattle.std.specs.Prelude.{ℤ, pos, ◌+ℤ◌, int_lt, Bool, true, false, ◌||◌, codes, Option, Some, None, unwrap_or, if◌then◌else◌}
 use Rattle.std.specs.Option.{option_map}
 use Rattle.moo_value.specs.declared.value.ObjNo.{ObjNo}
 use Rattle.moo_value.specs.declared.value.Value.{Value}
 use Rattle.moo_value.specs.declared.value.Value.TheVariants.{Int}
 use Rattle.moo_rows.specs.declared.row.SlotState.{SlotState}
 use Rattle.moo_rows.specs.declared.row.SlotState.TheVariants.{Set}
-use Rattle.moo_world.specs.Objects.{Name, nothing, same_object, same_text}
+use Rattle.moo_world.specs.Objects.{Name, nothing, same_object, same_text, -1}
 use Rattle.moo_world.specs.World.{World, Record, Slot, with_record, read_of}
 
 -- the name of the quota property, folded
@@ -38,7 +38,7 @@ abbrev pub may_afford : World → ObjNo → Bool
 may_afford w owner = same_object nothing owner || has_quota_left w owner
 
 abbrev pub charged : World → ObjNo → World
-charged w owner = if same_object nothing owner then w else quota_moved w owner (negsuc 0)
+charged w owner = if same_object nothing owner then w else quota_moved w owner -1
 
 -- a quota at the greatest integer stays
 abbrev pub quota_returned : World → ObjNo → World

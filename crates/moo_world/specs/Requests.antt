@@ -3,8 +3,6 @@ use Rattle.std.specs.Prelude.{◌≡◌, ℕ, ◌+◌, ◌<◌, ◌≤◌, ℤ, 
 use Rattle.std.specs.Option.{option_map, option_and_then}
 use Rattle.std.specs.List.{filter, list_all}
 use Rattle.std.specs.FinMap.{FinMap, get, insert, remove, entries}
-use Rattle.moo_value.specs.declared.code.Code.{Code}
-use Rattle.moo_value.specs.declared.code.Code.TheVariants.{«Type» as wrong_type, Arguments, Permission, InvalidArgument}
 use Rattle.moo_value.specs.declared.value.ObjNo.{ObjNo}
 use Rattle.moo_value.specs.declared.value.Value.{Value}
 use Rattle.moo_value.specs.declared.value.Value.TheVariants.{Int, Obj, Str, List as a_list}
@@ -20,12 +18,13 @@ use Rattle.moo_world.specs.Answers.{zero, list_of}
 use Rattle.moo_world.specs.Arguments.{no_values}
 use Rattle.moo_world.specs.Names.{petition_call, call_name_of}
 use Rattle.moo_world.specs.Objects.{same_object}
-use Rattle.moo_world.specs.Outcomes.{Outcome, Done, Failed, Full}
+use Rattle.moo_world.specs.Outcomes.{Outcome, Done, Failed, Full, ◌>>◌, ◌>>=◌}
 use Rattle.moo_world.specs.Petitions.{is_named, are_few, are_shallow, PetitionsStand}
 use Rattle.moo_world.specs.Rights.{is_wizard}
 use Rattle.moo_world.specs.Rows.{world_of}
 use Rattle.moo_world.specs.Calls.{step}
 use Rattle.moo_world.specs.World.{World, is_object, IsWellFormed}
+use Rattle.moo_world.specs.Codes.{Code, E_PERM, E_INVARG, E_TYPE, E_ARGS}
 
 -- the whole database: the world, the petitions with the number of the next one, and how many batches were accepted
 pub record State : Type 0 where
@@ -54,6 +53,10 @@ abbrev pub unless_fails : Bool → Code → Effect → Effect
 unless_fails true code rest = rest
 unless_fails false code rest = Erred code
 
+infix 5 require◌else◌
+abbrev pub require◌else◌ : Bool → Code → Effect → Effect
+require b else code = unless_fails b code
+
 abbrev pub taking : {A : Type 0} → Result A Code → (A → Effect) → Effect
 taking (Ok a) rest = rest a
 taking (Err code) rest = Erred code
@@ -68,17 +71,17 @@ in_world s Full = NoneLeft
 
 abbrev pub one_list : List Value → Result Values Code
 one_list (a_list values ∷ []) = Ok values
-one_list (v ∷ []) = Err wrong_type
-one_list args = Err Arguments
+one_list (v ∷ []) = Err E_TYPE
+one_list args = Err E_ARGS
 
 abbrev pub one_integer : List Value → Result ℤ Code
 one_integer (Int n ∷ []) = Ok n
-one_integer (v ∷ []) = Err wrong_type
-one_integer args = Err Arguments
+one_integer (v ∷ []) = Err E_TYPE
+one_integer args = Err E_ARGS
 
 -- what is done with the petition that is there, or the error that there is none
 abbrev pub found_petition : Option (PetitionId × PetitionRow) → (PetitionId × PetitionRow → Effect) → Effect
-found_petition None rest = Erred InvalidArgument
+found_petition None rest = Erred E_INVARG
 found_petition (Some e) rest = rest e
 
 -- ---- petitions by number
@@ -108,7 +111,7 @@ held_call v = None
 
 -- one of them, by the wizard who grants it. One that names no call is in no petition that a call has made
 abbrev pub held_step : World → ObjNo → Value → Outcome
-held_step w p held = elim (held_call held) [ None ↦ Failed InvalidArgument | Some call ↦ step w p call ]
+held_step w p held = elim (held_call held) [ None ↦ Failed E_INVARG | Some call ↦ step w p call ]
 
 -- all of them, one after another, up to the first that isn't done
 abbrev pub held_steps : World → ObjNo → List Value → Outcome
@@ -129,8 +132,8 @@ asked s p calls = record s { petitions = insert s.petitions (petition_id s.next_
 abbrev pub may_be_asked : Values → Result (Unit {0}) Code
 may_be_asked calls =
     if list_all is_named (spread calls)
-    then (if are_few calls && (list_all (λ held. is_some (held_call held)) (spread calls) && are_shallow calls) then Ok tt else Err InvalidArgument)
-    else Err wrong_type
+    then (if are_few calls && (list_all (λ held. is_some (held_call held)) (spread calls) && are_shallow calls) then Ok tt else Err E_INVARG)
+    else Err E_TYPE
 
 -- one petition more, where a number is left
 abbrev pub ask : State → ObjNo → Values → Effect
@@ -149,15 +152,16 @@ petitions s p = Answered (list_of (map listed (filter (λ e. is_wizard s.world p
 
 -- the petition goes, and then its calls are made on the wizard's authority
 abbrev pub grant : State → ObjNo → ℤ → Effect
-grant s p n =
-    unless_fails (is_wizard s.world p) Permission
-    (found_petition (petition_at s n) (λ e. in_world (without e.0 s) (held_steps s.world p (spread e.1.calls))))
+grant s p n = do
+  require is_wizard s.world p else E_PERM
+  e ← found_petition (petition_at s n)
+  in_world (without e.0 s) (held_steps s.world p (spread e.1.calls))
 
 abbrev pub decline : State → ObjNo → ℤ → Effect
-decline s p n =
-    found_petition (petition_at s n) (λ e.
-    unless_fails (same_object e.1.who p || is_wizard s.world p) Permission
-    (Answered zero (without e.0 s)))
+decline s p n = do
+  e ← found_petition (petition_at s n)
+  require same_object e.1.who p || is_wizard s.world p else E_PERM
+  Answered zero (without e.0 s)
 
 abbrev pub petition_call_by : State → ObjNo → PetitionCall → List Value → Effect
 petition_call_by s p to_petition args = taking (one_list args) (petition s p)
@@ -170,7 +174,7 @@ unfoldable pub request : State → ObjNo → Call → Effect
 request s p call =
     elim (petition_call call.name) [
       | None ↦ in_world s (step s.world p call)
-      | Some c ↦ unless_fails (is_object s.world p) Permission (petition_call_by s p c call.args)
+      | Some c ↦ unless_fails (is_object s.world p) E_PERM (petition_call_by s p c call.args)
     ]
 
 -- ---- numbers of petitions

@@ -34,7 +34,7 @@ use Rattle.moo_world.specs.KeptForm.{CallsKeepForm}
 use Rattle.moo_world.specs.Objects.{Name, nothing, same_object, folded, is_among, same_object-Decides}
 use Rattle.moo_world.specs.ObjectLists.{meets}
 use Rattle.moo_world.specs.Outcomes.{Outcome, Done, Failed, found_or, check}
-use Rattle.moo_world.specs.Ownership.{KeepsOwnership, NoWizardKeepsOwnership, name_by, name_after}
+use Rattle.moo_world.specs.Ownership.{KeepsOwnership, NoWizardKeepsOwnership, name_by, name_given, name_after}
 use Rattle.moo_world.specs.PropertyCalls.{get, change_of, may_set, names_object, set_built_in, set, defines_name, may_define, add_property, delete_property, may_rename, renamed_to, set_property_info, clear_property}
 use Rattle.moo_world.specs.Recycling.{recycled}
 use Rattle.moo_world.specs.Rights.{is_wizard, controls, may_be_parent, may_own, may_read_object, may_write_object, may_read_slot, may_write_slot, may_read_verb, may_write_verb, accepts, is_within}
@@ -275,7 +275,7 @@ module _ (w : World) (p : ObjNo) (values : List Value) (wf : IsWellFormed w) (po
 
   -- and another name, where one is given
   renaming : (x : ObjNo) (n : Name) (info : Info) (bits : Bits) → is_object w x ≡ true → is_number info.0 ≡ true → (is_wizard w p ≡ false → KeepsOwnership w (info_set w x n info.0 bits) p (λ y m. m))
-      → (new : Option Name) → may_rename w x n new ≡ true → CallKeeps w p values (name_by w (Ok (x, (n, (info, new))))) (renamed_to (info_set w x n info.0 bits) x n new)
+      → (new : Option Name) → may_rename w x n new ≡ true → CallKeeps w p values (name_given w x n new) (renamed_to (info_set w x n info.0 bits) x n new)
   renaming x n info bits xo numbered owned None good = record { form = λ fit. info_formed x n info.0 bits numbered; ownership = owned }
   renaming x n info bits xo numbered owned (Some name) good =
       let v = info_set w x n info.0 bits in
@@ -287,7 +287,7 @@ module _ (w : World) (p : ObjNo) (values : List Value) (wf : IsWellFormed w) (po
       })
 
   -- by the names that set_property_info gives
-  info_kept : (x : ObjNo) (n : Name) (info : Info) (new : Option Name) → Holds (λ v next. CallKeeps w p values (name_by w (Ok (x, (n, (info, new))))) next) (set_property_info w p x n info new)
+  info_kept : (x : ObjNo) (n : Name) (info : Info) (new : Option Name) → Holds (λ v next. CallKeeps w p values (name_given w x n new) next) (set_property_info w p x n info new)
   info_kept x n info new =
       on_check _ (is_object w x) _ _ (λ xo.
       on_found _ (slot_of w x (folded n)) _ _ (λ s e.
@@ -388,7 +388,7 @@ module _ (w : World) (p : ObjNo) (values : List Value) (wf : IsWellFormed w) (po
   named_kept DeleteProperty = on_given _ (object_and_text values) _ (λ a e. delete_kept a.0 a.1)
   named_kept SetPropertyInfo =
       on_given _ (new_property_info values) _ (λ a e.
-      subst (λ r. Holds (λ v next. CallKeeps w p values (name_by w r) next) (set_property_info w p a.0 a.1.0 a.1.1.0 a.1.1.1)) (sym e) (info_kept a.0 a.1.0 a.1.1.0 a.1.1.1))
+      subst (λ r. Holds (λ v next. CallKeeps w p values (name_by w r) next) (set_property_info w p a.object a.name a.info a.new_name)) (sym e) (info_kept a.object a.name a.info a.new_name))
   named_kept ClearProperty = on_given _ (object_and_text values) _ (λ a e. clear_kept a.0 a.1)
   named_kept AddVerb = on_given _ (new_verb values) _ (λ a e. add_verb_kept a.0 a.1.0.0 a.1.0.1 a.1.1 (new_verb_named values a e))
   named_kept DeleteVerb = on_given _ (object_and_desc values) _ (λ a e. delete_verb_kept a.0 a.1)
