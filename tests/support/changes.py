@@ -1,7 +1,7 @@
-"""Batches, and the rows that each has to change: for tables.py. The head of a changed world is given, and of each table the rows that go
+"""Batches, and the rows that each has to change: for test_tables. The head of a changed world is given, and of each table the rows that go
 and the rows that come; a row that is replaced does both. Nothing else may be written."""
-from columns import OPENING_OBJECTS, thing
-from worlds import PETITIONS, TREE, VERBS
+from tests.support.columns import OPENING_OBJECTS, thing
+from tests.support.worlds import PETITIONS, TREE, VERBS
 
 # The table that is made, and neither read nor written behind that; and those of petitions where nobody has asked yet.
 UNREAD = {"slot": []}

@@ -1,5 +1,5 @@
 """The tables of a file, in the order in which they are made, and the columns of each, its key first; rows of the table of objects, and how
-they are told in a dump. For the scripts of tests/ and bench/.
+they are told in a dump. For the tests and the measurements in bench/.
 
 The slots are in slot2. The table slot is that of the first version, and empty.
 """

@@ -1,7 +1,5 @@
-"""What worlds are dumped as, the lines of their objects from rows. For the shell, `python3 dumped.py NAME` writes one of these texts."""
-import sys
-
-from columns import OPENING_OBJECTS, TABLES, object_line, thing
+"""What worlds are dumped as, the lines of their objects from rows."""
+from tests.support.columns import OPENING_OBJECTS, TABLES, object_line, thing
 
 # The fields of an object, as the help names them.
 FIELDS = ", ".join({"n": "number", "accept": "accept list or 0"}.get(column, column) for column in TABLES["object"])
@@ -25,6 +23,3 @@ property {{#7, "c"}}
 slot {{#7, #7, "c", #3, "r", 1, 30}}
 end
 """
-
-if __name__ == "__main__":
-    sys.stdout.write({"FIELDS": FIELDS, "OPENING": OPENING, "TREE": TREE}[sys.argv[1]])

@@ -1,10 +1,11 @@
-"""Requests to the service of new worlds in memory, and answers to compare with what comes. For the parts of requests.py."""
+"""Requests to the service of new worlds in memory, and answers to compare with what comes."""
 import contextlib
 import json
 import socket
 
-from program import MOO, case
-from service import Service, answer
+from tests.support.cases import ProgramTest
+from tests.support.program import MOO
+from tests.support.service import Service, answer
 
 
 def error(word):
@@ -89,12 +90,15 @@ def said(service, request, most=1 << 20):
         return heard_to_the_end(peer)[0]
 
 
-def in_turn(title, rows, before=()):
-    """Rows of a name, a request and its answer, one after another on a new world; behind requests that aren't looked at."""
-    service = Service(MOO, ":memory:", len(before) + len(rows))
-    for request in before:
-        said(service, request)
-    for name, request, wanted in rows:
-        case(f"{title}: {name}", said(service, request), wanted)
-    count = len(before) + len(rows)
-    case(f"{title}: all of them are served", service.end(), (0, f"served {count} failed 0\n"))
+class RequestTest(ProgramTest):
+    """Tests that send requests to the service."""
+
+    def in_turn(self, title, rows, before=()):
+        """Rows of a name, a request and its answer, one after another on a new world; after requests that aren't looked at."""
+        service = Service(MOO, ":memory:", len(before) + len(rows))
+        for request in before:
+            said(service, request)
+        for name, request, wanted in rows:
+            self.case(f"{title}: {name}", said(service, request), wanted)
+        count = len(before) + len(rows)
+        self.case(f"{title}: all of them are served", service.end(), (0, f"served {count} failed 0\n"))

@@ -1,8 +1,8 @@
 """Files of the first version: five tables, made by SQLite itself, with rows that are given."""
 import sqlite3
 
-from columns import FIRST_TABLES, first_objects, inserted
-from worlds import remove
+from tests.support.columns import FIRST_TABLES, first_objects, inserted
+from tests.support.worlds import remove
 
 def letters(number):
     """The letters of the rights that a number stands for."""

@@ -1,9 +1,10 @@
 """Scenes in the notation of tests/scenes/README.md: read, and put as texts of batches and as requests."""
 import json
-import pathlib
 from typing import NamedTuple
 
-from service import answer
+from tests.support.service import answer
+from tests.support.worlds import TREE
+
 
 class Batch(NamedTuple):
     """A batch, and what it comes to: the first line of its reply, and its answers."""
@@ -79,7 +80,7 @@ def read_batch(line):
 
 def tree():
     """The batch that a line `tree` stands for."""
-    _, *calls, _ = (pathlib.Path(__file__).parent / "tree.txt").read_text().splitlines()
+    _, *calls, _ = TREE.splitlines()
     return Batch("#3", "", calls, "accepted 1", ["#4", "0", "#5", "0", "#6", "0", "#7", "0"])
 
 

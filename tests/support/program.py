@@ -1,28 +1,34 @@
-"""The program under test, which the variable MOO names: runs of it in the folder that a script runs in, and the line that tells of a case."""
+"""The program under test, which the variable MOO names, and runs of it in the present folder."""
 import os
 import sqlite3
 import subprocess
+from pathlib import Path
+from typing import NamedTuple
 
-from service import PATIENCE
+from tests.support.service import PATIENCE
 
-MOO = os.environ["MOO"]
-
-
-def shown(value):
-    """The front of what came, since some texts are long."""
-    text = repr(value)
-    return text if len(text) <= 400 else f"{text[:400]}.. ({len(text)} letters)"
+TOP = Path(__file__).resolve().parents[2]
+MOO = os.path.abspath(os.environ.get("MOO") or TOP / "crates/moo/out/moo")
 
 
-def case(name, came, wanted):
-    """Says of a case that it is as wanted, or what came."""
-    print(f"ok {name}" if came == wanted else f"FAILED {name}: {shown(came)} and not {shown(wanted)}", flush=True)
+class Ended(NamedTuple):
+    """How a run ended: its status, what it wrote, and what it said on standard error."""
+
+    status: int
+    written: str
+    complaint: str
 
 
 def run(*words, text=b"", **how):
     """The status of the program, given a text, and what it writes."""
     ran = subprocess.run([MOO, *words], input=text, stdout=subprocess.PIPE, stderr=subprocess.DEVNULL, timeout=PATIENCE, **how)
     return ran.returncode, ran.stdout
+
+
+def ended(*words, text="", output=subprocess.PIPE):
+    """How the program ends, given a text. It writes to a pipe or another output."""
+    ran = subprocess.run([MOO, *words], input=text.encode(), stdout=output, stderr=subprocess.PIPE, timeout=PATIENCE)
+    return Ended(ran.returncode, (ran.stdout or b"").decode(), ran.stderr.decode(errors="replace"))
 
 
 def edit(file, *statements):

@@ -1,9 +1,11 @@
-"""The service as a process, and clients of it. For the scripts of tests/ and bench/."""
+"""The service as a process, and clients of it. For the tests and the measurements in bench/."""
 import os
 import select
 import socket
 import struct
 import subprocess
+
+from tests.support.processes import start
 
 PATIENCE = 60
 
@@ -21,7 +23,7 @@ class Service:
     def __init__(self, program, file, count, port=None, folder=None, env=None):
         self.port = port or free_port()
         words = [program, "serve", file, str(self.port), str(count)]
-        self.process = subprocess.Popen(words, cwd=folder, stdout=subprocess.PIPE, stderr=subprocess.PIPE, env=env)
+        self.process = start(words, cwd=folder, stdout=subprocess.PIPE, stderr=subprocess.PIPE, env=env)
         self.first = self.line()
 
     def line(self):

@@ -1,15 +1,13 @@
-"""The program on texts and files, and what the tables of a file hold. For scripts of tests/; the variable MOO names the program.
-
-Each works in the folder that it runs in."""
+"""The program on texts and files of the present folder, and what the tables of a file hold."""
 import os
 import resource
 import shutil
 import sqlite3
 from pathlib import Path
 
-import program
-from columns import TABLES
-from program import edit
+from tests.support import program
+from tests.support.columns import TABLES
+from tests.support.program import edit
 
 TREE = Path(__file__).with_name("tree.txt").read_text()
 # The numbers of verbs here are 1, 2 and 3.
@@ -49,7 +47,7 @@ def make(file, text=""):
     done = run("init", file)
     ran = run("apply", file, "-", text=text)
     if done != (0, "created\n") or ran[0] != 0 or ran[1].count("accepted") != text.count("batch"):
-        raise SystemExit(f"FAILED {file} is made: {done} {ran}")
+        raise AssertionError(f"{file} wasn't made: {done} {ran}")
     edit(file, "pragma wal_checkpoint(truncate)")
 
 
