@@ -1,7 +1,11 @@
-"""The cases of cells.sh: single cells, each kind of damage, and several at once. The edits of damage.sh aren't tried again."""
-from columns import FLAGS, inserted, thing
-from program import case, edit
-from worlds import ASKED, VERBS, copied, make, rows_of, run
+"""Cells that were edited by hand: which of them can be read, what is said of the others, and of several kinds of damage which is told.
+
+The edits of test_damage aren't tried again.
+"""
+from tests.support.cases import ProgramTest
+from tests.support.columns import FLAGS, inserted, thing
+from tests.support.program import edit
+from tests.support.worlds import ASKED, VERBS, copied, make, rows_of, run
 
 WHOLE = (0, "ok seq 3 objects 8\n")
 # Texts with bytes that no text has are put by their bytes.
@@ -213,34 +217,31 @@ def put(table, column, row, value):
     return f"update {table} set {column} = {'?' if isinstance(value, int) else 'cast(? as text)'} where {where}", (value,)
 
 
-def single_cells():
-    for table, column, row, key, good, bad in CELLS:
-        wrong = [value for value in good if run("check", edited(put(table, column, row, value))) != WHOLE]
-        case(f"{len(good)} cells that can be read as {column} of {table}", wrong, [])
-        kind = "bad-head" if key == "head" else "bad-cell"
-        said = (3, f"moo: damaged {kind} {key}\n")
-        wrong = [value for value in bad if run("check", edited(put(table, column, row, value))) != said]
-        case(f"{len(bad)} that can't be {column} of {table}, each of which is {kind} {key}", wrong, [])
+class Cells(ProgramTest):
+    def setUp(self):
+        super().setUp()
+        make("world.db", VERBS + ASKED)
 
+    def test_single_cells(self):
+        for table, column, row, key, good, bad in CELLS:
+            wrong = [value for value in good if run("check", edited(put(table, column, row, value))) != WHOLE]
+            self.case(f"{len(good)} cells that can be read as {column} of {table}", wrong, [])
+            kind = "bad-head" if key == "head" else "bad-cell"
+            said = (3, f"moo: damaged {kind} {key}\n")
+            wrong = [value for value in bad if run("check", edited(put(table, column, row, value))) != said]
+            self.case(f"{len(bad)} that can't be {column} of {table}, each of which is {kind} {key}", wrong, [])
 
-def keys():
-    for said, *statements in KEYS + SEVERAL:
-        case(f"damaged {said}: {'; '.join(statements)}", *judged(edited(*statements), f"damaged {said}"))
+    def test_keys(self):
+        for said, *statements in KEYS + SEVERAL:
+            self.case(f"damaged {said}: {'; '.join(statements)}", *judged(edited(*statements), f"damaged {said}"))
 
+    def test_order(self):
+        for at, (said, _) in enumerate(IN_ORDER):
+            statements = [statement for _, statement in reversed(IN_ORDER[at:])]
+            self.case(f"{said}, before {len(statements) - 1} kinds that come behind it", *judged(edited(*statements), said))
 
-def order():
-    for at, (said, _) in enumerate(IN_ORDER):
-        statements = [statement for _, statement in reversed(IN_ORDER[at:])]
-        case(f"{said}, before {len(statements) - 1} kinds that come behind it", *judged(edited(*statements), said))
-
-
-def harmless():
-    for name, seq, objects, *statements in HARMLESS:
-        case(f"{name} is no damage", run("check", edited(*statements)), (0, f"ok seq {seq} objects {objects}\n"))
-    for name, *statements in NEWER:
-        case(name, *judged(edited(*statements), "newer version"))
-
-
-make("world.db", VERBS + ASKED)
-for part in (single_cells, keys, order, harmless):
-    part()
+    def test_harmless(self):
+        for name, seq, objects, *statements in HARMLESS:
+            self.case(f"{name} is no damage", run("check", edited(*statements)), (0, f"ok seq {seq} objects {objects}\n"))
+        for name, *statements in NEWER:
+            self.case(name, *judged(edited(*statements), "newer version"))
