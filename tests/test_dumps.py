@@ -1,4 +1,4 @@
-"""The cases of dumps.sh: the rows of a file before a batch and behind it, dumps, and objects over HTTP."""
+"""What batches change in a file: exactly the rows that differ. What is dumped of a world, and what its objects look like."""
 import os
 import resource
 import shutil
@@ -6,11 +6,12 @@ import sqlite3
 import subprocess
 import tempfile
 
-from columns import object_line, thing
-from dumped import OPENING, TREE
-from notation import tree
-from program import MOO, case, edit, run
-from service import PATIENCE, Service, answer, get
+from tests.support.cases import ProgramTest
+from tests.support.columns import object_line, thing
+from tests.support.dumped import OPENING, TREE
+from tests.support.notation import tree
+from tests.support.program import MOO, edit, run
+from tests.support.service import PATIENCE, Service, answer, get
 
 # The columns of each table that are its key. The head has one row, and so has that of the petitions.
 KEYS = {"head": 0, "object": 1, "prop": 1, "slot2": 2, "verb": 2, "petition": 1, "petition_head": 0}
@@ -143,16 +144,6 @@ def heads(file):
     return rows(file)["head"][-4:]
 
 
-def changed_rows():
-    for name, world, calls, changes, counters in CHANGES:
-        before = made("change.db", world)
-        status, replied = run("apply", "change.db", "-", text=text_of(calls))
-        case(f"{name}: it is accepted", (status, replied.split(b"\n")[0]), (0, b"accepted 2"))
-        case(name, differences(before, rows("change.db")), sorted(filter(None, changes.split(", "))))
-        case(f"{name}: the head", heads("change.db"), (2, *counters))
-        case(f"{name}: the world is whole", run("check", "change.db")[0], 0)
-
-
 # Batches that change nothing, not even the head, and their replies.
 UNCHANGED = [
     ("a refused batch", text_of("create(#1); create(#9)"), b"refused 2 E_PERM\n"),
@@ -165,17 +156,6 @@ UNCHANGED = [
         b"refused 2 E_INVARG\n",
     ),
 ]
-
-
-def unchanged_rows():
-    for name, text, reply in UNCHANGED:
-        before = made("same.db", SMALL_TREE)
-        case(f"{name} is refused", run("apply", "same.db", "-", text=text), (0, reply))
-        case(f"{name} changes nothing", rows("same.db"), before)
-    before = made("same.db", SMALL_TREE)
-    asked = run("ask", "same.db", "-", text=text_of("chparent(#5, #7); create(#1)"))
-    case("a question says what would come", asked, (0, b"accepted 1\n0\n#8\nend\n"))
-    case("a question changes nothing", rows("same.db"), before)
 
 
 def dumped(calls):
@@ -210,24 +190,6 @@ end
 """
 
 
-def petitions_dumped():
-    case("petitions are dumped behind the objects, by their numbers", dumped(ELEVEN), f"seq 1\ntop #3\n{OPENING}{ELEVEN_LINES}end\n")
-    case("with their calls as literals", dumped(SPELLED), f"seq 1\ntop #4\n{OPENING}{SPELLED_LINES}")
-    run("apply", "dump.db", "-", text=text_of('petition({{"players"}})', "#4"))
-    run("apply", "dump.db", "-", text=text_of("recycle(#4)"))
-    lines = run("dump", "dump.db")[1].decode().split("\n")
-    case("and whoever asked, an object or none", lines[-3:], ['petition {2, #4, {{"players"}}}', "end", ""])
-
-
-def dumps():
-    case("a new world is dumped", run("dump", ":memory:"), (0, f"seq 0\ntop #3\n{OPENING}end\n".encode()))
-    # The slots of #6 stand by definers up its chain there, which is not the order of their numbers.
-    case("slots are dumped by definers up the chain", dumped(SMALL_TREE), TREE)
-    case("verbs are dumped in the order of the directory", VERB_LINES in dumped(VERBS), True)
-    slots = [line.split(", ")[1] for line in dumped(CHAIN).split("\n") if line.startswith("slot {#6,")]
-    case("a chain goes up by parents, and not by numbers", slots, ["#6", "#4", "#7", "#5", "#1"])
-
-
 LIMIT = 1 << 20
 
 
@@ -245,14 +207,6 @@ def dump_with_room(file, room):
         ran = subprocess.run(words, stdout=front, stderr=subprocess.DEVNULL, preexec_fn=limited, restore_signals=False, timeout=PATIENCE)
         front.seek(LIMIT - room)
         return ran.returncode, front.read().decode()
-
-
-def cut_off_dumps():
-    whole = dumped(f"{SMALL_TREE}; {ASKED}")
-    # The last of these ends in the line of a petition.
-    for room in (0, 5, 100, 500, len(whole) - 20):
-        case(f"a dump that is cut off behind {room} bytes is its front", dump_with_room("dump.db", room), (1, whole[:room]))
-    case("one with room enough is whole", dump_with_room("dump.db", len(whole)), (0, whole))
 
 
 # Objects of a new world.
@@ -275,12 +229,51 @@ LOOKS = [
 ]
 
 
-def looks():
-    service = Service(MOO, ":memory:", len(LOOKS))
-    for name, number, status, body in LOOKS:
-        case(name, service.ask(get(f"/object/{number}")), answer(status, body))
-    case("and that was all", service.end(), (0, f"served {len(LOOKS)} failed 0\n"))
+class Dumps(ProgramTest):
+    def test_changed_rows(self):
+        for name, world, calls, changes, counters in CHANGES:
+            before = made("change.db", world)
+            status, replied = run("apply", "change.db", "-", text=text_of(calls))
+            self.case(f"{name}: it is accepted", (status, replied.split(b"\n")[0]), (0, b"accepted 2"))
+            self.case(name, differences(before, rows("change.db")), sorted(filter(None, changes.split(", "))))
+            self.case(f"{name}: the head", heads("change.db"), (2, *counters))
+            self.case(f"{name}: the world is whole", run("check", "change.db")[0], 0)
 
+    def test_unchanged_rows(self):
+        for name, text, reply in UNCHANGED:
+            before = made("same.db", SMALL_TREE)
+            self.case(f"{name} is refused", run("apply", "same.db", "-", text=text), (0, reply))
+            self.case(f"{name} changes nothing", rows("same.db"), before)
+        before = made("same.db", SMALL_TREE)
+        asked = run("ask", "same.db", "-", text=text_of("chparent(#5, #7); create(#1)"))
+        self.case("a question says what would come", asked, (0, b"accepted 1\n0\n#8\nend\n"))
+        self.case("a question changes nothing", rows("same.db"), before)
 
-for part in (changed_rows, unchanged_rows, dumps, petitions_dumped, cut_off_dumps, looks):
-    part()
+    def test_petitions_dumped(self):
+        self.case("petitions are dumped behind the objects, by their numbers", dumped(ELEVEN), f"seq 1\ntop #3\n{OPENING}{ELEVEN_LINES}end\n")
+        self.case("with their calls as literals", dumped(SPELLED), f"seq 1\ntop #4\n{OPENING}{SPELLED_LINES}")
+        run("apply", "dump.db", "-", text=text_of('petition({{"players"}})', "#4"))
+        run("apply", "dump.db", "-", text=text_of("recycle(#4)"))
+        lines = run("dump", "dump.db")[1].decode().split("\n")
+        self.case("and whoever asked, an object or none", lines[-3:], ['petition {2, #4, {{"players"}}}', "end", ""])
+
+    def test_dumps(self):
+        self.case("a new world is dumped", run("dump", ":memory:"), (0, f"seq 0\ntop #3\n{OPENING}end\n".encode()))
+        # The slots of #6 stand by definers up its chain there, which is not the order of their numbers.
+        self.case("slots are dumped by definers up the chain", dumped(SMALL_TREE), TREE)
+        self.case("verbs are dumped in the order of the directory", VERB_LINES in dumped(VERBS), True)
+        slots = [line.split(", ")[1] for line in dumped(CHAIN).split("\n") if line.startswith("slot {#6,")]
+        self.case("a chain goes up by parents, and not by numbers", slots, ["#6", "#4", "#7", "#5", "#1"])
+
+    def test_cut_off_dumps(self):
+        whole = dumped(f"{SMALL_TREE}; {ASKED}")
+        # The last of these ends in the line of a petition.
+        for room in (0, 5, 100, 500, len(whole) - 20):
+            self.case(f"a dump that is cut off behind {room} bytes is its front", dump_with_room("dump.db", room), (1, whole[:room]))
+        self.case("one with room enough is whole", dump_with_room("dump.db", len(whole)), (0, whole))
+
+    def test_looks(self):
+        service = Service(MOO, ":memory:", len(LOOKS))
+        for name, number, status, body in LOOKS:
+            self.case(name, service.ask(get(f"/object/{number}")), answer(status, body))
+        self.case("and that was all", service.end(), (0, f"served {len(LOOKS)} failed 0\n"))
