@@ -1,9 +1,10 @@
-"""The cases of literals.sh: values with bytes that no scene can hold, long ones, and the greatest lengths of names and lists."""
+"""Values as they are written: which bytes are values, and how long and deep they may be. Here are the bytes that no scene can hold."""
 import json
 import time
 
-from program import MOO, case, edit, run
-from service import Service, answer, post
+from tests.support.cases import ProgramTest
+from tests.support.program import MOO, edit, run
+from tests.support.service import Service, answer, post
 
 LONGEST = 65535
 
@@ -67,32 +68,6 @@ def json_of(body):
     return json.dumps(body, separators=(",", ":"))
 
 
-def read_and_printed():
-    """Each value is given to a property, and read from it."""
-    for name, written, printed in BLANKS + BAD_BYTES + LENGTHS:
-        calls = [f'add_property(#1, "v", {written}, {{#3, ""}})', 'get(#1, "v")']
-        text = "\n".join(["batch as #3", *calls, "end", ""]).encode()
-        if printed is None:
-            replied, responded = b"malformed 2\n", answer("400 Bad Request", '{"call":1,"error":"malformed"}')
-        else:
-            replied, responded = accepted("0", printed), answer("200 OK", json_of({"answers": ["0", printed], "seq": 1}))
-        began = time.monotonic()
-        case(f"{name}, in a text", run("apply", ":memory:", "-", text=text), (0, replied))
-        case(f"{name}, over HTTP", reply_over_http(calls), responded)
-        # Bytes that are read again for each item or each byte take far longer.
-        if len(written) > LONGEST:
-            case(f"{name}, within five seconds", time.monotonic() - began < 5, True)
-
-
-def tabs_in_names():
-    for name, calls, answers in TABS:
-        text = "\n".join(["batch as #3", *calls, "end", ""]).encode()
-        case(f"{name}, in a text", run("apply", ":memory:", "-", text=text), (0, accepted(*answers)))
-        case(f"{name}, over HTTP", reply_over_http(calls), answer("200 OK", json_of({"answers": answers, "seq": 1})))
-    calls = [f'add_verb(#1, {{#3, "r", "get\ttake"}}, {ARGS})', 'verb_info(#1, "get")']
-    case("a word before a tab is no name", reply_over_http(calls), answer("409 Conflict", '{"call":2,"error":"E_VERBNF"}'))
-
-
 def is_of_string(byte):
     return byte == 9 or 32 <= byte <= 126
 
@@ -115,30 +90,6 @@ def bytes_told(front, are_strings):
     return b"".join(texts), (0, b"".join(replies))
 
 
-def all_bytes():
-    text, wanted = bytes_told(b"\\", is_of_string)
-    case("behind a backslash stands each of the 256 bytes that a string may hold", run("apply", ":memory:", "-", text=text), wanted)
-    text, wanted = bytes_told(b"", lambda byte: is_of_string(byte) and byte not in b'"\\')
-    case("a tab and 32 to 126 stand for themselves but a quote and a backslash", run("apply", ":memory:", "-", text=text), wanted)
-
-
-def bytes_over_http():
-    """JSON can hold bytes up to 127, which are characters too."""
-    service = Service(MOO, ":memory:", 129)
-    came = [service.ask(post("/batch", '{"as":"#3","calls":["add_property(#1, \\"v\\", 0, {#3, \\"\\"})"]}'))]
-    wanted = [answer("200 OK", '{"answers":["0"],"seq":1}')]
-    seq = 1
-    for byte in range(128):
-        calls = [f'set(#1, "v", "\\{chr(byte)}")', 'get(#1, "v")']
-        came.append(service.ask(post("/batch", json.dumps({"as": "#3", "calls": calls}))))
-        if is_of_string(byte):
-            seq += 1
-            wanted.append(answer("200 OK", json_of({"answers": ["0", string_with(byte).decode()], "seq": seq})))
-        else:
-            wanted.append(answer("400 Bad Request", '{"call":1,"error":"malformed"}'))
-    case("so it is over HTTP, up to 127", (came, service.end()), (wanted, (0, "served 129 failed 0\n")))
-
-
 # What the cell of a value holds, and whether it is one.
 CELLS = [
     ("two long strings of backslashes in a list", "{" + ", ".join(['"' + "\\\\" * LONGEST + '"'] * 2) + "}", True),
@@ -153,15 +104,6 @@ CELLS = [
 ]
 
 
-def cells():
-    run("init", "cell.db")
-    run("apply", "cell.db", "-", text=b'batch as #3\nadd_property(#1, "v", 0, {#3, "r"})\nend\n')
-    for name, written, is_value in CELLS:
-        edit("cell.db", f"update slot2 set value = '{written}' where object = 1")
-        came = run("ask", "cell.db", "-", text=b'batch as #3\nget(#1, "v")\nend\n')
-        case(f"{name}, in a file", came, (0, accepted(written)) if is_value else (3, b"moo: damaged bad-cell #1 p1\n"))
-
-
 # What is called by whom on a new world, and replied.
 CALLS = [
     ("an accept list of 1,000 objects", "#3", f"set_accept(#1, {{{', '.join(['#1'] * 1000)}}})", "accepted"),
@@ -174,16 +116,67 @@ CALLS = [
 ]
 
 
-def greatest_lengths():
-    for name, programmer, call, comes_to in CALLS:
-        if comes_to == "accepted":
-            replied, responded = accepted("0"), answer("200 OK", '{"answers":["0"],"seq":1}')
-        else:
-            replied, responded = f"refused 1 {comes_to}\n".encode(), answer("409 Conflict", f'{{"call":1,"error":"{comes_to}"}}')
-        text = f"batch as {programmer}\n{call}\nend\n".encode()
-        case(f"{name}, in a text", run("apply", ":memory:", "-", text=text), (0, replied))
-        case(f"{name}, over HTTP", reply_over_http([call], programmer), responded)
+class Literals(ProgramTest):
+    def test_read_and_printed(self):
+        """Each value is given to a property, and read from it."""
+        for name, written, printed in BLANKS + BAD_BYTES + LENGTHS:
+            calls = [f'add_property(#1, "v", {written}, {{#3, ""}})', 'get(#1, "v")']
+            text = "\n".join(["batch as #3", *calls, "end", ""]).encode()
+            if printed is None:
+                replied, responded = b"malformed 2\n", answer("400 Bad Request", '{"call":1,"error":"malformed"}')
+            else:
+                replied, responded = accepted("0", printed), answer("200 OK", json_of({"answers": ["0", printed], "seq": 1}))
+            began = time.monotonic()
+            self.case(f"{name}, in a text", run("apply", ":memory:", "-", text=text), (0, replied))
+            self.case(f"{name}, over HTTP", reply_over_http(calls), responded)
+            # Bytes that are read again for each item or each byte take far longer.
+            if len(written) > LONGEST:
+                self.case(f"{name}, within five seconds", time.monotonic() - began < 5, True)
 
+    def test_tabs_in_names(self):
+        for name, calls, answers in TABS:
+            text = "\n".join(["batch as #3", *calls, "end", ""]).encode()
+            self.case(f"{name}, in a text", run("apply", ":memory:", "-", text=text), (0, accepted(*answers)))
+            self.case(f"{name}, over HTTP", reply_over_http(calls), answer("200 OK", json_of({"answers": answers, "seq": 1})))
+        calls = [f'add_verb(#1, {{#3, "r", "get\ttake"}}, {ARGS})', 'verb_info(#1, "get")']
+        self.case("a word before a tab is no name", reply_over_http(calls), answer("409 Conflict", '{"call":2,"error":"E_VERBNF"}'))
 
-for part in (read_and_printed, tabs_in_names, all_bytes, bytes_over_http, cells, greatest_lengths):
-    part()
+    def test_all_bytes(self):
+        text, wanted = bytes_told(b"\\", is_of_string)
+        self.case("behind a backslash stands each of the 256 bytes that a string may hold", run("apply", ":memory:", "-", text=text), wanted)
+        text, wanted = bytes_told(b"", lambda byte: is_of_string(byte) and byte not in b'"\\')
+        self.case("a tab and 32 to 126 stand for themselves but a quote and a backslash", run("apply", ":memory:", "-", text=text), wanted)
+
+    def test_bytes_over_http(self):
+        """JSON can hold bytes up to 127, which are characters too."""
+        service = Service(MOO, ":memory:", 129)
+        came = [service.ask(post("/batch", '{"as":"#3","calls":["add_property(#1, \\"v\\", 0, {#3, \\"\\"})"]}'))]
+        wanted = [answer("200 OK", '{"answers":["0"],"seq":1}')]
+        seq = 1
+        for byte in range(128):
+            calls = [f'set(#1, "v", "\\{chr(byte)}")', 'get(#1, "v")']
+            came.append(service.ask(post("/batch", json.dumps({"as": "#3", "calls": calls}))))
+            if is_of_string(byte):
+                seq += 1
+                wanted.append(answer("200 OK", json_of({"answers": ["0", string_with(byte).decode()], "seq": seq})))
+            else:
+                wanted.append(answer("400 Bad Request", '{"call":1,"error":"malformed"}'))
+        self.case("so it is over HTTP, up to 127", (came, service.end()), (wanted, (0, "served 129 failed 0\n")))
+
+    def test_cells(self):
+        run("init", "cell.db")
+        run("apply", "cell.db", "-", text=b'batch as #3\nadd_property(#1, "v", 0, {#3, "r"})\nend\n')
+        for name, written, is_value in CELLS:
+            edit("cell.db", f"update slot2 set value = '{written}' where object = 1")
+            came = run("ask", "cell.db", "-", text=b'batch as #3\nget(#1, "v")\nend\n')
+            self.case(f"{name}, in a file", came, (0, accepted(written)) if is_value else (3, b"moo: damaged bad-cell #1 p1\n"))
+
+    def test_greatest_lengths(self):
+        for name, programmer, call, comes_to in CALLS:
+            if comes_to == "accepted":
+                replied, responded = accepted("0"), answer("200 OK", '{"answers":["0"],"seq":1}')
+            else:
+                replied, responded = f"refused 1 {comes_to}\n".encode(), answer("409 Conflict", f'{{"call":1,"error":"{comes_to}"}}')
+            text = f"batch as {programmer}\n{call}\nend\n".encode()
+            self.case(f"{name}, in a text", run("apply", ":memory:", "-", text=text), (0, replied))
+            self.case(f"{name}, over HTTP", reply_over_http([call], programmer), responded)
