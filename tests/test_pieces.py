@@ -1,4 +1,4 @@
-"""The cases of pieces.sh: texts given whole, in pieces of any size, and cut off; where a text ends; lines that can't be read."""
+"""Texts of batches: how they are cut, in whatever pieces they come, where they end, and what is told of lines that can't be read."""
 import json
 import os
 import pty
@@ -6,10 +6,11 @@ import select
 import socket
 import subprocess
 
-from service import Service, answer, post
-from program import MOO, case, edit
-from service import PATIENCE
-from worlds import accepted, copied, make, rows_of, run, text_of
+from tests.support.cases import ProgramTest
+from tests.support.processes import start
+from tests.support.program import MOO, edit
+from tests.support.service import PATIENCE, Service, answer, post
+from tests.support.worlds import accepted, copied, make, rows_of, run, text_of
 
 GREATEST = 2**63 - 1
 # What is shown, the number of the world that is new but for that, the text and its replies.
@@ -103,7 +104,7 @@ def written(pieces, stream, *words):
     """The program, whose standard input is a socket that gives it piece by piece what is sent."""
     ours, theirs = socket.socketpair(socket.AF_UNIX, stream)
     with theirs:
-        ran = subprocess.Popen([MOO, *words], stdin=theirs, stdout=subprocess.PIPE, stderr=subprocess.DEVNULL)
+        ran = start([MOO, *words], stdin=theirs, stdout=subprocess.PIPE, stderr=subprocess.DEVNULL)
     try:
         for piece in pieces:
             ours.send(piece)
@@ -132,54 +133,6 @@ def file_at(seq):
     return file
 
 
-def texts():
-    for name, seq, text, replies in TEXTS:
-        given = text.encode()
-        came = [run("apply", file_at(seq), "-", text=given)]
-        came += [in_pieces(pieces_of(given, size), "apply", file_at(seq), "-") for size in (1, 3)]
-        if seq == 0:
-            came += [in_pieces(pieces_of(given, 1)), run("apply", ":memory:", "-", text=given)]
-        case(f"{name}: whole, and in pieces of one and of three bytes", came, [(0, replies)] * len(came))
-
-
-def limits():
-    for name, front, middle, count, back, replies in LIMITS:
-        given = (front + middle * count + back).encode()
-        came = [run(text=given)] + [in_pieces(pieces_of(given, size)) for size in (4096, 4095, 1009)]
-        case(f"{name}: whole, and in pieces", came, [(0, replies)] * len(came))
-
-
-def ends():
-    for name, pieces, replies in ENDS:
-        case(f"where no bytes come, {name}", in_pieces(pieces), (0, replies))
-    try:
-        on_terminal(*pty.openpty())
-    except OSError:
-        # A machine may have no terminals.
-        pass
-
-
-def on_terminal(ours, theirs):
-    """An end of input on a terminal is ^D on a line of its own; behind other bytes it hands these over first."""
-    os.write(ours, b"batch as #3\nmax_object()\nend\x04\x04x\nbatch as #3\nend\n")
-    ran = subprocess.run([MOO], stdin=theirs, stdout=subprocess.PIPE, stderr=subprocess.DEVNULL, timeout=PATIENCE)
-    os.close(theirs)
-    os.close(ours)
-    case("so it is on a terminal", (ran.returncode, ran.stdout.decode()), (0, accepted(1, "#3")))
-
-
-def faults():
-    """A socket whose other side closes with bytes unread gives what was sent, and then an error."""
-    for text, replies in [(b"batch as #3\nend\nbatch as", accepted(1)), (b"batch as #3\nend\n", accepted(1)), (b"", "")]:
-        ours, theirs = socket.socketpair(socket.AF_UNIX, socket.SOCK_STREAM)
-        ours.sendall(text)
-        theirs.sendall(b"unread")
-        ours.close()
-        with theirs:
-            ran = subprocess.run([MOO], stdin=theirs, stdout=subprocess.PIPE, stderr=subprocess.DEVNULL, timeout=PATIENCE)
-        case(f"a reading that fails behind {len(text)} bytes", (ran.returncode, ran.stdout.decode()), (1, replies + "moo: read fault\n"))
-
-
 def heard(stream, length):
     """So many bytes of a stream, or fewer where it ends or nothing more comes in time."""
     came = b""
@@ -191,18 +144,6 @@ def heard(stream, length):
     return came.decode()
 
 
-def line_by_line():
-    """Each reply comes when its batch ends, and not only when the text does."""
-    ours, ran = written([], socket.SOCK_STREAM)
-    for number in range(1, 4):
-        ours.sendall(b"batch as #3\ncreate(#1)\nend\n")
-        reply = accepted(number, f"#{number + 3}")
-        case(f"the reply of batch {number} comes before the next is given", heard(ran.stdout, len(reply)), reply)
-    ours.close()
-    output, _ = ran.communicate(timeout=PATIENCE)
-    case("and nothing behind the last", (ran.returncode, output), (0, b""))
-
-
 def told_of_front(count):
     """What a text has that is cut off behind so many bytes: its first batch ends with byte 15, its second with byte 53."""
     if count in (0, 15, 16, 17):
@@ -212,92 +153,141 @@ def told_of_front(count):
     return accepted(1) + (accepted(2, '"Root Class"') if count >= 53 else "truncated\n")
 
 
-def cuts():
-    text = b'batch as #3\nend\n\nbatch as #2 at 1\nget(#1, "name")\nend\n'
-    case("a text of two batches", len(text), 54)
-    for count in range(55):
-        came = [run(text=text[:count]), in_pieces(pieces_of(text[:count], 1))]
-        case(f"its first {count} bytes: whole, and byte by byte", came, [(0, told_of_front(count))] * 2)
-
-
-def cuts_of_a_file():
-    text = b"batch as #3 at 0\ncreate(#1)\nend\n"
-    case("a batch of 32 bytes", len(text), 32)
-    opening = rows_of("new.db")
-    for count in range(33):
-        replies = ("" if count == 0 else "truncated\n") if count < 31 else accepted(1, "#4")
-        file = file_at(0)
-        came = run("apply", file, "-", text=text[:count])
-        stays = rows_of(file) == opening
-        again = run("apply", file, "-", text=text)
-        wanted = (0, replies), count < 31, (0, accepted(1, "#4") if count < 31 else "stale 1\n")
-        case(f"its first {count} bytes act wholly or not at all, and the whole acts once", (came, stays, again), wanted)
-
-
-def replies():
-    """Each kind of reply that a text brings, on a world whose last object has the greatest number."""
-    file = copied("new.db")
-    value = '{#4, {1, "a"}, "\\"\\\\", E_PERM, -5, {}}'
-    run("apply", file, "-", text=text_of([f'add_property(#1, "v", {value}, {{#3, "r"}})']))
-    edit(file, "update head set top = 2147483647")
-    batches = [
-        (text_of(["max_object()", 'get(#1, "v")', 'get(#1, "name")']), accepted(2, "#2147483647", value, '"Root Class"')),
-        (text_of(["valid(#1)", "create(#99)"]), "refused 2 E_PERM\n"),
-        (text_of(["valid(#1)", "valid(#1)", "create(#1)"]), "full 3\n"),
-        (text_of([]) * 2, accepted(3) + accepted(4)),
-        (text_of([], "#3 at 5"), "stale 4\n"),
-        (text_of(["", "", "", "x"]), "malformed 5\n"),
-        ("batch as #3\n", "truncated\n"),
-    ]
-    given, wanted = ("".join(parts) for parts in zip(*batches))
-    case("the lines of each reply", run("apply", file, "-", text=given), (0, wanted))
-
-
-def want_of_memory():
-    """Answers of 60 MB in 32 MB of memory: their batch alone is lost."""
-    file, value = file_at(0), "x" * 60000
-    batches = [
-        (text_of(["create(#1)", f'add_property(#4, "v", "{value}", {{#3, "r"}})']), accepted(1, "#4", "0")),
-        (text_of(['set(#4, "name", "Lantern")', *['get(#4, "v")'] * 999]), "nomemory\n"),
-        (text_of(['get(#4, "name")'], "#3 at 1"), accepted(2, '""')),
-    ]
-    given, wanted = ("".join(parts) for parts in zip(*batches))
-    case("where memory runs out in a batch", run("apply", file, "-", text=given, memory=1 << 25), (0, wanted))
-    case("it changed nothing", (run("check", file), rows_of(file)["object"][4][1]), ((0, "ok seq 2 objects 5\n"), ""))
-    case("with more memory it is done", run("apply", file, "-", text=batches[1][0]), (0, accepted(3, "0", *[f'"{value}"'] * 999)))
-
-
 def asked(service, programmer, lines):
     """What a question over HTTP is answered."""
     return service.ask(post("/ask", json.dumps({"as": programmer, "calls": lines})))
 
 
-def calls():
-    """A line alone, in a text and over HTTP, where blank lines aren't skipped."""
-    service = Service(MOO, ":memory:", len(CALLS) + len(NO_CALLS) + len(NO_OBJECTS) + 1)
-    for line, came in CALLS:
-        refused = came.startswith("E_")
-        case(f"the call {line!r}", run(text=text_of([line])), (0, f"refused 1 {came}\n" if refused else accepted(1, came)))
-        wanted = ("409 Conflict", f'{{"call":1,"error":"{came}"}}') if refused else ("200 OK", f'{{"answers":["{came}"],"seq":0}}')
-        case(f"the call {line!r} over HTTP", asked(service, "#3", [line]), answer(*wanted))
-    for line in NO_CALLS:
-        case(f"no call is {line!r}", run(text=text_of([line])), (0, "malformed 2\n" if line else accepted(1)))
-        wanted = answer("400 Bad Request", '{"call":1,"error":"malformed"}')
-        case(f"nor is {line!r} over HTTP", asked(service, "#3", [line]), wanted)
-    objects(service)
-    case("and that was all", service.end()[0], 0)
+class Pieces(ProgramTest):
+    def setUp(self):
+        super().setUp()
+        make("new.db")
 
+    def test_texts(self):
+        for name, seq, text, replies in TEXTS:
+            given = text.encode()
+            came = [run("apply", file_at(seq), "-", text=given)]
+            came += [in_pieces(pieces_of(given, size), "apply", file_at(seq), "-") for size in (1, 3)]
+            if seq == 0:
+                came += [in_pieces(pieces_of(given, 1)), run("apply", ":memory:", "-", text=given)]
+            self.case(f"{name}: whole, and in pieces of one and of three bytes", came, [(0, replies)] * len(came))
 
-def objects(service):
-    refused = answer("409 Conflict", '{"call":1,"error":"E_PERM"}')
-    case("a programmer of a number below 0", run(text=text_of(["max_object()"], "#-7")), (0, "refused 1 E_PERM\n"))
-    case("the same over HTTP", asked(service, "#-7", ["max_object()"]), refused)
-    for word in NO_OBJECTS:
-        case(f"no programmer is {word!r} over HTTP", asked(service, word, []), answer("400 Bad Request", '{"error":"bad request"}'))
-        # In a text blanks may stand round the word.
-        case(f"the word {word!r} as the programmer of a text", run(text=text_of([], word)), (0, accepted(1) if word.strip() == "#7" else "malformed 1\n"))
+    def test_limits(self):
+        for name, front, middle, count, back, replies in LIMITS:
+            given = (front + middle * count + back).encode()
+            came = [run(text=given)] + [in_pieces(pieces_of(given, size)) for size in (4096, 4095, 1009)]
+            self.case(f"{name}: whole, and in pieces", came, [(0, replies)] * len(came))
 
+    def test_ends(self):
+        for name, pieces, replies in ENDS:
+            self.case(f"where no bytes come, {name}", in_pieces(pieces), (0, replies))
+        try:
+            self.on_terminal(*pty.openpty())
+        except OSError:
+            # A machine may have no terminals.
+            pass
 
-make("new.db")
-for part in (texts, limits, ends, faults, line_by_line, cuts, cuts_of_a_file, replies, want_of_memory, calls):
-    part()
+    def on_terminal(self, ours, theirs):
+        """An end of input on a terminal is ^D on a line of its own; behind other bytes it hands these over first."""
+        os.write(ours, b"batch as #3\nmax_object()\nend\x04\x04x\nbatch as #3\nend\n")
+        ran = subprocess.run([MOO], stdin=theirs, stdout=subprocess.PIPE, stderr=subprocess.DEVNULL, timeout=PATIENCE)
+        os.close(theirs)
+        os.close(ours)
+        self.case("so it is on a terminal", (ran.returncode, ran.stdout.decode()), (0, accepted(1, "#3")))
+
+    def test_faults(self):
+        """A socket whose other side closes with bytes unread gives what was sent, and then an error."""
+        for text, replies in [(b"batch as #3\nend\nbatch as", accepted(1)), (b"batch as #3\nend\n", accepted(1)), (b"", "")]:
+            ours, theirs = socket.socketpair(socket.AF_UNIX, socket.SOCK_STREAM)
+            ours.sendall(text)
+            theirs.sendall(b"unread")
+            ours.close()
+            with theirs:
+                ran = subprocess.run([MOO], stdin=theirs, stdout=subprocess.PIPE, stderr=subprocess.DEVNULL, timeout=PATIENCE)
+            self.case(f"a reading that fails behind {len(text)} bytes", (ran.returncode, ran.stdout.decode()), (1, replies + "moo: read fault\n"))
+
+    def test_line_by_line(self):
+        """Each reply comes when its batch ends, and not only when the text does."""
+        ours, ran = written([], socket.SOCK_STREAM)
+        for number in range(1, 4):
+            ours.sendall(b"batch as #3\ncreate(#1)\nend\n")
+            reply = accepted(number, f"#{number + 3}")
+            self.case(f"the reply of batch {number} comes before the next is given", heard(ran.stdout, len(reply)), reply)
+        ours.close()
+        output, _ = ran.communicate(timeout=PATIENCE)
+        self.case("and nothing behind the last", (ran.returncode, output), (0, b""))
+
+    def test_cuts(self):
+        text = b'batch as #3\nend\n\nbatch as #2 at 1\nget(#1, "name")\nend\n'
+        self.case("a text of two batches", len(text), 54)
+        for count in range(55):
+            came = [run(text=text[:count]), in_pieces(pieces_of(text[:count], 1))]
+            self.case(f"its first {count} bytes: whole, and byte by byte", came, [(0, told_of_front(count))] * 2)
+
+    def test_cuts_of_a_file(self):
+        text = b"batch as #3 at 0\ncreate(#1)\nend\n"
+        self.case("a batch of 32 bytes", len(text), 32)
+        opening = rows_of("new.db")
+        for count in range(33):
+            replies = ("" if count == 0 else "truncated\n") if count < 31 else accepted(1, "#4")
+            file = file_at(0)
+            came = run("apply", file, "-", text=text[:count])
+            stays = rows_of(file) == opening
+            again = run("apply", file, "-", text=text)
+            wanted = (0, replies), count < 31, (0, accepted(1, "#4") if count < 31 else "stale 1\n")
+            self.case(f"its first {count} bytes act wholly or not at all, and the whole acts once", (came, stays, again), wanted)
+
+    def test_replies(self):
+        """Each kind of reply that a text brings, on a world whose last object has the greatest number."""
+        file = copied("new.db")
+        value = '{#4, {1, "a"}, "\\"\\\\", E_PERM, -5, {}}'
+        run("apply", file, "-", text=text_of([f'add_property(#1, "v", {value}, {{#3, "r"}})']))
+        edit(file, "update head set top = 2147483647")
+        batches = [
+            (text_of(["max_object()", 'get(#1, "v")', 'get(#1, "name")']), accepted(2, "#2147483647", value, '"Root Class"')),
+            (text_of(["valid(#1)", "create(#99)"]), "refused 2 E_PERM\n"),
+            (text_of(["valid(#1)", "valid(#1)", "create(#1)"]), "full 3\n"),
+            (text_of([]) * 2, accepted(3) + accepted(4)),
+            (text_of([], "#3 at 5"), "stale 4\n"),
+            (text_of(["", "", "", "x"]), "malformed 5\n"),
+            ("batch as #3\n", "truncated\n"),
+        ]
+        given, wanted = ("".join(parts) for parts in zip(*batches))
+        self.case("the lines of each reply", run("apply", file, "-", text=given), (0, wanted))
+
+    def test_want_of_memory(self):
+        """Answers of 60 MB in 32 MB of memory: their batch alone is lost."""
+        file, value = file_at(0), "x" * 60000
+        batches = [
+            (text_of(["create(#1)", f'add_property(#4, "v", "{value}", {{#3, "r"}})']), accepted(1, "#4", "0")),
+            (text_of(['set(#4, "name", "Lantern")', *['get(#4, "v")'] * 999]), "nomemory\n"),
+            (text_of(['get(#4, "name")'], "#3 at 1"), accepted(2, '""')),
+        ]
+        given, wanted = ("".join(parts) for parts in zip(*batches))
+        self.case("where memory runs out in a batch", run("apply", file, "-", text=given, memory=1 << 25), (0, wanted))
+        self.case("it changed nothing", (run("check", file), rows_of(file)["object"][4][1]), ((0, "ok seq 2 objects 5\n"), ""))
+        self.case("with more memory it is done", run("apply", file, "-", text=batches[1][0]), (0, accepted(3, "0", *[f'"{value}"'] * 999)))
+
+    def test_calls(self):
+        """A line alone, in a text and over HTTP, where blank lines aren't skipped."""
+        service = Service(MOO, ":memory:", len(CALLS) + len(NO_CALLS) + len(NO_OBJECTS) + 1)
+        for line, came in CALLS:
+            refused = came.startswith("E_")
+            self.case(f"the call {line!r}", run(text=text_of([line])), (0, f"refused 1 {came}\n" if refused else accepted(1, came)))
+            wanted = ("409 Conflict", f'{{"call":1,"error":"{came}"}}') if refused else ("200 OK", f'{{"answers":["{came}"],"seq":0}}')
+            self.case(f"the call {line!r} over HTTP", asked(service, "#3", [line]), answer(*wanted))
+        for line in NO_CALLS:
+            self.case(f"no call is {line!r}", run(text=text_of([line])), (0, "malformed 2\n" if line else accepted(1)))
+            wanted = answer("400 Bad Request", '{"call":1,"error":"malformed"}')
+            self.case(f"nor is {line!r} over HTTP", asked(service, "#3", [line]), wanted)
+        self.objects(service)
+        self.case("and that was all", service.end()[0], 0)
+
+    def objects(self, service):
+        refused = answer("409 Conflict", '{"call":1,"error":"E_PERM"}')
+        self.case("a programmer of a number below 0", run(text=text_of(["max_object()"], "#-7")), (0, "refused 1 E_PERM\n"))
+        self.case("the same over HTTP", asked(service, "#-7", ["max_object()"]), refused)
+        for word in NO_OBJECTS:
+            self.case(f"no programmer is {word!r} over HTTP", asked(service, word, []), answer("400 Bad Request", '{"error":"bad request"}'))
+            # In a text blanks may stand round the word.
+            self.case(f"the word {word!r} as the programmer of a text", run(text=text_of([], word)), (0, accepted(1) if word.strip() == "#7" else "malformed 1\n"))
