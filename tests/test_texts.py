@@ -1,10 +1,11 @@
-"""The cases of texts.sh. Texts are run on a new world, under the words `moo` and `moo apply :memory: -`."""
+"""Texts of batches on a new world, run by `moo` and by `moo apply :memory: -`: what is replied, and how long they may be."""
 import json
 import os
 import subprocess
 
-from program import MOO, case, edit, run
-from service import PATIENCE, Service, answer, post
+from tests.support.cases import ProgramTest
+from tests.support.program import MOO, edit, run
+from tests.support.service import PATIENCE, Service, answer, post
 
 APPLY = ("apply", ":memory:", "-")
 THIRD = b"accepted 1\n#3\nend\n"
@@ -97,12 +98,6 @@ CALLS = [
 PROGRAMMERS = [("#-7", True), ("#3", True), ("", False), ("7", False), ("# 7", False), ("#7 ", False), ("#2147483648", False)]
 
 
-def texts():
-    for name, text, replies in TEXTS:
-        case(name, run(*APPLY, text=text), (0, replies))
-        case(f"{name}, without words", run(text=text), (0, replies))
-
-
 def comes_to(outcome):
     """The reply of a text to one call, and the response of HTTP."""
     if outcome is None:
@@ -120,57 +115,6 @@ def requests(bodies):
     return came
 
 
-def calls():
-    for name, line, outcome in CALLS:
-        reply, response = comes_to(outcome)
-        # A blank line of a text is skipped.
-        if line:
-            case(f"{name}: {line.strip()}", run(*APPLY, text=f"batch as #3\n{line}\nend\n".encode()), (0, reply))
-        case(f"{name}, over HTTP: {line.strip()}", requests([{"as": "#3", "calls": [line]}]), [response])
-
-
-def programmers():
-    for word, is_one in PROGRAMMERS:
-        wanted = answer("200 OK", '{"answers":[],"seq":1}') if is_one else answer("400 Bad Request", '{"error":"bad request"}')
-        case(f"'{word}' is {'one' if is_one else 'none'} who asks over HTTP", requests([{"as": word, "calls": []}]), [wanted])
-
-
-def reader_that_fails():
-    """A pipe that has no more bytes but isn't closed, and doesn't wait, is an error of its reader."""
-    output, given = os.pipe()
-    os.write(given, b"batch as #3\nend\nbatch as")
-    os.set_blocking(output, False)
-    ran = subprocess.run([MOO, *APPLY], stdin=output, stdout=subprocess.PIPE, stderr=subprocess.DEVNULL, timeout=PATIENCE)
-    os.close(given)
-    os.close(output)
-    case("behind a reader that fails stand the replies before it", (ran.returncode, ran.stdout), (1, EMPTY + b"moo: read fault\n"))
-
-
-def long_texts():
-    """Files of the greatest length, and one byte longer, whose bytes behind their front are holes."""
-    for name, front, over, wanted in [
-        ("a text of 1,073,741,824 bytes", b"end\n", 0, (0, b"malformed 1\ntruncated\n")),
-        ("one byte more", b"end\n", 1, (1, b"malformed 1\nmoo: input too long\n")),
-        ("without a whole batch", b"", 1, (1, b"moo: input too long\n")),
-    ]:
-        with open("long.txt", "wb") as text:
-            text.write(front)
-            text.truncate(LONGEST_TEXT + over)
-        case(name, run("apply", ":memory:", "long.txt"), wanted)
-    os.remove("long.txt")
-
-
-def numbers():
-    """A number that is the world's own is found, however it is written."""
-    for written, number in [("7", 7), ("0000000000000000007", 7), ("9223372036854775806", 9223372036854775806)]:
-        if os.path.exists("number.db"):
-            os.remove("number.db")
-        run("init", "number.db")
-        edit("number.db", f"update head set seq = {number}")
-        reply = f"accepted {number + 1}\nend\n".encode()
-        case(f"at {written}", run("apply", "number.db", "-", text=f"batch as #3 at {written}\nend\n".encode()), (0, reply))
-
-
 # Words, the status, and what is written; None where it is any text.
 WORDS = [
     ("init :memory:", 0, b"created\n"),
@@ -185,13 +129,61 @@ WORDS = [
 ]
 
 
-def words():
-    for line, status, written in WORDS:
-        came = run(*line.split())
-        case(f"moo {line}", (came[0], came[1] if written is not None else bool(came[1])), (status, True if written is None else written))
-    batch = b"batch as #3\ncreate(#1)\nend\n"
-    case("a question changes nothing", run("ask", ":memory:", "-", text=batch * 2), (0, b"accepted 0\n#4\nend\n" * 2))
+class Texts(ProgramTest):
+    def test_texts(self):
+        for name, text, replies in TEXTS:
+            self.case(name, run(*APPLY, text=text), (0, replies))
+            self.case(f"{name}, without words", run(text=text), (0, replies))
 
+    def test_calls(self):
+        for name, line, outcome in CALLS:
+            reply, response = comes_to(outcome)
+            # A blank line of a text is skipped.
+            if line:
+                self.case(f"{name}: {line.strip()}", run(*APPLY, text=f"batch as #3\n{line}\nend\n".encode()), (0, reply))
+            self.case(f"{name}, over HTTP: {line.strip()}", requests([{"as": "#3", "calls": [line]}]), [response])
 
-for part in (texts, calls, programmers, reader_that_fails, long_texts, numbers, words):
-    part()
+    def test_programmers(self):
+        for word, is_one in PROGRAMMERS:
+            wanted = answer("200 OK", '{"answers":[],"seq":1}') if is_one else answer("400 Bad Request", '{"error":"bad request"}')
+            self.case(f"'{word}' is {'one' if is_one else 'none'} who asks over HTTP", requests([{"as": word, "calls": []}]), [wanted])
+
+    def test_reader_that_fails(self):
+        """A pipe that has no more bytes but isn't closed, and doesn't wait, is an error of its reader."""
+        output, given = os.pipe()
+        os.write(given, b"batch as #3\nend\nbatch as")
+        os.set_blocking(output, False)
+        ran = subprocess.run([MOO, *APPLY], stdin=output, stdout=subprocess.PIPE, stderr=subprocess.DEVNULL, timeout=PATIENCE)
+        os.close(given)
+        os.close(output)
+        self.case("behind a reader that fails stand the replies before it", (ran.returncode, ran.stdout), (1, EMPTY + b"moo: read fault\n"))
+
+    def test_long_texts(self):
+        """Files of the greatest length, and one byte longer, whose bytes behind their front are holes."""
+        for name, front, over, wanted in [
+            ("a text of 1,073,741,824 bytes", b"end\n", 0, (0, b"malformed 1\ntruncated\n")),
+            ("one byte more", b"end\n", 1, (1, b"malformed 1\nmoo: input too long\n")),
+            ("without a whole batch", b"", 1, (1, b"moo: input too long\n")),
+        ]:
+            with open("long.txt", "wb") as text:
+                text.write(front)
+                text.truncate(LONGEST_TEXT + over)
+            self.case(name, run("apply", ":memory:", "long.txt"), wanted)
+        os.remove("long.txt")
+
+    def test_numbers(self):
+        """A number that is the world's own is found, however it is written."""
+        for written, number in [("7", 7), ("0000000000000000007", 7), ("9223372036854775806", 9223372036854775806)]:
+            if os.path.exists("number.db"):
+                os.remove("number.db")
+            run("init", "number.db")
+            edit("number.db", f"update head set seq = {number}")
+            reply = f"accepted {number + 1}\nend\n".encode()
+            self.case(f"at {written}", run("apply", "number.db", "-", text=f"batch as #3 at {written}\nend\n".encode()), (0, reply))
+
+    def test_words(self):
+        for line, status, written in WORDS:
+            came = run(*line.split())
+            self.case(f"moo {line}", (came[0], came[1] if written is not None else bool(came[1])), (status, True if written is None else written))
+        batch = b"batch as #3\ncreate(#1)\nend\n"
+        self.case("a question changes nothing", run("ask", ":memory:", "-", text=batch * 2), (0, b"accepted 0\n#4\nend\n" * 2))
