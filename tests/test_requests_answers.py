@@ -1,5 +1,5 @@
 """Answers to the byte: what batches, questions and objects are answered, in turn on new worlds."""
-from exchange import BAD_REQUEST, BATCH, BATCH_ANSWER, NO_OBJECT, NOT_FOUND, SEQ_QUESTION, TOO_LARGE, allow, answer, in_turn, posted, seq
+from tests.support.exchange import BAD_REQUEST, BATCH, BATCH_ANSWER, NO_OBJECT, NOT_FOUND, SEQ_QUESTION, TOO_LARGE, RequestTest, allow, answer, posted, seq
 
 OK, BAD, CONFLICT = "200 OK", "400 Bad Request", "409 Conflict"
 
@@ -125,21 +125,16 @@ def rows_of(path, table):
     return [(name, posted(path, body.encode()), answer(status, wanted)) for name, body, status, wanted in table]
 
 
-def batches():
-    in_turn("a batch", rows_of("/batch", BATCHES))
+class RequestAnswers(RequestTest):
+    def test_batches(self):
+        self.in_turn("a batch", rows_of("/batch", BATCHES))
 
+    def test_questions(self):
+        self.in_turn("a question", rows_of("/ask", QUESTIONS))
 
-def questions():
-    in_turn("a question", rows_of("/ask", QUESTIONS))
+    def test_petitions(self):
+        self.in_turn("a petition", rows_of("/batch", PETITIONS))
+        self.in_turn("a question of petitions", rows_of("/ask", ASKED))
 
-
-def petitions():
-    in_turn("a petition", rows_of("/batch", PETITIONS))
-    in_turn("a question of petitions", rows_of("/ask", ASKED))
-
-
-def others():
-    in_turn("an answer", OTHERS)
-
-
-SCENES = [batches, questions, petitions, others]
+    def test_others(self):
+        self.in_turn("an answer", OTHERS)

@@ -1,7 +1,7 @@
 """Heads of requests: routes, methods, lengths, limits, and the order in which they are refused."""
-from exchange import BAD_REQUEST, MOO, NO_OBJECT, NOT_FOUND, NOTHING, TOO_LARGE, accepted, allow, answer, case, error
-from exchange import in_turn, object_body, posted, said, seq
-from service import Service
+from tests.support.exchange import BAD_REQUEST, MOO, NO_OBJECT, NOT_FOUND, NOTHING, TOO_LARGE, RequestTest, accepted, allow, answer, error
+from tests.support.exchange import object_body, posted, said, seq
+from tests.support.service import Service
 
 # The world of the heads: #4 to #7, the first and the last of which have a name.
 MADE = posted("/batch", b'{"as":"#3","calls":["create(#1)","create(#1)","create(#1)","create(#1)","set(#4,\\"name\\",\\"Four\\")","set(#7,\\"name\\",\\"Seven\\")"]}')
@@ -103,39 +103,33 @@ ACTING_LENGTHS = [
 ]
 
 
-def order():
-    in_turn("a head", ORDER, [MADE])
-
-
-def object_numbers():
-    rows = [(f"'{number}'", f"GET /object/{number} HTTP/1.1\r\n\r\n".encode(), wanted) for number, wanted in NUMBERS]
-    in_turn("the number of an object", rows, [MADE])
-
-
-def lengths():
-    rows = [(name, b"POST /batch HTTP/1.1\r\n%s\r\n{}" % lines, wanted) for name, lines, wanted in LENGTHS]
-    in_turn("a length", rows + [("nothing of all this acted", b"GET /seq HTTP/1.1\r\n\r\n", seq(0))])
-
-
-def acting_lengths():
-    rows = [(name, b"POST /batch HTTP/1.1\r\n%s\r\n%s" % (lines, CREATE), wanted) for name, lines, wanted in ACTING_LENGTHS]
-    in_turn("the length of a batch", rows)
-
-
 def seq_head(lines, more):
     """A GET of /seq whose head has so many lines, and so many further bytes in the last one."""
     return b"GET /seq HTTP/1.1\r\n" + b"x: y\r\n" * (lines - 1) + b"x:" + b"y" * more + b"\r\n\r\n"
 
 
-def limits():
-    # The first line, the last one and what is always there of the line before it are 25 bytes.
-    rows = [(32, 0, seq(0)), (33, 0, BAD_REQUEST), (1, 8167, seq(0)), (1, 8168, BAD_REQUEST)]
-    service = Service(MOO, ":memory:", 2 * len(rows))
-    for lines, more, wanted in rows:
-        head = seq_head(lines, more)
-        case(f"a head of {lines} lines and {len(head)} bytes", said(service, head), wanted)
-        case(f"{lines} lines and {len(head)} bytes in pieces of 1,000", said(service, head, 1000), wanted)
-    case("all of these heads are served", service.end(), (0, f"served {2 * len(rows)} failed 0\n"))
+class RequestHeads(RequestTest):
+    def test_order(self):
+        self.in_turn("a head", ORDER, [MADE])
 
+    def test_object_numbers(self):
+        rows = [(f"'{number}'", f"GET /object/{number} HTTP/1.1\r\n\r\n".encode(), wanted) for number, wanted in NUMBERS]
+        self.in_turn("the number of an object", rows, [MADE])
 
-SCENES = [order, object_numbers, lengths, acting_lengths, limits]
+    def test_lengths(self):
+        rows = [(name, b"POST /batch HTTP/1.1\r\n%s\r\n{}" % lines, wanted) for name, lines, wanted in LENGTHS]
+        self.in_turn("a length", rows + [("nothing of all this acted", b"GET /seq HTTP/1.1\r\n\r\n", seq(0))])
+
+    def test_acting_lengths(self):
+        rows = [(name, b"POST /batch HTTP/1.1\r\n%s\r\n%s" % (lines, CREATE), wanted) for name, lines, wanted in ACTING_LENGTHS]
+        self.in_turn("the length of a batch", rows)
+
+    def test_limits(self):
+        # The first line, the last one and what is always there of the line before it are 25 bytes.
+        rows = [(32, 0, seq(0)), (33, 0, BAD_REQUEST), (1, 8167, seq(0)), (1, 8168, BAD_REQUEST)]
+        service = Service(MOO, ":memory:", 2 * len(rows))
+        for lines, more, wanted in rows:
+            head = seq_head(lines, more)
+            self.case(f"a head of {lines} lines and {len(head)} bytes", said(service, head), wanted)
+            self.case(f"{lines} lines and {len(head)} bytes in pieces of 1,000", said(service, head, 1000), wanted)
+        self.case("all of these heads are served", service.end(), (0, f"served {2 * len(rows)} failed 0\n"))

@@ -1,6 +1,6 @@
 """Bodies: who asks, the calls, and the number that the batch is for."""
-from exchange import BAD_REQUEST, MOO, SEQ_QUESTION, accepted, case, in_turn, malformed, posted, refused, said, seq, stale
-from service import Service
+from tests.support.exchange import BAD_REQUEST, MOO, SEQ_QUESTION, RequestTest, accepted, malformed, posted, refused, said, seq, stale
+from tests.support.service import Service
 
 # In turn, so that the numbers rise. #4 to #7 are made first. What a programmer makes is its own, which tells who asked.
 SHAPES = [
@@ -74,20 +74,6 @@ OTHERS = [
 ]
 
 
-def shapes():
-    in_turn("a body", [(name, posted("/batch", body), wanted) for name, body, wanted in SHAPES])
-
-
-def others():
-    """Each is sent as a question and as a batch."""
-    service = Service(MOO, ":memory:", 2 * len(OTHERS) + 1)
-    for name, body in OTHERS:
-        came = [said(service, posted(path, body)) for path in ("/ask", "/batch")]
-        case(f"a body of another shape: {name}", came, [BAD_REQUEST, BAD_REQUEST])
-    case("a body of another shape: none of them acted", said(service, SEQ_QUESTION), seq(0))
-    case("a body of another shape: all are served", service.end(), (0, f"served {2 * len(OTHERS) + 1} failed 0\n"))
-
-
 def many_calls(calls, spaces):
     """A body of so many calls without arguments, the first of which is led by so many spaces."""
     first = b'"%smax_object()"' % (b" " * spaces)
@@ -99,17 +85,27 @@ def nested(arrays):
     return b'{"as":"#3","calls":["max_object()"],"x":%s}' % (b"[" * arrays + b"]" * arrays)
 
 
-def limits():
-    # A call without arguments has 12 bytes; the body is an object round its arrays.
-    rows = [
-        ("1,000 calls", many_calls(1000, 0), accepted(0, *["#3"] * 1000)),
-        ("1,001 calls", many_calls(1001, 0), BAD_REQUEST),
-        ("a call of 262,144 bytes", many_calls(1, 262132), accepted(0, "#3")),
-        ("a call of 262,145 bytes", many_calls(1, 262133), BAD_REQUEST),
-        ("values 127 deep", nested(126), accepted(0, "#3")),
-        ("values 128 deep", nested(127), BAD_REQUEST),
-    ]
-    in_turn("the limits of a body", [(name, posted("/ask", body), wanted) for name, body, wanted in rows])
+class RequestBodies(RequestTest):
+    def test_shapes(self):
+        self.in_turn("a body", [(name, posted("/batch", body), wanted) for name, body, wanted in SHAPES])
 
+    def test_others(self):
+        """Each is sent as a question and as a batch."""
+        service = Service(MOO, ":memory:", 2 * len(OTHERS) + 1)
+        for name, body in OTHERS:
+            came = [said(service, posted(path, body)) for path in ("/ask", "/batch")]
+            self.case(f"a body of another shape: {name}", came, [BAD_REQUEST, BAD_REQUEST])
+        self.case("a body of another shape: none of them acted", said(service, SEQ_QUESTION), seq(0))
+        self.case("a body of another shape: all are served", service.end(), (0, f"served {2 * len(OTHERS) + 1} failed 0\n"))
 
-SCENES = [shapes, others, limits]
+    def test_limits(self):
+        # A call without arguments has 12 bytes; the body is an object round its arrays.
+        rows = [
+            ("1,000 calls", many_calls(1000, 0), accepted(0, *["#3"] * 1000)),
+            ("1,001 calls", many_calls(1001, 0), BAD_REQUEST),
+            ("a call of 262,144 bytes", many_calls(1, 262132), accepted(0, "#3")),
+            ("a call of 262,145 bytes", many_calls(1, 262133), BAD_REQUEST),
+            ("values 127 deep", nested(126), accepted(0, "#3")),
+            ("values 128 deep", nested(127), BAD_REQUEST),
+        ]
+        self.in_turn("the limits of a body", [(name, posted("/ask", body), wanted) for name, body, wanted in rows])
