@@ -1,18 +1,19 @@
-"""The cases of scenes.sh: each scene of tests/scenes, as a text and over HTTP."""
+"""Worked batches and what they come to: each scene of tests/scenes, played as a text and over HTTP."""
 import itertools
-import pathlib
+from pathlib import Path
 
-from notation import read_scenes
-from program import MOO, case, edit, run
-from service import Service, post
+from tests.support.cases import ProgramTest
+from tests.support.notation import read_scenes
+from tests.support.program import MOO, edit, run
+from tests.support.service import Service, post
 
-SCENES = pathlib.Path(__file__).parent.parent / "scenes"
+SCENES = Path(__file__).with_name("scenes")
 
 numbers = itertools.count(1)
 
 
 def new_world(scene):
-    """A world in memory, or a file where the scene changes it by hand."""
+    """A world in memory, or a file if the scene changes it by hand."""
     if not scene.is_on_file():
         return ":memory:"
     file = f"scene{next(numbers)}.db"
@@ -54,7 +55,18 @@ def wanted(scene, expect):
     return [expect(batches) for batches, _ in scene.stretches() if batches]
 
 
-for path in sorted(SCENES.glob("*.txt")):
-    for played in read_scenes(path.read_text()):
-        case(f"{path.stem}: {played.name}, as a text", play(played, as_text), wanted(played, replies))
-        case(f"{path.stem}: {played.name}, over HTTP", play(played, over_http), wanted(played, responses))
+def scenes():
+    """Each scene, with its name and that of its file."""
+    for path in sorted(SCENES.glob("*.txt")):
+        for scene in read_scenes(path.read_text()):
+            yield f"{path.stem}: {scene.name}", scene
+
+
+class Scenes(ProgramTest):
+    def test_as_texts(self):
+        for name, scene in scenes():
+            self.case(f"{name}, as a text", play(scene, as_text), wanted(scene, replies))
+
+    def test_over_http(self):
+        for name, scene in scenes():
+            self.case(f"{name}, over HTTP", play(scene, over_http), wanted(scene, responses))
