@@ -20,9 +20,9 @@ import sys
 import tempfile
 import time
 
-from sqlite_baseline import FIRST_TABLES, PRAGMAS, TABLES  # which also leads to columns
+from sqlite_baseline import FIRST_TABLES, PRAGMAS, TABLES  # which also leads to tests
 
-from columns import OPENING_OBJECTS, first_objects, thing
+from tests.support.columns import OPENING_OBJECTS, first_objects, thing
 
 CLASSES = 200
 VERBS_OF_CLASS = 50

@@ -17,8 +17,8 @@ import tempfile
 import time
 
 sys.dont_write_bytecode = True
-sys.path.insert(0, os.path.join(os.path.dirname(os.path.abspath(__file__)), "..", "tests", "support"))
-from service import Service, get, heard, post  # noqa: E402
+sys.path.insert(0, os.path.dirname(os.path.dirname(os.path.abspath(__file__))))
+from tests.support.service import Service, get, heard, post  # noqa: E402
 
 FIRST = "batch as #3\ncreate(#1)\nend\n"
 MAKE = post("/batch", '{"as":"#3","calls":["create(#1)"]}')

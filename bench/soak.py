@@ -27,8 +27,8 @@ import threading
 import time
 
 sys.dont_write_bytecode = True
-sys.path.insert(0, os.path.join(os.path.dirname(os.path.abspath(__file__)), "..", "tests", "support"))
-from service import Service, get, post, reset  # noqa: E402
+sys.path.insert(0, os.path.dirname(os.path.dirname(os.path.abspath(__file__))))
+from tests.support.service import Service, get, post, reset  # noqa: E402
 
 ROUNDS_OF_A_WORLD = 25
 

@@ -12,8 +12,8 @@ import sys
 import time
 
 sys.dont_write_bytecode = True
-sys.path.insert(0, os.path.join(os.path.dirname(os.path.abspath(__file__)), "..", "tests", "support"))
-from columns import FIRST_TABLES, OPENING_OBJECTS, PLAIN, object_table, thing  # noqa: E402
+sys.path.insert(0, os.path.dirname(os.path.dirname(os.path.abspath(__file__))))
+from tests.support.columns import FIRST_TABLES, OPENING_OBJECTS, PLAIN, object_table, thing  # noqa: E402
 
 PRAGMAS = [
     "PRAGMA page_size = 4096",
