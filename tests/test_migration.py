@@ -14,23 +14,14 @@ from tests.support.first import first_rows, letters, make_first
 from tests.support.processes import start
 from tests.support.program import MOO, edit
 from tests.support.service import Service, answer, get
-from tests.support.worlds import accepted, copied, make, read, rows_of, run, text_of
+from tests.support.worlds import accepted, copied, make, read, rows_of, run, tables_of, text_of
 
 SCHEMA = "select type, name, tbl_name, rootpage > 0, sql from sqlite_schema order by rowid"
 
 
-def held(file):
-    """The tables of a file, and their rows, in their order."""
-    connection = sqlite3.connect(copied(file, "read.db"))
-    tables = [name for (name,) in connection.execute("select name from sqlite_schema where type = 'table' order by rowid")]
-    rows = {table: connection.execute(f"select * from {table} order by 1, 2").fetchall() for table in tables}
-    connection.close()
-    return rows
-
-
 def is_first(file, rows):
     """Whether a file is of the first version still, with these rows."""
-    return held(file) == {table: sorted(part) for table, part in rows.items()}
+    return tables_of(file) == {table: sorted(part, key=repr) for table, part in rows.items()}
 
 
 # Another spelling, and what it is taken over as.
@@ -93,7 +84,7 @@ class Migration(ProgramTest):
         """The worked tree, dumped by its own words; and what is in its file then."""
         rows = first_rows(OF_TREE)
         make_first("tree.db", rows)
-        self.case("a file of the first version has five tables", list(held("tree.db")), ["head", "object", "prop", "slot", "verb"])
+        self.case("a file of the first version has five tables", list(tables_of("tree.db")), ["head", "object", "prop", "slot", "verb"])
         self.case("it is dumped as the world that it holds", run("dump", "tree.db"), (0, TREE))
         found = rows_of("tree.db")
         self.case("then it has the rows of the second version", found, OF_TREE)
@@ -190,15 +181,15 @@ class Migration(ProgramTest):
         for said, statement in REFUSED:
             make_first("old.db", first_rows(OF_TREE))
             edit("old.db", statement)
-            before, line = held("old.db"), (3, f"moo: {said}\n")
-            came = [run("check", "old.db"), run("dump", "old.db"), run("apply", "old.db", "-", text="batch as #3\nend\n"), held("old.db")]
+            before, line = tables_of("old.db"), (3, f"moo: {said}\n")
+            came = [run("check", "old.db"), run("dump", "old.db"), run("apply", "old.db", "-", text="batch as #3\nend\n"), tables_of("old.db")]
             self.case(f"{statement}: it is refused, and stays of the first version", came, [line, line, line, before])
         for name, statement in [("a table more", "create table other (n integer primary key, m integer) strict"), ("another index", "create index owners on slot (owner)")]:
             rows = first_rows(OF_TREE)
             make_first("old.db", rows)
             edit("old.db", statement)
-            before = held("old.db")
-            self.case(f"with {name} it is a store fault, and stays", (run("check", "old.db"), held("old.db")), ((1, "moo: store fault\n"), before))
+            before = tables_of("old.db")
+            self.case(f"with {name} it is a store fault, and stays", (run("check", "old.db"), tables_of("old.db")), ((1, "moo: store fault\n"), before))
 
     def test_full_disks(self):
         """Behind each limit the file is of the first version, or of the second; whichever it is, it is dumped the same."""
@@ -208,7 +199,7 @@ class Migration(ProgramTest):
         for room in range(0, 524288, 16384):
             make_first("old.db", rows)
             status, said = no_room("old.db", room)
-            tables = len(held("old.db"))
+            tables = len(tables_of("old.db"))
             left.add((status, tables))
             if (status, said) not in [(0, "ok seq 1 objects 8\n"), (1, "moo: store fault\n")] or (status == 0) > (tables == 8):
                 self.case(f"a file may grow to {room} bytes", (status, said, tables), None)
@@ -243,7 +234,7 @@ class Migration(ProgramTest):
             time.sleep(chance.random() * taken)
             process.send_signal(signal.SIGKILL)
             process.wait()
-            tables = len(held(file))
+            tables = len(tables_of(file))
             if tables not in (5, 8) or run("dump", file) != wanted:
                 wrong.append(tables)
         self.case(f"behind each of {rounds} kills it is the same world", wrong, [])
@@ -260,7 +251,7 @@ class Migration(ProgramTest):
             statuses.add(ran[0])
             if ran not in (whole, (4, "moo: no memory\n"), (1, "moo: store fault\n")) and ran[0] >= 0:
                 wrong.append((megabytes, ran))
-            if len(held(file)) == 5 and not is_first(file, rows):
+            if len(tables_of(file)) == 5 and not is_first(file, rows):
                 wrong.append((megabytes, "its rows differ"))
             if run("check", file) != whole:
                 wrong.append((megabytes, "it doesn't open again"))

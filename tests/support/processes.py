@@ -1,5 +1,9 @@
 """The processes that a test starts, so that none of them outlives it."""
+import contextlib
+import os
+import signal
 import subprocess
+import sys
 
 started = []
 
@@ -9,6 +13,24 @@ def start(words, **how):
     process = subprocess.Popen(words, **how)
     started.append(process)
     return process
+
+
+def run_script(words, seconds, **variables):
+    """The status of a script, and all that it says. What it started itself ends with it, and all of it after so many seconds."""
+    script = start(
+        words, env=dict(os.environ, **variables), start_new_session=True, stdin=subprocess.DEVNULL, stdout=subprocess.PIPE, stderr=subprocess.STDOUT
+    )
+    try:
+        said, _ = script.communicate(timeout=seconds)
+    finally:
+        with contextlib.suppress(ProcessLookupError):
+            os.killpg(script.pid, signal.SIGKILL)
+    return script.returncode, said.decode(errors="replace")
+
+
+def run_python(script, *words, seconds=300):
+    """The same of a script in Python."""
+    return run_script([sys.executable, "-B", script, *words], seconds)
 
 
 def end_all():

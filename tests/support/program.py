@@ -25,9 +25,9 @@ def run(*words, text=b"", **how):
     return ran.returncode, ran.stdout
 
 
-def ended(*words, text="", output=subprocess.PIPE):
+def ended(*words, text="", output=subprocess.PIPE, **how):
     """How the program ends, given a text. It writes to a pipe or another output."""
-    ran = subprocess.run([MOO, *words], input=text.encode(), stdout=output, stderr=subprocess.PIPE, timeout=PATIENCE)
+    ran = subprocess.run([MOO, *words], input=text.encode(), stdout=output, stderr=subprocess.PIPE, timeout=PATIENCE, **how)
     return Ended(ran.returncode, (ran.stdout or b"").decode(), ran.stderr.decode(errors="replace"))
 
 

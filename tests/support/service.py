@@ -24,18 +24,7 @@ class Service:
         self.port = port or free_port()
         words = [program, "serve", file, str(self.port), str(count)]
         self.process = start(words, cwd=folder, stdout=subprocess.PIPE, stderr=subprocess.PIPE, env=env)
-        self.first = self.line()
-
-    def line(self):
-        """What comes of one line of standard output while the program runs; less, where it ends or says nothing."""
-        said = b""
-        output = self.process.stdout.fileno()
-        while not said.endswith(b"\n") and select.select([output], [], [], PATIENCE)[0]:
-            byte = os.read(output, 1)
-            if not byte:
-                break
-            said += byte
-        return said.decode()
+        self.first = line_of(self.process.stdout)
 
     def is_listening(self):
         return self.first == f"listening 127.0.0.1:{self.port}\n"
@@ -57,6 +46,17 @@ class Service:
         with self.peer() as peer:
             peer.sendall(request)
             return heard(peer)
+
+
+def line_of(stream):
+    """What comes of one line of a stream; less, if it ends or nothing comes in time."""
+    said = b""
+    while not said.endswith(b"\n") and select.select([stream], [], [], PATIENCE)[0]:
+        byte = os.read(stream.fileno(), 1)
+        if not byte:
+            break
+        said += byte
+    return said.decode()
 
 
 def heard(peer):

@@ -73,6 +73,15 @@ def rows_of(file):
     return dict(zip(TABLES, read(file, *(f"select * from {table} order by 1, 2" for table in TABLES))))
 
 
+def tables_of(file):
+    """Every table of a file, in the order in which they were made, with its rows."""
+    connection = sqlite3.connect(copied(file, "read.db"))
+    names = [name for (name,) in connection.execute("select name from sqlite_schema where type = 'table' order by rowid")]
+    tables = {name: sorted(connection.execute(f"select * from {name}"), key=repr) for name in names}
+    connection.close()
+    return tables
+
+
 def text_of(calls, programmer="#3"):
     """The text of a batch, of a call a line."""
     return f"batch as {programmer}\n" + "".join(f"{call}\n" for call in calls) + "end\n"
