@@ -1,5 +1,5 @@
 /*
- * Lets calls of a program fail, or kills it at one. It is loaded before the C library (LD_PRELOAD), for refuse.py beside it.
+ * Lets calls of a program fail, or kills it at one. It is loaded before the C library (LD_PRELOAD), for refusing.py beside it.
  *
  * REFUSE is "KIND FIRST LAST HOW". The calls of KIND are counted from 1. Those from FIRST to LAST fail with the error number HOW; where
  * HOW is 0 they kill the program. The kinds are

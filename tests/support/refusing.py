@@ -1,0 +1,123 @@
+"""Tasks of the program of which some calls fail, by refuse.c: those for memory, and those of a disk, a stream or a connection."""
+import errno
+import itertools
+import os
+import shutil
+import socket
+import subprocess
+import tempfile
+from pathlib import Path
+
+from tests.support.program import MOO
+from tests.support.service import PATIENCE, Service, heard
+
+SOURCE = Path(__file__).with_name("refuse.c")
+# The library, in the folder of the test.
+REFUSER = "refuse.so"
+# Below those that the system gives to clients: services that start side by side, and their clients, don't meet.
+PORTS = itertools.count(20000)
+EVER = 10**9
+
+
+def build_refuser():
+    subprocess.run(["cc", "-O1", "-shared", "-fPIC", "-o", REFUSER, SOURCE], check=True, timeout=PATIENCE)
+
+
+def run(words, room, text="", env=None):
+    """What the program writes, and its status."""
+    ran = subprocess.run(
+        [MOO, *words], cwd=room, input=text.encode(), stdout=subprocess.PIPE, stderr=subprocess.DEVNULL, env=env, timeout=PATIENCE
+    )
+    return ran.stdout.decode(), ran.returncode
+
+
+def next_port():
+    while True:
+        port = next(PORTS)
+        with socket.socket() as probe:
+            probe.setsockopt(socket.SOL_SOCKET, socket.SO_REUSEADDR, 1)
+            try:
+                probe.bind(("127.0.0.1", port))
+                return port
+            except OSError:
+                continue
+
+
+class Fault:
+    """The calls of a kind fail from one on: that one, or each behind it too; or the program is killed."""
+
+    def __init__(self, kind, error, goes_on=False, piece=None):
+        self.kind, self.error, self.goes_on, self.piece = kind, error, goes_on, piece
+
+    def env(self, number, told):
+        last = EVER if self.goes_on else number
+        found = dict(os.environ, LD_PRELOAD=os.path.abspath(REFUSER), REFUSE=f"{self.kind} {number} {last} {self.error}", REFUSED=told)
+        if self.piece:
+            found["PIECE"] = str(self.piece)
+        return found
+
+
+class Task:
+    """A task on a file: the ends that may come of it, and for each the worlds that may be in the file then: 0 for the one before, 1 for
+    the one behind. `is_end` says so of an end that the table hasn't."""
+
+    def __init__(self, world, words, text, ends, is_end=None):
+        self.world, self.words, self.text, self.ends = world, words, text, ends
+        self.is_end = is_end or (lambda written, status: None)
+        self.dumps = []
+        with tempfile.TemporaryDirectory() as room:
+            shutil.copy(world, f"{room}/w.db")
+            self.dumps.append(run(["dump", "w.db"], room))
+            self.done = self.do(room, None)
+            self.dumps.append(run(["dump", "w.db"], room))
+
+    def do(self, room, env):
+        return run(self.words, room, self.text, env)
+
+    def wrong(self, room, end):
+        """What is wrong with an end, and with the file behind it; or nothing."""
+        worlds = self.ends.get(end)
+        if worlds is None:
+            worlds = self.is_end(*end)
+        if worlds is None:
+            return f"it wrote {end[0]!r}, status {end[1]}"
+        found = run(["dump", "w.db"], room)
+        if not any(found == self.dumps[world] for world in worlds):
+            return f"it wrote {end[0]!r}, status {end[1]}, and the file then holds {found!r}"
+        return ""
+
+    def refuse(self, fault, number):
+        """Whether a call was refused where that number is, and what was wrong."""
+        with tempfile.TemporaryDirectory() as room:
+            shutil.copy(self.world, f"{room}/w.db")
+            told = f"{room}/told"
+            end = self.do(room, fault.env(number, told))
+            return os.path.exists(told), self.wrong(room, end)
+
+
+class Post(Task):
+    """A task that is a POST to the service of a file; what is written is the answer, and behind it the line of the service's end."""
+
+    def do(self, room, env):
+        service = Service(MOO, "w.db", 1, port=next_port(), folder=room, env=env)
+        if not service.is_listening():
+            output, status = service.end()[::-1]
+            return service.first + output, status
+        try:
+            with service.peer() as peer:
+                peer.sendall(self.text.encode())
+                came = heard(peer)
+        except OSError:
+            came = b""
+        status, output = service.end()
+        return came.decode() + output, status
+
+
+def growths(task):
+    """How many growths a task meets, by halving."""
+    low, high = 1, 1 << 20
+    while low < high:
+        middle = (low + high) // 2
+        met, _ = task.refuse(Fault("memory", errno.ENOMEM), middle)
+        low, high = (middle + 1, high) if met else (low, middle)
+    return low - 1
