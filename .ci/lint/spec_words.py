@@ -1,9 +1,7 @@
-"""The cases of spec_words.sh: what each word of the specs means, by the files that define it."""
+"""That a word means one thing: no two files of specs/ define the same one, and docs/DEFINITIONS.md has words that there are."""
 import re
 from collections import defaultdict
 from pathlib import Path
-
-from program import case
 
 TOP = Path(__file__).resolve().parents[2]
 DEFINED = re.compile(r"(?:abbrev |unfoldable )?pub (?:record |data )?([A-Za-z]\w*)[ :]")
@@ -23,16 +21,20 @@ def words_defined():
     return files
 
 
+def words_declared():
+    """What a source file declares, a struct, an enum or a trait, is a word too."""
+    sources = (TOP / "crates").glob("moo*/src/**/*.rt")
+    return {word for source in sources for word in re.findall(r"(?:struct|enum|trait) (\w+)", source.read_text())}
+
+
 def words_told():
     """The words that begin the rows of DEFINITIONS."""
     rows = [row.split("|")[1] for row in (TOP / "docs/DEFINITIONS.md").read_text().splitlines() if row.startswith("| `")]
     return sorted({word for row in rows for text in re.findall(r"`([^`]*)`", row) for word in re.findall(r"[A-Za-z]\w+", text)})
 
 
-FILES = words_defined()
-# What a source file declares, a struct or an enum, is a word too.
-DECLARED = set()
-for source in (TOP / "crates").glob("moo*/src/**/*.rt"):
-    DECLARED |= set(re.findall(r"(?:struct|enum|trait) (\w+)", source.read_text()))
-case("a word of specs/ means one thing", {word: sorted(files) for word, files in FILES.items() if len(files) > 1 and word not in TWO_THINGS}, {})
-case("DEFINITIONS has words that there are", [word for word in words_told() if word not in FILES and word not in DECLARED], [])
+def cases():
+    """The name of each case, and what is wrong with it."""
+    files, declared = words_defined(), words_declared()
+    yield "a word of specs/ means one thing", {word: sorted(named) for word, named in files.items() if len(named) > 1 and word not in TWO_THINGS}
+    yield "DEFINITIONS has words that there are", [word for word in words_told() if word not in files and word not in declared]

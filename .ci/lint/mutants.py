@@ -1,0 +1,39 @@
+"""That the mutants still fit: each text that one replaces is in its file once; and mutants/gate names mutants that there are."""
+from pathlib import Path
+
+TOP = Path(__file__).resolve().parents[2]
+MUTANTS = TOP / "mutants"
+
+
+def misfit(edit):
+    """Why an edit can't be made, or nothing if it can."""
+    file, old, texts = None, None, {}
+    for line in edit.read_text().splitlines():
+        word, _, rest = line.partition(": ")
+        if word == "file":
+            file = TOP / "crates" / edit.parent.name / rest
+            if not file.is_file():
+                return f"there is no {rest}"
+            texts.setdefault(file, file.read_text())
+        elif word == "old":
+            old = rest
+        elif word.startswith("new"):
+            if file is None or old is None:
+                return "a text comes before its file"
+            if texts[file].count(old) != 1:
+                return f"{old!r} is {texts[file].count(old)} times in {file.name}"
+            texts[file] = texts[file].replace(old, rest)
+            old = None
+    return None if texts else "it changes nothing"
+
+
+def wrong_lines(lines):
+    """The lines of mutants/gate that name no mutant, or one that another line names too."""
+    return [line for line in lines if lines.count(line) > 1 or not (MUTANTS / f"{line}.edit").is_file()]
+
+
+def cases():
+    """The name of each case, and what is wrong with it."""
+    for edit in sorted(MUTANTS.glob("*/*.edit")):
+        yield f"{edit.parent.name}, {edit.stem}", misfit(edit)
+    yield "those of the gate", wrong_lines((MUTANTS / "gate").read_text().splitlines())
