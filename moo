@@ -1,11 +1,11 @@
 #!/bin/sh
-# Runs the program with the words given. Where it isn't built yet, or a source is newer, it is proved and built first.
+# Runs the program with the words given. If it isn't there yet, the shipped one is unpacked if it is of these sources; else it is built.
+#
+#   ./moo WORD ..    runs the program
+#   ./moo --build    builds it from its sources in any case, and runs nothing
 here=$(cd "$(dirname "$0")" && pwd) || exit 1
-program=$here/crates/moo/out/moo
-is_built() {
-    [ -x "$program" ] && [ -z "$(find "$here/crates.txt" "$here"/crates/moo*/src "$here"/crates/moo*/specs "$here"/crates/moo*/proofs -newer "$program" 2>/dev/null | head -n 1)" ]
-}
-if ! is_built; then
-    "$here/.ci/build" moo >&2 || exit 1
+if [ "${1-}" = --build ] && [ "$#" -eq 1 ]; then
+    exec "$here/.ci/build"
 fi
-exec "$program" "$@"
+"$here/.ci/program" || exit 1
+exec "$here/crates/moo/out/moo" "$@"

@@ -10,7 +10,7 @@ rounds=${2:-5}
 folder=$(mktemp -d "${3:-${TMPDIR:-/tmp}}/moo-bench.XXXXXX") || exit 1
 trap 'rm -rf "$folder"' EXIT
 program=$here/crates/moo/out/moo
-[ -x "$program" ] || "$here/.ci/build" moo >&2 || exit 1
+"$here/.ci/program" || exit 1
 
 # the figure in front of 'a second'
 rate() {
