@@ -4,7 +4,7 @@
 all:
 	@.ci/program
 
-# the examples and all scripts of tests/, on the program
+# the tests, with the examples and the lints, on the program
 test: all
 	@.ci/test
 
