@@ -1,4 +1,5 @@
 """The processes that a test starts, so that none of them outlives it."""
+import atexit
 import contextlib
 import os
 import signal
@@ -42,4 +43,10 @@ def end_all():
         process.wait()
         for stream in (process.stdin, process.stdout, process.stderr):
             if stream:
-                stream.close()
+                # What was not sent yet can't be.
+                with contextlib.suppress(OSError):
+                    stream.close()
+
+
+# So it is if the tests are broken off.
+atexit.register(end_all)
