@@ -10,7 +10,7 @@ from tests.support.cases import ProgramTest
 from tests.support.columns import object_line, thing
 from tests.support.dumped import OPENING, TREE
 from tests.support.notation import tree
-from tests.support.program import MOO, edit, run
+from tests.support.program import MOO, edit, run_bytes
 from tests.support.service import PATIENCE, Service, answer, get
 
 # The columns of each table that are its key. The head has one row, and so has that of the petitions.
@@ -101,8 +101,8 @@ def new_file(file, calls):
     for end in ("", "-wal"):
         if os.path.exists(file + end):
             os.remove(file + end)
-    run("init", file)
-    _, replied = run("apply", file, "-", text=text_of(calls))
+    run_bytes("init", file)
+    _, replied = run_bytes("apply", file, "-", text=text_of(calls))
     if not replied.startswith(b"accepted 1\n"):
         raise ValueError(f"no world of {calls}: {replied}")
 
@@ -161,7 +161,7 @@ UNCHANGED = [
 def dumped(calls):
     """What the world behind some calls is dumped as."""
     new_file("dump.db", calls)
-    return run("dump", "dump.db")[1].decode()
+    return run_bytes("dump", "dump.db")[1].decode()
 
 
 VERBS = (
@@ -233,32 +233,32 @@ class Dumps(ProgramTest):
     def test_changed_rows(self):
         for name, world, calls, changes, counters in CHANGES:
             before = made("change.db", world)
-            status, replied = run("apply", "change.db", "-", text=text_of(calls))
+            status, replied = run_bytes("apply", "change.db", "-", text=text_of(calls))
             self.case(f"{name}: it is accepted", (status, replied.split(b"\n")[0]), (0, b"accepted 2"))
             self.case(name, differences(before, rows("change.db")), sorted(filter(None, changes.split(", "))))
             self.case(f"{name}: the head", heads("change.db"), (2, *counters))
-            self.case(f"{name}: the world is whole", run("check", "change.db")[0], 0)
+            self.case(f"{name}: the world is whole", run_bytes("check", "change.db")[0], 0)
 
     def test_unchanged_rows(self):
         for name, text, reply in UNCHANGED:
             before = made("same.db", SMALL_TREE)
-            self.case(f"{name} is refused", run("apply", "same.db", "-", text=text), (0, reply))
+            self.case(f"{name} is refused", run_bytes("apply", "same.db", "-", text=text), (0, reply))
             self.case(f"{name} changes nothing", rows("same.db"), before)
         before = made("same.db", SMALL_TREE)
-        asked = run("ask", "same.db", "-", text=text_of("chparent(#5, #7); create(#1)"))
+        asked = run_bytes("ask", "same.db", "-", text=text_of("chparent(#5, #7); create(#1)"))
         self.case("a question says what would come", asked, (0, b"accepted 1\n0\n#8\nend\n"))
         self.case("a question changes nothing", rows("same.db"), before)
 
     def test_petitions_dumped(self):
         self.case("petitions are dumped behind the objects, by their numbers", dumped(ELEVEN), f"seq 1\ntop #3\n{OPENING}{ELEVEN_LINES}end\n")
         self.case("with their calls as literals", dumped(SPELLED), f"seq 1\ntop #4\n{OPENING}{SPELLED_LINES}")
-        run("apply", "dump.db", "-", text=text_of('petition({{"players"}})', "#4"))
-        run("apply", "dump.db", "-", text=text_of("recycle(#4)"))
-        lines = run("dump", "dump.db")[1].decode().split("\n")
+        run_bytes("apply", "dump.db", "-", text=text_of('petition({{"players"}})', "#4"))
+        run_bytes("apply", "dump.db", "-", text=text_of("recycle(#4)"))
+        lines = run_bytes("dump", "dump.db")[1].decode().split("\n")
         self.case("and whoever asked, an object or none", lines[-3:], ['petition {2, #4, {{"players"}}}', "end", ""])
 
     def test_dumps(self):
-        self.case("a new world is dumped", run("dump", ":memory:"), (0, f"seq 0\ntop #3\n{OPENING}end\n".encode()))
+        self.case("a new world is dumped", run_bytes("dump", ":memory:"), (0, f"seq 0\ntop #3\n{OPENING}end\n".encode()))
         # The slots of #6 stand by definers up its chain there, which is not the order of their numbers.
         self.case("slots are dumped by definers up the chain", dumped(SMALL_TREE), TREE)
         self.case("verbs are dumped in the order of the directory", VERB_LINES in dumped(VERBS), True)

@@ -1,6 +1,6 @@
 """The examples: each text of batches, and its replies."""
 from tests.support.cases import ProgramTest
-from tests.support.program import TOP, run
+from tests.support.program import TOP, run_bytes
 
 TEXTS = sorted(TOP.glob("examples/*.txt"))
 
@@ -8,7 +8,7 @@ TEXTS = sorted(TOP.glob("examples/*.txt"))
 class Examples(ProgramTest):
     def test_replies(self):
         for text in TEXTS:
-            came = run("apply", ":memory:", "-", text=text.read_bytes())
+            came = run_bytes("apply", ":memory:", "-", text=text.read_bytes())
             self.case(f"example {text.stem}", came, (0, text.with_suffix(".replies").read_bytes()))
 
     def test_none_is_left_out(self):

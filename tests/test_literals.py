@@ -3,7 +3,7 @@ import json
 import time
 
 from tests.support.cases import ProgramTest
-from tests.support.program import MOO, edit, run
+from tests.support.program import MOO, edit, run_bytes
 from tests.support.service import Service, answer, post
 
 LONGEST = 65535
@@ -127,7 +127,7 @@ class Literals(ProgramTest):
             else:
                 replied, responded = accepted("0", printed), answer("200 OK", json_of({"answers": ["0", printed], "seq": 1}))
             began = time.monotonic()
-            self.case(f"{name}, in a text", run("apply", ":memory:", "-", text=text), (0, replied))
+            self.case(f"{name}, in a text", run_bytes("apply", ":memory:", "-", text=text), (0, replied))
             self.case(f"{name}, over HTTP", reply_over_http(calls), responded)
             # Bytes that are read again for each item or each byte take far longer.
             if len(written) > LONGEST:
@@ -136,16 +136,16 @@ class Literals(ProgramTest):
     def test_tabs_in_names(self):
         for name, calls, answers in TABS:
             text = "\n".join(["batch as #3", *calls, "end", ""]).encode()
-            self.case(f"{name}, in a text", run("apply", ":memory:", "-", text=text), (0, accepted(*answers)))
+            self.case(f"{name}, in a text", run_bytes("apply", ":memory:", "-", text=text), (0, accepted(*answers)))
             self.case(f"{name}, over HTTP", reply_over_http(calls), answer("200 OK", json_of({"answers": answers, "seq": 1})))
         calls = [f'add_verb(#1, {{#3, "r", "get\ttake"}}, {ARGS})', 'verb_info(#1, "get")']
         self.case("a word before a tab is no name", reply_over_http(calls), answer("409 Conflict", '{"call":2,"error":"E_VERBNF"}'))
 
     def test_all_bytes(self):
         text, wanted = bytes_told(b"\\", is_of_string)
-        self.case("behind a backslash stands each of the 256 bytes that a string may hold", run("apply", ":memory:", "-", text=text), wanted)
+        self.case("behind a backslash stands each of the 256 bytes that a string may hold", run_bytes("apply", ":memory:", "-", text=text), wanted)
         text, wanted = bytes_told(b"", lambda byte: is_of_string(byte) and byte not in b'"\\')
-        self.case("a tab and 32 to 126 stand for themselves but a quote and a backslash", run("apply", ":memory:", "-", text=text), wanted)
+        self.case("a tab and 32 to 126 stand for themselves but a quote and a backslash", run_bytes("apply", ":memory:", "-", text=text), wanted)
 
     def test_bytes_over_http(self):
         """JSON can hold bytes up to 127, which are characters too."""
@@ -164,11 +164,11 @@ class Literals(ProgramTest):
         self.case("so it is over HTTP, up to 127", (came, service.end()), (wanted, (0, "served 129 failed 0\n")))
 
     def test_cells(self):
-        run("init", "cell.db")
-        run("apply", "cell.db", "-", text=b'batch as #3\nadd_property(#1, "v", 0, {#3, "r"})\nend\n')
+        run_bytes("init", "cell.db")
+        run_bytes("apply", "cell.db", "-", text=b'batch as #3\nadd_property(#1, "v", 0, {#3, "r"})\nend\n')
         for name, written, is_value in CELLS:
             edit("cell.db", f"update slot2 set value = '{written}' where object = 1")
-            came = run("ask", "cell.db", "-", text=b'batch as #3\nget(#1, "v")\nend\n')
+            came = run_bytes("ask", "cell.db", "-", text=b'batch as #3\nget(#1, "v")\nend\n')
             self.case(f"{name}, in a file", came, (0, accepted(written)) if is_value else (3, b"moo: damaged bad-cell #1 p1\n"))
 
     def test_greatest_lengths(self):
@@ -178,5 +178,5 @@ class Literals(ProgramTest):
             else:
                 replied, responded = f"refused 1 {comes_to}\n".encode(), answer("409 Conflict", f'{{"call":1,"error":"{comes_to}"}}')
             text = f"batch as {programmer}\n{call}\nend\n".encode()
-            self.case(f"{name}, in a text", run("apply", ":memory:", "-", text=text), (0, replied))
+            self.case(f"{name}, in a text", run_bytes("apply", ":memory:", "-", text=text), (0, replied))
             self.case(f"{name}, over HTTP", reply_over_http([call], programmer), responded)

@@ -2,7 +2,6 @@
 import random
 import resource
 import signal
-import sqlite3
 import subprocess
 import time
 

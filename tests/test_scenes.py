@@ -4,7 +4,7 @@ from pathlib import Path
 
 from tests.support.cases import ProgramTest
 from tests.support.notation import read_scenes
-from tests.support.program import MOO, edit, run
+from tests.support.program import MOO, edit, run_bytes
 from tests.support.service import Service, post
 
 SCENES = Path(__file__).with_name("scenes")
@@ -17,7 +17,7 @@ def new_world(scene):
     if not scene.is_on_file():
         return ":memory:"
     file = f"scene{next(numbers)}.db"
-    run("init", file)
+    run_bytes("init", file)
     return file
 
 
@@ -34,7 +34,7 @@ def play(scene, take):
 
 
 def as_text(world, batches):
-    return run("apply", world, "-", text=b"".join(batch.text() for batch in batches))
+    return run_bytes("apply", world, "-", text=b"".join(batch.text() for batch in batches))
 
 
 def over_http(world, batches):

@@ -1,31 +1,19 @@
 """The service, over sockets of this machine: what it says, what it answers, and what becomes of peers that don't do their part."""
 import re
 import socket
-import sqlite3
-import subprocess
 import threading
 import time
 
 from tests.support.cases import ProgramTest
-from tests.support.program import MOO
-from tests.support.service import PATIENCE, Service, answer, free_port, get, heard, post, reset
+from tests.support.program import MOO, edit, ended
+from tests.support.service import Service, answer, free_port, get, heard, post, reset
+from tests.support.worlds import run
 
 CREATE = '{"as":"#3","calls":["create(#1)"]}'
 ROOT = (
     '{"children":["#0","#2","#3"],"contents":[],"f":1,"location":"#-1","name":"Root Class","owner":"#3","parent":"#-1",'
     '"player":0,"programmer":0,"r":0,"w":0,"wizard":0}'
 )
-
-
-def run(*words, text=b"", output=subprocess.PIPE):
-    """The status of the program, and what it writes."""
-    ran = subprocess.run([MOO, *words], input=text, stdout=output, stderr=subprocess.PIPE, timeout=PATIENCE)
-    return ran.returncode, (ran.stdout or b"").decode()
-
-
-def complaint(*words):
-    """What the program says on standard error."""
-    return subprocess.run([MOO, *words], stdout=subprocess.DEVNULL, stderr=subprocess.PIPE, timeout=PATIENCE).stderr.decode()
 
 
 def error(word):
@@ -119,7 +107,7 @@ class Serve(ProgramTest):
             self.case(f"a port {port_word} and a count {count} are none", run("serve", ":memory:", port_word, count)[0], 2)
         self.case("no count", run("serve", ":memory:", port)[0], 2)
         with open("/dev/full", "wb") as full:
-            self.case("a line that can't be written", run("serve", ":memory:", port, "0", output=full)[0], 1)
+            self.case("a line that can't be written", ended("serve", ":memory:", port, "0", output=full).status, 1)
 
     def test_port_and_file(self):
         run("init", "world.db")
@@ -128,13 +116,10 @@ class Serve(ProgramTest):
             other.listen()
             taken = str(other.getsockname()[1])
             self.case("a port that is taken", run("serve", "world.db", taken, "1"), (1, "moo: cannot listen\n"))
-            self.case("the cause is said", "is the port in use" in complaint("serve", ":memory:", taken, "1"), True)
+            self.case("the cause is said", "is the port in use" in ended("serve", ":memory:", taken, "1").complaint, True)
             self.case("FILE is opened before the port", run("serve", "nothing.db", taken, "1"), (1, "moo: store fault\n"))
             run("init", "damaged.db")
-            connection = sqlite3.connect("damaged.db")
-            connection.execute("delete from head")
-            connection.commit()
-            connection.close()
+            edit("damaged.db", "delete from head")
             self.case("so is a damaged one", run("serve", "damaged.db", taken, "1"), (3, "moo: damaged bad-head head\n"))
         self.case("nothing is served of it", run("serve", "damaged.db", str(free_port()), "1"), (3, "moo: damaged bad-head head\n"))
 

@@ -1,4 +1,6 @@
 """What the tables of a world hold, as SQLite itself reads them: the rows of new worlds, and those that each call writes."""
+import os
+
 from tests.support.cases import ProgramTest
 from tests.support.changes import CHANGES, FIVE, FIVE_CALLS, KEPT, OPENING, WORLDS
 from tests.support.columns import TABLES, inserted, object_line, thing
@@ -8,6 +10,18 @@ from tests.support.worlds import accepted, copied, make, read, rows_of, run, tex
 NUMBERS, TEXTS = ("INTEGER", 1, None), ("TEXT", 1, None)
 OF_TEXT = {"name", "accept", "bits", "value", "names", "dobj", "prep", "iobj", "calls"}
 PAIRED = ("slot", "verb", "slot2")
+
+
+def file_of(world):
+    """The file of a world, which is made if the folder hasn't it yet."""
+    file = f"{world}.db"
+    if not os.path.exists(file):
+        make(file, WORLDS[world][0])
+    return file
+
+
+def copy_of(world):
+    return copied(file_of(world))
 
 
 def type_of(table, column):
@@ -45,7 +59,7 @@ SPELLINGS = [
 
 def made_anew(tables, old="", new=""):
     """A copy of a world in which tables were dropped and made again with their rows, the first by its text or one with another word in it."""
-    file = copied("verbs.db")
+    file = copy_of("verbs")
     made = []
     for table in tables:
         rows, ((text,),) = read(file, f"select * from {table}", f"select sql from sqlite_schema where name = '{table}'")
@@ -61,7 +75,7 @@ FROM_VERB = list(TABLES)[list(TABLES).index("verb") :]
 
 
 def edited(*statements):
-    file = copied("verbs.db")
+    file = copy_of("verbs")
     edit(file, *statements)
     return file
 
@@ -92,14 +106,9 @@ OTHER_TEXTS = [
 
 
 class Tables(ProgramTest):
-    def setUp(self):
-        super().setUp()
-        for world, (text, _) in WORLDS.items():
-            make(f"{world}.db", text)
-
     def test_schema(self):
         (tables, trees, is_whole) = read(
-            "new.db",
+            file_of("new"),
             "select name, strict, wr from pragma_table_list where schema = 'main' and name not like 'sqlite_%' order by name",
             "select type, name, tbl_name from sqlite_schema order by rootpage",
             "pragma integrity_check",
@@ -117,18 +126,18 @@ class Tables(ProgramTest):
                 (column, *type_of(table, column), at + 1 if at < keys else 0)
                 for at, column in enumerate(columns)
             ]
-            found = read("new.db", f"select name, type, \"notnull\", dflt_value, pk from pragma_table_info('{table}')")[0]
+            found = read(file_of("new"), f"select name, type, \"notnull\", dflt_value, pk from pragma_table_info('{table}')")[0]
             self.case(f"the columns of {table} with their types and key, none of which may be empty", found, wanted)
 
     def test_worlds(self):
         for world, (_, rows) in WORLDS.items():
-            found = rows_of(f"{world}.db")
+            found = rows_of(file_of(world))
             for table in TABLES:
                 self.case(f"the world {world} has its rows of {table}", found[table], rows[table])
 
     def test_changes(self):
         for name, world, calls, answers, head, gone, come in CHANGES:
-            before, file = WORLDS[world][1], copied(f"{world}.db")
+            before, file = WORLDS[world][1], copy_of(world)
             lacking = [row for table, rows in gone.items() for row in rows if row not in before[table]]
             stood = places(file)
             ran = run("apply", file, "-", text=text_of(calls))
@@ -139,23 +148,23 @@ class Tables(ProgramTest):
 
     def test_kept(self):
         for name, world, command, text, replies in KEPT:
-            file = copied(f"{world}.db")
+            file = copy_of(world)
             stood = places(file)
             came = (run(command, file, "-", text=text), rows_of(file), places(file))
             self.case(f"{name}: its replies, and each cell as it was", came, ((0, replies), WORLDS[world][1], stood))
         for command, said in [("check", "ok seq 1 objects 8\n"), ("dump", None)]:
-            file = copied("tree.db")
+            file = copy_of("tree")
             ran = run(command, file)
             self.case(f"a {command} leaves each cell as it was", (ran[0], said or ran[1], rows_of(file)), (0, ran[1], WORLDS["tree"][1]))
-        file = copied("tree.db")
+        file = copy_of("tree")
         run("apply", file, "-", text=text_of([*FIVE_CALLS, "max_object()"]))
         self.case("the calls of that question change cells where they are run", rows_of(file) == WORLDS["tree"][1], False)
 
     def test_opened_again(self):
-        file = copied("new.db")
+        file = copy_of("new")
         self.case("a new world that is opened again", run("check", file), (0, "ok seq 0 objects 4\n"))
         self.case("and given no text", (run("apply", file, "-"), rows_of(file)), ((0, ""), OPENING))
-        file = copied("tree.db")
+        file = copy_of("tree")
         self.case("the tree that is opened again", run("check", file), (0, "ok seq 1 objects 8\n"))
         asked = text_of(['get(#6, "a")', 'get(#6, "b")', "max_object()"])
         self.case("is asked", run("ask", file, "-", text=asked), (0, accepted(1, "10", "21", "#7")))
@@ -163,10 +172,10 @@ class Tables(ProgramTest):
         self.case("and goes on where it stood", run("apply", file, "-", text=last), (0, accepted(2, "0", "21", "30", "1")))
 
     def test_questions(self):
-        file, made = copied("new.db"), text_of(["create(#1)"])
+        file, made = copy_of("new"), text_of(["create(#1)"])
         self.case("a question is answered with the present number", run("ask", file, "-", text=made), (0, accepted(0, "#4")))
         self.case("which no question raises", run("apply", file, "-", text=text_of(["max_object()"])), (0, accepted(1, "#3")))
-        file, at_0 = copied("new.db"), text_of(["create(#1)"], "#3 at 0")
+        file, at_0 = copy_of("new"), text_of(["create(#1)"], "#3 at 0")
         three = at_0 + at_0 + text_of(["create(#9)"])
         wanted = accepted(1, "#4") + "stale 1\nrefused 1 E_PERM\n"
         self.case("a batch that is accepted, one sent again, and one that is refused", run("apply", file, "-", text=three), (0, wanted))
@@ -179,7 +188,7 @@ class Tables(ProgramTest):
         def counts():
             return read(file, "select prop, count(*) from slot2 group by prop order by prop")[0]
 
-        file = copied("tree.db")
+        file = copy_of("tree")
         text = text_of(["create(#6)"] * 1000) + text_of(["create(#6)"] * 999)
         made = accepted(2, *(f"#{number}" for number in range(8, 1008))) + accepted(3, *(f"#{number}" for number in range(1008, 2007)))
         self.case("two thousand descendants are made", run("apply", file, "-", text=text), (0, made))
@@ -195,7 +204,7 @@ class Tables(ProgramTest):
 
     def test_spellings(self):
         """Another spelling of a cell is no damage. It stays until its row changes, and then the row is written as moo spells it."""
-        file = copied("verbs.db")
+        file = copy_of("verbs")
         dumped = run("dump", file)[1].replace(object_line(thing(7)), object_line(thing(7, accept="{#4, #5}")))
         edit(file, *SPELLINGS)
         spelled = rows_of(file)
@@ -217,7 +226,7 @@ class Tables(ProgramTest):
 
     def test_spelled_petitions(self):
         """So it is with petitions, whose rows come and go, and never change."""
-        file = copied("petitions.db")
+        file = copy_of("petitions")
         dumped = run("dump", file)
         calls = '{ {"create" ,#1,\t#04},{ "set_player_flag", #4 , 01 } }'
         edit(file, ("update petition set calls = ? where id = 1", (calls,)))
@@ -232,8 +241,8 @@ class Tables(ProgramTest):
         files = [(name, lambda statements=statements: edited(*statements)) for name, statements in STRANGE]
         files += [(f"with a table {name}", lambda change=change: made_anew(FROM_VERB, *change)) for name, *change in OTHER_TEXTS]
         files.append(("with its tables made in another order", lambda: made_anew(["prop"])))
-        for name, file_of in files:
-            file = file_of()
+        for name, make_file in files:
+            file = make_file()
             there = sorted(read(file, "select type, name, sql from sqlite_schema")[0], key=repr)
             held = [table for kind, table, _ in there if kind == "table"]
             before = read(file, *(f"select * from {table}" for table in held))

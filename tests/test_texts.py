@@ -4,7 +4,7 @@ import os
 import subprocess
 
 from tests.support.cases import ProgramTest
-from tests.support.program import MOO, edit, run
+from tests.support.program import MOO, edit, run_bytes
 from tests.support.service import PATIENCE, Service, answer, post
 
 APPLY = ("apply", ":memory:", "-")
@@ -132,15 +132,15 @@ WORDS = [
 class Texts(ProgramTest):
     def test_texts(self):
         for name, text, replies in TEXTS:
-            self.case(name, run(*APPLY, text=text), (0, replies))
-            self.case(f"{name}, without words", run(text=text), (0, replies))
+            self.case(name, run_bytes(*APPLY, text=text), (0, replies))
+            self.case(f"{name}, without words", run_bytes(text=text), (0, replies))
 
     def test_calls(self):
         for name, line, outcome in CALLS:
             reply, response = comes_to(outcome)
             # A blank line of a text is skipped.
             if line:
-                self.case(f"{name}: {line.strip()}", run(*APPLY, text=f"batch as #3\n{line}\nend\n".encode()), (0, reply))
+                self.case(f"{name}: {line.strip()}", run_bytes(*APPLY, text=f"batch as #3\n{line}\nend\n".encode()), (0, reply))
             self.case(f"{name}, over HTTP: {line.strip()}", requests([{"as": "#3", "calls": [line]}]), [response])
 
     def test_programmers(self):
@@ -168,7 +168,7 @@ class Texts(ProgramTest):
             with open("long.txt", "wb") as text:
                 text.write(front)
                 text.truncate(LONGEST_TEXT + over)
-            self.case(name, run("apply", ":memory:", "long.txt"), wanted)
+            self.case(name, run_bytes("apply", ":memory:", "long.txt"), wanted)
         os.remove("long.txt")
 
     def test_numbers(self):
@@ -176,14 +176,14 @@ class Texts(ProgramTest):
         for written, number in [("7", 7), ("0000000000000000007", 7), ("9223372036854775806", 9223372036854775806)]:
             if os.path.exists("number.db"):
                 os.remove("number.db")
-            run("init", "number.db")
+            run_bytes("init", "number.db")
             edit("number.db", f"update head set seq = {number}")
             reply = f"accepted {number + 1}\nend\n".encode()
-            self.case(f"at {written}", run("apply", "number.db", "-", text=f"batch as #3 at {written}\nend\n".encode()), (0, reply))
+            self.case(f"at {written}", run_bytes("apply", "number.db", "-", text=f"batch as #3 at {written}\nend\n".encode()), (0, reply))
 
     def test_words(self):
         for line, status, written in WORDS:
-            came = run(*line.split())
+            came = run_bytes(*line.split())
             self.case(f"moo {line}", (came[0], came[1] if written is not None else bool(came[1])), (status, True if written is None else written))
         batch = b"batch as #3\ncreate(#1)\nend\n"
-        self.case("a question changes nothing", run("ask", ":memory:", "-", text=batch * 2), (0, b"accepted 0\n#4\nend\n" * 2))
+        self.case("a question changes nothing", run_bytes("ask", ":memory:", "-", text=batch * 2), (0, b"accepted 0\n#4\nend\n" * 2))

@@ -19,8 +19,8 @@ class Ended(NamedTuple):
     complaint: str
 
 
-def run(*words, text=b"", **how):
-    """The status of the program, given a text, and what it writes."""
+def run_bytes(*words, text=b"", **how):
+    """The status of the program, given the bytes of a text, and those that it writes."""
     ran = subprocess.run([MOO, *words], input=text, stdout=subprocess.PIPE, stderr=subprocess.DEVNULL, timeout=PATIENCE, **how)
     return ran.returncode, ran.stdout
 

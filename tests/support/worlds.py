@@ -5,9 +5,8 @@ import shutil
 import sqlite3
 from pathlib import Path
 
-from tests.support import program
 from tests.support.columns import TABLES
-from tests.support.program import edit
+from tests.support.program import edit, run_bytes
 
 TREE = Path(__file__).with_name("tree.txt").read_text()
 # The numbers of verbs here are 1, 2 and 3.
@@ -27,12 +26,12 @@ PETITIONS = TREE + ASKED
 
 
 def run(*words, text="", memory=None):
-    """The status of the program, and what it writes; where it may have so many bytes of memory, and no more."""
+    """The status of the program, given a text, and what it writes; with no more than so many bytes of memory."""
     def bound():
         resource.setrlimit(resource.RLIMIT_AS, (memory, memory))
 
     given = text if isinstance(text, bytes) else text.encode()
-    status, written = program.run(*words, text=given, preexec_fn=bound if memory else None)
+    status, written = run_bytes(*words, text=given, preexec_fn=bound if memory else None)
     return status, written.decode()
 
 
