@@ -181,14 +181,13 @@ class Pieces(ProgramTest):
     def test_ends(self):
         for name, pieces, replies in ENDS:
             self.case(f"where no bytes come, {name}", in_pieces(pieces), (0, replies))
-        try:
-            self.on_terminal(*pty.openpty())
-        except OSError:
-            # A machine may have no terminals.
-            pass
 
-    def on_terminal(self, ours, theirs):
-        """An end of input on a terminal is ^D on a line of its own; behind other bytes it hands these over first."""
+    def test_ends_on_a_terminal(self):
+        """An end of input on a terminal is ^D on a line of its own; after other bytes it hands these over first."""
+        try:
+            ours, theirs = pty.openpty()
+        except OSError:
+            self.skipTest("this machine has no terminals")
         os.write(ours, b"batch as #3\nmax_object()\nend\x04\x04x\nbatch as #3\nend\n")
         ran = subprocess.run([MOO], stdin=theirs, stdout=subprocess.PIPE, stderr=subprocess.DEVNULL, timeout=PATIENCE)
         os.close(theirs)
