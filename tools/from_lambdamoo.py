@@ -1,0 +1,176 @@
+#!/usr/bin/env python3
+"""Writes the world of a LambdaMOO database as a dump of moo."""
+
+import argparse
+import sys
+
+from lambdamoo_files import (
+    BUILT_IN_NAMES,
+    FLAGS,
+    PLACES,
+    PREPOSITIONS,
+    PROPERTY_RIGHTS,
+    REFUSED_BYTES,
+    REFUSED_FLOATS,
+    VERB_RIGHTS,
+    Broken,
+    Database,
+    Told,
+    escaped,
+    finish,
+    opened,
+    owed_to_each,
+    quoted,
+    write_out,
+)
+
+TOOL = "from_lambdamoo"
+LONGEST_NAME = 255
+STRANGE_NAMES = "properties whose name is empty, built in or over 255 bytes, which were left out"
+STRANGE_VERBS = "verbs without a name, which were left out"
+
+ABOUT = """\
+Reads a database file of LambdaMOO, format version 1 to 4, and writes its world to standard output, as 'moo dump' writes one: objects,
+parents, locations, flags, properties with their values, and the headers of verbs. The world has seq 0, no accept lists and no petitions.
+
+What has no place in moo is told on standard error, by kind: how many, and where the first is. Verb programs are left out always; keep the
+database file, from which to_lambdamoo.py takes them again. Nothing is written unless the whole file was read.
+"""
+ENDING = """\
+  from_lambdamoo.py core.db >core.dump
+  from_lambdamoo.py --floats text --bytes escape core.db >core.dump
+
+The status is 0 if the dump was written, 1 if the file is broken (with its line) or something is refused, 2 if the words are wrong.
+"""
+
+
+def letters(rights, number):
+    """The letters of the rights in a number."""
+    return "".join(letter for letter, worth in rights.items() if number & worth)
+
+
+class Dump:
+    """The dump of a database, whose pieces are told of where they have no place."""
+
+    def __init__(self, database, told):
+        self.things = database.things
+        self.top = database.top
+        self.told = told
+        self.bytes = database.bytes
+        self.parents = {number: thing.parent for number, thing in self.things.items()}
+        self.defines = {number: self.names(number, thing) for number, thing in self.things.items()}
+        self.owed = owed_to_each(self.parents, self.defines)
+        self.check_values()
+        self.check_names()
+        self.check_verbs()
+
+    def names(self, number, thing):
+        """For each property that an object defines how its slots go on after the object, and its name; None for one that is left out."""
+        named = []
+        for place, spelled in enumerate(thing.defines):
+            line = f"#{number}, line {thing.defined_at + place}"
+            name = escaped(spelled)
+            if name != spelled:
+                self.told.note(self.bytes, line)
+            if 0 < len(name) <= LONGEST_NAME and name.lower() not in BUILT_IN_NAMES:
+                named.append((f"#{number}, {quoted(name)}", name.lower()))
+            else:
+                self.told.note(STRANGE_NAMES, line)
+                named.append(None)
+        return named
+
+    def check_values(self):
+        """Each object has as many values as it and its ancestors define properties."""
+        for number, thing in self.things.items():
+            wanted = len(self.owed[number])
+            if len(thing.values) != wanted:
+                raise Broken(thing.values_at, f"#{number} and its ancestors define {wanted} properties, and here are {len(thing.values)} values")
+
+    def check_names(self):
+        """No object defines a name twice, or one that an ancestor defines."""
+        for number, thing in self.things.items():
+            if not thing.defines:
+                continue
+            seen = {named[1] for named in self.owed[thing.parent] if named}
+            for place, named in enumerate(self.defines[number]):
+                if named and named[1] in seen:
+                    raise Broken(thing.defined_at + place, f"#{number} or an ancestor defines a property of this name already")
+                if named:
+                    seen.add(named[1])
+
+    def check_verbs(self):
+        """Tells of verbs without a name."""
+        for number, thing in self.things.items():
+            for verb in thing.verbs:
+                if not verb.names.strip(" "):
+                    self.told.note(STRANGE_VERBS, f"#{number}, line {verb.line}")
+
+    def pieces(self):
+        """The texts of the dump, in their order."""
+        yield f"seq 0\ntop #{self.top}\n"
+        for number, thing in self.things.items():
+            yield self.object_line(number, thing)
+            for named in self.defines[number]:
+                if named:
+                    yield f"property {{{named[0]}}}\n"
+            yield from self.slot_lines(number, thing)
+            yield from self.verb_lines(number, thing)
+        yield "end\n"
+
+    def object_line(self, number, thing):
+        """The line of an object."""
+        flags = ", ".join("1" if thing.flags & worth else "0" for worth in FLAGS.values())
+        links = f"#{thing.owner}, #{thing.parent}, #{thing.location}"
+        return f"object {{#{number}, {quoted(thing.name)}, {links}, {flags}, 0}}\n"
+
+    def slot_lines(self, number, thing):
+        """The lines of an object's slots."""
+        front = f"slot {{#{number}, "
+        for named, (value, owner, rights) in zip(self.owed[number], thing.values):
+            if named:
+                state = "0" if value is None else f"1, {value}"
+                yield f'{front}{named[0]}, #{owner}, "{letters(PROPERTY_RIGHTS, rights)}", {state}}}\n'
+
+    def verb_lines(self, number, thing):
+        """The lines of an object's verbs."""
+        for verb in thing.verbs:
+            if verb.names.strip(" "):
+                places = PLACES[verb.rights >> 4 & 3], PLACES[verb.rights >> 6]
+                preposition = {-1: "none", -2: "any"}.get(verb.preposition) or PREPOSITIONS[verb.preposition]
+                given = f'"{letters(VERB_RIGHTS, verb.rights)}", "{places[0]}", "{preposition}", "{places[1]}"'
+                yield f"verb {{#{number}, {quoted(verb.names)}, #{verb.owner}, {given}}}\n"
+
+
+def read_words(words):
+    """What the words of the command line ask for."""
+    reader = argparse.ArgumentParser(
+        prog=f"{TOOL}.py", description=ABOUT, epilog=ENDING, formatter_class=argparse.RawDescriptionHelpFormatter
+    )
+    reader.add_argument("database", metavar="DB", help="the database file; - is standard input")
+    reader.add_argument("--floats", choices=("text", "refuse"), default="refuse", help="make floats strings, or refuse them (the default)")
+    reader.add_argument(
+        "--bytes",
+        choices=("escape", "refuse"),
+        default="refuse",
+        help="write bytes that no string of moo holds as ~XX, as encode_binary does, or refuse them (the default)",
+    )
+    reader.add_argument("--strict", action="store_true", help="write nothing, with status 1, if anything has no place")
+    return reader.parse_args(words)
+
+
+def convert(asked):
+    """Writes the dump, and answers the status."""
+    told = Told()
+    with opened(asked.database) as stream:
+        database = Database(stream, told, asked.floats, asked.bytes)
+    dump = Dump(database, told)
+    told.report(TOOL)
+    if REFUSED_FLOATS in told.counts or REFUSED_BYTES in told.counts or (asked.strict and told.counts):
+        sys.stderr.write(f"{TOOL}: no dump was written\n")
+        return 1
+    write_out(dump.pieces())
+    return 0
+
+
+if __name__ == "__main__":
+    sys.exit(finish(TOOL, lambda: convert(read_words(sys.argv[1:]))))
