@@ -5,7 +5,6 @@ import argparse
 import sys
 
 from lambdamoo_files import (
-    BUILT_IN_NAMES,
     FLAGS,
     PLACES,
     PREPOSITIONS,
@@ -16,8 +15,10 @@ from lambdamoo_files import (
     Broken,
     Database,
     Told,
+    clash_in,
     escaped,
     finish,
+    may_name_property,
     opened,
     owed_to_each,
     quoted,
@@ -25,7 +26,6 @@ from lambdamoo_files import (
 )
 
 TOOL = "from_lambdamoo"
-LONGEST_NAME = 255
 STRANGE_NAMES = "properties whose name is empty, built in or over 255 bytes, which were left out"
 STRANGE_VERBS = "verbs without a name, which were left out"
 
@@ -72,7 +72,7 @@ class Dump:
             name = escaped(spelled)
             if name != spelled:
                 self.told.note(self.bytes, line)
-            if 0 < len(name) <= LONGEST_NAME and name.lower() not in BUILT_IN_NAMES:
+            if may_name_property(name):
                 named.append((f"#{number}, {quoted(name)}", name.lower()))
             else:
                 self.told.note(STRANGE_NAMES, line)
@@ -88,15 +88,11 @@ class Dump:
 
     def check_names(self):
         """No object defines a name twice, or one that an ancestor defines."""
-        for number, thing in self.things.items():
-            if not thing.defines:
-                continue
-            seen = {named[1] for named in self.owed[thing.parent] if named}
-            for place, named in enumerate(self.defines[number]):
-                if named and named[1] in seen:
-                    raise Broken(thing.defined_at + place, f"#{number} or an ancestor defines a property of this name already")
-                if named:
-                    seen.add(named[1])
+        folded = {number: [named and named[1] for named in own] for number, own in self.defines.items()}
+        clash = clash_in(self.parents, folded)
+        if clash:
+            number, place = clash
+            raise Broken(self.things[number].defined_at + place, f"#{number} or an ancestor defines a property of this name already")
 
     def check_verbs(self):
         """Tells of verbs without a name."""

@@ -11,6 +11,7 @@ LEAST_OBJECT, GREATEST_OBJECT = -(2**31), 2**31 - 1
 LEAST_INTEGER, GREATEST_INTEGER = -(2**63), 2**63 - 1
 LONGEST_STRING = 65535
 DEEPEST_LIST = 32
+LONGEST_NAME = 255
 
 # The errors in the order of their numbers in a file.
 ERRORS = (
@@ -221,6 +222,24 @@ def owed_to_each(parents, defines):
     return owed
 
 
+def clash_in(parents, names):
+    """An object and the place of a name among its names that it or an ancestor has already, or None. A name may be None for none."""
+    owed = owed_to_each(parents, names)
+    for number, own in names.items():
+        if own:
+            seen = set(owed[parents[number]])
+            for place, name in enumerate(own):
+                if name is not None and name in seen:
+                    return number, place
+                seen.add(name)
+    return None
+
+
+def may_name_property(name):
+    """Whether a property may have a name."""
+    return 0 < len(name) <= LONGEST_NAME and name.lower() not in BUILT_IN_NAMES
+
+
 def escaped(text):
     """A string with each byte that moo's strings can't hold as ~XX, as encode_binary does; then a tilde is ~7E too."""
     if not STRANGE_BYTE.search(text):
@@ -351,7 +370,8 @@ class Database:
 
     def read_slot(self, own):
         """A value's literal, or None for a clear one, with the owner and the rights. One on the definer itself can't be clear."""
-        value = self.value()
+        kind = self.lines.next()
+        value = None if kind == CLEAR else self.value(kind)
         if own and value is None:
             self.note(OWN_CLEAR)
             value = "0"
@@ -359,36 +379,19 @@ class Database:
 
     # ---- values
 
-    def value(self):
-        """The literal of the next value, or None for a clear one. No list is too deep to be read, since nothing here calls itself."""
-        kind = self.lines.next()
-        if kind == CLEAR:
-            return None
+    def value(self, kind, depth=0):
+        """The literal of a value of this type, in lists so deep. It isn't clear."""
         if kind != LIST:
             return self.plain(kind)
-        parts, wanted = ["{"], [self.lines.count("values in a list")]
-        while wanted:
-            if not wanted[-1]:
-                wanted.pop()
-                parts.append("}")
-                continue
-            wanted[-1] -= 1
-            if parts[-1] != "{":
-                parts.append(", ")
-            kind = self.lines.next()
-            if kind != LIST:
-                parts.append(self.plain(kind))
-            elif len(wanted) == DEEPEST_LIST:
-                self.note(DEEP_LISTS)
-                self.skip(self.lines.count("values in a list"))
-                parts.append("E_MAXREC")
-            else:
-                parts.append("{")
-                wanted.append(self.lines.count("values in a list"))
-        return "".join(parts)
+        count = self.lines.count("values in a list")
+        if depth == DEEPEST_LIST:
+            self.note(DEEP_LISTS)
+            self.skip(count)
+            return "E_MAXREC"
+        return "{" + ", ".join(self.value(self.lines.next(), depth + 1) for _ in range(count)) + "}"
 
     def skip(self, count):
-        """Passes over so many values."""
+        """Passes over so many values, however deep their lists are."""
         while count:
             count -= 1
             kind = self.lines.next()

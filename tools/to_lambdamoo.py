@@ -6,6 +6,7 @@ import re
 import sys
 
 from lambdamoo_files import (
+    CLEAR,
     CONNECTIONS,
     DEEPEST_LIST,
     ERROR,
@@ -17,7 +18,9 @@ from lambdamoo_files import (
     LEAST_INTEGER,
     LEAST_OBJECT,
     LIST,
+    MORE_LINES,
     NOTHING,
+    NO_CONNECTIONS,
     OBJECT,
     PLACES,
     PREPOSITIONS,
@@ -29,8 +32,10 @@ from lambdamoo_files import (
     Database,
     Lines,
     Told,
+    clash_in,
     finish,
     loop_in,
+    may_name_property,
     opened,
     owed_to_each,
     shown,
@@ -63,11 +68,12 @@ The status is 0 if the database was written, 1 if a file is broken (with its lin
 """
 
 # The texts that a dump has, each spelled in one way.
-DECIMAL = r"(0|-?[1-9][0-9]{0,18})"
-NUMBER = rf"#{DECIMAL}"
+DECIMAL = r"(?:0|-?[1-9][0-9]{0,18})"
 PLAIN = r"[\t !#-\[\]-~]*"
-TEXT = rf'"({PLAIN}(?:\\["\\]{PLAIN})*)"'
-OBJECT_LIST = rf"\{{(?:{NUMBER}(?:, {NUMBER})*)?\}}".replace("(0", "(?:0")
+STRING_BYTES = rf'{PLAIN}(?:\\["\\]{PLAIN})*'
+NUMBER = rf"#({DECIMAL})"
+TEXT = rf'"({STRING_BYTES})"'
+OBJECT_LIST = rf"\{{(?:#{DECIMAL}(?:, #{DECIMAL})*)?\}}"
 OBJECT_LINE = re.compile(
     rf"object \{{{NUMBER}, {TEXT}, {NUMBER}, {NUMBER}, {NUMBER}, ([01]), ([01]), ([01]), ([01]), ([01]), ([01]), (0|{OBJECT_LIST})\}}"
 )
@@ -77,7 +83,7 @@ VERB_LINE = re.compile(
     rf'verb \{{{NUMBER}, {TEXT}, {NUMBER}, "(r?w?x?d?)", "(this|any|none)", "([a-z/ ]*)", "(this|any|none)"\}}'
 )
 PETITION_LINE = re.compile(rf"petition \{{([1-9][0-9]*), {NUMBER}, (\{{.*\}})\}}")
-TOKEN = re.compile(rf"{DECIMAL}|{NUMBER}|{TEXT}|(E_[A-Z]+)|(\{{)|(\}})|(, )")
+TOKEN = re.compile(rf"(?P<integer>{DECIMAL})|#(?P<object>{DECIMAL})|\"(?P<string>{STRING_BYTES})\"|(?P<error>E_[A-Z]+)|\{{")
 BACKSLASHED = re.compile(r"\\(.)")
 
 PREPOSITION_NUMBERS = {"none": -1, "any": -2, **{text: number for number, text in enumerate(PREPOSITIONS)}}
@@ -99,7 +105,7 @@ def rights_number(rights, letters):
 class Item:
     """An object of a dump: its row, what it defines, and its slots and verbs as they are written in a database."""
 
-    __slots__ = "line name owner parent location flags defines slots_at slots verbs verb_lines".split()
+    __slots__ = "line name owner parent location flags defined_at defines slots_at slots verbs verb_lines".split()
 
 
 class Dump:
@@ -179,7 +185,7 @@ class Dump:
         if not found or self.rank > 3:
             raise self.strange(line)
         number = self.object_number(found[1])
-        if not max(-1, self.item_number()) < number <= self.top:
+        if not int(self.number) < number <= self.top:
             raise self.lines.broken(f"#{number} is not above the object before it, or is above the greatest number")
         self.rank = 0
         self.number = found[1]
@@ -194,13 +200,13 @@ class Dump:
         item.defines, item.slots, item.verbs, item.verb_lines = [], [], [], []
         item.slots_at = 0
 
-    def item_number(self):
-        """The number of the present object."""
-        return int(self.number)
-
     def read_property(self, line):
         """A line of a property that the present object defines."""
         found = self.parts(PROPERTY_LINE, line, 1)
+        if not may_name_property(plain(found[2])):
+            raise self.lines.broken("no property has such a name")
+        if not self.item.defines:
+            self.item.defined_at = self.lines.number
         self.item.defines.append((self.number, found[2]))
 
     def read_slot(self, line):
@@ -211,15 +217,14 @@ class Dump:
         _, definer, name, owner, letters, value = found.groups()
         name = self.names.setdefault(name, name)
         definer = self.names.setdefault(definer, definer)
-        written = ["5"] if value is None else self.value(value)
         self.object_number(owner)
         ending = owner, letters
         if ending not in self.rights:
             self.rights[ending] = f"{owner}\n{rights_number(PROPERTY_RIGHTS, letters)}\n"
         if value is None:
-            text = self.rights.setdefault(("5", *ending), f"5\n{self.rights[ending]}")
+            text = self.rights.setdefault((CLEAR, *ending), f"{CLEAR}\n{self.rights[ending]}")
         else:
-            text = "\n".join(written) + f"\n{self.rights[ending]}"
+            text = "\n".join(self.value(value, self.told)) + f"\n{self.rights[ending]}"
         self.item.slots.append((definer, name, text))
 
     def read_verb(self, line):
@@ -230,6 +235,8 @@ class Dump:
             raise self.lines.broken(f"{shown(preposition)} is no preposition")
         rights = rights_number(VERB_RIGHTS, letters) + (PLACE_NUMBERS[direct] << 4) + (PLACE_NUMBERS[indirect] << 6)
         names = plain(names)
+        if not names.strip(" "):
+            raise self.lines.broken("this verb has no name")
         self.item.verbs.append((names, f"{names}\n{self.object_number(owner)}\n{rights}\n{PREPOSITION_NUMBERS[preposition]}\n"))
         self.item.verb_lines.append(self.lines.number)
 
@@ -238,63 +245,62 @@ class Dump:
         found = PETITION_LINE.fullmatch(line)
         if not found:
             raise self.strange(line)
-        self.value(found[3], told=Told())
+        self.value(found[3], Told())
         self.rank = 4
         self.told.note(PETITIONS, f"line {self.lines.number}")
 
     # ---- values
 
-    def value(self, text, told=None):
-        """The lines of a literal in a database. Each list gets its count when it is closed; nothing here calls itself."""
-        told = told or self.told
-        lines, opened_at, counts = [], [], []
-        place, wants, may_close = 0, True, False
-        while place < len(text):
-            token = TOKEN.match(text, place)
-            if not token:
-                break
-            kind = token.lastindex
-            if kind == 6 and (may_close or not wants) and opened_at:
-                lines[opened_at.pop()] = str(counts.pop())
-                wants, may_close = False, False
-            elif kind == 7 and not wants and opened_at:
-                wants, may_close = True, False
-            elif kind < 6 and wants:
-                if counts:
-                    counts[-1] += 1
-                if kind == 5:
-                    if len(opened_at) == DEEPEST_LIST:
-                        raise self.lines.broken("lists nest over 32 deep")
-                    lines.append(LIST)
-                    opened_at.append(len(lines))
-                    counts.append(0)
-                    lines.append("0")
-                    may_close = True
-                else:
-                    self.add_plain(lines, kind, token[kind], told)
-                    wants, may_close = False, False
-            else:
-                break
-            place = token.end()
-            if not opened_at and not wants:
-                break
-        if place < len(text) or wants or opened_at:
-            raise self.lines.broken(f"this is no value as a dump has it: {shown(text)}")
+    def value(self, text, told):
+        """The lines in a database of the value whose literal is this text."""
+        lines = []
+        if self.add_value(text, 0, 0, lines, told) < len(text):
+            raise self.no_value(text)
         return lines
+
+    def no_value(self, text):
+        """The fault of a text that is no literal."""
+        return self.lines.broken(f"this is no value as a dump has it: {shown(text)}")
+
+    def add_value(self, text, start, depth, lines, told):
+        """Adds the lines of the value that starts at a place of the text, in lists so deep, and answers the place after it."""
+        token = TOKEN.match(text, start)
+        if not token:
+            raise self.no_value(text)
+        if token[0] != "{":
+            self.add_plain(lines, token.lastgroup, token[token.lastgroup], told)
+            return token.end()
+        if depth == DEEPEST_LIST:
+            raise self.lines.broken(f"lists nest over {DEEPEST_LIST} deep")
+        lines.append(LIST)
+        counted_at = len(lines)
+        lines.append("0")
+        place = token.end()
+        count = 0
+        while count or text[place : place + 1] != "}":
+            place = self.add_value(text, place, depth + 1, lines, told)
+            count += 1
+            if text[place : place + 1] == "}":
+                break
+            if text[place : place + 2] != ", ":
+                raise self.no_value(text)
+            place += 2
+        lines[counted_at] = str(count)
+        return place + 1
 
     def add_plain(self, lines, kind, text, told):
         """Adds the lines of a value that is no list."""
-        if kind == 1:
+        if kind == "integer":
             number = int(text)
             if not LEAST_INTEGER <= number <= GREATEST_INTEGER:
                 raise self.lines.broken(f"{text} is no integer of 64 bits")
             if number not in NARROW:
                 told.note(WIDE, f"#{self.number}, line {self.lines.number}")
             lines += (INTEGER, text)
-        elif kind == 2:
+        elif kind == "object":
             self.object_number(text)
             lines += (OBJECT, text)
-        elif kind == 3:
+        elif kind == "string":
             lines += (STRING, plain(text))
         elif text in ERROR_NUMBERS:
             lines += (ERROR, str(ERROR_NUMBERS[text]))
@@ -314,6 +320,10 @@ class Dump:
             if looped is not None:
                 raise Broken(self.items[looped].line, f"the {link}s of #{looped} lead back to it")
         parents = {number: item.parent for number, item in self.items.items()}
+        clash = clash_in(parents, {number: [plain(name).lower() for _, name in item.defines] for number, item in self.items.items()})
+        if clash:
+            number, place = clash
+            raise Broken(self.items[number].defined_at + place, f"#{number} or an ancestor defines a property of this name already")
         self.owed = owed_to_each(parents, {number: item.defines for number, item in self.items.items()})
         for number, item in self.items.items():
             self.check_slots(number, item)
@@ -324,7 +334,7 @@ class Dump:
         for place, (slot, wanted) in enumerate(zip(item.slots, owed)):
             if slot[0] != wanted[0] or slot[1] != wanted[1]:
                 raise Broken(item.slots_at + place, f"a slot of #{wanted[0]}'s property {wanted[1]} is wanted here")
-            if place < len(item.defines) and slot[2].startswith("5\n"):
+            if place < len(item.defines) and slot[2].startswith(f"{CLEAR}\n"):
                 raise Broken(item.slots_at + place, f"#{number} defines this property, so its slot can't be clear")
         if len(item.slots) != len(owed):
             raise Broken(item.slots_at or item.line, f"#{number} has {len(item.slots)} slots, and {len(owed)} are owed to it")
@@ -406,8 +416,8 @@ def programs_of(path, told):
     """The programs of a database by object, names of the verb, and how many verbs of these names come up to it."""
     with opened(path) as stream:
         database = Database(stream, Told(), keep_programs=True)
-    for kind in (TASKS, CONNECTIONS):
-        told.note(kind, database.told.firsts.get(kind), database.told.counts.get(kind, 0))
+    for kind in (TASKS, CONNECTIONS, NO_CONNECTIONS, MORE_LINES):
+        told.note(kind, f"{database.told.firsts.get(kind)} of {path}", database.told.counts.get(kind, 0))
     if database.version < VERSION:
         told.note(OLD_PROGRAM, f"{path}, line 1", len(database.programs))
     programs = {}
