@@ -459,5 +459,11 @@ def convert(asked):
     return 0
 
 
+def main(words):
+    """Does what the words ask for, and answers the status."""
+    asked = read_words(words)
+    return finish(TOOL, lambda: convert(asked))
+
+
 if __name__ == "__main__":
-    sys.exit(finish(TOOL, lambda: convert(read_words(sys.argv[1:]))))
+    sys.exit(main(sys.argv[1:]))
