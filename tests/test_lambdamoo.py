@@ -453,7 +453,7 @@ class Broken(Temporary):
         """Asserts that a tool told of this line."""
         status, output, said = done
         self.assertEqual((status, output), (1, ""))
-        self.assertRegex(said, rf"\A\w+_lambdamoo: line {line}: .*\n\Z")
+        self.assertRegex(said, rf"\A\w+_lambdamoo: standard input, line {line}: .*\n\Z")
 
     def test_databases_that_are_cut(self):
         lines = EXAMPLE.split("\n")[:-1]

@@ -158,8 +158,7 @@ def convert(asked):
     """Writes the dump, and answers the status."""
     told = Told()
     with opened(asked.database) as stream:
-        database = Database(stream, told, asked.floats, asked.bytes)
-    dump = Dump(database, told)
+        dump = Dump(Database(stream, told, asked.floats, asked.bytes), told)
     told.report(TOOL)
     if REFUSED_FLOATS in told.counts or REFUSED_BYTES in told.counts or (asked.strict and told.counts):
         sys.stderr.write(f"{TOOL}: no dump was written\n")

@@ -75,10 +75,16 @@ CONNECTED = re.compile(r"([0-9]{1,10}) active connections(?: with listeners)?")
 
 
 class Broken(Exception):
-    """A text that isn't what it should be, with the number of the line that shows it."""
+    """A text that isn't what it should be, with the number of the line that shows it, and the name of its file once that is known."""
 
     def __init__(self, line, reason):
-        super().__init__(f"line {line}: {reason}")
+        super().__init__(line, reason)
+        self.line = line
+        self.reason = reason
+        self.file = "a file"
+
+    def __str__(self):
+        return f"{self.file}, line {self.line}: {self.reason}"
 
 
 class Told:
@@ -154,11 +160,15 @@ def shown(text):
 @contextlib.contextmanager
 def opened(path):
     """The text of a file or, for '-', of standard input, a character for each byte. A line ends at byte 10 and nowhere else."""
-    if path == "-":
-        yield io.TextIOWrapper(sys.stdin.buffer, encoding="latin-1", newline="\n")
-    else:
-        with open(path, encoding="latin-1", newline="\n") as stream:
-            yield stream
+    try:
+        if path == "-":
+            yield io.TextIOWrapper(sys.stdin.buffer, encoding="latin-1", newline="\n")
+        else:
+            with open(path, encoding="latin-1", newline="\n") as stream:
+                yield stream
+    except Broken as fault:
+        fault.file = "standard input" if path == "-" else path
+        raise
 
 
 def write_out(pieces):
