@@ -179,10 +179,10 @@ class Values(unittest.TestCase):
         status, text, said = from_database(of_value("9", "2.5"))
         self.assertEqual((status, text), (1, ""))
         self.assertIn("--floats text", said)
-        self.assertIn(": 1, the first at #0, line 22", said)
+        self.assertIn(": 1, first at #0, line 22", said)
         status, text, said = from_database(of_value("4", "2", "9", "2.5", "9", "1e+50"), "--floats", "text")
         self.assertEqual((status, text), (0, value_dump('{"2.5", "1e+50"}')))
-        self.assertIn("floats, which became strings: 2, the first at #0, line 24", said)
+        self.assertIn("floats, written as strings: 2, first at #0, line 24", said)
 
     def test_bytes(self):
         status, text, said = from_database(of_value("2", "caf\xe9"))
@@ -190,19 +190,19 @@ class Values(unittest.TestCase):
         self.assertIn("--bytes escape", said)
         status, text, said = from_database(of_value("2", "caf\xe9 ~\x00\r"), "--bytes", "escape")
         self.assertEqual((status, text), (0, value_dump('"caf~E9 ~7E~00~0D"')))
-        self.assertIn("written as ~XX: 1, the first at #0, line 22", said)
+        self.assertIn("written as ~XX: 1, first at #0, line 22", said)
 
     def test_strings_over_the_limit(self):
         self.assertEqual(from_database(of_value("2", "x" * 65535))[1], value_dump('"' + "x" * 65535 + '"'))
         status, text, said = from_database(of_value("2", "x" * 65536))
         self.assertEqual((status, text), (0, value_dump('"' + "x" * 65535 + '"')))
-        self.assertIn("strings over 65,535 bytes, which were cut there: 1,", said)
+        self.assertIn("strings over 65,535 bytes, cut there: 1,", said)
 
     def test_lists_over_the_limit(self):
         for depth in (33, 34, 50000):
             status, text, said = from_database(of_value(*nested(depth)[0]))
             self.assertEqual((status, text), (0, value_dump("{" * 32 + "E_MAXREC" + "}" * 32)))
-            self.assertIn("lists over 32 deep, which became E_MAXREC: 1,", said)
+            self.assertIn("lists over 32 deep, replaced by E_MAXREC: 1,", said)
         self.assertEqual(to_database(value_dump(nested(33)[1]))[0], 1)
 
     def test_types_that_are_none(self):
@@ -310,10 +310,10 @@ class Programs(Temporary):
         self.assertEqual(self.given(["put", "put", "put", "get"], database)[0], [["1"], None, ["4"], ["2"]])
         found, said = self.given(["get", "put"], database)
         self.assertEqual(found, [["2"], ["1"]])
-        self.assertIn("programs that no verb of the dump takes, which were left out: 1,", said)
+        self.assertIn("programs without a verb in the dump, left out: 1,", said)
         found, said = self.given(["Get", "put", "drop"], database)
         self.assertEqual(found, [None, ["1"], None])
-        self.assertIn("verbs without a program: 2, the first at #0:0, line 4", said)
+        self.assertIn("verbs without a program: 2, first at #0:0, line 4", said)
 
     def test_texts_of_programs(self):
         code = ["", " .", "..", "#0:0", "0 clocks", "caf\xe9 \x01", "  return 1;", "** LambdaMOO Database, Format Version 4 **"]
@@ -327,11 +327,11 @@ class Programs(Temporary):
     def test_older_programs(self):
         file = self.file("old.db", database_text(self.world(["a"], [["1"]]), random.Random(1), version=2))
         said = to_database(dump_text(self.world(["a"], [None])), "--programs", file)[2]
-        self.assertIn("programs of an older format version, which are written as they were: 1,", said)
+        self.assertIn("programs from an older format version, written unchanged: 1,", said)
 
     def test_they_are_counted(self):
         said = from_database(EXAMPLE)[2]
-        self.assertEqual(said, "from_lambdamoo: verb programs, which moo does not keep: 5, the first at #0:0, line 280\n")
+        self.assertEqual(said, "from_lambdamoo: verb programs, which moo doesn't keep: 5, first at #0:0, line 280\n")
 
 
 class Told(Temporary):
@@ -341,49 +341,49 @@ class Told(Temporary):
         """The dump of a text, of which this is told."""
         status, dump, said = from_database(text)
         self.assertEqual(status, 0)
-        self.assertIn(f"from_lambdamoo: {kind}: {count}, the first at {place}\n", said)
+        self.assertIn(f"from_lambdamoo: {kind}: {count}, first at {place}\n", said)
         strict = from_database(text, "--strict")
         self.assertEqual(strict[:2], (1, ""))
         self.assertIn("no dump was written", strict[2])
         return dump
 
     def test_old_handles(self):
-        self.assertEqual(self.told(edited(EXAMPLE, 10, "handle"), "old handles, which were left out", "#0, line 10"), EXAMPLE_DUMP)
+        self.assertEqual(self.told(edited(EXAMPLE, 10, "handle"), "old handles, left out", "#0, line 10"), EXAMPLE_DUMP)
 
     def test_obsolete_flags(self):
         text = edited(EXAMPLE, 11, str(16 + 8 + 64))
-        self.assertEqual(self.told(text, "objects with the obsolete flags 8 or 64, which were left out", "#0, line 11"), EXAMPLE_DUMP)
+        self.assertEqual(self.told(text, "objects with the obsolete flags 8 or 64, left out", "#0, line 11"), EXAMPLE_DUMP)
 
     def test_parents_and_locations_that_are_no_objects(self):
         lines = EXAMPLE.split("\n")
         garden = lines.index("#6") + 1
-        dump = self.told(edited(EXAMPLE, garden + 5, "7"), "locations that are no objects, which became #-1", f"#6, line {garden}")
+        dump = self.told(edited(EXAMPLE, garden + 5, "7"), "locations that aren't objects, replaced by #-1", f"#6, line {garden}")
         self.assertEqual(dump, EXAMPLE_DUMP)
         text = of_value("0", "1").replace("\n0\n0\n-1\n-1\n-1\n-1\n", "\n0\n0\n-1\n-1\n-1\n9\n")
-        self.assertEqual(self.told(text, "parents that are no objects, which became #-1", "#0, line 6"), value_dump("1"))
+        self.assertEqual(self.told(text, "parents that aren't objects, replaced by #-1", "#0, line 6"), value_dump("1"))
 
     def test_lists_that_differ(self):
         lines = EXAMPLE.split("\n")
         library = lines.index("#5") + 1
-        kind = "lists of contents that differ from what locations say, which count"
+        kind = "lists of contents that differ from the locations (the locations count)"
         for first in ("-1", "8", "6", "7", "99"):
             self.assertEqual(self.told(edited(EXAMPLE, library + 6, first), kind, f"#5, line {library}"), EXAMPLE_DUMP)
-        kind = "lists of children that differ from what parents say, which count"
+        kind = "lists of children that differ from the parents (the parents count)"
         for following in ("-1", "5", "3", "7"):
             dump = self.told(edited(EXAMPLE, library + 10, following), kind, f"#2, line {lines.index('#2') + 1}")
             self.assertEqual(dump, EXAMPLE_DUMP)
 
     def test_players_by_the_list_or_the_flag_alone(self):
-        kind = "players by the list or by the flag alone, where the flag counts"
+        kind = "players in the list or by their flag, but not both (the flag counts)"
         self.assertEqual(self.told(edited(EXAMPLE, 6, "8"), kind, "#3", 2), EXAMPLE_DUMP)
 
     def test_clear_on_the_definer(self):
-        kind = "clear values on the object that defines the property, which became 0"
+        kind = "clear values on the object that defines the property, replaced by 0"
         text = of_value("5")
         self.assertEqual(self.told(text, kind, "#0, line 21"), value_dump("0"))
 
     def test_names_of_properties(self):
-        kind = "properties whose name is empty, built in or over 255 bytes, which were left out"
+        kind = "properties whose name is empty, built in or over 255 bytes, left out"
         for name in ("", "Name", "OWNER", "f", "x" * 256):
             text = of_value("0", "1").replace("\np\n", f"\n{name}\n")
             dump = self.told(text, kind, "#0, line 19")
@@ -399,7 +399,7 @@ class Told(Temporary):
     def test_verbs_without_a_name(self):
         verbs = [Verb(name, 0, "", ("none",) * 3) for name in ("", "  ", "a")]
         text = database_text(World(0, {0: Thing("", verbs=verbs)}), random.Random(1))
-        dump = self.told(text, "verbs without a name, which were left out", "#0, line 18", 2)
+        dump = self.told(text, "verbs without a name, left out", "#0, line 18", 2)
         self.assertEqual(dump, dump_text(World(0, {0: Thing("", verbs=verbs[2:])})))
 
     def test_tasks_and_connections(self):
@@ -408,19 +408,19 @@ class Told(Temporary):
         tail += ["2 active connections with listeners", "3 0", "9 0"]
         text += "".join(f"{line}\n" for line in tail)
         line = text.count("\n")
-        self.told(text, "queued and suspended tasks, which were left out", f"the tasks, line {line - 9}", 3)
-        dump = self.told(text, "connections, which were left out", f"the connections, line {line - 2}", 2)
+        self.told(text, "queued and suspended tasks, left out", f"the tasks, line {line - 9}", 3)
+        dump = self.told(text, "connections, left out", f"the connections, line {line - 2}", 2)
         self.assertEqual(dump, EXAMPLE_DUMP)
         said = to_database(dump, "--programs", self.file("tasks.db", text))[2]
-        self.assertIn("queued and suspended tasks, which were left out: 3,", said)
+        self.assertIn("queued and suspended tasks, left out: 3,", said)
 
     def test_connections_of_older_files(self):
         text = EXAMPLE[: EXAMPLE.index("0 active")]
         self.assertEqual(from_database(f"{text}1 active connections\n3\n")[1], EXAMPLE_DUMP)
         line = text.count("\n") + 1
-        kind = "lists of connections that are missing, as in an older server's file, or in one that was cut"
+        kind = "missing lists of connections, as in an older server's file or one that was cut short"
         self.assertEqual(self.told(text, kind, f"the connections, line {line}"), EXAMPLE_DUMP)
-        kind = "lines after the list of connections, which were left out"
+        kind = "lines after the list of connections, left out"
         self.assertEqual(self.told(f"{EXAMPLE}more\nand more\n", kind, f"the connections, line {line + 1}", 2), EXAMPLE_DUMP)
 
     def test_what_a_dump_has_and_no_database(self):
@@ -432,11 +432,11 @@ class Told(Temporary):
         status, text, said = to_database(dump, "--programs", file)
         self.assertEqual((status, text), (0, EXAMPLE))
         for kind, count, place in (
-            ("numbers of accepted batches, which were left out", 1, "line 1"),
-            ("accept lists, which were left out", 2, "#0, line 3"),
-            ("petitions, which were left out", 2, f"line {lines.index(next(line for line in lines if line.startswith('petition'))) + 1}"),
+            ("counts of accepted batches, left out", 1, "line 1"),
+            ("accept lists, left out", 2, "#0, line 3"),
+            ("petitions, left out", 2, f"line {lines.index(next(line for line in lines if line.startswith('petition'))) + 1}"),
         ):
-            self.assertIn(f"to_lambdamoo: {kind}: {count}, the first at {place}\n", said)
+            self.assertIn(f"to_lambdamoo: {kind}: {count}, first at {place}\n", said)
         strict = to_database(dump, "--programs", file, "--strict")
         self.assertEqual(strict[:2], (1, ""))
         self.assertIn("no database was written", strict[2])
@@ -463,7 +463,7 @@ class Broken(Temporary):
         # The last line alone may be missing, since older files have none. It's told of all the same.
         status, _, said = from_database("".join(f"{line}\n" for line in lines[:-1]))
         self.assertEqual(status, 0)
-        self.assertIn("or in one that was cut", said)
+        self.assertIn("or one that was cut short", said)
 
     def test_databases_that_are_cut_within_a_line(self):
         ends = [place for place, letter in enumerate(EXAMPLE) if letter == "\n"]
@@ -530,7 +530,7 @@ class Broken(Temporary):
         for version in (0, 5, 17, 123456789):
             done = from_database(edited(EXAMPLE, 1, f"** LambdaMOO Database, Format Version {version} **"))
             self.broken(done, 1)
-            self.assertIn(f"format version {version} is not read", done[2])
+            self.assertIn(f"format version {version} can't be read", done[2])
 
     def test_a_second_program(self):
         line = EXAMPLE.split("\n").index("#1:0") + 1
@@ -779,7 +779,7 @@ class Scripts(Temporary):
             running.stdout.close()
             said = running.stderr.read().decode()
             status = running.wait(timeout=SECONDS)
-        self.assertEqual((status, said), (1, "from_lambdamoo: who reads the output went away\n"))
+        self.assertEqual((status, said), (1, "from_lambdamoo: the reader of the output went away\n"))
 
 
 if __name__ == "__main__":

@@ -14,7 +14,7 @@ from lambdamoo_files import (
     VERB_RIGHTS,
     Broken,
     Database,
-    Told,
+    Losses,
     clash_in,
     escaped,
     finish,
@@ -26,14 +26,14 @@ from lambdamoo_files import (
 )
 
 TOOL = "from_lambdamoo"
-STRANGE_NAMES = "properties whose name is empty, built in or over 255 bytes, which were left out"
-STRANGE_VERBS = "verbs without a name, which were left out"
+STRANGE_NAMES = "properties whose name is empty, built in or over 255 bytes, left out"
+STRANGE_VERBS = "verbs without a name, left out"
 
 ABOUT = """\
 Reads a database file of LambdaMOO, format version 1 to 4, and writes its world to standard output, as 'moo dump' writes one: objects,
 parents, locations, flags, properties with their values, and the headers of verbs. The world has seq 0, no accept lists and no petitions.
 
-What has no place in moo is told on standard error, by kind: how many, and where the first is. Verb programs are left out always; keep the
+What moo can't hold is reported on standard error by kind, with the count and the place of the first. Verb programs are always left out: keep the
 database file, from which to_lambdamoo.py takes them again. Nothing is written unless the whole file was read.
 """
 ENDING = """\
@@ -50,12 +50,12 @@ def letters(rights, number):
 
 
 class Dump:
-    """The dump of a database, whose pieces are told of where they have no place."""
+    """The dump of a database. Properties and verbs that moo can't hold are reported."""
 
-    def __init__(self, database, told):
+    def __init__(self, database, losses):
         self.things = database.things
         self.top = database.top
-        self.told = told
+        self.losses = losses
         self.bytes = database.bytes
         self.parents = {number: thing.parent for number, thing in self.things.items()}
         self.defines = {number: self.names(number, thing) for number, thing in self.things.items()}
@@ -71,11 +71,11 @@ class Dump:
             line = f"#{number}, line {thing.defined_at + place}"
             name = escaped(spelled)
             if name != spelled:
-                self.told.note(self.bytes, line)
+                self.losses.note(self.bytes, line)
             if may_name_property(name):
                 named.append((f"#{number}, {quoted(name)}", name.lower()))
             else:
-                self.told.note(STRANGE_NAMES, line)
+                self.losses.note(STRANGE_NAMES, line)
                 named.append(None)
         return named
 
@@ -92,14 +92,14 @@ class Dump:
         clash = clash_in(self.parents, folded)
         if clash:
             number, place = clash
-            raise Broken(self.things[number].defined_at + place, f"#{number} or an ancestor defines a property of this name already")
+            raise Broken(self.things[number].defined_at + place, f"#{number} or an ancestor already defines a property of this name")
 
     def check_verbs(self):
         """Tells of verbs without a name."""
         for number, thing in self.things.items():
             for verb in thing.verbs:
                 if not verb.names.strip(" "):
-                    self.told.note(STRANGE_VERBS, f"#{number}, line {verb.line}")
+                    self.losses.note(STRANGE_VERBS, f"#{number}, line {verb.line}")
 
     def pieces(self):
         """The texts of the dump, in their order."""
@@ -150,17 +150,17 @@ def read_words(words):
         default="refuse",
         help="write bytes that no string of moo holds as ~XX, as encode_binary does, or refuse them (the default)",
     )
-    reader.add_argument("--strict", action="store_true", help="write nothing, with status 1, if anything has no place")
+    reader.add_argument("--strict", action="store_true", help="write nothing, with status 1, if anything is left out or changed")
     return reader.parse_args(words)
 
 
 def convert(asked):
     """Writes the dump, and answers the status."""
-    told = Told()
+    losses = Losses()
     with opened(asked.database) as stream:
-        dump = Dump(Database(stream, told, asked.floats, asked.bytes), told)
-    told.report(TOOL)
-    if REFUSED_FLOATS in told.counts or REFUSED_BYTES in told.counts or (asked.strict and told.counts):
+        dump = Dump(Database(stream, losses, asked.floats, asked.bytes), losses)
+    losses.report(TOOL)
+    if REFUSED_FLOATS in losses.counts or REFUSED_BYTES in losses.counts or (asked.strict and losses.counts):
         sys.stderr.write(f"{TOOL}: no dump was written\n")
         return 1
     write_out(dump.pieces())

@@ -1,4 +1,4 @@
-"""What from_lambdamoo.py and to_lambdamoo.py share: texts by lines, what was told of, links between objects, and LambdaMOO's files."""
+"""What from_lambdamoo.py and to_lambdamoo.py share: texts by lines, what is lost, links between objects, and LambdaMOO's files."""
 
 import contextlib
 import io
@@ -45,26 +45,26 @@ BUILT_IN_NAMES = frozenset("name owner location contents programmer wizard r w f
 # The types of values in a file.
 INTEGER, OBJECT, STRING, ERROR, LIST, CLEAR, FLOAT = "0", "1", "2", "3", "4", "5", "9"
 
-# What has no place, and what became of it.
-PROGRAMS = "verb programs, which moo does not keep"
-FLOATS = "floats, which became strings"
-REFUSED_FLOATS = "floats, which are refused (--floats text makes them strings)"
-BYTES = "strings with other bytes than 9 and 32 to 126, written as ~XX"
-REFUSED_BYTES = "strings with other bytes than 9 and 32 to 126, which are refused (--bytes escape writes them as ~XX)"
-LONG_STRINGS = "strings over 65,535 bytes, which were cut there"
-DEEP_LISTS = "lists over 32 deep, which became E_MAXREC"
-HANDLES = "old handles, which were left out"
-OLD_FLAGS = "objects with the obsolete flags 8 or 64, which were left out"
-STRANGE_PARENTS = "parents that are no objects, which became #-1"
-STRANGE_PLACES = "locations that are no objects, which became #-1"
-CHILDREN = "lists of children that differ from what parents say, which count"
-CONTENTS = "lists of contents that differ from what locations say, which count"
-PLAYERS = "players by the list or by the flag alone, where the flag counts"
-OWN_CLEAR = "clear values on the object that defines the property, which became 0"
-TASKS = "queued and suspended tasks, which were left out"
-CONNECTIONS = "connections, which were left out"
-NO_CONNECTIONS = "lists of connections that are missing, as in an older server's file, or in one that was cut"
-MORE_LINES = "lines after the list of connections, which were left out"
+# What is left out or changed.
+PROGRAMS = "verb programs, which moo doesn't keep"
+FLOATS = "floats, written as strings"
+REFUSED_FLOATS = "floats, refused (use --floats text to write them as strings)"
+BYTES = "strings with bytes other than 9 and 32 to 126, written as ~XX"
+REFUSED_BYTES = "strings with bytes other than 9 and 32 to 126, refused (use --bytes escape to write these bytes as ~XX)"
+LONG_STRINGS = "strings over 65,535 bytes, cut there"
+DEEP_LISTS = "lists over 32 deep, replaced by E_MAXREC"
+HANDLES = "old handles, left out"
+OLD_FLAGS = "objects with the obsolete flags 8 or 64, left out"
+STRANGE_PARENTS = "parents that aren't objects, replaced by #-1"
+STRANGE_PLACES = "locations that aren't objects, replaced by #-1"
+CHILDREN = "lists of children that differ from the parents (the parents count)"
+CONTENTS = "lists of contents that differ from the locations (the locations count)"
+PLAYERS = "players in the list or by their flag, but not both (the flag counts)"
+OWN_CLEAR = "clear values on the object that defines the property, replaced by 0"
+TASKS = "queued and suspended tasks, left out"
+CONNECTIONS = "connections, left out"
+NO_CONNECTIONS = "missing lists of connections, as in an older server's file or one that was cut short"
+MORE_LINES = "lines after the list of connections, left out"
 
 NUMBER = re.compile(r"-?[0-9]{1,20}")
 STRANGE_BYTE = re.compile(r"[^\t -~]")
@@ -87,8 +87,8 @@ class Broken(Exception):
         return f"{self.file}, line {self.line}: {self.reason}"
 
 
-class Told:
-    """What has no place: how many of each kind, and where the first of them is."""
+class Losses:
+    """What is left out or changed: how many of each kind, and the place of the first."""
 
     def __init__(self):
         self.counts = {}
@@ -103,7 +103,7 @@ class Told:
     def report(self, tool):
         """Writes a line for each kind to standard error."""
         for kind, count in self.counts.items():
-            sys.stderr.write(f"{tool}: {kind}: {count}, the first at {self.firsts[kind]}\n")
+            sys.stderr.write(f"{tool}: {kind}: {count}, first at {self.firsts[kind]}\n")
 
 
 class Lines:
@@ -194,7 +194,7 @@ def finish(tool, work):
     except BrokenPipeError:
         # Python writes what is left at its end, which would fail once more.
         os.dup2(os.open(os.devnull, os.O_WRONLY), sys.stdout.fileno())
-        sys.stderr.write(f"{tool}: who reads the output went away\n")
+        sys.stderr.write(f"{tool}: the reader of the output went away\n")
     except OSError as fault:
         sys.stderr.write(f"{tool}: {fault}\n")
     except MemoryError:
@@ -282,11 +282,11 @@ class Thing:
 
 
 class Database:
-    """A database file of LambdaMOO, format versions 1 to 4. What has no place in moo is told of while it is read."""
+    """A database file of LambdaMOO, format versions 1 to 4. What moo can't hold is reported while it is read."""
 
-    def __init__(self, stream, told, floats="text", odd_bytes="escape", keep_programs=False):
+    def __init__(self, stream, losses, floats="text", odd_bytes="escape", keep_programs=False):
         self.lines = Lines(stream)
-        self.told = told
+        self.losses = losses
         self.floats = FLOATS if floats == "text" else REFUSED_FLOATS
         self.bytes = BYTES if odd_bytes == "escape" else REFUSED_BYTES
         self.keep_programs = keep_programs
@@ -318,10 +318,10 @@ class Database:
         """The version that the first line names."""
         named = VERSION.fullmatch(self.lines.next())
         if not named:
-            raise self.lines.broken("this is no LambdaMOO database of format version 1 to 4")
+            raise self.lines.broken("this isn't a LambdaMOO database of format version 1 to 4")
         version = int(named[1])
         if not 1 <= version <= 4:
-            raise self.lines.broken(f"format version {version} is not read, only 1 to 4 are (later ones are those of Stunt and ToastStunt)")
+            raise self.lines.broken(f"format version {version} can't be read, only 1 to 4 can (later ones are Stunt's and ToastStunt's)")
         return version
 
     def where(self):
@@ -330,7 +330,7 @@ class Database:
 
     def note(self, kind):
         """Tells of the line read last."""
-        self.told.note(kind, self.where())
+        self.losses.note(kind, self.where())
 
     # ---- objects
 
@@ -374,7 +374,7 @@ class Database:
         owner = lines.object("the owner of a verb")
         rights = lines.integer(0, 255, "the rights and places of a verb")
         if rights >> 4 & 3 > 2 or rights >> 6 > 2:
-            raise lines.broken("a place of the verb is none of none, any and this")
+            raise lines.broken("a place of the verb isn't one of none, any and this")
         preposition = lines.integer(-2, len(PREPOSITIONS) - 1, "the preposition of a verb")
         return Verb(names, owner, rights, preposition, line)
 
@@ -453,7 +453,7 @@ class Database:
             raise lines.broken(f"there is no verb {line}")
         if key in self.programs:
             raise lines.broken(f"the verb {line} has a second program")
-        self.told.note(PROGRAMS, f"{line}, line {lines.number}")
+        self.losses.note(PROGRAMS, f"{line}, line {lines.number}")
         code = []
         while True:
             line = lines.next()
@@ -471,9 +471,9 @@ class Database:
             self.lines.next()
         queued = self.counted("queued tasks")
         self.here = "the tasks"
-        self.told.note(TASKS, self.where(), queued)
+        self.losses.note(TASKS, self.where(), queued)
         suspended = self.counted("suspended tasks", among_others=queued > 0)
-        self.told.note(TASKS, self.where(), suspended)
+        self.losses.note(TASKS, self.where(), suspended)
         self.suspended = suspended
 
     def counted(self, what, among_others=False):
@@ -481,9 +481,9 @@ class Database:
         pattern = re.compile(f"([0-9]{{1,10}}) {what}")
         while True:
             line = self.lines.next()
-            told = pattern.fullmatch(line)
-            if told:
-                return int(told[1])
+            found = pattern.fullmatch(line)
+            if found:
+                return int(found[1])
             if not among_others:
                 raise self.lines.broken(f"the number of {what} is wanted here, and not {shown(line)}")
 
@@ -495,13 +495,13 @@ class Database:
             if line is None:
                 self.note(NO_CONNECTIONS)
                 return
-            told = CONNECTED.fullmatch(line)
-            if told:
+            found = CONNECTED.fullmatch(line)
+            if found:
                 break
             if not self.suspended:
                 raise self.lines.broken(f"the number of active connections is wanted here, and not {shown(line)}")
-        self.told.note(CONNECTIONS, self.where(), int(told[1]))
-        for _ in range(int(told[1])):
+        self.losses.note(CONNECTIONS, self.where(), int(found[1]))
+        for _ in range(int(found[1])):
             self.lines.next()
         while self.lines.more() is not None:
             self.note(MORE_LINES)
@@ -512,14 +512,14 @@ class Database:
         """Tells of players by the list or by the flag alone."""
         flagged = {number for number, thing in self.things.items() if thing.flags & FLAGS["player"]}
         for number in sorted(flagged.symmetric_difference(players)):
-            self.told.note(PLAYERS, f"#{number}")
+            self.losses.note(PLAYERS, f"#{number}")
 
     def check_links(self):
-        """Parents and locations are objects or NOTHING, without loops; lists of children and contents that differ are told of."""
+        """Parents and locations are objects or NOTHING, without loops; lists of children and contents that differ are reported."""
         for link, kind in (("parent", STRANGE_PARENTS), ("location", STRANGE_PLACES)):
             for number, thing in self.things.items():
                 if getattr(thing, link) != NOTHING and getattr(thing, link) not in self.things:
-                    self.told.note(kind, f"#{number}, line {thing.line}")
+                    self.losses.note(kind, f"#{number}, line {thing.line}")
                     setattr(thing, link, NOTHING)
             looped = loop_in({number: getattr(thing, link) for number, thing in self.things.items()})
             if looped is not None:
@@ -540,4 +540,4 @@ class Database:
                 listed.add(member)
                 member = getattr(self.things[member], following)
             if member != NOTHING or listed != wanted:
-                self.told.note(kind, f"#{number}, line {thing.line}")
+                self.losses.note(kind, f"#{number}, line {thing.line}")

@@ -31,7 +31,7 @@ from lambdamoo_files import (
     Broken,
     Database,
     Lines,
-    Told,
+    Losses,
     clash_in,
     finish,
     loop_in,
@@ -45,20 +45,20 @@ from lambdamoo_files import (
 TOOL = "to_lambdamoo"
 VERSION = 4
 
-# What has no place, and what became of it.
-BATCHES = "numbers of accepted batches, which were left out"
-ACCEPT_LISTS = "accept lists, which were left out"
-PETITIONS = "petitions, which were left out"
-WIDE = "integers over 32 bits, which are written whole and which a server of 32 bits can't read"
+# What is left out or changed.
+BATCHES = "counts of accepted batches, left out"
+ACCEPT_LISTS = "accept lists, left out"
+PETITIONS = "petitions, left out"
+WIDE = "integers over 32 bits, which a server with 32-bit integers can't read"
 NO_PROGRAM = "verbs without a program"
-NO_VERB = "programs that no verb of the dump takes, which were left out"
-OLD_PROGRAM = "programs of an older format version, which are written as they were"
+NO_VERB = "programs without a verb in the dump, left out"
+OLD_PROGRAM = "programs from an older format version, written unchanged"
 
 ABOUT = f"""\
 Reads a dump of moo and writes its world to standard output, as a database file of LambdaMOO, format version {VERSION}. Each verb gets the
 program that DB has on the same object for a verb of the same names, the second verb of these names the second one. Others have none.
 
-What has no place there is told on standard error, by kind: how many, and where the first is. Nothing is written unless the whole dump was
+What it can't hold is reported on standard error by kind, with the count and the place of the first. Nothing is written unless the whole dump was
 read.
 """
 ENDING = """\
@@ -109,11 +109,11 @@ class Item:
 
 
 class Dump:
-    """A dump, read line by line. What a database has no place for is told of while it is read."""
+    """A dump, read line by line. What a database can't hold is reported while it is read."""
 
-    def __init__(self, stream, told):
+    def __init__(self, stream, losses):
         self.lines = Lines(stream)
-        self.told = told
+        self.losses = losses
         self.items = {}
         self.rank = 0
         self.item = None
@@ -128,7 +128,7 @@ class Dump:
     def read(self):
         """Reads the whole dump."""
         self.seq = self.heading("seq ([0-9]{1,19})")
-        self.told.note(BATCHES, "line 1", int(self.seq != 0))
+        self.losses.note(BATCHES, "line 1", int(self.seq != 0))
         self.top = self.heading("top #(0|-1|[1-9][0-9]{0,9})")
         if not NOTHING <= self.top <= GREATEST_OBJECT:
             raise self.lines.broken("the greatest number of an object is out of range")
@@ -162,7 +162,7 @@ class Dump:
 
     def strange(self, line):
         """The fault of a line that no dump has there."""
-        return self.lines.broken(f"a dump has no such line here: {shown(line)}")
+        return self.lines.broken(f"a dump doesn't have such a line here: {shown(line)}")
 
     def parts(self, pattern, line, rank):
         """The parts of a line about the present object. A line of a lower rank can't follow one of a higher rank."""
@@ -176,7 +176,7 @@ class Dump:
         """The number of an object."""
         number = int(digits)
         if not LEAST_OBJECT <= number <= GREATEST_OBJECT:
-            raise self.lines.broken(f"#{digits} is no number of an object")
+            raise self.lines.broken(f"#{digits} isn't the number of an object")
         return number
 
     def read_object(self, line):
@@ -196,7 +196,7 @@ class Dump:
         item.owner, item.parent, item.location = (self.object_number(found[place]) for place in (3, 4, 5))
         item.flags = sum(worth for place, worth in enumerate(FLAGS.values()) if found[6 + place] == "1")
         if found[12] != "0":
-            self.told.note(ACCEPT_LISTS, f"#{number}, line {item.line}")
+            self.losses.note(ACCEPT_LISTS, f"#{number}, line {item.line}")
         item.defines, item.slots, item.verbs, item.verb_lines = [], [], [], []
         item.slots_at = 0
 
@@ -204,7 +204,7 @@ class Dump:
         """A line of a property that the present object defines."""
         found = self.parts(PROPERTY_LINE, line, 1)
         if not may_name_property(plain(found[2])):
-            raise self.lines.broken("no property has such a name")
+            raise self.lines.broken("a property can't have such a name")
         if not self.item.defines:
             self.item.defined_at = self.lines.number
         self.item.defines.append((self.number, found[2]))
@@ -224,7 +224,7 @@ class Dump:
         if value is None:
             text = self.rights.setdefault((CLEAR, *ending), f"{CLEAR}\n{self.rights[ending]}")
         else:
-            text = "\n".join(self.value(value, self.told)) + f"\n{self.rights[ending]}"
+            text = "\n".join(self.value(value, self.losses)) + f"\n{self.rights[ending]}"
         self.item.slots.append((definer, name, text))
 
     def read_verb(self, line):
@@ -232,43 +232,43 @@ class Dump:
         found = self.parts(VERB_LINE, line, 3)
         _, names, owner, letters, direct, preposition, indirect = found.groups()
         if preposition not in PREPOSITION_NUMBERS:
-            raise self.lines.broken(f"{shown(preposition)} is no preposition")
+            raise self.lines.broken(f"{shown(preposition)} isn't a preposition")
         rights = rights_number(VERB_RIGHTS, letters) + (PLACE_NUMBERS[direct] << 4) + (PLACE_NUMBERS[indirect] << 6)
         names = plain(names)
         if not names.strip(" "):
-            raise self.lines.broken("this verb has no name")
+            raise self.lines.broken("a verb needs a name")
         self.item.verbs.append((names, f"{names}\n{self.object_number(owner)}\n{rights}\n{PREPOSITION_NUMBERS[preposition]}\n"))
         self.item.verb_lines.append(self.lines.number)
 
     def read_petition(self, line):
-        """A line of a petition, which is told of alone."""
+        """A line of a petition, which is only reported."""
         found = PETITION_LINE.fullmatch(line)
         if not found:
             raise self.strange(line)
-        self.value(found[3], Told())
+        self.value(found[3], Losses())
         self.rank = 4
-        self.told.note(PETITIONS, f"line {self.lines.number}")
+        self.losses.note(PETITIONS, f"line {self.lines.number}")
 
     # ---- values
 
-    def value(self, text, told):
+    def value(self, text, losses):
         """The lines in a database of the value whose literal is this text."""
         lines = []
-        if self.add_value(text, 0, 0, lines, told) < len(text):
+        if self.add_value(text, 0, 0, lines, losses) < len(text):
             raise self.no_value(text)
         return lines
 
     def no_value(self, text):
         """The fault of a text that is no literal."""
-        return self.lines.broken(f"this is no value as a dump has it: {shown(text)}")
+        return self.lines.broken(f"a dump doesn't have such a value: {shown(text)}")
 
-    def add_value(self, text, start, depth, lines, told):
+    def add_value(self, text, start, depth, lines, losses):
         """Adds the lines of the value that starts at a place of the text, in lists so deep, and answers the place after it."""
         token = TOKEN.match(text, start)
         if not token:
             raise self.no_value(text)
         if token[0] != "{":
-            self.add_plain(lines, token.lastgroup, token[token.lastgroup], told)
+            self.add_plain(lines, token.lastgroup, token[token.lastgroup], losses)
             return token.end()
         if depth == DEEPEST_LIST:
             raise self.lines.broken(f"lists nest over {DEEPEST_LIST} deep")
@@ -278,7 +278,7 @@ class Dump:
         place = token.end()
         count = 0
         while count or text[place : place + 1] != "}":
-            place = self.add_value(text, place, depth + 1, lines, told)
+            place = self.add_value(text, place, depth + 1, lines, losses)
             count += 1
             if text[place : place + 1] == "}":
                 break
@@ -288,14 +288,14 @@ class Dump:
         lines[counted_at] = str(count)
         return place + 1
 
-    def add_plain(self, lines, kind, text, told):
+    def add_plain(self, lines, kind, text, losses):
         """Adds the lines of a value that is no list."""
         if kind == "integer":
             number = int(text)
             if not LEAST_INTEGER <= number <= GREATEST_INTEGER:
-                raise self.lines.broken(f"{text} is no integer of 64 bits")
+                raise self.lines.broken(f"{text} isn't an integer of 64 bits")
             if number not in NARROW:
-                told.note(WIDE, f"#{self.number}, line {self.lines.number}")
+                losses.note(WIDE, f"#{self.number}, line {self.lines.number}")
             lines += (INTEGER, text)
         elif kind == "object":
             self.object_number(text)
@@ -305,7 +305,7 @@ class Dump:
         elif text in ERROR_NUMBERS:
             lines += (ERROR, str(ERROR_NUMBERS[text]))
         else:
-            raise self.lines.broken(f"{text} is no error")
+            raise self.lines.broken(f"{text} isn't an error")
 
     # ---- the whole
 
@@ -315,7 +315,7 @@ class Dump:
             links = {number: getattr(item, link) for number, item in self.items.items()}
             for number, other in links.items():
                 if other != NOTHING and other not in self.items:
-                    raise Broken(self.items[number].line, f"the {link} of #{number} is no object")
+                    raise Broken(self.items[number].line, f"the {link} of #{number} isn't an object")
             looped = loop_in(links)
             if looped is not None:
                 raise Broken(self.items[looped].line, f"the {link}s of #{looped} lead back to it")
@@ -323,7 +323,7 @@ class Dump:
         clash = clash_in(parents, {number: [plain(name).lower() for _, name in item.defines] for number, item in self.items.items()})
         if clash:
             number, place = clash
-            raise Broken(self.items[number].defined_at + place, f"#{number} or an ancestor defines a property of this name already")
+            raise Broken(self.items[number].defined_at + place, f"#{number} or an ancestor already defines a property of this name")
         self.owed = owed_to_each(parents, {number: item.defines for number, item in self.items.items()})
         for number, item in self.items.items():
             self.check_slots(number, item)
@@ -343,14 +343,14 @@ class Dump:
 class Writer:
     """The database of a dump, with the programs of another database."""
 
-    def __init__(self, dump, programs, told):
+    def __init__(self, dump, programs, losses):
         self.items = dump.items
         self.top = dump.top
-        self.programs = self.placed(programs, told)
+        self.programs = self.placed(programs, losses)
         self.first_child, self.next_child = linked(self.items, "parent")
         self.first_inside, self.next_inside = linked(self.items, "location")
 
-    def placed(self, programs, told):
+    def placed(self, programs, losses):
         """The program of each verb that has one, by its object and number. Each program is taken once."""
         placed = {}
         for number, item in self.items.items():
@@ -360,10 +360,10 @@ class Writer:
                 if (number, names, nth) in programs:
                     placed[number, place] = programs.pop((number, names, nth))
                 else:
-                    told.note(NO_PROGRAM, f"#{number}:{place}, line {item.verb_lines[place]}")
+                    losses.note(NO_PROGRAM, f"#{number}:{place}, line {item.verb_lines[place]}")
         if programs:
             number, names, _ = next(iter(programs))
-            told.note(NO_VERB, f"#{number}:{shown(names)}", len(programs))
+            losses.note(NO_VERB, f"#{number}:{shown(names)}", len(programs))
         return placed
 
     def pieces(self):
@@ -412,14 +412,14 @@ def linked(items, link):
     return first, following
 
 
-def programs_of(path, told):
+def programs_of(path, losses):
     """The programs of a database by object, names of the verb, and how many verbs of these names come up to it."""
     with opened(path) as stream:
-        database = Database(stream, Told(), keep_programs=True)
+        database = Database(stream, Losses(), keep_programs=True)
     for kind in (TASKS, CONNECTIONS, NO_CONNECTIONS, MORE_LINES):
-        told.note(kind, f"{database.told.firsts.get(kind)} of {path}", database.told.counts.get(kind, 0))
+        losses.note(kind, f"{database.losses.firsts.get(kind)} of {path}", database.losses.counts.get(kind, 0))
     if database.version < VERSION:
-        told.note(OLD_PROGRAM, f"{path}, line 1", len(database.programs))
+        losses.note(OLD_PROGRAM, f"{path}, line 1", len(database.programs))
     programs = {}
     for number, thing in database.things.items():
         times = {}
@@ -437,7 +437,7 @@ def read_words(words):
     )
     reader.add_argument("dump", metavar="DUMP", help="the dump; - is standard input")
     reader.add_argument("--programs", metavar="DB", help="the database file whose programs the verbs get")
-    reader.add_argument("--strict", action="store_true", help="write nothing, with status 1, if anything has no place")
+    reader.add_argument("--strict", action="store_true", help="write nothing, with status 1, if anything is left out or changed")
     asked = reader.parse_args(words)
     if asked.dump == asked.programs == "-":
         reader.error("DUMP and DB can't both be standard input")
@@ -446,13 +446,13 @@ def read_words(words):
 
 def convert(asked):
     """Writes the database, and answers the status."""
-    told = Told()
+    losses = Losses()
     with opened(asked.dump) as stream:
-        dump = Dump(stream, told)
-    programs = programs_of(asked.programs, told) if asked.programs else {}
-    writer = Writer(dump, programs, told)
-    told.report(TOOL)
-    if asked.strict and told.counts:
+        dump = Dump(stream, losses)
+    programs = programs_of(asked.programs, losses) if asked.programs else {}
+    writer = Writer(dump, programs, losses)
+    losses.report(TOOL)
+    if asked.strict and losses.counts:
         sys.stderr.write(f"{TOOL}: no database was written\n")
         return 1
     write_out(writer.pieces())
