@@ -1,7 +1,8 @@
 """The converters from and to database files of LambdaMOO.
 
-What they write is compared with what the texts of this test say, which tests/support/lambdamoo_worlds.py writes and reads by itself, and with
-what moo dumps. The variable MOO names the program. LAMBDAMOO_OBJECTS is how many objects the large world has: 100000 is the full size.
+What they write is compared with texts that tests/support/lambdamoo_worlds.py writes and reads by itself, and with what moo dumps. The
+variable MOO names the program. LAMBDAMOO_OBJECTS is how many objects the large world has, and LAMBDAMOO_WORLDS how many random worlds are
+tried: 100000 and 1000 are the full sizes.
 """
 
 import contextlib
@@ -22,7 +23,7 @@ from tests.support.lambdamoo_worlds import (
     ERRORS,
     PLACES,
     SETS,
-    Obj,
+    ObjectValue,
     Slot,
     Thing,
     Verb,
@@ -42,7 +43,8 @@ TOOLS = TOP / "tools"
 MOO = os.environ.get("MOO", str(TOP / "crates/moo/out/moo"))
 EXAMPLE = (TOP / "examples/minimal.db").read_text()
 EXAMPLE_DUMP = (TOP / "examples/minimal.dump").read_text()
-LARGE = int(os.environ.get("LAMBDAMOO_OBJECTS", "4000"))
+LARGE = int(os.environ.get("LAMBDAMOO_OBJECTS", "3000"))
+WORLDS = int(os.environ.get("LAMBDAMOO_WORLDS", "100"))
 SECONDS = 120
 
 with mock.patch.object(sys, "path", [str(TOOLS), *sys.path]):
@@ -266,8 +268,9 @@ class Objects(unittest.TestCase):
         self.both_ways(World(-1, {}))
 
     def test_prepositions_and_places(self):
-        preps = ["none", "any", *SETS]
-        verbs = [Verb(f"v{place}", 0, "rd", (PLACES[place % 3], prep, PLACES[place // 3 % 3])) for place, prep in enumerate(preps)]
+        verbs = []
+        for place, preposition in enumerate(["none", "any", *SETS]):
+            verbs.append(Verb(f"v{place}", 0, "rd", (PLACES[place % 3], preposition, PLACES[place // 3 % 3])))
         self.both_ways(World(0, {0: Thing("", verbs=verbs)}))
         text = to_database(dump_text(World(0, {0: Thing("", verbs=[Verb("v", 0, "rwxd", ("this", "off/off of", "any"))])})))[1]
         # All rights are 15, the direct object this is 32, and the indirect object any is 64.
@@ -473,7 +476,8 @@ class Broken(Temporary):
                     self.broken(from_database(EXAMPLE[:end]), line)
 
     def test_dumps_that_are_cut(self):
-        for end in range(len(EXAMPLE_DUMP)):
+        ends = [place for place, letter in enumerate(EXAMPLE_DUMP) if letter == "\n"]
+        for end in [0, 1, *ends, *(end - 3 for end in ends), *(end + 1 for end in ends[:-1])]:
             front = EXAMPLE_DUMP[:end]
             self.broken(to_database(front), front.count("\n") + 1)
 
@@ -606,7 +610,7 @@ class Broken(Temporary):
 
     def test_any_line_changed(self):
         """Whatever is changed, it is converted or told of with a line, and what comes of a database is a dump that goes back."""
-        for seed in range(600):
+        for seed in range(4 * WORLDS):
             chance = random.Random(seed)
             world = random_world(chance, chance.choice([1, 3, 6]))
             for text, convert in ((database_text(world, chance), from_database), (dump_text(world), to_database)):
@@ -626,7 +630,7 @@ class RoundTrips(Temporary):
     """Worlds that go from one text to the other and back."""
 
     def test_random_worlds(self):
-        for seed in range(300):
+        for seed in range(WORLDS):
             chance = random.Random(seed)
             world = random_world(chance, chance.choice([0, 1, 2, 5, 20, 40]))
             database = database_text(world, chance)
@@ -638,7 +642,7 @@ class RoundTrips(Temporary):
 
     def test_worlds_in_tables(self):
         """The world of a database is one that moo calls whole, and moo dumps it byte for byte as the converter does."""
-        for seed in range(12):
+        for seed in range(max(8, WORLDS // 12)):
             chance = random.Random(seed)
             world = random_world(chance, chance.choice([0, 3, 40, 80]))
             file = str(self.folder / f"{seed}.db")
@@ -651,7 +655,7 @@ class RoundTrips(Temporary):
 
     def test_worlds_of_moo(self):
         """What moo dumps comes back byte for byte, but for its seq, accept lists and petitions."""
-        for seed in range(6):
+        for seed in range(max(4, WORLDS // 25)):
             file = str(self.folder / f"{seed}.db")
             run_moo("init", file)
             replies = run_moo("apply", file, "-", text=random_batches(random.Random(seed)))
@@ -684,7 +688,7 @@ def random_batches(chance):
     """Batches of one call each on a new world, of which many are accepted."""
 
     def thing():
-        return literal(Obj(chance.randrange(0, 14)))
+        return literal(ObjectValue(chance.randrange(0, 14)))
 
     def some():
         return literal(random_value(chance, 28))
@@ -695,7 +699,7 @@ def random_batches(chance):
     def verb():
         return literal(chance.choice(["look", "get take", 'say "', "put"]))
 
-    def args():
+    def arguments():
         return literal([chance.choice(PLACES), chance.choice(["none", "any", *SETS]), chance.choice(PLACES)])
 
     calls = (
@@ -711,7 +715,7 @@ def random_batches(chance):
         lambda: f"add_property({thing()}, {name()}, {some()}, {{#3, \"rw\"}})",
         lambda: f"set_property_info({thing()}, {name()}, {{{thing()}, \"c\"}})",
         lambda: f"delete_property({thing()}, {name()})",
-        lambda: f"add_verb({thing()}, {{#3, \"rd\", {verb()}}}, {args()})",
+        lambda: f"add_verb({thing()}, {{#3, \"rd\", {verb()}}}, {arguments()})",
         lambda: f"set_accept({thing()}, {{{thing()}, {thing()}}})",
         lambda: f"set_player_flag({thing()}, {chance.randrange(2)})",
         lambda: f"petition({{{{\"set\", {thing()}, {name()}, {some()}}}}})",
@@ -740,6 +744,19 @@ class Scripts(Temporary):
         status, back, said = run_script("to_lambdamoo.py", "-", "--programs", database, text=dump)
         self.assertEqual((status, read_database(back)), (0, read_database(EXAMPLE)))
         self.assertIn("verbs without a program: 2,", said)
+
+    def test_the_session(self):
+        """The commands of docs/LAMBDAMOO.md print what stands there."""
+        document = (TOP / "docs/LAMBDAMOO.md").read_text()
+        session = document[document.index("## A session") : document.index("## Bringing a MOO in")]
+        lines = [line[4:] for line in session.splitlines() if line.startswith("    ")]
+        for name in ("tools", "examples"):
+            (self.folder / name).symlink_to(TOP / name)
+        printed = []
+        for command in (line[2:] for line in lines if line.startswith("$ ")):
+            words = {"shell": True, "cwd": self.folder, "stdout": subprocess.PIPE, "stderr": subprocess.STDOUT, "timeout": SECONDS}
+            printed += [f"$ {command}", *subprocess.run(command, **words).stdout.decode().splitlines()]
+        self.assertEqual(printed, lines)
 
     def test_help(self):
         for script, word in (("from_lambdamoo.py", "--floats"), ("to_lambdamoo.py", "--programs")):

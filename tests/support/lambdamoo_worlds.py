@@ -18,14 +18,14 @@ CLEAR = None
 
 
 @dataclasses.dataclass(frozen=True)
-class Obj:
+class ObjectValue:
     """The value that an object is."""
 
     number: int
 
 
 @dataclasses.dataclass(frozen=True)
-class Err:
+class ErrorValue:
     """The value that an error is."""
 
     name: str
@@ -107,11 +107,11 @@ def random_value(random, depth=0):
     if kind == 0:
         return random.choice([0, 1, -1, 7, 2**31 - 1, -(2**31), random.randrange(-1000, 1000)])
     if kind == 1:
-        return Obj(random.choice([-1, 0, 5, -3, 2**31 - 1, -(2**31)]))
+        return ObjectValue(random.choice([-1, 0, 5, -3, 2**31 - 1, -(2**31)]))
     if kind == 2:
         return random.choice(NAMES)
     if kind == 3:
-        return Err(random.choice(ERRORS))
+        return ErrorValue(random.choice(ERRORS))
     return [random_value(random, depth + 1) for _ in range(random.choice([0, 0, 1, 1, 2]))]
 
 
@@ -167,9 +167,9 @@ def value_lines(value):
     """The lines of a value in a database."""
     if value is CLEAR:
         return ["5"]
-    if isinstance(value, Obj):
+    if isinstance(value, ObjectValue):
         return ["1", str(value.number)]
-    if isinstance(value, Err):
+    if isinstance(value, ErrorValue):
         return ["3", str(ERRORS.index(value.name))]
     if isinstance(value, str):
         return ["2", value]
@@ -250,15 +250,18 @@ class DatabaseReader:
         self.place = 0
 
     def line(self):
+        """The next line."""
         self.place += 1
         return self.lines[self.place - 1]
 
     def number(self):
+        """The next line, a number."""
         line = self.line()
         assert re.fullmatch("0|-?[1-9][0-9]*", line), f"line {self.place} is a number: {line!r}"
         return int(line)
 
     def value(self):
+        """The next value, or CLEAR."""
         kind = self.number()
         if kind == 5:
             return CLEAR
@@ -266,9 +269,10 @@ class DatabaseReader:
             return [self.value() for _ in range(self.number())]
         if kind == 2:
             return self.line()
-        return {0: int, 1: Obj, 3: lambda place: Err(ERRORS[place])}[kind](self.number())
+        return {0: int, 1: ObjectValue, 3: lambda place: ErrorValue(ERRORS[place])}[kind](self.number())
 
     def verb(self):
+        """The header of a verb."""
         names, owner, rights, preposition = self.line(), self.number(), self.number(), self.number()
         assert rights < 256, "the rights of a verb have eight bits"
         letters = "".join(letter for place, letter in enumerate("rwxd") if rights >> place & 1)
@@ -276,6 +280,7 @@ class DatabaseReader:
         return Verb(names, owner, letters, (PLACES[rights >> 4 & 3], spelled, PLACES[rights >> 6]))
 
     def slot(self):
+        """A value with its owner and rights."""
         value, owner, rights = self.value(), self.number(), self.number()
         return Slot(value, owner, "".join(letter for place, letter in enumerate("rwc") if rights >> place & 1))
 
@@ -358,9 +363,9 @@ def read_database(text):
 
 def literal(value):
     """The literal of a value."""
-    if isinstance(value, Obj):
+    if isinstance(value, ObjectValue):
         return f"#{value.number}"
-    if isinstance(value, Err):
+    if isinstance(value, ErrorValue):
         return value.name
     if isinstance(value, str):
         return '"' + "".join("\\" + letter if letter in '"\\' else letter for letter in value) + '"'
@@ -374,12 +379,12 @@ def dump_text(world):
     lines = ["seq 0", f"top #{world.top}"]
     for number, thing in sorted(world.things.items()):
         flags = [int(flag in thing.flags) for flag in FLAGS]
-        lines.append("object " + literal([Obj(number), thing.name, Obj(thing.owner), Obj(thing.parent), Obj(thing.location), *flags, 0]))
-        lines += ["property " + literal([Obj(number), name]) for name in thing.defines]
+        lines.append("object " + literal([ObjectValue(number), thing.name, ObjectValue(thing.owner), ObjectValue(thing.parent), ObjectValue(thing.location), *flags, 0]))
+        lines += ["property " + literal([ObjectValue(number), name]) for name in thing.defines]
         for (definer, name), slot in zip(world.owed(number), thing.slots):
             state = [0] if slot.value is CLEAR else [1, slot.value]
-            lines.append("slot " + literal([Obj(number), Obj(definer), name, Obj(slot.owner), slot.letters, *state]))
-        lines += ["verb " + literal([Obj(number), verb.names, Obj(verb.owner), verb.letters, *verb.places]) for verb in thing.verbs]
+            lines.append("slot " + literal([ObjectValue(number), ObjectValue(definer), name, ObjectValue(slot.owner), slot.letters, *state]))
+        lines += ["verb " + literal([ObjectValue(number), verb.names, ObjectValue(verb.owner), verb.letters, *verb.places]) for verb in thing.verbs]
     return "\n".join([*lines, "end", ""])
 
 
@@ -399,13 +404,13 @@ def read_literal(text):
             closed = stack.pop()
             stack[-1].append(closed)
         elif token[1] is not None:
-            stack[-1].append(Obj(int(token[1])))
+            stack[-1].append(ObjectValue(int(token[1])))
         elif token[2] is not None:
             stack[-1].append(int(token[2]))
         elif token[3] is not None:
             stack[-1].append(re.sub(r"\\(.)", r"\1", token[3]))
         elif token[4]:
-            stack[-1].append(Err(token[4]))
+            stack[-1].append(ErrorValue(token[4]))
     return stack[0][0]
 
 
