@@ -85,7 +85,8 @@ def run_script(name, *words, text=""):
 
 def run_moo(*words, text=""):
     """What moo writes. It has to end well."""
-    ended = subprocess.run([MOO, *words], input=text.encode(), stdout=subprocess.PIPE, stderr=subprocess.DEVNULL, timeout=SECONDS, check=True)
+    streams = {"stdout": subprocess.PIPE, "stderr": subprocess.DEVNULL}
+    ended = subprocess.run([MOO, *words], input=text.encode(), timeout=SECONDS, check=True, **streams)
     return ended.stdout.decode()
 
 
@@ -215,7 +216,8 @@ class Values(unittest.TestCase):
                 self.assertIn("line 21: the type of a value is wanted", said)
 
     def test_literals_that_are_none(self):
-        for text in "", "x", "-0", "01", "#", "#01", '"', '"\\a"', "{1,2}", "{1, }", "{, 1}", "{1 2}", "{", "{}}", "1, 1", "e_perm", "E_NO", "1 ":
+        texts = ["", "x", "-0", "01", "#", "#01", '"', '"\\a"', "e_perm", "E_NO", "1 ", "1, 1"]
+        for text in texts + ["{1,2}", "{1, }", "{, 1}", "{1 2}", "{", "{}}"]:
             with self.subTest(text):
                 status, output, said = to_database(value_dump(text))
                 self.assertEqual((status, output), (1, ""))
@@ -241,10 +243,11 @@ class Objects(unittest.TestCase):
             2,
             {
                 0: Thing("root", defines=["a", "b"], slots=[Slot(1, 0, "r"), Slot([], 0, "")]),
-                1: Thing("leaf", parent=2, defines=["d"], slots=[Slot("d", 1, "c"), Slot(CLEAR, 1, "c"), Slot(3, 0, "r"), Slot(CLEAR, 2, "")]),
+                1: Thing("leaf", parent=2, defines=["d"]),
                 2: Thing("middle", parent=0, defines=["c"], slots=[Slot(2, 2, "c"), Slot(CLEAR, 0, "r"), Slot("x", 2, "w")]),
             },
         )
+        world.things[1].slots = [Slot("d", 1, "c"), Slot(CLEAR, 1, "c"), Slot(3, 0, "r"), Slot(CLEAR, 2, "")]
         text = from_database(database_text(world, random.Random(1)))[1]
         lines = [line for line in text.splitlines() if line.startswith("slot {#1,")]
         wanted = [
@@ -289,7 +292,11 @@ class Objects(unittest.TestCase):
         text = to_database(dump_text(World(5, things)))[1]
         lines = text.split("\n")
         ends = {number: lines[lines.index(f"#{number}") + 6 : lines.index(f"#{number}") + 11] for number in (0, 1, 2, 5)}
-        self.assertEqual(ends, {0: ["1", "-1", "-1", "1", "-1"], 1: ["-1", "2", "0", "-1", "2"], 2: ["-1", "5", "0", "-1", "5"], 5: ["-1", "-1", "0", "-1", "-1"]})
+        # The first of the contents and the next, the parent, the first child and the next.
+        self.assertEqual(ends[0], ["1", "-1", "-1", "1", "-1"])
+        self.assertEqual(ends[1], ["-1", "2", "0", "-1", "2"])
+        self.assertEqual(ends[2], ["-1", "5", "0", "-1", "5"])
+        self.assertEqual(ends[5], ["-1", "-1", "0", "-1", "-1"])
 
 
 class Programs(Temporary):

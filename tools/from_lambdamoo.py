@@ -30,17 +30,22 @@ STRANGE_NAMES = "properties whose name is empty, built in or over 255 bytes, lef
 STRANGE_VERBS = "verbs without a name, left out"
 
 ABOUT = """\
-Reads a database file of LambdaMOO, format version 1 to 4, and writes its world to standard output, as 'moo dump' writes one: objects,
-parents, locations, flags, properties with their values, and the headers of verbs. The world has seq 0, no accept lists and no petitions.
+Reads a database file of LambdaMOO, format version 1 to 4, and writes its world
+to standard output, as 'moo dump' writes one: objects, parents, locations,
+flags, properties with their values, and the headers of verbs. The world has
+seq 0, no accept lists and no petitions.
 
-What moo can't hold is reported on standard error by kind, with the count and the place of the first. Verb programs are always left out: keep the
-database file, from which to_lambdamoo.py takes them again. Nothing is written unless the whole file was read.
+What moo can't hold is reported on standard error by kind, with the count and
+the place of the first. Verb programs are always left out: keep the database
+file, from which to_lambdamoo.py takes them again. Nothing is written unless
+the whole file was read.
 """
 ENDING = """\
   from_lambdamoo.py core.db >core.dump
   from_lambdamoo.py --floats text --bytes escape core.db >core.dump
 
-The status is 0 if the dump was written, 1 if the file is broken (with its line) or something is refused, 2 if the words are wrong.
+The status is 0 if the dump was written, 1 if the file is broken (with its
+line) or something is refused, 2 if the words are wrong.
 """
 
 
@@ -65,7 +70,7 @@ class Dump:
         self.check_verbs()
 
     def names(self, number, thing):
-        """For each property that an object defines how its slots go on after the object, and its name; None for one that is left out."""
+        """For each property that an object defines the middle of the lines of its slots, and its name, or None if it is left out."""
         named = []
         for place, spelled in enumerate(thing.defines):
             line = f"#{number}, line {thing.defined_at + place}"
@@ -84,7 +89,8 @@ class Dump:
         for number, thing in self.things.items():
             wanted = len(self.owed[number])
             if len(thing.values) != wanted:
-                raise Broken(thing.values_at, f"#{number} and its ancestors define {wanted} properties, and here are {len(thing.values)} values")
+                reason = f"#{number} and its ancestors define {wanted} properties, and here are {len(thing.values)} values"
+                raise Broken(thing.values_at, reason)
 
     def check_names(self):
         """No object defines a name twice, or one that an ancestor defines."""
@@ -95,7 +101,7 @@ class Dump:
             raise Broken(self.things[number].defined_at + place, f"#{number} or an ancestor already defines a property of this name")
 
     def check_verbs(self):
-        """Tells of verbs without a name."""
+        """Reports verbs without a name."""
         for number, thing in self.things.items():
             for verb in thing.verbs:
                 if not verb.names.strip(" "):

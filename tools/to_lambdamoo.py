@@ -55,16 +55,20 @@ NO_VERB = "programs without a verb in the dump, left out"
 OLD_PROGRAM = "programs from an older format version, written unchanged"
 
 ABOUT = f"""\
-Reads a dump of moo and writes its world to standard output, as a database file of LambdaMOO, format version {VERSION}. Each verb gets the
-program that DB has on the same object for a verb of the same names, the second verb of these names the second one. Others have none.
+Reads a dump of moo and writes its world to standard output, as a database file
+of LambdaMOO, format version {VERSION}. A verb gets the program that DB has for a verb
+of the same names on the same object. If several verbs of an object have the
+same names, the second gets the second one's program, and so on.
 
-What it can't hold is reported on standard error by kind, with the count and the place of the first. Nothing is written unless the whole dump was
+What a database can't hold is reported on standard error by kind, with the
+count and the place of the first. Nothing is written unless the whole dump was
 read.
 """
 ENDING = """\
   moo dump world.db | to_lambdamoo.py - --programs core.db >new.db
 
-The status is 0 if the database was written, 1 if a file is broken (with its line), 2 if the words are wrong.
+The status is 0 if the database was written, 1 if a file is broken (with its
+line), 2 if the words are wrong.
 """
 
 # The texts that a dump has, each spelled in one way.

@@ -1,4 +1,7 @@
-"""Worlds for the tests of the LambdaMOO converters, which share no code with them: at random, as texts of either kind, and read from these."""
+"""Worlds for the tests of the LambdaMOO converters: made at random, written as texts of either kind, and read from these.
+
+Nothing here uses the converters.
+"""
 
 import dataclasses
 import re
@@ -96,7 +99,7 @@ class World:
 # ---- worlds at random
 
 NAMES = ["", "a", "brass lamp", "tab\there", 'say "hi"', "back\\slash", " blanks ", "~tilde~", "#5", "{}", "0", "\\\"", "x" * 300]
-PROPERTY_NAMES = ["description", "Key", "two words", "tab\tname", 'quo"te', "back\\slash", "a" * 255, "#1", "1", "key2", "owners", " r", "n"]
+PROPERTY_NAMES = ["description", "Key", "two words", "tab\tname", 'quo"te', "back\\slash", "a" * 255, "#1", "1", "key2", " r", "n"]
 VERB_NAMES = ["look", "l*ook", "g*et take", "get", "put", "put", 'say "', "tab\tverb", " blank", "*", "x\\y"]
 CODE = ["return 1;", "", "  if (x)", "..", "#0:0", '"a string";', "0 clocks", " ."]
 
@@ -379,12 +382,16 @@ def dump_text(world):
     lines = ["seq 0", f"top #{world.top}"]
     for number, thing in sorted(world.things.items()):
         flags = [int(flag in thing.flags) for flag in FLAGS]
-        lines.append("object " + literal([ObjectValue(number), thing.name, ObjectValue(thing.owner), ObjectValue(thing.parent), ObjectValue(thing.location), *flags, 0]))
+        links = map(ObjectValue, (thing.owner, thing.parent, thing.location))
+        lines.append("object " + literal([ObjectValue(number), thing.name, *links, *flags, 0]))
         lines += ["property " + literal([ObjectValue(number), name]) for name in thing.defines]
         for (definer, name), slot in zip(world.owed(number), thing.slots):
             state = [0] if slot.value is CLEAR else [1, slot.value]
-            lines.append("slot " + literal([ObjectValue(number), ObjectValue(definer), name, ObjectValue(slot.owner), slot.letters, *state]))
-        lines += ["verb " + literal([ObjectValue(number), verb.names, ObjectValue(verb.owner), verb.letters, *verb.places]) for verb in thing.verbs]
+            values = [ObjectValue(number), ObjectValue(definer), name, ObjectValue(slot.owner), slot.letters, *state]
+            lines.append("slot " + literal(values))
+        for verb in thing.verbs:
+            values = [ObjectValue(number), verb.names, ObjectValue(verb.owner), verb.letters, *verb.places]
+            lines.append("verb " + literal(values))
     return "\n".join([*lines, "end", ""])
 
 
