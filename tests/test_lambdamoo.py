@@ -601,6 +601,9 @@ class Broken(Temporary):
             (8, [lines[7].replace("none", "in")]),
             (8, [lines[7].replace('"this"', '"that"', 1)]),
             (8, [lines[7].replace("do_login_command", " ")]),
+            (6, [lines[6]]),
+            (7, []),
+            (7, [lines[6], lines[6]]),
             (9, [lines[2]]),
             (9, [lines[8].replace("#3, #-1", "#3, #7")]),
             (9, [lines[8].replace("#-1, 0", "#77, 0")]),
@@ -609,7 +612,7 @@ class Broken(Temporary):
         ):
             with self.subTest(line=line, others=others):
                 done = to_database(edited(EXAMPLE_DUMP, line, *others))
-                self.broken(done, line)
+                self.broken(done, line + (others == [lines[6], lines[6]]))
         self.broken(to_database(edited(EXAMPLE_DUMP, 8, lines[7], lines[6])), 9)
         self.broken(to_database(EXAMPLE_DUMP + "end\n"), len(lines))
         petition = 'petition {1, #3, {{"valid", #3}}}'

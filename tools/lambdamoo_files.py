@@ -373,7 +373,7 @@ class Database:
         line = lines.number
         owner = lines.object("the owner of a verb")
         rights = lines.integer(0, 255, "the rights and places of a verb")
-        if rights >> 4 & 3 > 2 or rights >> 6 > 2:
+        if (rights >> 4 & 3) > 2 or (rights >> 6) > 2:
             raise lines.broken("a place of the verb isn't one of none, any and this")
         preposition = lines.integer(-2, len(PREPOSITIONS) - 1, "the preposition of a verb")
         return Verb(names, owner, rights, preposition, line)

@@ -95,6 +95,9 @@ PLACE_NUMBERS = {text: number for number, text in enumerate(PLACES)}
 ERROR_NUMBERS = {text: number for number, text in enumerate(ERRORS)}
 NARROW = range(-(2**31), 2**31)
 
+# The lines about an object come in this order, and petitions come last.
+OBJECT_RANK, PROPERTY_RANK, SLOT_RANK, VERB_RANK, PETITION_RANK = range(5)
+
 
 def plain(text):
     """The string of a literal's bytes between its quotes."""
@@ -109,7 +112,7 @@ def rights_number(rights, letters):
 class Item:
     """An object of a dump: its row, what it defines, and its slots and verbs as they are written in a database."""
 
-    __slots__ = "line name owner parent location flags defined_at defines slots_at slots verbs verb_lines".split()
+    __slots__ = "line name owner parent location flags defines slots verbs verb_lines".split()
 
 
 class Dump:
@@ -119,11 +122,11 @@ class Dump:
         self.lines = Lines(stream)
         self.losses = losses
         self.items = {}
-        self.rank = 0
+        self.rank = OBJECT_RANK
         self.item = None
         self.number = NOTHING
-        self.rights = {}
-        self.names = {}
+        # Texts that come often, so that each is kept once.
+        self.texts = {}
         self.read()
         self.check()
 
@@ -184,14 +187,14 @@ class Dump:
         return number
 
     def read_object(self, line):
-        """A line of an object."""
+        """Reads the line of an object."""
         found = OBJECT_LINE.fullmatch(line)
-        if not found or self.rank > 3:
+        if not found or self.rank == PETITION_RANK:
             raise self.strange(line)
         number = self.object_number(found[1])
         if not int(self.number) < number <= self.top:
             raise self.lines.broken(f"#{number} is not above the object before it, or is above the greatest number")
-        self.rank = 0
+        self.rank = OBJECT_RANK
         self.number = found[1]
         self.item = self.items[number] = Item()
         item = self.item
@@ -202,38 +205,30 @@ class Dump:
         if found[12] != "0":
             self.losses.note(ACCEPT_LISTS, f"#{number}, line {item.line}")
         item.defines, item.slots, item.verbs, item.verb_lines = [], [], [], []
-        item.slots_at = 0
 
     def read_property(self, line):
-        """A line of a property that the present object defines."""
-        found = self.parts(PROPERTY_LINE, line, 1)
+        """Reads the line of a property that the present object defines."""
+        found = self.parts(PROPERTY_LINE, line, PROPERTY_RANK)
         if not may_name_property(plain(found[2])):
             raise self.lines.broken("a property can't have such a name")
-        if not self.item.defines:
-            self.item.defined_at = self.lines.number
         self.item.defines.append((self.number, found[2]))
 
     def read_slot(self, line):
-        """A line of a slot of the present object."""
-        found = self.parts(SLOT_LINE, line, 2)
-        if not self.item.slots:
-            self.item.slots_at = self.lines.number
+        """Reads the line of a slot of the present object."""
+        found = self.parts(SLOT_LINE, line, SLOT_RANK)
         _, definer, name, owner, letters, value = found.groups()
-        name = self.names.setdefault(name, name)
-        definer = self.names.setdefault(definer, definer)
-        self.object_number(owner)
-        ending = owner, letters
-        if ending not in self.rights:
-            self.rights[ending] = f"{owner}\n{rights_number(PROPERTY_RIGHTS, letters)}\n"
+        name = self.texts.setdefault(name, name)
+        definer = self.texts.setdefault(definer, definer)
+        lines = [CLEAR] if value is None else self.value(value, self.losses)
+        lines += (str(self.object_number(owner)), str(rights_number(PROPERTY_RIGHTS, letters)), "")
+        text = "\n".join(lines)
         if value is None:
-            text = self.rights.setdefault((CLEAR, *ending), f"{CLEAR}\n{self.rights[ending]}")
-        else:
-            text = "\n".join(self.value(value, self.losses)) + f"\n{self.rights[ending]}"
+            text = self.texts.setdefault(text, text)
         self.item.slots.append((definer, name, text))
 
     def read_verb(self, line):
-        """A line of a verb of the present object."""
-        found = self.parts(VERB_LINE, line, 3)
+        """Reads the line of a verb of the present object."""
+        found = self.parts(VERB_LINE, line, VERB_RANK)
         _, names, owner, letters, direct, preposition, indirect = found.groups()
         if preposition not in PREPOSITION_NUMBERS:
             raise self.lines.broken(f"{shown(preposition)} isn't a preposition")
@@ -245,12 +240,12 @@ class Dump:
         self.item.verb_lines.append(self.lines.number)
 
     def read_petition(self, line):
-        """A line of a petition, which is only reported."""
+        """Reads the line of a petition, which is only reported."""
         found = PETITION_LINE.fullmatch(line)
         if not found:
             raise self.strange(line)
         self.value(found[3], Losses())
-        self.rank = 4
+        self.rank = PETITION_RANK
         self.losses.note(PETITIONS, f"line {self.lines.number}")
 
     # ---- values
@@ -327,7 +322,7 @@ class Dump:
         clash = clash_in(parents, {number: [plain(name).lower() for _, name in item.defines] for number, item in self.items.items()})
         if clash:
             number, place = clash
-            raise Broken(self.items[number].defined_at + place, f"#{number} or an ancestor already defines a property of this name")
+            raise Broken(self.items[number].line + 1 + place, f"#{number} or an ancestor already defines a property of this name")
         self.owed = owed_to_each(parents, {number: item.defines for number, item in self.items.items()})
         for number, item in self.items.items():
             self.check_slots(number, item)
@@ -335,13 +330,15 @@ class Dump:
     def check_slots(self, number, item):
         """The slots of an object are those that are owed to it, in that order."""
         owed = self.owed[number]
+        first_line = item.line + 1 + len(item.defines)
         for place, (slot, wanted) in enumerate(zip(item.slots, owed)):
             if slot[0] != wanted[0] or slot[1] != wanted[1]:
-                raise Broken(item.slots_at + place, f"a slot of #{wanted[0]}'s property {wanted[1]} is wanted here")
+                raise Broken(first_line + place, f"the slot of #{wanted[0]}'s property \"{wanted[1]}\" is wanted here")
             if place < len(item.defines) and slot[2].startswith(f"{CLEAR}\n"):
-                raise Broken(item.slots_at + place, f"#{number} defines this property, so its slot can't be clear")
+                raise Broken(first_line + place, f"#{number} defines this property, so its slot can't be clear")
         if len(item.slots) != len(owed):
-            raise Broken(item.slots_at or item.line, f"#{number} has {len(item.slots)} slots, and {len(owed)} are owed to it")
+            reason = f"#{number} has {len(item.slots)} slots, and {len(owed)} are owed to it"
+            raise Broken(first_line + min(len(item.slots), len(owed)), reason)
 
 
 class Writer:
@@ -421,7 +418,8 @@ def programs_of(path, losses):
     with opened(path) as stream:
         database = Database(stream, Losses(), keep_programs=True)
     for kind in (TASKS, CONNECTIONS, NO_CONNECTIONS, MORE_LINES):
-        losses.note(kind, f"{database.losses.firsts.get(kind)} of {path}", database.losses.counts.get(kind, 0))
+        if kind in database.losses.counts:
+            losses.note(kind, f"{database.losses.firsts[kind]} of {path}", database.losses.counts[kind])
     if database.version < VERSION:
         losses.note(OLD_PROGRAM, f"{path}, line 1", len(database.programs))
     programs = {}
