@@ -53,7 +53,7 @@ with mock.patch.object(sys, "path", [str(TOOLS), *sys.path]):
 
 
 def ran(tool, *words, text=""):
-    """The status of a tool that runs here, its output, and what it says. A fault that it doesn't tell of comes out as it is."""
+    """The status of a tool that runs in this process, its output, and what it says. A fault that it doesn't catch is raised."""
     out = io.TextIOWrapper(io.BytesIO(), encoding="latin-1", newline="")
     said = io.StringIO()
     given = io.TextIOWrapper(io.BytesIO(text.encode("latin-1")))
@@ -344,11 +344,11 @@ class Programs(Temporary):
         self.assertEqual(said, "from_lambdamoo: verb programs, which moo doesn't keep: 5, first at #0:0, line 280\n")
 
 
-class Told(Temporary):
-    """What has no place is told of, and nothing is left out without a word."""
+class Losses(Temporary):
+    """Whatever is left out or changed is reported."""
 
     def told(self, text, kind, place, count=1):
-        """The dump of a text, of which this is told."""
+        """The dump of a text, of which this is reported."""
         status, dump, said = from_database(text)
         self.assertEqual(status, 0)
         self.assertIn(f"from_lambdamoo: {kind}: {count}, first at {place}\n", said)
@@ -457,10 +457,10 @@ class Told(Temporary):
 
 
 class Broken(Temporary):
-    """A broken file is told of with its line, and nothing is written."""
+    """A broken file is refused with its line, and nothing is written."""
 
     def broken(self, done, line):
-        """Asserts that a tool told of this line."""
+        """Asserts that a tool refused this line."""
         status, output, said = done
         self.assertEqual((status, output), (1, ""))
         self.assertRegex(said, rf"\A\w+_lambdamoo: standard input, line {line}: .*\n\Z")
@@ -470,7 +470,7 @@ class Broken(Temporary):
         for count in range(len(lines) - 1):
             with self.subTest(count):
                 self.broken(from_database("".join(f"{line}\n" for line in lines[:count])), count + 1)
-        # The last line alone may be missing, since older files have none. It's told of all the same.
+        # The last line alone may be missing, since older files have none. This is reported.
         status, _, said = from_database("".join(f"{line}\n" for line in lines[:-1]))
         self.assertEqual(status, 0)
         self.assertIn("or one that was cut short", said)
@@ -619,7 +619,7 @@ class Broken(Temporary):
         self.broken(to_database(inserted(EXAMPLE_DUMP, 3, petition)), 4)
 
     def test_any_line_changed(self):
-        """Whatever is changed, it is converted or told of with a line, and what comes of a database is a dump that goes back."""
+        """Whatever is changed, the text is converted or refused with a line, and the dump of a database goes back."""
         for seed in range(4 * WORLDS):
             chance = random.Random(seed)
             world = random_world(chance, chance.choice([1, 3, 6]))
@@ -802,7 +802,7 @@ class Scripts(Temporary):
             self.assertEqual(done[2].count("\n"), 1)
 
     def test_output_that_nobody_reads(self):
-        """Who reads the output may go away: it's told of, without a traceback."""
+        """The reader of the output may go away: this is reported, without a traceback."""
         lines = ["4", "20000", *["2", "x" * 60] * 20000]
         database = self.file("long.db", of_value(*lines))
         words = [sys.executable, str(TOOLS / "from_lambdamoo.py"), database]

@@ -36,7 +36,7 @@ class ErrorValue:
 
 @dataclasses.dataclass
 class Verb:
-    """A verb, and its program where the text has programs."""
+    """A verb, and its program if it has one and the text tells programs."""
 
     names: str
     owner: int
@@ -195,7 +195,7 @@ def lists_of(world, link, random):
 
 
 def bits(letters, order):
-    """The number of these rights, where the first letter of the order counts 1, the next 2 and so on."""
+    """The number of these rights. The first letter of the order counts 1, the next 2 and so on."""
     return sum(1 << place for place, letter in enumerate(order) if letter in letters)
 
 
