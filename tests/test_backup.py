@@ -25,7 +25,7 @@ use_tools()
 import moo_client  # noqa: E402
 from moo_client import Moo, Obj  # noqa: E402
 
-COPIES = int(os.environ.get("COPIES", 8))
+COPIES = int(os.environ.get("COPIES", 6))
 FIRST = 'batch as #3\ncreate(#1)\nadd_property(#4, "mark", "", {#3, ""})\nend\n'
 FORM = r"world\.db-\d{8}T\d{6}\.\d{6}Z-seq\d+"
 
@@ -109,7 +109,7 @@ class AtRest(Copies):
         for name in ("world.db", "world.db-wal"):
             self.assertEqual((copy / name).read_bytes(), (self.room / name).read_bytes())
             self.assertIn(f"{hashlib.sha256((copy / name).read_bytes()).hexdigest()}  {name}\n", (copy / "SHA256SUMS").read_text())
-        self.assertTrue(copy.name.endswith("-seq1"))
+        self.assertTrue(copy.name.endswith("-seq1"), copy.name)
 
     def test_a_log_that_a_kill_left(self):
         service = Service(self.file)
@@ -118,6 +118,7 @@ class AtRest(Copies):
         service.stop()
         copy = self.copied()
         self.assertGreater((copy / "world.db-wal").stat().st_size, 100)
+        self.assertTrue(copy.name.endswith("-seq2"), copy.name)
         self.assertEqual(children(self.restored(copy)), made)
 
     def test_the_newest_are_kept(self):
