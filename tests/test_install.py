@@ -4,29 +4,35 @@
 """
 
 import gzip
+import json
 import os
 import pathlib
 import re
 import shutil
-import signal
 import stat
 import subprocess
 import sys
 import tempfile
 import unittest
+import urllib.error
+import urllib.request
 
 from tests.support.operating import PROGRAM, SECONDS, TOP, free_port
 
 INSTALLED = {
     "bin/moo": 0o755,
     "bin/moo-backup": 0o755,
+    "bin/moo-watch": 0o755,
     "lib/systemd/system/moo@.service": 0o644,
     "lib/systemd/system/moo-backup@.service": 0o644,
     "lib/systemd/system/moo-backup@.timer": 0o644,
+    "lib/systemd/system/moo-watch@.service": 0o644,
+    "lib/systemd/system/moo-watch@.timer": 0o644,
     "lib/sysusers.d/moo.conf": 0o644,
     "share/bash-completion/completions/moo": 0o644,
     "share/man/man1/moo.1.gz": 0o644,
     "share/man/man1/moo-backup.1.gz": 0o644,
+    "share/man/man1/moo-watch.1.gz": 0o644,
     "share/moo/moo_client.py": 0o644,
 }
 CLIENT = "import moo_client; print(moo_client.Moo({port}).run([('create', moo_client.Obj(1))], as_=3))"
@@ -87,7 +93,7 @@ class Install(InFolder):
 
     def test_manuals_are_whole(self):
         prefix = self.install()
-        for name, folder in (("moo.1", "docs"), ("moo-backup.1", "packaging")):
+        for name, folder in (("moo.1", "docs"), ("moo-backup.1", "packaging"), ("moo-watch.1", "packaging")):
             self.assertEqual(gzip.decompress((prefix / f"share/man/man1/{name}.gz").read_bytes()), (TOP / folder / name).read_bytes())
 
     def test_a_relative_prefix(self):
@@ -154,22 +160,65 @@ class Units(InFolder):
         copy = pathlib.Path(ran("sh", "-c", self.command("moo-backup@.service", "ExecStart")).rstrip("\n"))
         self.assertEqual(copy.parent, self.room / "copies")
 
+    def serve(self, world, before=""):
+        """The service of a world, and its port. `before` is what the shell does first."""
+        port = free_port()
+        words = f'{before} exec "$0" serve "$1" {port} 1000'
+        service = subprocess.Popen(["sh", "-c", words, PROGRAM, world], stdout=subprocess.PIPE, stderr=subprocess.DEVNULL, text=True)
+        self.addCleanup(service.communicate, timeout=SECONDS)
+        self.addCleanup(service.kill)
+        self.assertEqual(service.stdout.readline(), f"listening 127.0.0.1:{port}\n")
+        return service, port
+
+    def with_stand_in(self, line, service):
+        """A command's status and what it printed, with a stand-in for systemctl that notes its words and ends the service."""
+        stand_in = self.room / "tools/systemctl"
+        stand_in.parent.mkdir(exist_ok=True)
+        stand_in.write_text(f'#!/bin/sh\necho "$@" >{self.room}/asked\nkill {service.pid}\n')
+        stand_in.chmod(0o755)
+        path = {"PATH": f"{stand_in.parent}:{os.environ['PATH']}"}
+        done = subprocess.run(["sh", "-c", line], env=path, stdout=subprocess.PIPE, stderr=subprocess.PIPE, text=True, timeout=SECONDS)
+        return done.returncode, done.stdout
+
+    def asked(self):
+        """What was asked of systemctl."""
+        return (self.room / "asked").read_text() if (self.room / "asked").exists() else ""
+
     def test_the_backup_restarts_the_service_of_its_world(self):
-        """The command that ends a run, with a stand-in for systemctl."""
         world = self.room / "world.db"
         ran(self.prefix / "bin/moo", "init", world)
-        port = free_port()
-        with subprocess.Popen([PROGRAM, "serve", world, str(port), "1000"], stdout=subprocess.PIPE, text=True) as service:
-            self.addCleanup(lambda: service.poll() is None and service.send_signal(signal.SIGKILL))
-            service.stdout.readline()
-            stand_in = self.room / "tools/systemctl"
-            stand_in.parent.mkdir()
-            stand_in.write_text(f'#!/bin/sh\necho "$@" >{self.room}/asked\nkill {service.pid}\n')
-            stand_in.chmod(0o755)
-            line = self.command("moo-backup@.service", "ExecStart").replace("--wait 60", "--wait 0.1")
-            printed = ran("sh", "-c", line, env={"PATH": f"{stand_in.parent}:{os.environ['PATH']}"})
-        self.assertEqual((self.room / "asked").read_text(), "restart --no-block moo@world.service\n")
+        service, _ = self.serve(world)
+        line = self.command("moo-backup@.service", "ExecStart").replace("--wait 60", "--wait 0.1")
+        status, printed = self.with_stand_in(line, service)
+        self.assertEqual((status, self.asked()), (0, "restart --no-block moo@world.service\n"))
         self.assertIn("world.db-", printed)
+
+    def test_the_watch_leaves_a_good_service(self):
+        world = self.room / "world.db"
+        ran(self.prefix / "bin/moo", "init", world)
+        service, port = self.serve(world)
+        line = self.command("moo-watch@.service", "ExecStart", PORT=port)
+        self.assertEqual(self.with_stand_in(line, service), (0, "seq 0\n"))
+        service.kill()
+        service.wait(SECONDS)
+        self.assertEqual(self.with_stand_in(line, service), (1, ""))
+        self.assertEqual(self.asked(), "")
+
+    def test_the_watch_restarts_a_service_whose_disk_was_full(self):
+        """A limit on the size of files stands for the full disk."""
+        world = self.room / "world.db"
+        ran(self.prefix / "bin/moo", "init", world)
+        service, port = self.serve(world, "trap '' XFSZ; ulimit -f 1;")
+        with urllib.request.urlopen(f"http://127.0.0.1:{port}/seq", timeout=SECONDS) as answer:
+            self.assertEqual(answer.read(), b'{"seq":0}')
+        batch = json.dumps({"as": "#3", "calls": [f'set(#2, "name", "{"x" * 5000}")']}).encode()
+        with self.assertRaises(urllib.error.HTTPError) as raised:
+            urllib.request.urlopen(f"http://127.0.0.1:{port}/batch", batch, timeout=SECONDS)
+        self.assertEqual(raised.exception.read(), b'{"error":"fault"}')
+        raised.exception.close()
+        status, printed = self.with_stand_in(self.command("moo-watch@.service", "ExecStart", PORT=port), service)
+        self.assertEqual((status, printed, self.asked()), (1, "", "restart --no-block moo@world.service\n"))
+        self.assertEqual(ran(PROGRAM, "check", world), "ok seq 0 objects 4\n")
 
 
 @wants("bash")
