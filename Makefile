@@ -16,4 +16,14 @@ prove:
 build:
 	@.ci/build
 
-.PHONY: all test prove build
+PREFIX ?= /usr/local
+
+# the program, its manual, its tools and units, under PREFIX; DESTDIR stands before that. MOO is another program than that of these sources
+install:
+	@MOO="$(MOO)" packaging/install "$(PREFIX)" "$(DESTDIR)"
+
+# a Debian package, in out/
+deb:
+	@MOO="$(MOO)" packaging/deb
+
+.PHONY: all test prove build install deb

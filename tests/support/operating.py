@@ -1,0 +1,86 @@
+"""A service that is killed and started again, and what is in its world. For the tests of tools/."""
+
+import os
+import pathlib
+import re
+import socket
+import subprocess
+import sys
+import threading
+
+TOP = pathlib.Path(__file__).resolve().parent.parent.parent
+TOOLS = TOP / "tools"
+PROGRAM = os.path.abspath(os.environ.get("MOO", TOP / "crates/moo/out/moo"))
+SECONDS = 60
+
+
+def free_port():
+    """A port that nobody listens on now."""
+    with socket.socket() as probe:
+        probe.bind(("127.0.0.1", 0))
+        return probe.getsockname()[1]
+
+
+def said(*words, text=""):
+    """The status of the program with these words, and what it printed."""
+    ran = subprocess.run([PROGRAM, *map(str, words)], input=text, stdout=subprocess.PIPE, text=True, timeout=SECONDS)
+    return ran.returncode, ran.stdout
+
+
+def checked(file):
+    """The number of a whole world in a file; None where `check` finds none."""
+    status, line = said("check", file)
+    found = re.fullmatch(r"ok seq (\d+) objects \d+\n", line)
+    return int(found[1]) if status == 0 and found else None
+
+
+def make_world(file, text):
+    """A new world on which a text of batches has run."""
+    if said("init", file) != (0, "created\n"):
+        raise AssertionError("a world couldn't be made")
+    status, replies = said("apply", file, "-", text=text)
+    if status or re.search(r"^(refused|malformed|stale|fault)", replies, re.M):
+        raise AssertionError(f"the first batches were answered {replies!r}")
+
+
+class Service:
+    """`serve FILE PORT COUNT`, which is started again whenever it ends, until `stop`."""
+
+    def __init__(self, file, count=1_000_000, rest=0.0):
+        self.file, self.count, self.rest = file, count, rest
+        self.port = free_port()
+        self.starts, self.process = 0, None
+        self.is_stopped, self.is_listening = threading.Event(), threading.Event()
+        self.keeper = threading.Thread(target=self.keep, daemon=True)
+        self.keeper.start()
+        if not self.is_listening.wait(SECONDS):
+            raise AssertionError("the service doesn't listen")
+
+    def keep(self):
+        """Runs the program again and again."""
+        while not self.is_stopped.is_set():
+            words = [PROGRAM, "serve", str(self.file), str(self.port), str(self.count)]
+            with subprocess.Popen(words, stdout=subprocess.PIPE, stderr=subprocess.DEVNULL) as self.process:
+                if self.process.stdout.readline().startswith(b"listening"):
+                    self.starts += 1
+                    self.is_listening.set()
+                self.process.wait()
+            self.is_listening.clear()
+            self.is_stopped.wait(self.rest)
+
+    def kill(self):
+        """Kills the program that runs. `is_listening` is set again by the next one."""
+        self.is_listening.clear()
+        self.process.kill()
+
+    def stop(self):
+        """Ends it for good."""
+        self.is_stopped.set()
+        self.kill()
+        self.keeper.join(SECONDS)
+
+
+def use_tools():
+    """Makes the modules of tools/ known."""
+    sys.dont_write_bytecode = True
+    sys.path.insert(0, str(TOOLS))

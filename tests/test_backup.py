@@ -1,0 +1,247 @@
+"""Copies of a world under load: by tools/moo-backup between two runs of the service, and as a snapshot of the file system would be.
+
+`COPIES` in the environment is another number of copies of each kind.
+"""
+
+import contextlib
+import hashlib
+import os
+import pathlib
+import random
+import shutil
+import signal
+import sqlite3
+import subprocess
+import sys
+import tempfile
+import threading
+import time
+import unittest
+
+from tests.support.operating import PROGRAM, SECONDS, TOOLS, Service, checked, make_world, said, use_tools
+
+use_tools()
+
+import moo_client  # noqa: E402
+from moo_client import Moo, Obj  # noqa: E402
+
+COPIES = int(os.environ.get("COPIES", 6))
+FIRST = 'batch as #3\ncreate(#1)\nadd_property(#4, "mark", "", {#3, ""})\nend\n'
+FORM = r"world\.db-\d{8}T\d{6}\.\d{6}Z-seq\d+"
+
+
+def children(file):
+    """What lies under #4 in the world of a file."""
+    _, reply = said("ask", file, "-", text="batch as #3\nchildren(#4)\nend\n")
+    return moo_client.read(reply.splitlines()[1])
+
+
+class Writer(threading.Thread):
+    """A client that makes one object after another under #4. `made` are the answers."""
+
+    def __init__(self, port):
+        super().__init__(daemon=True)
+        self.world = Moo(port, mark=(Obj(4), "mark"))
+        self.is_over, self.made, self.wrong = threading.Event(), [], None
+
+    def run(self):
+        try:
+            while not self.is_over.is_set():
+                self.made += self.world.run([("create", Obj(4))], as_=3)
+        except Exception as error:  # a thread's own failure is the test's
+            self.wrong = repr(error)
+
+    def end(self):
+        self.is_over.set()
+        self.join(SECONDS)
+
+
+class Copies(unittest.TestCase):
+    """A world in an empty folder, and a folder for its copies."""
+
+    def setUp(self):
+        room = tempfile.TemporaryDirectory()
+        self.addCleanup(room.cleanup)
+        self.room = pathlib.Path(room.name)
+        self.file, self.folder = self.room / "world.db", self.room / "copies"
+        make_world(self.file, FIRST)
+
+    def backup(self, *words):
+        """The status of moo-backup, and what it printed and complained of."""
+        command = [sys.executable, str(TOOLS / "moo-backup"), "--moo", PROGRAM, *words, str(self.file), str(self.folder)]
+        ran = subprocess.run(command, stdout=subprocess.PIPE, stderr=subprocess.PIPE, text=True, timeout=SECONDS)
+        return ran.returncode, ran.stdout, ran.stderr
+
+    def copied(self, *words):
+        """The folder of a copy that has to come about."""
+        status, printed, complaint = self.backup(*words)
+        self.assertEqual((status, complaint), (0, ""))
+        folder = pathlib.Path(printed.rstrip("\n"))
+        self.assertEqual(folder.parent, self.folder)
+        self.assertRegex(folder.name, f"^{FORM}$")
+        return folder
+
+    def assert_not_copied(self, reason, *words):
+        """No copy comes about, for this reason, and those that are there stay as they are."""
+        before = self.bytes_of_copies()
+        status, printed, complaint = self.backup(*words)
+        self.assertEqual((status, printed), (1, ""))
+        self.assertIn(reason, complaint)
+        self.assertEqual(self.bytes_of_copies(), before)
+
+    def bytes_of_copies(self):
+        """Each file of the folder, with its bytes."""
+        return {path: path.read_bytes() for path in self.folder.rglob("*") if path.is_file()} if self.folder.exists() else {}
+
+    def restored(self, copy):
+        """The file of a world that a copy was put back to, as an operator would."""
+        target = self.room / f"restored-{copy.name}"
+        shutil.copytree(copy, target)
+        self.assertEqual(subprocess.run(["sha256sum", "--quiet", "-c", "SHA256SUMS"], cwd=target, timeout=SECONDS).returncode, 0)
+        return target / "world.db"
+
+
+class AtRest(Copies):
+    """A world that nobody has open."""
+
+    def test_both_files_as_they_are(self):
+        copy = self.copied()
+        for name in ("world.db", "world.db-wal"):
+            self.assertEqual((copy / name).read_bytes(), (self.room / name).read_bytes())
+            self.assertIn(f"{hashlib.sha256((copy / name).read_bytes()).hexdigest()}  {name}\n", (copy / "SHA256SUMS").read_text())
+        self.assertTrue(copy.name.endswith("-seq1"), copy.name)
+
+    def test_a_log_that_a_kill_left(self):
+        service = Service(self.file)
+        self.addCleanup(service.stop)
+        made = Moo(service.port).run([("create", Obj(4))] * 20, as_=3)
+        service.stop()
+        copy = self.copied()
+        self.assertGreater((copy / "world.db-wal").stat().st_size, 100)
+        self.assertTrue(copy.name.endswith("-seq2"), copy.name)
+        self.assertEqual(children(self.restored(copy)), made)
+
+    def test_the_newest_are_kept(self):
+        self.folder.mkdir()
+        for name in ("other", "world.db", "other.db-20200101T000000.000000Z-seq1", ".unfinished-a"):
+            (self.folder / name).mkdir()
+        made = [self.copied("--keep", "2").name for _ in range(4)]
+        left = sorted(path.name for path in self.folder.iterdir())
+        self.assertEqual(left, sorted([*made[2:], "other", "world.db", "other.db-20200101T000000.000000Z-seq1"]))
+
+    def test_a_failed_backup_leaves_the_good_ones(self):
+        self.copied("--keep", "1")
+        good = self.file.read_bytes()
+        self.file.write_bytes(good[: len(good) // 2])
+        self.assert_not_copied("the copy is not whole", "--keep", "1")
+        self.file.write_bytes(b"")
+        self.assert_not_copied("the copy is not whole", "--keep", "1")
+        self.file.unlink()
+        self.assert_not_copied("No such file", "--keep", "1")
+        self.file.write_bytes(good)
+        self.assert_not_copied("No such file", "--keep", "1", "--moo", str(self.room / "nothing"))
+        self.assertEqual(len(list(self.folder.iterdir())), 1)
+        self.copied("--keep", "1")
+
+    def test_a_damaged_world_is_not_kept(self):
+        self.copied()
+        with contextlib.closing(sqlite3.connect(self.file)) as world, world:
+            world.execute("DELETE FROM object WHERE n = 1")
+        self.assert_not_copied("the copy is not whole: moo: damaged")
+
+    def test_a_kill_leaves_the_good_ones(self):
+        self.copied()
+        before = self.bytes_of_copies()
+        slow = self.room / "slow"
+        slow.write_text("#!/bin/sh\necho $$ >\"$0.pid\"\nexec sleep 60\n")
+        slow.chmod(0o755)
+        command = [sys.executable, str(TOOLS / "moo-backup"), "--moo", str(slow), str(self.file), str(self.folder)]
+        with subprocess.Popen(command) as run:
+            pid = self.room / "slow.pid"
+            end = time.monotonic() + SECONDS
+            while not (pid.exists() and pid.read_text().strip()) and time.monotonic() < end:
+                time.sleep(0.01)
+            run.kill()
+        os.kill(int(pid.read_text()), signal.SIGKILL)
+        self.assertEqual({path: data for path, data in self.bytes_of_copies().items() if path in before}, before)
+        self.copied()
+        self.assertEqual([path for path in self.folder.iterdir() if path.name.startswith(".")], [])
+
+    def test_wrong_words(self):
+        for words in (["--keep", "0"], ["--wait", "x"], ["--nothing"]):
+            with self.subTest(words):
+                self.assertEqual(self.backup(*words)[0], 2)
+
+
+class UnderLoad(Copies):
+    """A world that a service has open, and a client writes to."""
+
+    def load(self, count=1_000_000):
+        self.service = Service(self.file, count)
+        self.addCleanup(self.service.stop)
+        self.writer = Writer(self.service.port)
+        self.addCleanup(self.writer.end)
+        self.writer.start()
+
+    def assert_is_of_the_moment(self, file, before):
+        """The file holds all that was acknowledged before the copy, and nothing that wasn't made in this order."""
+        under = children(file)
+        self.assertGreaterEqual(len(under), before)
+        self.writer_goes_on(len(under))
+        self.assertEqual(under, self.writer.made[: len(under)])
+        self.assertEqual(checked(file), 1 + len(under))
+
+    def writer_goes_on(self, number):
+        """The client gets so many answers, and one more."""
+        end = time.monotonic() + SECONDS
+        while len(self.writer.made) <= number and not self.writer.wrong and time.monotonic() < end:
+            time.sleep(0.005)
+        self.assertIsNone(self.writer.wrong)
+        self.assertGreater(len(self.writer.made), number)
+
+    def test_between_two_runs(self):
+        self.load(count=40)
+        for _ in range(COPIES):
+            before = len(self.writer.made)
+            self.assert_is_of_the_moment(self.restored(self.copied()), before)
+        self.assertGreater(self.service.starts, COPIES)
+
+    def test_a_run_that_goes_on(self):
+        self.load()
+        for _ in range(3):
+            before = len(self.writer.made)
+            self.assert_not_copied("the world was in use for 0.1 seconds", "--wait", "0.1")
+            copy = self.copied("--wait", "0.1", "--end", f"kill {self.service.process.pid}")
+            self.assert_is_of_the_moment(self.restored(copy), before)
+
+    def test_the_command_fails(self):
+        self.load()
+        self.assert_not_copied("the command to end the run failed: false", "--wait", "0.1", "--end", "false")
+
+    def test_a_snapshot_of_the_file_system(self):
+        """Both files, as they are at one moment: the service stands still while they are copied."""
+        self.load()
+        chance = random.Random(1)
+        for number in range(COPIES):
+            time.sleep(chance.uniform(0, 0.1))
+            self.service.process.send_signal(signal.SIGSTOP)
+            before = len(self.writer.made)
+            folder = self.room / f"snapshot-{number}"
+            folder.mkdir()
+            for name in ("world.db", "world.db-wal"):
+                shutil.copyfile(self.room / name, folder / name)
+            self.service.process.send_signal(signal.SIGCONT)
+            self.assert_is_of_the_moment(folder / "world.db", before)
+
+    def test_one_file_without_its_log(self):
+        """What may not be done: the file alone lacks what its log holds."""
+        service = Service(self.file)
+        self.addCleanup(service.stop)
+        made = Moo(service.port).run([("create", Obj(4))], as_=3)
+        alone = self.room / "alone.db"
+        shutil.copyfile(self.file, alone)
+        self.assertNotEqual((checked(alone), children(alone) if checked(alone) else []), (2, made))
+
+
+if __name__ == "__main__":
+    unittest.main()

@@ -1,0 +1,326 @@
+"""The client of the service, tools/moo_client.py: its values and errors, and that a batch acts once though connections break.
+
+The service is killed 200 times while four clients write to it. `KILLS` in the environment is another number of kills, `SEED` the seed.
+"""
+
+import os
+import pathlib
+import random
+import socket
+import tempfile
+import threading
+import time
+import unittest
+
+from tests.support.operating import SECONDS, Service, checked, make_world, said, use_tools
+
+use_tools()
+
+import moo_client  # noqa: E402
+from moo_client import ErrorValue, Moo, Obj  # noqa: E402
+
+CLIENTS = 4
+KILLS = int(os.environ.get("KILLS", 200))
+
+
+def first_batches():
+    """An object for each client, from #4 on, which is a parent of what the client makes and holds its mark."""
+    calls = []
+    for number in range(4, 4 + CLIENTS):
+        calls += ["create(#1)", f'add_property(#{number}, "mark", "", {{#3, ""}})', f'set(#{number}, "f", 1)']
+    return "\n".join(["batch as #3", *calls, "end", ""])
+
+
+class Values(unittest.TestCase):
+    """The texts of values, by the manual's literals."""
+
+    PAIRS = (
+        (0, "0"),
+        (-12, "-12"),
+        (9223372036854775807, "9223372036854775807"),
+        (Obj(4), "#4"),
+        (Obj(-1), "#-1"),
+        ("", '""'),
+        ("a\tb ~", '"a\tb ~"'),
+        ('say "hi" \\', '"say \\"hi\\" \\\\"'),
+        ("#4", '"#4"'),
+        (ErrorValue("E_PERM"), "E_PERM"),
+        ([], "{}"),
+        ([1, [Obj(2), "a, {b}"], ErrorValue("E_NONE"), []], '{1, {#2, "a, {b}"}, E_NONE, {}}'),
+    )
+
+    def test_values_are_written_and_read(self):
+        for value, text in self.PAIRS:
+            with self.subTest(text):
+                self.assertEqual(moo_client.written(value), text)
+                self.assertEqual(moo_client.read(text), value)
+                self.assertIs(type(moo_client.read(text)), type(value))
+
+    def test_other_things_are_no_values(self):
+        for value, kind in ((1.5, TypeError), (None, TypeError), ({}, TypeError), ("é", ValueError), ("a\nb", ValueError)):
+            with self.subTest(value), self.assertRaises(kind):
+                moo_client.written([value])
+
+    def test_texts_that_are_no_values(self):
+        for text in ("", "#", "{1", "{1,}", "{,}", "1 2", '"a', "e_perm", "}", "{1 2}"):
+            with self.subTest(text), self.assertRaises(ValueError):
+                moo_client.read(text)
+
+    def test_calls(self):
+        self.assertEqual(moo_client.written_call(("set", Obj(4), "name", "A")), 'set(#4, "name", "A")')
+        self.assertEqual(moo_client.written_call(("players",)), "players()")
+        self.assertEqual(moo_client.written_call("valid(#4)"), "valid(#4)")
+
+
+class WithService(unittest.TestCase):
+    """A world in an empty folder, and its service."""
+
+    def setUp(self):
+        room = tempfile.TemporaryDirectory()
+        self.addCleanup(room.cleanup)
+        self.file = pathlib.Path(room.name) / "world.db"
+        make_world(self.file, first_batches())
+        self.service = Service(self.file)
+        self.addCleanup(self.service.stop)
+        self.port = self.service.port
+
+
+class Answers(WithService):
+    """What comes back of a service that runs."""
+
+    def test_values_come_back(self):
+        world = Moo(self.port)
+        values = [[1, [Obj(2), 'a "b" \\ c'], ErrorValue("E_PERM")], "", -5, Obj(-1)]
+        for place, value in enumerate(values):
+            with self.subTest(value):
+                name = f"p{place}"
+                calls = [("add_property", Obj(4), name, value, [Obj(3), "r"]), ("get", Obj(4), name)]
+                self.assertEqual(world.run(calls, as_=3), [0, value])
+
+    def test_errors_have_their_names(self):
+        world = Moo(self.port)
+        cases = (
+            (["create(#1)", "recycle(#99)"], 3, moo_client.E_INVARG, 2),
+            (['get(#1, "nothing")'], 3, moo_client.E_PROPNF, 1),
+            (["recycle(#2)"], 4, moo_client.E_PERM, 1),
+            (["create(#1)", "sing()"], 3, moo_client.Malformed, 2),
+        )
+        for calls, who, kind, call in cases:
+            with self.subTest(calls), self.assertRaises(kind) as raised:
+                world.run(calls, as_=who)
+            self.assertEqual(raised.exception.call, call)
+        self.assertEqual(world.seq(), 1)
+
+    def test_ask_changes_nothing(self):
+        world = Moo(self.port)
+        self.assertEqual(world.ask([("create", Obj(1))], as_=3), [Obj(4 + CLIENTS)])
+        self.assertEqual(world.seq(), 1)
+
+    def test_an_object(self):
+        world = Moo(self.port)
+        world.run([("set", Obj(4), "name", "#3")], as_=3)
+        shown = world.object(Obj(4))
+        self.assertEqual((shown["name"], shown["parent"], shown["children"], shown["f"]), ("#3", Obj(1), [], 1))
+        with self.assertRaises(moo_client.E_INVARG):
+            world.object(99)
+
+    def test_at_another_number(self):
+        world = Moo(self.port)
+        self.assertEqual(world.run([("create", Obj(1))], as_=3, at=1), [Obj(4 + CLIENTS)])
+        with self.assertRaises(moo_client.Stale) as raised:
+            world.run([("create", Obj(1))], as_=3, at=1)
+        self.assertEqual(raised.exception.seq, 2)
+
+    def test_too_long_a_body(self):
+        with self.assertRaises(ValueError):
+            Moo(self.port).run([("set", Obj(4), "name", "x" * 65535)] * 17, as_=3)
+        self.assertEqual(Moo(self.port).seq(), 1)
+
+    def test_nobody_listens(self):
+        self.service.stop()
+        with self.assertRaises(moo_client.Unreachable):
+            Moo(self.port, patience=0.2).run([("create", Obj(1))], as_=3)
+
+
+class Breaker:
+    """Stands between a client and the service, and breaks connections off: `plan` says how, one word a connection.
+
+    `request` takes nothing; `answer` lets the request through and loses the answer; `other` does that too, after a batch of another
+    client; `before` runs such a batch and takes nothing; `part` gives one half of the answer. Without a word all goes through.
+    """
+
+    def __init__(self, port, plan):
+        self.port, self.plan = port, list(plan)
+        self.listener = socket.create_server(("127.0.0.1", 0))
+        self.own_port = self.listener.getsockname()[1]
+        self.thread = threading.Thread(target=self.serve, daemon=True)
+        self.thread.start()
+
+    def serve(self):
+        while True:
+            try:
+                peer, _ = self.listener.accept()
+            except OSError:
+                return
+            with peer:
+                self.treat(peer)
+
+    def treat(self, peer):
+        """One connection. The plan is for batches; what only asks goes through."""
+        request = whole_request(peer)
+        word = self.plan.pop(0) if self.plan and request.startswith(b"POST /batch") else ""
+        if word == "before":
+            Moo(self.port).run(["max_object()"], as_=3)
+        if word in ("request", "before"):
+            return
+        with socket.create_connection(("127.0.0.1", self.port), SECONDS) as service:
+            service.sendall(request)
+            answer = b"".join(iter(lambda: service.recv(65536), b""))
+        if word == "other":
+            Moo(self.port).run(["max_object()"], as_=3)
+        if word not in ("answer", "other"):
+            peer.sendall(answer[: len(answer) // 2] if word == "part" else answer)
+
+    def stop(self):
+        self.listener.shutdown(socket.SHUT_RDWR)
+        self.listener.close()
+        self.thread.join(SECONDS)
+
+
+def whole_request(peer):
+    """The bytes of one request."""
+    said = b""
+    while b"\r\n\r\n" not in said:
+        said += peer.recv(65536)
+    head, _, body = said.partition(b"\r\n\r\n")
+    length = 0
+    for line in head.lower().split(b"\r\n"):
+        if line.startswith(b"content-length:"):
+            length = int(line.split(b":")[1])
+    while len(body) < length:
+        body += peer.recv(65536)
+    return head + b"\r\n\r\n" + body
+
+
+class BrokenConnections(WithService):
+    """Connections that break at a chosen place."""
+
+    def through(self, *plan, **options):
+        breaker = Breaker(self.port, plan)
+        self.addCleanup(breaker.stop)
+        return Moo(breaker.own_port, **options)
+
+    def made(self):
+        """What was made under #4, as the service itself says."""
+        return Moo(self.port).object(4)["children"]
+
+    def test_a_batch_acts_once(self):
+        plans = [("request",), ("answer",), ("part",), ("request", "answer", "answer"), ("other",), ("before",), ("before", "other", "answer")]
+        for plan in plans:
+            with self.subTest(plan):
+                world = self.through(*plan, mark=(Obj(4), "mark"))
+                before = self.made()
+                (answer,) = world.run([("create", Obj(4))], as_=3)
+                self.assertEqual(self.made(), before + [answer])
+
+    def test_a_client_that_is_alone(self):
+        for plan in (("request",), ("answer",), ("part", "answer", "request")):
+            with self.subTest(plan):
+                before = self.made()
+                (answer,) = self.through(*plan, alone=True).run([("create", Obj(4))], as_=3)
+                self.assertEqual(self.made(), before + [answer])
+
+    def test_nothing_tells(self):
+        for plan, options in ((("answer",), {}), (("other",), {"alone": True}), (("before",), {})):
+            with self.subTest(plan), self.assertRaises(moo_client.Unsure) as raised:
+                at = Moo(self.port).seq()
+                self.through(*plan, **options).run([("create", Obj(4))], as_=3)
+            self.assertEqual(raised.exception.at, at)
+
+    def test_a_mark_that_is_gone(self):
+        world = self.through("answer", mark=(Obj(4), "mark"))
+
+        def is_mine(*given):
+            Moo(self.port).run([("recycle", Obj(4))], as_=3)
+            return Moo.is_mine(world, *given)
+
+        world.is_mine = is_mine
+        with self.assertRaises(moo_client.Unsure):
+            world.run([("create", Obj(1))], as_=3)
+
+    def test_at_acts_once(self):
+        world = self.through("answer", mark=(Obj(4), "mark"))
+        (answer,) = world.run([("create", Obj(4))], as_=3, at=1)
+        self.assertEqual(self.made(), [answer])
+
+    def test_patience_ends(self):
+        world = self.through(*["answer"] * 1000, patience=0.3)
+        with self.assertRaises(moo_client.Unsure):
+            world.run([("create", Obj(4))], as_=3)
+
+
+class Writer(threading.Thread):
+    """A client that makes one object after another under its own, until it is told to stop. `made` are the answers."""
+
+    def __init__(self, port, own, is_over):
+        super().__init__(daemon=True)
+        self.world = Moo(port, mark=(own, "mark"))
+        self.own, self.is_over = own, is_over
+        self.made, self.wrong, self.settled = [], None, 0
+        self.world.is_mine = self.is_mine
+
+    def is_mine(self, *given):
+        """Counts the batches whose lost answer was found to have acted."""
+        mine = Moo.is_mine(self.world, *given)
+        self.settled += mine
+        return mine
+
+    def run(self):
+        try:
+            while not self.is_over.is_set():
+                calls = [("create", self.own), ("set", self.own, "name", f"made {len(self.made) + 1}")]
+                self.made.append(self.world.run(calls, as_=3)[0])
+        except Exception as error:  # a thread's own failure is the test's
+            self.wrong = repr(error)
+
+
+class Kills(WithService):
+    """The service is killed at random moments while clients write."""
+
+    def test_nothing_twice_and_nothing_lost(self):
+        seed = int(os.environ.get("SEED", random.randrange(1_000_000)))
+        chance = random.Random(seed)
+        is_over = threading.Event()
+        writers = [Writer(self.port, Obj(number), is_over) for number in range(4, 4 + CLIENTS)]
+        for writer in writers:
+            writer.start()
+        for _ in range(KILLS):
+            self.assertTrue(self.service.is_listening.wait(SECONDS))
+            time.sleep(chance.uniform(0, 0.05))
+            self.service.kill()
+        is_over.set()
+        for writer in writers:
+            writer.join(SECONDS)
+            self.assertFalse(writer.is_alive(), f"seed {seed}")
+            self.assertIsNone(writer.wrong, f"seed {seed}")
+        self.compare(writers, seed)
+
+    def compare(self, writers, seed):
+        """The world holds just what the clients were told."""
+        self.service.stop()
+        self.assertGreaterEqual(self.service.starts, KILLS, f"seed {seed}")
+        batches = sum(len(writer.made) for writer in writers)
+        self.assertGreater(batches, KILLS, f"seed {seed}: too few to show anything")
+        self.assertEqual(checked(self.file), 1 + batches, f"seed {seed}")
+        for writer in writers:
+            calls = f'children({writer.own})\nget({writer.own}, "name")\n'
+            _, reply = said("ask", self.file, "-", text=f"batch as #3\n{calls}end\n")
+            children, name = map(moo_client.read, reply.splitlines()[1:3])
+            self.assertEqual(children, writer.made, f"seed {seed}")
+            self.assertEqual(name, f"made {len(writer.made)}", f"seed {seed}")
+        settled = sum(writer.settled for writer in writers)
+        print(f"{KILLS} kills, {batches} batches, {settled} found done whose answers were lost, seed {seed}")
+
+
+if __name__ == "__main__":
+    unittest.main()

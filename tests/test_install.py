@@ -1,0 +1,300 @@
+"""What `make install` and `make deb` put where, and that it runs from there.
+
+`systemd-analyze`, `dpkg-deb`, `lintian` and `bash` are used where they are there.
+"""
+
+import gzip
+import json
+import os
+import pathlib
+import re
+import shutil
+import stat
+import subprocess
+import sys
+import tempfile
+import unittest
+import urllib.error
+import urllib.request
+
+from tests.support.operating import PROGRAM, SECONDS, TOP, free_port
+
+INSTALLED = {
+    "bin/moo": 0o755,
+    "bin/moo-backup": 0o755,
+    "bin/moo-watch": 0o755,
+    "lib/systemd/system/moo@.service": 0o644,
+    "lib/systemd/system/moo-backup@.service": 0o644,
+    "lib/systemd/system/moo-backup@.timer": 0o644,
+    "lib/systemd/system/moo-watch@.service": 0o644,
+    "lib/systemd/system/moo-watch@.timer": 0o644,
+    "lib/sysusers.d/moo.conf": 0o644,
+    "share/bash-completion/completions/moo": 0o644,
+    "share/man/man1/moo.1.gz": 0o644,
+    "share/man/man1/moo-backup.1.gz": 0o644,
+    "share/man/man1/moo-watch.1.gz": 0o644,
+    "share/moo/moo_client.py": 0o644,
+}
+CLIENT = "import moo_client; print(moo_client.Moo({port}).run([('create', moo_client.Obj(1))], as_=3))"
+
+
+def ran(*words, **options):
+    """A command that has to end with status 0, and what it printed."""
+    done = subprocess.run(list(map(str, words)), stdout=subprocess.PIPE, stderr=subprocess.STDOUT, text=True, timeout=SECONDS, **options)
+    if done.returncode:
+        raise AssertionError(f"{words}: status {done.returncode}\n{done.stdout}")
+    return done.stdout
+
+
+def modes(top):
+    """Each file below a folder, with its mode."""
+    return {str(path.relative_to(top)): stat.S_IMODE(path.stat().st_mode) for path in top.rglob("*") if path.is_file()}
+
+
+def wants(command):
+    """Leaves a test out where a command is missing."""
+    return unittest.skipUnless(shutil.which(command), f"the command {command} is missing")
+
+
+class InFolder(unittest.TestCase):
+    """An empty folder."""
+
+    def setUp(self):
+        room = tempfile.TemporaryDirectory()
+        self.addCleanup(room.cleanup)
+        self.room = pathlib.Path(room.name).resolve()
+
+    def make(self, *words):
+        return ran("make", "--no-print-directory", "-C", TOP, f"MOO={PROGRAM}", *words)
+
+
+class Install(InFolder):
+    """`make install`."""
+
+    def install(self):
+        """Installs under a PREFIX that is there, as an administrator does, and gives it."""
+        prefix = self.room / "usr"
+        self.make("install", f"PREFIX={prefix}")
+        return prefix
+
+    def test_files_and_modes(self):
+        self.assertEqual(modes(self.install()), INSTALLED)
+
+    def test_a_folder_before_the_prefix(self):
+        self.make("install", "PREFIX=/opt/moo", f"DESTDIR={self.room}/stage")
+        top = self.room / "stage/opt/moo"
+        self.assertEqual(modes(top), INSTALLED)
+        for path in top.rglob("*@.*"):
+            self.assertNotIn(str(self.room), path.read_text())
+        self.assertIn("ExecStart=/opt/moo/bin/moo serve", (top / "lib/systemd/system/moo@.service").read_text())
+
+    def test_the_program_as_it_is(self):
+        self.assertEqual((self.install() / "bin/moo").read_bytes(), pathlib.Path(PROGRAM).read_bytes())
+
+    def test_manuals_are_whole(self):
+        prefix = self.install()
+        for name, folder in (("moo.1", "docs"), ("moo-backup.1", "packaging"), ("moo-watch.1", "packaging")):
+            self.assertEqual(gzip.decompress((prefix / f"share/man/man1/{name}.gz").read_bytes()), (TOP / folder / name).read_bytes())
+
+    def test_a_relative_prefix(self):
+        done = subprocess.run([TOP / "packaging/install", "usr"], cwd=self.room, stderr=subprocess.PIPE, timeout=SECONDS)
+        self.assertEqual((done.returncode, list(self.room.iterdir())), (2, []))
+
+    def test_it_runs(self):
+        """Serve, write by the client, copy, lose the world, restore, and go on."""
+        prefix = self.install()
+        world, copies, port = self.room / "world.db", self.room / "copies", free_port()
+        self.assertEqual(ran(prefix / "bin/moo", "init", world), "created\n")
+        self.assertEqual(self.served(prefix, world, port), "[Obj(number=4)]\n")
+        path = {"PATH": f"{prefix}/bin:{os.environ['PATH']}"}
+        copy = pathlib.Path(ran(sys.executable, prefix / "bin/moo-backup", world, copies, env=path).rstrip("\n"))
+        for file in self.room.glob("world.db*"):
+            file.unlink()
+        for name in ("world.db", "world.db-wal"):
+            shutil.copy(copy / name, self.room / name)
+        self.assertEqual(ran(prefix / "bin/moo", "check", world), "ok seq 1 objects 5\n")
+        self.assertEqual(self.served(prefix, world, port), "[Obj(number=5)]\n")
+
+    def served(self, prefix, world, port):
+        """What the installed client prints of a batch that the installed service runs."""
+        with subprocess.Popen([prefix / "bin/moo", "serve", world, str(port), "1000"], stdout=subprocess.PIPE, text=True) as service:
+            try:
+                self.assertEqual(service.stdout.readline(), f"listening 127.0.0.1:{port}\n")
+                return ran(sys.executable, "-B", "-c", CLIENT.format(port=port), env={"PYTHONPATH": f"{prefix}/share/moo"})
+            finally:
+                service.kill()
+
+
+class Units(InFolder):
+    """The units, as systemd reads them, and the commands in them."""
+
+    def setUp(self):
+        super().setUp()
+        self.prefix = self.room / "usr"
+        self.make("install", f"PREFIX={self.prefix}")
+        self.units = self.prefix / "lib/systemd/system"
+
+    @wants("systemd-analyze")
+    def test_systemd_takes_them(self):
+        for unit in sorted(self.units.iterdir()):
+            with self.subTest(unit.name):
+                self.assertEqual(ran("systemd-analyze", "verify", "--man=no", unit), "")
+
+    def command(self, unit, key, **values):
+        """The words of a command in a unit, for the world `world` in this folder."""
+        found = re.search(f"^{key}=(.*)$", (self.units / unit).read_text(), re.M)
+        line = found[1].replace("%i", "world").replace("/var/lib/moo", str(self.room)).replace("/var/backups/moo", f"{self.room}/copies")
+        for name, value in values.items():
+            line = line.replace("${" + name + "}", str(value))
+        return line
+
+    def test_the_commands_of_the_service(self):
+        ran(self.prefix / "bin/moo", "init", self.room / "world.db")
+        self.assertEqual(ran("sh", "-c", self.command("moo@.service", "ExecStartPre")), "ok seq 0 objects 4\n")
+        port = free_port()
+        served = ran("sh", "-c", self.command("moo@.service", "ExecStart", PORT=port, COUNT=0))
+        self.assertEqual(served, f"listening 127.0.0.1:{port}\nserved 0 failed 0\n")
+
+    def test_the_command_of_the_backup(self):
+        ran(self.prefix / "bin/moo", "init", self.room / "world.db")
+        copy = pathlib.Path(ran("sh", "-c", self.command("moo-backup@.service", "ExecStart")).rstrip("\n"))
+        self.assertEqual(copy.parent, self.room / "copies")
+
+    def serve(self, world, before=""):
+        """The service of a world, and its port. `before` is what the shell does first."""
+        port = free_port()
+        words = f'{before} exec "$0" serve "$1" {port} 1000'
+        service = subprocess.Popen(["sh", "-c", words, PROGRAM, world], stdout=subprocess.PIPE, stderr=subprocess.DEVNULL, text=True)
+        self.addCleanup(service.communicate, timeout=SECONDS)
+        self.addCleanup(service.kill)
+        self.assertEqual(service.stdout.readline(), f"listening 127.0.0.1:{port}\n")
+        return service, port
+
+    def with_stand_in(self, line, service):
+        """A command's status and what it printed, with a stand-in for systemctl that notes its words and ends the service."""
+        stand_in = self.room / "tools/systemctl"
+        stand_in.parent.mkdir(exist_ok=True)
+        stand_in.write_text(f'#!/bin/sh\necho "$@" >{self.room}/asked\nkill {service.pid}\n')
+        stand_in.chmod(0o755)
+        path = {"PATH": f"{stand_in.parent}:{os.environ['PATH']}"}
+        done = subprocess.run(["sh", "-c", line], env=path, stdout=subprocess.PIPE, stderr=subprocess.PIPE, text=True, timeout=SECONDS)
+        return done.returncode, done.stdout
+
+    def asked(self):
+        """What was asked of systemctl."""
+        return (self.room / "asked").read_text() if (self.room / "asked").exists() else ""
+
+    def test_the_backup_restarts_the_service_of_its_world(self):
+        world = self.room / "world.db"
+        ran(self.prefix / "bin/moo", "init", world)
+        service, _ = self.serve(world)
+        line = self.command("moo-backup@.service", "ExecStart").replace("--wait 60", "--wait 0.1")
+        status, printed = self.with_stand_in(line, service)
+        self.assertEqual((status, self.asked()), (0, "restart --no-block moo@world.service\n"))
+        self.assertIn("world.db-", printed)
+
+    def test_the_watch_leaves_a_good_service(self):
+        world = self.room / "world.db"
+        ran(self.prefix / "bin/moo", "init", world)
+        service, port = self.serve(world)
+        line = self.command("moo-watch@.service", "ExecStart", PORT=port)
+        self.assertEqual(self.with_stand_in(line, service), (0, "seq 0\n"))
+        service.kill()
+        service.wait(SECONDS)
+        self.assertEqual(self.with_stand_in(line, service), (1, ""))
+        self.assertEqual(self.asked(), "")
+
+    def test_the_watch_restarts_a_service_whose_disk_was_full(self):
+        """A limit on the size of files stands for the full disk."""
+        world = self.room / "world.db"
+        ran(self.prefix / "bin/moo", "init", world)
+        service, port = self.serve(world, "trap '' XFSZ; ulimit -f 1;")
+        with urllib.request.urlopen(f"http://127.0.0.1:{port}/seq", timeout=SECONDS) as answer:
+            self.assertEqual(answer.read(), b'{"seq":0}')
+        batch = json.dumps({"as": "#3", "calls": [f'set(#2, "name", "{"x" * 5000}")']}).encode()
+        with self.assertRaises(urllib.error.HTTPError) as raised:
+            urllib.request.urlopen(f"http://127.0.0.1:{port}/batch", batch, timeout=SECONDS)
+        self.assertEqual(raised.exception.read(), b'{"error":"fault"}')
+        raised.exception.close()
+        status, printed = self.with_stand_in(self.command("moo-watch@.service", "ExecStart", PORT=port), service)
+        self.assertEqual((status, printed, self.asked()), (1, "", "restart --no-block moo@world.service\n"))
+        self.assertEqual(ran(PROGRAM, "check", world), "ok seq 0 objects 4\n")
+
+
+@wants("bash")
+class Completion(InFolder):
+    """What bash offers."""
+
+    def offered(self, *words):
+        """What is offered for the last of these words."""
+        (self.room / "world.db").touch()
+        given = " ".join(f"'{word}'" for word in words)
+        text = f"source {TOP}/packaging/moo.bash; COMP_WORDS=({given}); COMP_CWORD={len(words) - 1}; _moo; printf '%s\\n' \"${{COMPREPLY[@]}}\""
+        return ran("bash", "-c", text, cwd=self.room).split()
+
+    def test_what_is_offered(self):
+        cases = (
+            (["moo", "a"], ["apply", "ask"]),
+            (["moo", "--"], ["--help", "--version"]),
+            (["moo", "check", "w"], ["world.db"]),
+            (["moo", "apply", "world.db", "w"], ["world.db"]),
+            (["moo", "check", "world.db", "w"], []),
+            (["moo", "serve", "world.db", "8"], []),
+            (["moo", "dump", "--"], ["--help"]),
+            (["moo", "help", "d"], ["dump"]),
+            (["moo", "nothing", ""], []),
+        )
+        for words, offers in cases:
+            with self.subTest(words):
+                self.assertEqual(self.offered(*words), offers)
+
+
+@wants("dpkg-deb")
+class Package(InFolder):
+    """`make deb`."""
+
+    @classmethod
+    def setUpClass(cls):
+        room = tempfile.TemporaryDirectory()
+        cls.addClassCleanup(room.cleanup)
+        cls.package = cls.make_package(room.name)
+
+    @staticmethod
+    def make_package(folder):
+        (line,) = ran(TOP / "packaging/deb", folder, env={**os.environ, "MOO": PROGRAM}).splitlines()
+        return pathlib.Path(line)
+
+    def test_what_it_says(self):
+        version = ran(PROGRAM, "--version").split()[1]
+        self.assertEqual(self.package.name, f"moo_{version}_{ran('dpkg', '--print-architecture').strip()}.deb")
+        said = ran("dpkg-deb", "--info", self.package)
+        for line in ("Package: moo", f"Version: {version}", "Depends: libc6 (>= 2.34), adduser, python3 (>= 3.9)"):
+            self.assertIn(f" {line}\n", said)
+        self.assertNotIn("@", re.sub(r"Maintainer: .*", "", said))
+
+    def test_what_it_holds(self):
+        ran("dpkg-deb", "-x", self.package, self.room / "top")
+        held = modes(self.room / "top")
+        for name, mode in INSTALLED.items():
+            self.assertEqual(held.pop(f"usr/{name}"), mode)
+        self.assertEqual({name.rpartition("/")[0] for name in held}, {"usr/share/doc/moo", "usr/share/lintian/overrides"})
+        self.assertEqual((self.room / "top/usr/bin/moo").read_bytes(), pathlib.Path(PROGRAM).read_bytes())
+        self.assertEqual(ran(self.room / "top/usr/bin/moo", "init", ":memory:"), "created\n")
+
+    def test_its_checksums(self):
+        ran("dpkg-deb", "-R", self.package, self.room / "top")
+        ran("md5sum", "--quiet", "--strict", "-c", "DEBIAN/md5sums", cwd=self.room / "top")
+
+    def test_the_same_sources_make_the_same_package(self):
+        self.assertEqual(self.make_package(self.room).read_bytes(), self.package.read_bytes())
+
+    @wants("lintian")
+    def test_lintian_finds_no_error(self):
+        done = subprocess.run(
+            ["lintian", "--fail-on", "error", self.package], stdout=subprocess.PIPE, stderr=subprocess.STDOUT, text=True, timeout=SECONDS
+        )
+        self.assertEqual(done.returncode, 0, done.stdout)
+
+
+if __name__ == "__main__":
+    unittest.main()
