@@ -1,6 +1,6 @@
 //! The table `petition_head`: its making, writing and reading, and the test of its columns.
 
-ghost use Rattle.std.specs.Prelude.{◌≡◌, ◌∷◌, [], IsTrue, IfOk, OnOk, OnErr, false};
+ghost use Rattle.std.specs.Prelude.{◌≡◌, ◌↔◌, ◌∷◌, [], IsTrue, IfOk, OnOk, OnErr, false};
 ghost use Rattle.sqlite.specs.Held.{state};
 ghost use Rattle.sqlite.specs.State.{HasCleanDisk};
 ghost use Rattle.sqlite.specs.Values.{bound};
@@ -63,7 +63,7 @@ pub(crate) fn counter_cells_of<S: Alter>(conn: &mut Connection<S>) -> Result<Vec
 }
 
 pub(crate) fn are_petition_head_columns(columns: &[Column]) -> bool
-    ensures { IsTrue result → columns.now ≡ petition_head_table.columns }
+    ensures { IsTrue result ↔ columns.now ≡ petition_head_table.columns }
 {
     match columns {
         [id, next_petition] => {

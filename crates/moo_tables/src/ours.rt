@@ -1,6 +1,6 @@
 //! Which of the two layouts a database has.
 
-ghost use Rattle.std.specs.Prelude.{◌≡◌, [], ◌∷◌, drop, IsTrue, IfOk, IfSome};
+ghost use Rattle.std.specs.Prelude.{◌≡◌, ◌≢◌, ◌↔◌, [], ◌∷◌, drop, IsTrue, IfOk, IfSome, IfNone};
 ghost use Rattle.sqlite_value.specs.Keys.{plain};
 ghost use Rattle.moo_tables.specs.Tables.{head_table, object_table, prop_table, slot_table, verb_table, slot2_table, petition_table, petition_head_table, key_index, first_schema, second_schema, schema_of};
 ghost use Rattle.moo_tables.specs.Ours.{HasNoRules, IsNumbered, IsPaired};
@@ -20,7 +20,7 @@ use sqlite_value::keys::Order;
 use std::alloc::{AllocError, Global};
 
 fn are_none(alloc: Global, terms: &Terms) -> Result<bool, AllocError>
-    ensures { IfOk result (λ none. IsTrue none → terms.now ≡ []) }
+    ensures { IfOk result (λ none. IsTrue none ↔ terms.now ≡ []) }
 {
     let lent = terms.lend(alloc)?;
     Ok(lent.roots.is_empty())
@@ -28,7 +28,7 @@ fn are_none(alloc: Global, terms: &Terms) -> Result<bool, AllocError>
 
 /// Whether it has no constraint but its key, and computes no column.
 fn has_no_rules(alloc: Global, table: &Table) -> Result<bool, AllocError>
-    ensures { IfOk result (λ none. IsTrue none → HasNoRules table.now) }
+    ensures { IfOk result (λ none. IsTrue none ↔ HasNoRules table.now) }
 {
     let unchecked = are_none(alloc, &table.checks)?;
     let unstamped = are_none(alloc, &table.stamps.terms)?;
@@ -44,7 +44,7 @@ fn has_no_rules(alloc: Global, table: &Table) -> Result<bool, AllocError>
 }
 
 fn is_numbered(table: &Table, name: &[u8], tree: u32) -> bool
-    ensures { IsTrue result → IsNumbered name.now tree table.now }
+    ensures { IsTrue result ↔ IsNumbered name.now tree table.now }
 {
     table.name.as_slice() == name
         && table.tree == tree
@@ -55,13 +55,13 @@ fn is_numbered(table: &Table, name: &[u8], tree: u32) -> bool
 }
 
 fn is_pair(places: &[usize]) -> bool
-    ensures { IsTrue result → places.now ≡ 1 ∷ 2 ∷ [] }
+    ensures { IsTrue result ↔ places.now ≡ 1 ∷ 2 ∷ [] }
 {
     matches!(places, [1, 2])
 }
 
 fn is_one_pair(keys: &[Items<usize>]) -> bool
-    ensures { IsTrue result → keys.now ≡ (1 ∷ 2 ∷ []) ∷ [] }
+    ensures { IsTrue result ↔ keys.now ≡ (1 ∷ 2 ∷ []) ∷ [] }
 {
     match keys {
         [key] => is_pair(key.as_slice()),
@@ -70,7 +70,7 @@ fn is_one_pair(keys: &[Items<usize>]) -> bool
 }
 
 fn is_one_plain(orders: &[Order]) -> bool
-    ensures { IsTrue result → orders.now ≡ plain ∷ [] }
+    ensures { IsTrue result ↔ orders.now ≡ plain ∷ [] }
 {
     match orders {
         [order] => order.digits == 0,
@@ -79,7 +79,7 @@ fn is_one_plain(orders: &[Order]) -> bool
 }
 
 fn is_paired(table: &Table, name: &[u8], tree: u32) -> bool
-    ensures { IsTrue result → IsPaired name.now tree table.now }
+    ensures { IsTrue result ↔ IsPaired name.now tree table.now }
 {
     table.name.as_slice() == name
         && table.tree == tree
@@ -90,49 +90,49 @@ fn is_paired(table: &Table, name: &[u8], tree: u32) -> bool
 }
 
 fn is_head(alloc: Global, table: &Table) -> Result<bool, AllocError>
-    ensures { IfOk result (λ is. IsTrue is → table.now ≡ head_table) }
+    ensures { IfOk result (λ is. IsTrue is ↔ table.now ≡ head_table) }
 {
     let plain = has_no_rules(alloc, table)?;
     Ok(plain && is_numbered(table, b"head", 0) && are_head_columns(table.columns.as_slice()))
 }
 
 fn is_object(alloc: Global, table: &Table) -> Result<bool, AllocError>
-    ensures { IfOk result (λ is. IsTrue is → table.now ≡ object_table) }
+    ensures { IfOk result (λ is. IsTrue is ↔ table.now ≡ object_table) }
 {
     let plain = has_no_rules(alloc, table)?;
     Ok(plain && is_numbered(table, b"object", 1) && are_object_columns(table.columns.as_slice()))
 }
 
 fn is_prop(alloc: Global, table: &Table) -> Result<bool, AllocError>
-    ensures { IfOk result (λ is. IsTrue is → table.now ≡ prop_table) }
+    ensures { IfOk result (λ is. IsTrue is ↔ table.now ≡ prop_table) }
 {
     let plain = has_no_rules(alloc, table)?;
     Ok(plain && is_numbered(table, b"prop", 2) && are_prop_columns(table.columns.as_slice()))
 }
 
 fn is_slot(alloc: Global, table: &Table) -> Result<bool, AllocError>
-    ensures { IfOk result (λ is. IsTrue is → table.now ≡ slot_table) }
+    ensures { IfOk result (λ is. IsTrue is ↔ table.now ≡ slot_table) }
 {
     let plain = has_no_rules(alloc, table)?;
     Ok(plain && is_paired(table, b"slot", 3) && are_slot_columns(table.columns.as_slice()))
 }
 
 fn is_verb(alloc: Global, table: &Table) -> Result<bool, AllocError>
-    ensures { IfOk result (λ is. IsTrue is → table.now ≡ verb_table) }
+    ensures { IfOk result (λ is. IsTrue is ↔ table.now ≡ verb_table) }
 {
     let plain = has_no_rules(alloc, table)?;
     Ok(plain && is_paired(table, b"verb", 5) && are_verb_columns(table.columns.as_slice()))
 }
 
 fn is_slot2(alloc: Global, table: &Table) -> Result<bool, AllocError>
-    ensures { IfOk result (λ is. IsTrue is → table.now ≡ slot2_table) }
+    ensures { IfOk result (λ is. IsTrue is ↔ table.now ≡ slot2_table) }
 {
     let plain = has_no_rules(alloc, table)?;
     Ok(plain && is_paired(table, b"slot2", 7) && are_slot2_columns(table.columns.as_slice()))
 }
 
 fn is_petition(alloc: Global, table: &Table) -> Result<bool, AllocError>
-    ensures { IfOk result (λ is. IsTrue is → table.now ≡ petition_table) }
+    ensures { IfOk result (λ is. IsTrue is ↔ table.now ≡ petition_table) }
 {
     let plain = has_no_rules(alloc, table)?;
     Ok(
@@ -143,7 +143,7 @@ fn is_petition(alloc: Global, table: &Table) -> Result<bool, AllocError>
 }
 
 fn is_petition_head(alloc: Global, table: &Table) -> Result<bool, AllocError>
-    ensures { IfOk result (λ is. IsTrue is → table.now ≡ petition_head_table) }
+    ensures { IfOk result (λ is. IsTrue is ↔ table.now ≡ petition_head_table) }
 {
     let plain = has_no_rules(alloc, table)?;
     Ok(
@@ -154,7 +154,7 @@ fn is_petition_head(alloc: Global, table: &Table) -> Result<bool, AllocError>
 }
 
 fn is_key(index: &Index, name: &[u8], tree: u32, table: u32) -> bool
-    ensures { IsTrue result → index.now ≡ key_index name.now tree table }
+    ensures { IsTrue result ↔ index.now ≡ key_index name.now tree table }
 {
     index.name.as_slice() == name
         && index.tree == tree
@@ -165,7 +165,7 @@ fn is_key(index: &Index, name: &[u8], tree: u32, table: u32) -> bool
 }
 
 fn are_first_tables(alloc: Global, tables: &[Table]) -> Result<bool, AllocError>
-    ensures { IfOk result (λ are. IsTrue are → tables.now ≡ first_schema.tables) }
+    ensures { IfOk result (λ are. IsTrue are ↔ tables.now ≡ first_schema.tables) }
 {
     match tables {
         [head, object, prop, slot, verb] => {
@@ -182,7 +182,7 @@ fn are_first_tables(alloc: Global, tables: &[Table]) -> Result<bool, AllocError>
 
 /// Whether they are the tables that the second layout adds.
 fn are_added_tables(alloc: Global, tables: &[Table]) -> Result<bool, AllocError>
-    ensures { IfOk result (λ are. IsTrue are → tables.now ≡ drop 5 second_schema.tables) }
+    ensures { IfOk result (λ are. IsTrue are ↔ tables.now ≡ drop 5 second_schema.tables) }
 {
     match tables {
         [slot2, petition, petition_head] => {
@@ -196,7 +196,7 @@ fn are_added_tables(alloc: Global, tables: &[Table]) -> Result<bool, AllocError>
 }
 
 fn are_second_tables(alloc: Global, tables: &[Table]) -> Result<bool, AllocError>
-    ensures { IfOk result (λ are. IsTrue are → tables.now ≡ second_schema.tables) }
+    ensures { IfOk result (λ are. IsTrue are ↔ tables.now ≡ second_schema.tables) }
 {
     match tables.split_at_checked(5) {
         Some((first, added)) => {
@@ -209,7 +209,7 @@ fn are_second_tables(alloc: Global, tables: &[Table]) -> Result<bool, AllocError
 }
 
 fn are_first_keys(indexes: &[Index]) -> bool
-    ensures { IsTrue result → indexes.now ≡ first_schema.indexes }
+    ensures { IsTrue result ↔ indexes.now ≡ first_schema.indexes }
 {
     match indexes {
         [slot, verb] => {
@@ -221,7 +221,7 @@ fn are_first_keys(indexes: &[Index]) -> bool
 }
 
 fn are_second_keys(indexes: &[Index]) -> bool
-    ensures { IsTrue result → indexes.now ≡ second_schema.indexes }
+    ensures { IsTrue result ↔ indexes.now ≡ second_schema.indexes }
 {
     match indexes {
         [slot, verb, slot2] => {
@@ -234,14 +234,14 @@ fn are_second_keys(indexes: &[Index]) -> bool
 }
 
 fn is_first(alloc: Global, schema: &Schema) -> Result<bool, AllocError>
-    ensures { IfOk result (λ is. IsTrue is → schema.now ≡ first_schema) }
+    ensures { IfOk result (λ is. IsTrue is ↔ schema.now ≡ first_schema) }
 {
     let tables = are_first_tables(alloc, schema.tables.as_slice())?;
     Ok(tables && are_first_keys(schema.indexes.as_slice()) && schema.views.is_empty())
 }
 
 fn is_second(alloc: Global, schema: &Schema) -> Result<bool, AllocError>
-    ensures { IfOk result (λ is. IsTrue is → schema.now ≡ second_schema) }
+    ensures { IfOk result (λ is. IsTrue is ↔ schema.now ≡ second_schema) }
 {
     let tables = are_second_tables(alloc, schema.tables.as_slice())?;
     Ok(tables && are_second_keys(schema.indexes.as_slice()) && schema.views.is_empty())
@@ -250,9 +250,10 @@ fn is_second(alloc: Global, schema: &Schema) -> Result<bool, AllocError>
 /// Which of the two layouts a database has.
 ///
 /// It is one of them if it has exactly its tables, made in their order, the indexes of their keys, no other index and
-/// no view. Answers none of any other database, and `AllocError` where memory is refused.
+/// no view. Answers none of any other database and of no other, and `AllocError` if memory is refused.
 pub fn version_of(alloc: Global, schema: &Schema) -> Result<Option<Version>, AllocError>
-    ensures { IfOk result (λ found. IfSome found (λ version. schema.now ≡ schema_of version)) }
+    ensures ours { IfOk result (λ found. IfSome found (λ version. schema.now ≡ schema_of version)) }
+    ensures none { IfOk result (λ found. IfNone found ((version : Version) → schema.now ≢ schema_of version)) }
 {
     if is_first(alloc, schema)? {
         return Ok(Some(Version::First));

@@ -1,6 +1,6 @@
 //! The table `petition`: its making, writing and reading, and the test of its columns.
 
-ghost use Rattle.std.specs.Prelude.{◌≡◌, ◌∷◌, [], pos, IsTrue, IfOk, OnOk, OnErr, false};
+ghost use Rattle.std.specs.Prelude.{◌≡◌, ◌↔◌, ◌∷◌, [], pos, IsTrue, IfOk, OnOk, OnErr, false};
 ghost use Rattle.sqlite.specs.Held.{state};
 ghost use Rattle.sqlite.specs.State.{HasCleanDisk};
 ghost use Rattle.sqlite.specs.Values.{bound};
@@ -105,7 +105,7 @@ pub(crate) fn petition_cells_of<S: Alter>(conn: &mut Connection<S>) -> Result<Ve
 }
 
 pub(crate) fn are_petition_columns(columns: &[Column]) -> bool
-    ensures { IsTrue result → columns.now ≡ petition_table.columns }
+    ensures { IsTrue result ↔ columns.now ≡ petition_table.columns }
 {
     match columns {
         [id, who, calls] => {
