@@ -1,5 +1,7 @@
 -- What opening a store may answer, and what it may leave.
 use Rattle.std.specs.Prelude.{◌≡◌, ⊤}
+use Rattle.sqlite.specs.declared.error.Error.TheVariants.{SqliteFailure}
+use Rattle.sqlite.specs.declared.error.ErrorCode.TheVariants.{NotADatabase}
 use Rattle.sqlite.specs.State.{State as Database}
 use Rattle.sqlite.specs.Tree.{Trees}
 use Rattle.moo_rows.specs.Maps.{Maps}
@@ -28,6 +30,10 @@ IsOfStore (Damaged kind key) = ⊥
 IsOfStore NewerVersion = ⊥
 IsOfStore OutOfMemory = ⊤
 IsOfStore Closed = ⊥
+
+-- the fault that says that the tables are not ours
+abbrev pub not_ours : StoreFault
+not_ours = Store (SqliteFailure NotADatabase)
 
 -- in place of tables that show these rows the trees have others that show them
 abbrev pub TakesOver : Maps → Database → Trees → Type 0

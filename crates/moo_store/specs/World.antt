@@ -1,5 +1,6 @@
 -- What a World stands for, and what a crash leaves of it.
-use Rattle.std.specs.Prelude.{◌≡◌, ℕ, ◌≤◌, Bool, true, false, IsTrue, List, take, Result, Ok, Err}
+use Rattle.std.specs.Prelude.{◌≡◌, ◌⊎◌, ℕ, ◌≤◌, Bool, true, false, IsTrue, List, take, Result, Ok, Err}
+use Rattle.sqlite.specs.declared.error.Error.{Error}
 use Rattle.sqlite.specs.State.{State as Database, HasCleanDisk}
 use Rattle.sqlite.specs.Tree.{Trees}
 use Rattle.sqlite.specs.Store.{Ghosts}
@@ -10,7 +11,7 @@ use Rattle.moo_store.specs.States.{KeepsRows, KeepsState, LeavesState}
 use Rattle.moo_store.specs.Stand.{Stand, Works, Failed, StoreFailed, MayLeave}
 use Rattle.moo_store.specs.Kept.{World}
 use Rattle.moo_store.specs.declared.fault.StoreFault.{StoreFault}
-use Rattle.moo_store.specs.declared.fault.StoreFault.TheVariants.{Store}
+use Rattle.moo_store.specs.declared.fault.StoreFault.TheVariants.{Store, OutOfMemory, Closed}
 
 -- what the connection of a World shows
 abbrev pub store_of : {S : Type 0} (g : Ghosts S) → World S → Database
@@ -57,3 +58,7 @@ abbrev pub MatchStore : {T : Type 0} → Result T StoreFault → Type 0 → Type
 MatchStore (Ok x) P Q = P
 MatchStore (Err (Store error)) P Q = Q
 MatchStore (Err fault) P Q = P
+
+-- the faults of a run: the store failed, memory was refused, or the World had failed before
+abbrev pub IsOfRun : StoreFault → Type 0
+IsOfRun fault = ((error : Error) × (fault ≡ Store error)) ⊎ ((fault ≡ OutOfMemory) ⊎ (fault ≡ Closed))

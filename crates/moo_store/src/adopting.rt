@@ -11,7 +11,7 @@ ghost use Rattle.moo_tables.specs.Inside.{Rests, RestsAt, HasTables};
 ghost use Rattle.moo_tables.specs.declared.version.Version.{Version};
 ghost use Rattle.moo_cells.specs.Shows.{ShowsRows};
 ghost use Rattle.moo_store.specs.States.{KeepsRows, ShowsState};
-ghost use Rattle.moo_store.specs.Opening.{Says, IsOfStore, Adopts};
+ghost use Rattle.moo_store.specs.Opening.{Says, IsOfStore, Adopts, not_ours};
 ghost use Rattle.moo_store.specs.World.{store_of, StandsFor, Left};
 
 use crate::fault::StoreFault;
@@ -34,6 +34,7 @@ fn open_rows<S: Alter>(alloc: Global, conn: &mut Connection<S>) -> Result<Flat, 
     ensures fault { HasCleanDisk (state S.Store conn.new) → IfErr result (λ fault. (tables : Tables) → Rests (state S.Store conn.old) tables → Says tables fault) }
     ensures whole { HasCleanDisk (state S.Store conn.new) → IfErr result (λ fault. (tables : Tables) (m : Maps) → Rests (state S.Store conn.old) tables → ShowsRows tables m → IsGood m → IsOfStore fault) }
     ensures other { ((version : Version) → (state S.Store conn.old).now.schema ≢ schema_of version) → IsErrAnd result (λ fault. IsOfStore fault × (conn.new ≡ conn.old)) }
+    ensures own { IfErr result (λ fault. (version : Version) → HasTables (schema_of version) (state S.Store conn.old) → fault ≢ not_ours) }
     ensures undone { OnErr result ((conn.new ≡ conn.old) ⊎ (HasCleanDisk (state S.Store conn.new) → IsTrue (state S.Store conn.new).is_open → RestsAt (state S.Store conn.new) (state S.Store conn.old).now)) }
     ensures crash { Survives (state S.Store conn.old) (state S.Store conn.new) (Adopts (state S.Store conn.old)) }
 {
@@ -74,6 +75,8 @@ pub fn adopt<S: Alter + Drop>(
     ensures current { IfOk result (λ world. HasCleanDisk (store_of S.Store world) → (tables : Tables) → Rests (state S.Store conn) tables → HasTables second_schema (store_of S.Store world)) }
     // Other tables than ours are a fault of the store, and the connection comes back as it is; so it does where memory is refused.
     ensures other { ((version : Version) → (state S.Store conn).now.schema ≢ schema_of version) → IsErrAnd result (λ e. IsOfStore e.0 × (e.1 ≡ conn)) }
+    // Of tables of ours it never says that they aren't.
+    ensures own { IfErr result (λ e. (version : Version) → HasTables (schema_of version) (state S.Store conn) → e.0 ≢ not_ours) }
     // A refusal leaves the database as it was.
     ensures outside_refused { IfErr result (λ e. (state S.Store e.1).in_transaction ≡ false) }
     ensures undone { IfErr result (λ e. (e.1 ≡ conn) ⊎ (HasCleanDisk (state S.Store e.1) → IsTrue (state S.Store e.1).is_open → RestsAt (state S.Store e.1) (state S.Store conn).now)) }

@@ -1,16 +1,17 @@
 //! Tables of the first version, taken over to the second.
 
-ghost use Rattle.std.specs.Prelude.{◌≡◌, ◌⊎◌, ◌<◌, ◌^◌, IfErr, IsTrue, OnOk, OnErr, false};
+ghost use Rattle.std.specs.Prelude.{◌≡◌, ◌≢◌, ◌⊎◌, ◌<◌, ◌^◌, IfErr, IsTrue, OnOk, OnErr, false};
 ghost use Rattle.sqlite.specs.State.{HasCleanDisk, Survives};
 ghost use Rattle.sqlite.specs.Held.{state};
 ghost use Rattle.moo_tables.specs.Tables.{Tables, schema_of, first_schema};
 ghost use Rattle.moo_tables.specs.Inside.{Rests, RestsAt, HasTables};
 ghost use Rattle.moo_cells.specs.Shows.{ShowsRows};
 ghost use Rattle.moo_store.specs.States.{KeepsRows};
-ghost use Rattle.moo_store.specs.Opening.{IsOfStore, TakesOver};
+ghost use Rattle.moo_store.specs.Opening.{IsOfStore, TakesOver, not_ours};
 
 use crate::fault::StoreFault;
 use crate::printing::print_slots;
+use crate::reading::failure_of;
 use moo_flat::Flat;
 use moo_rows::Rows;
 use moo_tables::{Version, migrate};
@@ -29,6 +30,7 @@ fn migrate_rows<S: Alter>(
     requires outside { (state S.Store conn.old).in_transaction ≡ false }
     ensures outside { (state S.Store conn.new).in_transaction ≡ false }
     ensures fault { IfErr result IsOfStore }
+    ensures own { IfErr result (λ fault. fault ≢ not_ours) }
     ensures keeps { HasCleanDisk (state S.Store conn.new) → OnOk result ((tables : Tables) → Rests (state S.Store conn.old) tables → tables.version ≡ Version.First → ShowsRows tables rows.now.maps → KeepsRows (state S.Store conn.new) rows.now.maps) }
     ensures undone { OnErr result ((conn.new ≡ conn.old) ⊎ (HasCleanDisk (state S.Store conn.new) → IsTrue (state S.Store conn.new).is_open → RestsAt (state S.Store conn.new) (state S.Store conn.old).committed)) }
     ensures crash { (HasCleanDisk (state S.Store conn.old) → HasTables first_schema (state S.Store conn.old)) → Survives (state S.Store conn.old) (state S.Store conn.new) (TakesOver rows.now.maps (state S.Store conn.old)) }
@@ -38,7 +40,7 @@ fn migrate_rows<S: Alter>(
     };
     match migrate(conn, &rows.head(), &slots) {
         Ok(()) => Ok(()),
-        Err(error) => Err(StoreFault::Store(error)),
+        Err(error) => Err(failure_of(error)),
     }
 }
 
@@ -53,6 +55,7 @@ pub(crate) fn make_current<S: Alter>(
     requires outside { (state S.Store conn.old).in_transaction ≡ false }
     ensures outside { (state S.Store conn.new).in_transaction ≡ false }
     ensures fault { IfErr result IsOfStore }
+    ensures own { IfErr result (λ fault. fault ≢ not_ours) }
     ensures keeps { HasCleanDisk (state S.Store conn.new) → OnOk result ((tables : Tables) → Rests (state S.Store conn.old) tables → tables.version ≡ version → ShowsRows tables rows.now.maps → KeepsRows (state S.Store conn.new) rows.now.maps) }
     ensures undone { OnErr result ((conn.new ≡ conn.old) ⊎ (HasCleanDisk (state S.Store conn.new) → IsTrue (state S.Store conn.new).is_open → RestsAt (state S.Store conn.new) (state S.Store conn.old).committed)) }
     ensures crash { (HasCleanDisk (state S.Store conn.old) → HasTables (schema_of version) (state S.Store conn.old)) → Survives (state S.Store conn.old) (state S.Store conn.new) (λ trees. (version ≡ Version.First) × TakesOver rows.now.maps (state S.Store conn.old) trees) }

@@ -10,7 +10,7 @@ ghost use Rattle.moo_tables.specs.Inside.{Rests, HasTables, ReadsTables, FailsTo
 ghost use Rattle.moo_tables.specs.Listing.{tables_of};
 ghost use Rattle.moo_tables.specs.declared.version.Version.{Version};
 ghost use Rattle.moo_cells.specs.Shows.{ShowsRows};
-ghost use Rattle.moo_store.specs.Opening.{Says, IsOfStore};
+ghost use Rattle.moo_store.specs.Opening.{Says, IsOfStore, not_ours};
 
 use crate::fault::StoreFault;
 use moo_cells::{CellFault, read_cells};
@@ -27,6 +27,7 @@ fn rows_of(alloc: Global, lists: &CellLists) -> Result<Flat, StoreFault>
     ensures one { (m : Maps) → ShowsRows (tables_of lists.now) m → IsGood m → IfOk result (λ rows. rows.maps ≡ m) }
     ensures fault { IfErr result (Says (tables_of lists.now)) }
     ensures whole { (m : Maps) → ShowsRows (tables_of lists.now) m → IsGood m → IfErr result IsOfStore }
+    ensures own { IfErr result (λ fault. fault ≢ not_ours) }
 {
     if !are_listed(lists) {
         return Err(StoreFault::Store(Error::SqliteFailure(ErrorCode::DatabaseCorrupt)));
@@ -36,6 +37,20 @@ fn rows_of(alloc: Global, lists: &CellLists) -> Result<Flat, StoreFault>
         Err(CellFault::Damaged(kind, key)) => Err(StoreFault::Damaged(kind, key)),
         Err(CellFault::NewerVersion) => Err(StoreFault::NewerVersion),
         Err(CellFault::OutOfMemory) => Err(StoreFault::OutOfMemory),
+    }
+}
+
+/// What is told if the store fails over tables of ours: `NotADatabase` is kept for tables that aren't.
+pub(crate) fn failure_of(error: Error) -> StoreFault
+    ensures store { (told : _) × (result ≡ StoreFault.Store told) }
+    ensures own { result ≢ not_ours }
+    ensures same { error ≢ Error.SqliteFailure ErrorCode.NotADatabase → result ≡ StoreFault.Store error }
+{
+    match error {
+        Error::SqliteFailure(ErrorCode::NotADatabase) => {
+            StoreFault::Store(Error::SqliteFailure(ErrorCode::DatabaseCorrupt))
+        }
+        error => StoreFault::Store(error),
     }
 }
 
@@ -50,10 +65,11 @@ pub(crate) fn read_lists<S: Alter>(
     ensures listed { HasCleanDisk (state S.Store conn.new) → IfOk result (λ lists. (tables : Tables) → tables.version ≡ version → Rests (state S.Store conn.old) tables → tables_of lists ≡ tables) }
     ensures failed { OnErr result (FailsToRead (schema_of version) (state S.Store conn.old) (state S.Store conn.new)) }
     ensures fault { IfErr result (λ fault. (error : _) × (fault ≡ StoreFault.Store error)) }
+    ensures own { IfErr result (λ fault. fault ≢ not_ours) }
 {
     match read_tables(conn, version) {
         Ok(lists) => Ok(lists),
-        Err(error) => Err(StoreFault::Store(error)),
+        Err(error) => Err(failure_of(error)),
     }
 }
 
@@ -64,6 +80,7 @@ pub(crate) fn test_tables<S: Alter>(
 ) -> Result<Version, StoreFault>
     ensures ours { IfOk result (λ version. HasTables (schema_of version) (state S.Store conn.now)) }
     ensures fault { IfErr result IsOfStore }
+    ensures own { IfErr result (λ fault. (version : Version) → HasTables (schema_of version) (state S.Store conn.now) → fault ≢ not_ours) }
     ensures settled { IsTrue (state S.Store conn.now).is_open → (state S.Store conn.now).in_transaction ≡ false → (state S.Store conn.now).now ≡ (state S.Store conn.now).committed }
 {
     let _settled = conn.is_autocommit();
@@ -97,6 +114,7 @@ pub(crate) fn read_rows<S: Alter>(
     ensures failed { OnErr result ((conn.new ≡ conn.old) ⊎ ((version : Version) × HasTables (schema_of version) (state S.Store conn.old) × FailsToRead (schema_of version) (state S.Store conn.old) (state S.Store conn.new))) }
     ensures settled { IsTrue (state S.Store conn.old).is_open → (state S.Store conn.old).now ≡ (state S.Store conn.old).committed }
     ensures other { ((version : Version) → (state S.Store conn.old).now.schema ≢ schema_of version) → IsErrAnd result (λ fault. IsOfStore fault × (conn.new ≡ conn.old)) }
+    ensures own { IfErr result (λ fault. (version : Version) → HasTables (schema_of version) (state S.Store conn.old) → fault ≢ not_ours) }
     ensures rows { HasCleanDisk (state S.Store conn.new) → IfOk result (λ r. (tables : Tables) → Rests (state S.Store conn.old) tables → ShowsRows tables r.1.maps) }
     ensures good { IfOk result (λ r. IsGood r.1.maps) }
     ensures limit { IfOk result (λ r. r.1.maps.head.seq < 2 ^ 63) }

@@ -57,7 +57,7 @@ impl<S: Alter + Drop> World<S> {
     ghost use Rattle.moo_store.specs.Untouched.{KeepsCells, WritesOne, HasWritten, IsKnown, taken_of};
     ghost use Rattle.moo_store.specs.Stand.{Stand};
     ghost use Rattle.moo_store.specs.Text.{answer_to, StandsBehind, RunsAll};
-    ghost use Rattle.moo_store.specs.World.{store_of, ShowsItsRows, IsAt, StandsFor, StandsAt, CrashLeaves, Left, LeftOrNext, MatchStore};
+    ghost use Rattle.moo_store.specs.World.{store_of, ShowsItsRows, IsAt, StandsFor, StandsAt, CrashLeaves, Left, LeftOrNext, MatchStore, IsOfRun};
     ghost use Rattle.moo_store.specs.declared.fault.StoreFault.TheVariants.{Store, OutOfMemory, Closed};
 
     /// The World of good rows, over a connection in no transaction. It stands for them where the tables of the connection
@@ -117,6 +117,7 @@ impl<S: Alter + Drop> World<S> {
         ensures same { taken_of batch.now result ≡ [] → MatchStore result (self.new ≡ self.old) ⊤ }
         ensures closed { IsTrue self.old.failed → IsErrOf result StoreFault.Closed × (self.new ≡ self.old) }
         ensures fails { self.old.failed ≡ false → IfErr result (λ fault. ((error : _) × (fault ≡ Store error)) × (self.new.failed ≡ true)) }
+        ensures fault { IfErr result IsOfRun }
     {
         if self.failed {
             return Err(StoreFault::Closed);
@@ -177,6 +178,7 @@ impl<S: Alter + Drop> World<S> {
         ensures memory { IsErrOf result StoreFault.OutOfMemory → (self.new ≡ self.old) × (replies.new.items ≡ replies.old.items) }
         ensures closed { IsTrue self.old.failed → IsErrOf result StoreFault.Closed × (self.new ≡ self.old) × (replies.new.items ≡ replies.old.items) }
         ensures failed { IfErr result (λ fault. (fault ≡ StoreFault.OutOfMemory) ⊎ IsTrue self.new.failed) }
+        ensures fault { IfErr result IsOfRun }
     {
         if self.failed {
             return Err(StoreFault::Closed);
