@@ -1,5 +1,5 @@
 -- What the calls of a batch and a batch come to on rows.
-use Rattle.std.specs.Prelude.{◌≡◌, ◌<◌, true, List, Result, Ok, Err, ⊤}
+use Rattle.std.specs.Prelude.{◌≡◌, ◌≢◌, ◌<◌, true, List, [], Result, Ok, Err, ⊤}
 use Rattle.moo_value.specs.declared.value.Value.{Value}
 use Rattle.moo_value.specs.declared.value.ObjNo.{ObjNo}
 use Rattle.moo_rows.specs.Maps.{Maps, Held}
@@ -30,11 +30,11 @@ pub record HaveKept (p : ObjNo) (calls : List Call) (old new : Held) : Type 0 wh
   pub numbers : CallsLead p calls old.maps new.maps
 
 -- what a batch comes to on rows, and where it is accepted the changes that make them into the next ones, which its calls lead to
--- one after another, each keeping numbers. Want of memory is answered only where calls are run
+-- one after another, each keeping numbers. Want of memory is answered only if a call is run
 abbrev pub IsVerdict : Maps → Batch → Verdict → Type 0
 IsVerdict base batch (Accepted answers changes) =
     (next : Maps) × AreChanges base next changes × IsGood next × (model.judge (state_of base) batch ≡ model.Accepted answers (state_of next)) × BatchLeads batch base next
 IsVerdict base batch (Refused call code) = model.judge (state_of base) batch ≡ model.Refused call code
 IsVerdict base batch (Full call) = model.judge (state_of base) batch ≡ model.NoRoom call
 IsVerdict base batch (Stale seq) = model.judge (state_of base) batch ≡ model.Stale seq
-IsVerdict base batch OutOfMemory = (model.is_due batch.at base.head.seq ≡ true) × (base.head.seq < model.last_seq)
+IsVerdict base batch OutOfMemory = (model.is_due batch.at base.head.seq ≡ true) × (base.head.seq < model.last_seq) × (batch.calls ≢ [])

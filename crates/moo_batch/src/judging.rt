@@ -1,15 +1,17 @@
 //! What a batch comes to.
 
-ghost use Rattle.std.specs.Prelude.{◌≡◌, ◌≤◌, length, OnOk};
+ghost use Rattle.std.specs.Prelude.{◌≡◌, ◌+◌, ◌<◌, ◌≤◌, length, OnOk};
+ghost use Rattle.moo_rows.specs.Maps.{Maps};
+ghost use Rattle.moo_draft.specs.Changes.{AreChanges};
 ghost use Rattle.moo_world.specs.Rows.{IsGood};
 ghost use Rattle.moo_world.specs.Judge.{is_due, run_calls};
 ghost use Rattle.moo_petitions.specs.Outcomes.{state_in};
 ghost use Rattle.moo_batch.specs.Judge.{ComeTo, HaveKept, IsVerdict};
 
 use moo_call_parts::Fault;
-use moo_draft::{Changes, Draft};
+use moo_draft::{ChangeList, Changes, Draft};
 use moo_petitions::step;
-use moo_rows::Rows;
+use moo_rows::{Head, Rows};
 use moo_value::{Code, ObjNo, Value};
 use moo_world::{Answers, Batch, Call};
 use std::alloc::Global;
@@ -79,9 +81,26 @@ fn is_due(at: Option<u64>, seq: u64) -> bool
     }
 }
 
+/// The changes of a batch without calls, on any rows with this head: the batch is counted. They take no memory.
+fn counted(alloc: Global, head: Head) -> Changes
+    requires room { head.seq < 9223372036854775807 }
+    ensures { (t : Maps) → AreChanges t (record t { head = record head { seq = head.seq + 1 } }) result }
+{
+    let mut next = head;
+    next.seq += 1;
+    Changes {
+        head: next,
+        objects: ChangeList::from_vec(Vec::new(alloc)),
+        props: ChangeList::from_vec(Vec::new(alloc)),
+        slots: ChangeList::from_vec(Vec::new(alloc)),
+        verbs: ChangeList::from_vec(Vec::new(alloc)),
+        petitions: ChangeList::from_vec(Vec::new(alloc)),
+    }
+}
+
 /// What a batch comes to on these rows, which stay as they are: stale where it names another number than the present
 /// one, else full where [`LAST_SEQ`] batches were accepted, else refused or full at the first call that isn't done, else
-/// accepted. Want of memory comes only where calls are run. Where it is accepted, what stays keeps its number, and what is new
+/// accepted. Want of memory comes only if a call is run. Where it is accepted, what stays keeps its number, and what is new
 /// has one that was never given.
 pub fn judge<R: Rows>(alloc: Global, rows: &R, batch: &Batch) -> Verdict
     requires good { IsGood (R.held rows.now).maps }
@@ -94,8 +113,15 @@ pub fn judge<R: Rows>(alloc: Global, rows: &R, batch: &Batch) -> Verdict
     if head.seq >= LAST_SEQ {
         return Verdict::Full { call: 0 };
     }
+    let calls = batch.calls.items();
+    if calls.is_empty() {
+        return Verdict::Accepted {
+            answers: Answers::from_vec(Vec::new(alloc)),
+            changes: counted(alloc, head),
+        };
+    }
     let mut draft = Draft::new(alloc, rows);
-    let answers = match run_calls(&mut draft, alloc, batch.programmer, batch.calls.items()) {
+    let answers = match run_calls(&mut draft, alloc, batch.programmer, calls) {
         Ok(answers) => answers,
         Err(Stop::Refused { call, code }) => return Verdict::Refused { call, code },
         Err(Stop::Full { call }) => return Verdict::Full { call },

@@ -1,4 +1,5 @@
-use Rattle.std.proofs.Common.{◌≡◌, ◌+◌, ◌<◌, true, false, refl, sym, ap, ◌∙◌, subst, rules}
+use Rattle.std.proofs.Common.{◌≡◌, ◌+◌, ◌<◌, [], true, false, refl, sym, ap, ◌∙◌, subst, rules}
+use Rattle.std.proofs.lemmas.List.{nil_from_length}
 use Rattle.moo_rows.specs.Maps.{Held}
 use Rattle.moo_rows.specs.declared.row.Head.{Head}
 use Rattle.moo_world.specs.Between.{CallsLead}
@@ -26,8 +27,8 @@ returns-in-Err-Refused g c =
     let batch = c.args.batch.now in
     let due : is_due c.args.batch.now.at t.head.seq ≡ true = ap (λ (h : Head). is_due c.args.batch.now.at h.seq) (sym c.head-head.ensures) ∙ sym c.is_due.ensures ∙ search rules in
     let room : t.head.seq < last_seq = rw c.head-head.ensures at c.if-head-ge-LAST_SEQ.false in
-    let same : run_calls (state_of t) batch.programmer batch.calls ≡ run_calls (state_of c.new-draft.result.maps) batch.programmer c.items.result.now =
-    λ i. run_calls (state_of (sym c.new-draft.ensures.maps i)) batch.programmer (sym c.items.ensures.value i) in
+    let same : run_calls (state_of t) batch.programmer batch.calls ≡ run_calls (state_of c.new-draft.result.maps) batch.programmer c.items-calls.result.now =
+    λ i. run_calls (state_of (sym c.new-draft.ensures.maps i)) batch.programmer (sym c.items-calls.ensures.value i) in
     let run = rw c.in-Err-Refused.field-0-is at c.in-Err-Refused.ensures.comes in
     rw c.in-Err-Refused.field-0-is (judge-run (state_of t) batch due room ∙ ap (verdict_of t.head.seq) (same ∙ run))
 
@@ -37,8 +38,8 @@ returns-in-Err-Full g c =
     let batch = c.args.batch.now in
     let due : is_due c.args.batch.now.at t.head.seq ≡ true = ap (λ (h : Head). is_due c.args.batch.now.at h.seq) (sym c.head-head.ensures) ∙ sym c.is_due.ensures ∙ search rules in
     let room : t.head.seq < last_seq = rw c.head-head.ensures at c.if-head-ge-LAST_SEQ.false in
-    let same : run_calls (state_of t) batch.programmer batch.calls ≡ run_calls (state_of c.new-draft.result.maps) batch.programmer c.items.result.now =
-    λ i. run_calls (state_of (sym c.new-draft.ensures.maps i)) batch.programmer (sym c.items.ensures.value i) in
+    let same : run_calls (state_of t) batch.programmer batch.calls ≡ run_calls (state_of c.new-draft.result.maps) batch.programmer c.items-calls.result.now =
+    λ i. run_calls (state_of (sym c.new-draft.ensures.maps i)) batch.programmer (sym c.items-calls.ensures.value i) in
     let run = rw c.in-Err-Full.field-0-is at c.in-Err-Full.ensures.comes in
     rw c.in-Err-Full.field-0-is (judge-run (state_of t) batch due room ∙ ap (verdict_of t.head.seq) (same ∙ run))
 
@@ -48,8 +49,8 @@ returns-in-Ok-into_changes g c =
     let batch = c.args.batch.now in
     let due : is_due c.args.batch.now.at t.head.seq ≡ true = ap (λ (h : Head). is_due c.args.batch.now.at h.seq) (sym c.head-head.ensures) ∙ sym c.is_due.ensures ∙ search rules in
     let room : t.head.seq < last_seq = rw c.head-head.ensures at c.if-head-ge-LAST_SEQ.false in
-    let same : run_calls (state_of t) batch.programmer batch.calls ≡ run_calls (state_of c.new-draft.result.maps) batch.programmer c.items.result.now =
-    λ i. run_calls (state_of (sym c.new-draft.ensures.maps i)) batch.programmer (sym c.items.ensures.value i) in
+    let same : run_calls (state_of t) batch.programmer batch.calls ≡ run_calls (state_of c.new-draft.result.maps) batch.programmer c.items-calls.result.now =
+    λ i. run_calls (state_of (sym c.new-draft.ensures.maps i)) batch.programmer (sym c.items-calls.ensures.value i) in
     let after = c.run_calls.new.rows.maps in
     let next = with_seq (t.head.seq + 1) after in
     let base : c.set_head.new.self.base ≡ t = ap (λ (h : Held). h.base) c.set_head.ensures ∙ c.in-Ok.ensures.kept.base ∙ c.new-draft.ensures.base in
@@ -57,5 +58,22 @@ returns-in-Ok-into_changes g c =
     let judged = judge-run (state_of t) batch due room ∙ ap (verdict_of t.head.seq) (same ∙ c.in-Ok.ensures.comes)
     ∙ ap (λ w. Accepted c.in-Ok.answers (record (state_of after) { world = w; seq = t.head.seq + 1 })) (sym (world_of-with_seq (t.head.seq + 1) after)) in
     let lead : CallsLead batch.programmer batch.calls t after =
-    subst (λ m. CallsLead batch.programmer batch.calls m after) c.new-draft.ensures.maps (subst (λ calls. CallsLead batch.programmer calls c.new-draft.result.maps after) c.items.ensures.value c.in-Ok.ensures.kept.numbers) in
+    subst (λ m. CallsLead batch.programmer batch.calls m after) c.new-draft.ensures.maps (subst (λ calls. CallsLead batch.programmer calls c.new-draft.result.maps after) c.items-calls.ensures.value c.in-Ok.ensures.kept.numbers) in
     (next, subst (λ b. AreChanges b next c.in-Ok-into_changes.changes) base (subst (λ n. AreChanges c.set_head.new.self.base n c.in-Ok-into_changes.changes) maps c.in-Ok-into_changes.ensures), good-with_seq (t.head.seq + 1) after c.in-Ok.ensures.kept.good, judged, (after, lead, refl))
+
+-- a batch without calls
+pub returns-then-is_empty : goal.returns-then-is_empty
+returns-then-is_empty g c =
+    let t = (g.R.Rows.held c.args.rows.now).maps in
+    let batch = c.args.batch.now in
+    let due : is_due c.args.batch.now.at t.head.seq ≡ true = ap (λ (h : Head). is_due c.args.batch.now.at h.seq) (sym c.head-head.ensures) ∙ sym c.is_due.ensures ∙ search rules in
+    let room : t.head.seq < last_seq = rw c.head-head.ensures at c.if-head-ge-LAST_SEQ.false in
+    let listed : c.items-calls.result.now ≡ [] = nil_from_length c.items-calls.result.now (search rules) in
+    let none : batch.calls ≡ [] = sym c.items-calls.ensures.value ∙ listed in
+    let answers : c.from_vec.result ≡ [] = search rules in
+    let next = with_seq (t.head.seq + 1) t in
+    let changes : AreChanges t next c.counted.result = subst (λ (h : Head). AreChanges t (record t { head = record h { seq = h.seq + 1 } }) c.counted.result) c.head-head.ensures (c.counted.ensures t) in
+    let judged = judge-run (state_of t) batch due room ∙ ap (λ calls. verdict_of t.head.seq (run_calls (state_of t) batch.programmer calls)) none
+    ∙ (λ i. Accepted (sym answers i) (record (state_of t) { world = sym (world_of-with_seq (t.head.seq + 1) t) i; seq = t.head.seq + 1 })) in
+    let lead : CallsLead batch.programmer batch.calls t t = subst (λ calls. CallsLead batch.programmer calls t t) (sym none) refl in
+    (next, changes, good-with_seq (t.head.seq + 1) t c.requires.good, judged, (t, lead, refl))

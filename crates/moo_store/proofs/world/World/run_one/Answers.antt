@@ -46,7 +46,7 @@ returns-in-Err-clause-stands g c =
 
 pub returns-in-OutOfMemory-clause-stands : goal.returns-in-OutOfMemory-clause-stands
 returns-in-OutOfMemory-clause-stands g c =
-    no_memory_stands g.S.Store c.args.self.now c.args.batch.now (subst (λ (w : World _). w.failed ≡ false) c.self.view_is c.if-self.false) (subst (λ (w : World _). IsRun (state_of w.rows.maps) c.args.batch.now) c.self.view_is c.in-OutOfMemory.ensures)
+    no_memory_stands g.S.Store c.args.self.now c.args.batch.now (subst (λ (w : World _). w.failed ≡ false) c.self.view_is c.if-self.false) (subst (λ (w : World _). IsRun (state_of w.rows.maps) c.args.batch.now) c.self.view_is (c.in-OutOfMemory.ensures.0, c.in-OutOfMemory.ensures.1))
 
 pub returns-in-Refused-clause-stands : goal.returns-in-Refused-clause-stands
 returns-in-Refused-clause-stands g c =
