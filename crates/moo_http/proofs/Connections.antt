@@ -1,6 +1,6 @@
 -- Connections, taken in turn.
 use Rattle.std.proofs.Common.{◌≡◌, ◌≢◌, inl, inr, ℕ, suc, zero, ◌+◌, Bool, IsTrue, List, ◌++◌, length, take, Option, Some, None, refl, sym, subst, ◌∙◌}
-use Rattle.std.specs.Prelude.{Result, Ok, Err, OnOk, OnErr, IfErr, IsErrAnd}
+use Rattle.std.specs.Prelude.{Result, Ok, Err, is_ok, OnOk, OnErr, IfErr, IsErrAnd}
 use Rattle.std.specs.Io.KnownBytes.{Appends, Keeps}
 use Rattle.std.proofs.Math.Seq.{take-append-add, take-length}
 use Rattle.sqlite.specs.State.{HasCleanDisk}
@@ -14,7 +14,7 @@ use Rattle.moo_http.specs.declared.fault.ServeFault.{ServeFault}
 use Rattle.moo_http.specs.declared.fault.ServeFault.TheVariants.{Read, Write, OutOfMemory}
 use Rattle.moo_http.specs.declared.service.ServiceFault.{ServiceFault}
 use Rattle.moo_http.specs.declared.service.ServiceFault.TheVariants as service
-use Rattle.moo_http.specs.Connections.{Moves, AfterConnections, StandsAtEnd, WritesFront, ServesPort}
+use Rattle.moo_http.specs.Connections.{Moves, Connected, AfterConnections, StandsAtEnd, WritesFront, ServesPort}
 use Rattle.moo_http.specs.Lines.{listening_line, served_line}
 use Rattle.moo_http.specs.Serves.{Gets, Serves, StandsStill, Served}
 use Rattle.moo_http.proofs.Serving.{appends_nothing, appends_both}
@@ -38,6 +38,11 @@ module _ {S : Type 0} (g : Ghosts S) (known : Bool) (old : Stand) (was world : W
   moves (Err Read) left rest before behind at (stays, same) = stays_moves at stays
   moves (Err OutOfMemory) left rest before behind at (same, inl stays) = stays_moves at stays
   moves (Err OutOfMemory) left rest before behind at (same, inr (output, serves)) = served_moves left rest output serves
+
+  -- by whether it was answered
+  pub connected : (r : Result (Unit {0}) ServeFault) (answered : Bool) (left rest before behind : Option (List ℕ)) → answered ≡ is_ok r → Served g known r old was world left rest before behind → Connected g known answered old was world left rest before behind
+  connected (Ok done) answered left rest before behind is served = subst (λ b. Connected g known b old was world left rest before behind) (sym is) served
+  connected (Err fault) answered left rest before behind is served = subst (λ b. Connected g known b old was world left rest before behind) (sym is) (fault, served)
 
 -- where a World stood, it stands
 pub stood : {S : Type 0} (g : Ghosts S) (known : Bool) (stand : Stand) (world : World S) (End : Stand → Type 0) → StandsAt g known world stand → (IsTrue known → HasCleanDisk (store_of g world) → CrashLeaves (store_of g world) stand) → End stand → StandsAtEnd g known world End

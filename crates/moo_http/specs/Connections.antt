@@ -1,5 +1,5 @@
 -- What connections, taken in turn, make of the World and of what the service says of itself.
-use Rattle.std.specs.Prelude.{◌≡◌, ◌+◌, ◌++◌, ◌⊎◌, ℕ, zero, suc, List, take, Option, Result, Ok, Err, Bool, IsTrue}
+use Rattle.std.specs.Prelude.{◌≡◌, ◌+◌, ◌++◌, ◌⊎◌, ℕ, zero, suc, List, take, Option, Result, Ok, Err, Bool, true, false, IsTrue}
 use Rattle.std.specs.Io.KnownBytes.{Appends}
 use Rattle.sqlite.specs.State.{HasCleanDisk}
 use Rattle.sqlite.specs.Store.{Ghosts}
@@ -10,12 +10,19 @@ use Rattle.moo_request.specs.declared.asked.Asked.{Asked}
 use Rattle.moo_responses.specs.declared.outcome.Outcome.{Outcome}
 use Rattle.moo_http.specs.declared.service.ServiceFault.{ServiceFault}
 use Rattle.moo_http.specs.declared.service.ServiceFault.TheVariants.{Port}
+use Rattle.moo_http.specs.declared.fault.ServeFault.{ServeFault}
 use Rattle.moo_http.specs.Answers.{MayAnswer}
+use Rattle.moo_http.specs.Serves.{Served}
 use Rattle.moo_http.specs.Lines.{listening_line, served_line}
 
 -- One connection leaves the World where it stood, or where what was asked leaves it.
 abbrev pub Moves : Stand → Stand → Type 0
 Moves old new = (new ≡ old) ⊎ ((asked : Asked) × (o : Outcome) × MayAnswer old asked o new)
+
+-- What came of a connection, by whether it was answered: its request is served, and the whole answer written; or it met a fault.
+abbrev pub Connected : {S : Type 0} (g : Ghosts S) → Bool → Bool → Stand → World S → World S → Option (List ℕ) → Option (List ℕ) → Option (List ℕ) → Option (List ℕ) → Type 0
+Connected g known true old was world left rest before behind = Served g known (Ok tt) old was world left rest before behind
+Connected g known false old was world left rest before behind = (fault : ServeFault) × Served g known (Err fault) old was world left rest before behind
 
 -- so many connections, one after another
 abbrev pub AfterConnections : ℕ → Stand → Stand → Type 0

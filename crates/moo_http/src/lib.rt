@@ -11,6 +11,6 @@ mod write;
 
 pub use fault::ServeFault;
 pub use laws::answers_are_defined;
-pub use listen::{Served, serve_on};
+pub use listen::{Served, serve_connection, serve_on};
 pub use serve::serve_one;
 pub use service::{ServiceFault, serve_port};
