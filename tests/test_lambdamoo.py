@@ -11,6 +11,7 @@ import os
 import pathlib
 import random
 import re
+import shlex
 import subprocess
 import sys
 import tempfile
@@ -43,7 +44,7 @@ TOOLS = TOP / "tools"
 MOO = os.environ.get("MOO", str(TOP / "crates/moo/out/moo"))
 EXAMPLE = (TOP / "examples/minimal.db").read_text()
 EXAMPLE_DUMP = (TOP / "examples/minimal.dump").read_text()
-LARGE = int(os.environ.get("LAMBDAMOO_OBJECTS", "3000"))
+LARGE = int(os.environ.get("LAMBDAMOO_OBJECTS", "2000"))
 WORLDS = int(os.environ.get("LAMBDAMOO_WORLDS", "100"))
 SECONDS = 120
 
@@ -652,7 +653,7 @@ class RoundTrips(Temporary):
 
     def test_worlds_in_tables(self):
         """The world of a database is one that moo calls whole, and moo dumps it byte for byte as the converter does."""
-        for seed in range(max(8, WORLDS // 12)):
+        for seed in range(max(5, WORLDS // 20)):
             chance = random.Random(seed)
             world = random_world(chance, chance.choice([0, 3, 40, 80]))
             file = str(self.folder / f"{seed}.db")
@@ -669,7 +670,7 @@ class RoundTrips(Temporary):
 
     def test_worlds_of_moo(self):
         """What moo dumps comes back byte for byte, but for its seq, accept lists and petitions."""
-        for seed in range(max(4, WORLDS // 25)):
+        for seed in range(max(3, WORLDS // 50)):
             file = str(self.folder / f"{seed}.db")
             run_moo("init", file)
             replies = run_moo("apply", file, "-", text=random_batches(random.Random(seed)))
@@ -811,6 +812,23 @@ class Scripts(Temporary):
             said = running.stderr.read().decode()
             status = running.wait(timeout=SECONDS)
         self.assertEqual((status, said), (1, "from_lambdamoo: the reader of the output went away\n"))
+
+
+    def test_streams_that_fail(self):
+        """A full device and closed streams are reported, without a traceback."""
+        self.file("long.db", of_value("4", "20000", *["2", "x" * 60] * 20000))
+        self.file("short.dump", value_dump("1"))
+        for words, reason in (
+            ("from_lambdamoo.py long.db >/dev/full", "No space left on device"),
+            ("to_lambdamoo.py short.dump >/dev/full", "No space left on device"),
+            ("from_lambdamoo.py long.db >&-", "standard output is closed"),
+            ("to_lambdamoo.py - <&-", "standard input is closed"),
+        ):
+            command = f"{shlex.quote(sys.executable)} {shlex.quote(str(TOOLS))}/{words}"
+            streams = {"stdout": subprocess.DEVNULL, "stderr": subprocess.PIPE}
+            ended = subprocess.run(command, shell=True, cwd=self.folder, timeout=SECONDS, **streams)
+            self.assertEqual(ended.returncode, 1)
+            self.assertRegex(ended.stderr.decode(), rf"\A\w+_lambdamoo: .*{reason}\n\Z")
 
 
 if __name__ == "__main__":

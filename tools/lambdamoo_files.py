@@ -157,12 +157,19 @@ def shown(text):
     return ascii(text) if len(text) <= 40 else f"{ascii(text[:40])}.."
 
 
+def bytes_of(stream, name):
+    """A standard stream as bytes, unless it is closed."""
+    if stream is None:
+        raise OSError(f"standard {name} is closed")
+    return stream.buffer
+
+
 @contextlib.contextmanager
 def opened(path):
     """The text of a file or, for '-', of standard input, a character for each byte. A line ends at byte 10 and nowhere else."""
     try:
         if path == "-":
-            yield io.TextIOWrapper(sys.stdin.buffer, encoding="latin-1", newline="\n")
+            yield io.TextIOWrapper(bytes_of(sys.stdin, "input"), encoding="latin-1", newline="\n")
         else:
             with open(path, encoding="latin-1", newline="\n") as stream:
                 yield stream
@@ -173,16 +180,21 @@ def opened(path):
 
 def write_out(pieces):
     """Writes texts to standard output, a byte for each character."""
-    out = sys.stdout.buffer
+    out = bytes_of(sys.stdout, "output")
     held, size = [], 0
-    for piece in pieces:
-        held.append(piece)
-        size += len(piece)
-        if size > 1 << 16:
-            out.write("".join(held).encode("latin-1"))
-            held, size = [], 0
-    out.write("".join(held).encode("latin-1"))
-    out.flush()
+    try:
+        for piece in pieces:
+            held.append(piece)
+            size += len(piece)
+            if size > 1 << 16:
+                out.write("".join(held).encode("latin-1"))
+                held, size = [], 0
+        out.write("".join(held).encode("latin-1"))
+        out.flush()
+    except OSError:
+        # Python writes what is left at its end, which would fail once more.
+        os.dup2(os.open(os.devnull, os.O_WRONLY), out.fileno())
+        raise
 
 
 def finish(tool, work):
@@ -192,8 +204,6 @@ def finish(tool, work):
     except Broken as fault:
         sys.stderr.write(f"{tool}: {fault}\n")
     except BrokenPipeError:
-        # Python writes what is left at its end, which would fail once more.
-        os.dup2(os.open(os.devnull, os.O_WRONLY), sys.stdout.fileno())
         sys.stderr.write(f"{tool}: the reader of the output went away\n")
     except OSError as fault:
         sys.stderr.write(f"{tool}: {fault}\n")
