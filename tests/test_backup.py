@@ -25,7 +25,7 @@ use_tools()
 import moo_client  # noqa: E402
 from moo_client import Moo, Obj  # noqa: E402
 
-COPIES = int(os.environ.get("COPIES", 6))
+COPIES = int(os.environ.get("COPIES", 4))
 FIRST = 'batch as #3\ncreate(#1)\nadd_property(#4, "mark", "", {#3, ""})\nend\n'
 FORM = r"world\.db-\d{8}T\d{6}\.\d{6}Z-seq\d+"
 
@@ -177,7 +177,7 @@ class UnderLoad(Copies):
     """A world that a service has open, and a client writes to."""
 
     def load(self, count=1_000_000):
-        self.service = Service(self.file, count)
+        self.service = Service(self.file, count, rest=0.1)
         self.addCleanup(self.service.stop)
         self.writer = Writer(self.service.port)
         self.addCleanup(self.writer.end)
