@@ -5,6 +5,8 @@
 
 import contextlib
 import hashlib
+import importlib.machinery
+import importlib.util
 import os
 import pathlib
 import random
@@ -34,6 +36,14 @@ def children(file):
     """What lies under #4 in the world of a file."""
     _, reply = said("ask", file, "-", text="batch as #3\nchildren(#4)\nend\n")
     return moo_client.read(reply.splitlines()[1])
+
+
+def moo_backup():
+    """The tool as a module."""
+    loader = importlib.machinery.SourceFileLoader("moo_backup", str(TOOLS / "moo-backup"))
+    module = importlib.util.module_from_spec(importlib.util.spec_from_loader("moo_backup", loader))
+    loader.exec_module(module)
+    return module
 
 
 class Writer(threading.Thread):
@@ -120,6 +130,20 @@ class AtRest(Copies):
         self.assertGreater((copy / "world.db-wal").stat().st_size, 100)
         self.assertTrue(copy.name.endswith("-seq2"), copy.name)
         self.assertEqual(children(self.restored(copy)), made)
+
+    def test_no_run_begins_while_it_copies(self):
+        """Another program that opens the world before each file is copied is refused."""
+        module = moo_backup()
+        copy, refusals = module.copy, []
+
+        def copy_and_try(source, target):
+            refusals.append(said("check", self.file))
+            return copy(source, target)
+
+        module.copy = copy_and_try
+        module.backup(module.read_words(["--moo", PROGRAM, str(self.file), str(self.folder)]))
+        self.assertEqual(refusals, [(1, "moo: store fault\n")] * 2)
+        self.assertEqual(checked(self.file), 1)
 
     def test_the_newest_are_kept(self):
         self.folder.mkdir()

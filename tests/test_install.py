@@ -261,7 +261,8 @@ class Package(InFolder):
 
     @staticmethod
     def make_package(folder):
-        (line,) = ran(TOP / "packaging/deb", folder, env={**os.environ, "MOO": PROGRAM}).splitlines()
+        moment = {"SOURCE_DATE_EPOCH": "1700000000"}
+        (line,) = ran(TOP / "packaging/deb", folder, env={**os.environ, **moment, "MOO": PROGRAM}).splitlines()
         return pathlib.Path(line)
 
     def test_what_it_says(self):
@@ -285,7 +286,7 @@ class Package(InFolder):
         ran("dpkg-deb", "-R", self.package, self.room / "top")
         ran("md5sum", "--quiet", "--strict", "-c", "DEBIAN/md5sums", cwd=self.room / "top")
 
-    def test_the_same_sources_make_the_same_package(self):
+    def test_the_same_sources_and_moment_make_the_same_package(self):
         self.assertEqual(self.make_package(self.room).read_bytes(), self.package.read_bytes())
 
     @wants("lintian")
