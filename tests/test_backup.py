@@ -46,6 +46,12 @@ def moo_backup():
     return module
 
 
+def version(file):
+    """The version of the tables in a file."""
+    with contextlib.closing(sqlite3.connect(file)) as world:
+        return world.execute("SELECT version FROM head").fetchone()[0]
+
+
 class Writer(threading.Thread):
     """A client that makes one object after another under #4. `made` are the answers."""
 
@@ -172,6 +178,20 @@ class AtRest(Copies):
         with contextlib.closing(sqlite3.connect(self.file)) as world, world:
             world.execute("DELETE FROM object WHERE n = 1")
         self.assert_not_copied("the copy is not whole: moo: damaged")
+
+    def test_the_copy_of_version_1_is_of_version_1(self):
+        """What checks the copy takes over what it opens; so that is no part of the copy."""
+        for end in ("", "-wal"):
+            self.file.with_name("world.db" + end).unlink()
+        self.assertEqual(said("init", self.file)[0], 0)
+        with contextlib.closing(sqlite3.connect(self.file)) as world, world:
+            world.execute("UPDATE head SET version = 1")
+            for table in ("slot2", "petition", "petition_head"):
+                world.execute(f"DROP TABLE {table}")
+        restored = self.restored(self.copied())
+        self.assertEqual((version(self.file), version(restored)), (1, 1))
+        self.assertEqual(checked(restored), 0)
+        self.assertEqual((version(self.file), version(restored)), (1, 2))
 
     def test_a_kill_leaves_the_good_ones(self):
         self.copied()

@@ -23,7 +23,7 @@ def free_port():
 
 def said(*words, text=""):
     """The status of the program with these words, and what it printed."""
-    ran = subprocess.run([PROGRAM, *map(str, words)], input=text, stdout=subprocess.PIPE, text=True, timeout=SECONDS)
+    ran = subprocess.run([PROGRAM, *map(str, words)], input=text, stdout=subprocess.PIPE, stderr=subprocess.DEVNULL, text=True, timeout=SECONDS)
     return ran.returncode, ran.stdout
 
 
