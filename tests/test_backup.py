@@ -193,6 +193,17 @@ class AtRest(Copies):
         self.assertEqual(checked(restored), 0)
         self.assertEqual((version(self.file), version(restored)), (1, 2))
 
+    def test_backups_of_one_folder_wait_for_each_other(self):
+        other = self.room / "other.db"
+        make_world(other, FIRST)
+        command = [sys.executable, str(TOOLS / "moo-backup"), "--moo", PROGRAM]
+        runs = [subprocess.Popen([*command, str(world), str(self.folder)], stdout=subprocess.PIPE) for world in (self.file, other) * 3]
+        for run in runs:
+            run.communicate(timeout=SECONDS)
+        self.assertEqual([run.returncode for run in runs], [0] * 6)
+        left = sorted(path.name.partition("-")[0] for path in self.folder.iterdir())
+        self.assertEqual(left, ["other.db"] * 3 + ["world.db"] * 3)
+
     def test_a_kill_leaves_the_good_ones(self):
         self.copied()
         before = self.bytes_of_copies()
