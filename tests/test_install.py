@@ -1,6 +1,6 @@
 """What `make install` and `make deb` put where, and that it runs from there.
 
-`systemd-analyze`, `dpkg-deb`, `lintian` and `bash` are used where they are there.
+`systemd-analyze`, `dpkg-deb`, `lintian` and `bash` are used if they are there.
 """
 
 import gzip
@@ -52,7 +52,7 @@ def modes(top):
 
 
 def wants(command):
-    """Leaves a test out where a command is missing."""
+    """Leaves a test out if a command is missing."""
     return unittest.skipUnless(shutil.which(command), f"the command {command} is missing")
 
 

@@ -28,7 +28,7 @@ def said(*words, text=""):
 
 
 def checked(file):
-    """The number of a whole world in a file; None where `check` finds none."""
+    """The number of a whole world in a file; None if `check` finds no whole one."""
     status, line = said("check", file)
     found = re.fullmatch(r"ok seq (\d+) objects \d+\n", line)
     return int(found[1]) if status == 0 and found else None
