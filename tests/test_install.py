@@ -190,7 +190,7 @@ class Units(InFolder):
         service, _ = self.serve(world)
         line = self.command("moo-backup@.service", "ExecStart").replace("--wait 60", "--wait 0.1")
         status, printed = self.with_stand_in(line, service)
-        self.assertEqual((status, self.asked()), (0, "restart --no-block moo@world.service\n"))
+        self.assertEqual((status, self.asked()), (0, "try-restart --no-block moo@world.service\n"))
         self.assertIn("world.db-", printed)
 
     def test_the_watch_leaves_a_good_service(self):
@@ -217,7 +217,7 @@ class Units(InFolder):
         self.assertEqual(raised.exception.read(), b'{"error":"fault"}')
         raised.exception.close()
         status, printed = self.with_stand_in(self.command("moo-watch@.service", "ExecStart", PORT=port), service)
-        self.assertEqual((status, printed, self.asked()), (1, "", "restart --no-block moo@world.service\n"))
+        self.assertEqual((status, printed, self.asked()), (1, "", "try-restart --no-block moo@world.service\n"))
         self.assertEqual(ran(PROGRAM, "check", world), "ok seq 0 objects 4\n")
 
 
