@@ -5,6 +5,8 @@
 
 import contextlib
 import hashlib
+import importlib.machinery
+import importlib.util
 import os
 import pathlib
 import random
@@ -34,6 +36,20 @@ def children(file):
     """What lies under #4 in the world of a file."""
     _, reply = said("ask", file, "-", text="batch as #3\nchildren(#4)\nend\n")
     return moo_client.read(reply.splitlines()[1])
+
+
+def moo_backup():
+    """The tool as a module."""
+    loader = importlib.machinery.SourceFileLoader("moo_backup", str(TOOLS / "moo-backup"))
+    module = importlib.util.module_from_spec(importlib.util.spec_from_loader("moo_backup", loader))
+    loader.exec_module(module)
+    return module
+
+
+def version(file):
+    """The version of the tables in a file."""
+    with contextlib.closing(sqlite3.connect(file)) as world:
+        return world.execute("SELECT version FROM head").fetchone()[0]
 
 
 class Writer(threading.Thread):
@@ -121,6 +137,20 @@ class AtRest(Copies):
         self.assertTrue(copy.name.endswith("-seq2"), copy.name)
         self.assertEqual(children(self.restored(copy)), made)
 
+    def test_no_run_begins_while_it_copies(self):
+        """Another program that opens the world before each file is copied is refused."""
+        module = moo_backup()
+        copy, refusals = module.copy, []
+
+        def copy_and_try(source, target):
+            refusals.append(said("check", self.file))
+            return copy(source, target)
+
+        module.copy = copy_and_try
+        module.backup(module.read_words(["--moo", PROGRAM, str(self.file), str(self.folder)]))
+        self.assertEqual(refusals, [(1, "moo: store fault\n")] * 2)
+        self.assertEqual(checked(self.file), 1)
+
     def test_the_newest_are_kept(self):
         self.folder.mkdir()
         for name in ("other", "world.db", "other.db-20200101T000000.000000Z-seq1", ".unfinished-a"):
@@ -148,6 +178,31 @@ class AtRest(Copies):
         with contextlib.closing(sqlite3.connect(self.file)) as world, world:
             world.execute("DELETE FROM object WHERE n = 1")
         self.assert_not_copied("the copy is not whole: moo: damaged")
+
+    def test_the_copy_of_version_1_is_of_version_1(self):
+        """What checks the copy takes over what it opens; so that is no part of the copy."""
+        for end in ("", "-wal"):
+            self.file.with_name("world.db" + end).unlink()
+        self.assertEqual(said("init", self.file)[0], 0)
+        with contextlib.closing(sqlite3.connect(self.file)) as world, world:
+            world.execute("UPDATE head SET version = 1")
+            for table in ("slot2", "petition", "petition_head"):
+                world.execute(f"DROP TABLE {table}")
+        restored = self.restored(self.copied())
+        self.assertEqual((version(self.file), version(restored)), (1, 1))
+        self.assertEqual(checked(restored), 0)
+        self.assertEqual((version(self.file), version(restored)), (1, 2))
+
+    def test_backups_of_one_folder_wait_for_each_other(self):
+        other = self.room / "other.db"
+        make_world(other, FIRST)
+        command = [sys.executable, str(TOOLS / "moo-backup"), "--moo", PROGRAM]
+        runs = [subprocess.Popen([*command, str(world), str(self.folder)], stdout=subprocess.PIPE) for world in (self.file, other) * 3]
+        for run in runs:
+            run.communicate(timeout=SECONDS)
+        self.assertEqual([run.returncode for run in runs], [0] * 6)
+        left = sorted(path.name.partition("-")[0] for path in self.folder.iterdir())
+        self.assertEqual(left, ["other.db"] * 3 + ["world.db"] * 3)
 
     def test_a_kill_leaves_the_good_ones(self):
         self.copied()

@@ -1,6 +1,6 @@
 """What `make install` and `make deb` put where, and that it runs from there.
 
-`systemd-analyze`, `dpkg-deb`, `lintian` and `bash` are used where they are there.
+`systemd-analyze`, `dpkg-deb`, `lintian` and `bash` are used if they are there.
 """
 
 import gzip
@@ -52,7 +52,7 @@ def modes(top):
 
 
 def wants(command):
-    """Leaves a test out where a command is missing."""
+    """Leaves a test out if a command is missing."""
     return unittest.skipUnless(shutil.which(command), f"the command {command} is missing")
 
 
@@ -190,7 +190,7 @@ class Units(InFolder):
         service, _ = self.serve(world)
         line = self.command("moo-backup@.service", "ExecStart").replace("--wait 60", "--wait 0.1")
         status, printed = self.with_stand_in(line, service)
-        self.assertEqual((status, self.asked()), (0, "restart --no-block moo@world.service\n"))
+        self.assertEqual((status, self.asked()), (0, "try-restart --no-block moo@world.service\n"))
         self.assertIn("world.db-", printed)
 
     def test_the_watch_leaves_a_good_service(self):
@@ -217,7 +217,7 @@ class Units(InFolder):
         self.assertEqual(raised.exception.read(), b'{"error":"fault"}')
         raised.exception.close()
         status, printed = self.with_stand_in(self.command("moo-watch@.service", "ExecStart", PORT=port), service)
-        self.assertEqual((status, printed, self.asked()), (1, "", "restart --no-block moo@world.service\n"))
+        self.assertEqual((status, printed, self.asked()), (1, "", "try-restart --no-block moo@world.service\n"))
         self.assertEqual(ran(PROGRAM, "check", world), "ok seq 0 objects 4\n")
 
 
@@ -261,7 +261,8 @@ class Package(InFolder):
 
     @staticmethod
     def make_package(folder):
-        (line,) = ran(TOP / "packaging/deb", folder, env={**os.environ, "MOO": PROGRAM}).splitlines()
+        moment = {"SOURCE_DATE_EPOCH": "1700000000"}
+        (line,) = ran(TOP / "packaging/deb", folder, env={**os.environ, **moment, "MOO": PROGRAM}).splitlines()
         return pathlib.Path(line)
 
     def test_what_it_says(self):
@@ -285,7 +286,7 @@ class Package(InFolder):
         ran("dpkg-deb", "-R", self.package, self.room / "top")
         ran("md5sum", "--quiet", "--strict", "-c", "DEBIAN/md5sums", cwd=self.room / "top")
 
-    def test_the_same_sources_make_the_same_package(self):
+    def test_the_same_sources_and_moment_make_the_same_package(self):
         self.assertEqual(self.make_package(self.room).read_bytes(), self.package.read_bytes())
 
     @wants("lintian")

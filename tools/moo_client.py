@@ -69,7 +69,7 @@ class MooError(Exception):
 
 
 class Refused(MooError):
-    """A call failed, and nothing changed. `call` is its number, from 1 on; None where an object was looked at."""
+    """A call failed, and nothing changed. `call` is its number, from 1 on; None if an object was looked at."""
 
     def __init__(self, call=None):
         super().__init__(f"call {call}: {type(self).__name__}" if call else type(self).__name__)
@@ -264,7 +264,7 @@ def read_list(text, place):
 
 
 def raise_refusal(status, said):
-    """Raises what an answer other than a good one says, where it says how the batch ended."""
+    """Raises what an answer other than a good one says, if it says how the batch ended."""
     error = said.get("error")
     if error == "stale":
         raise Stale(said["seq"])
@@ -322,7 +322,7 @@ class Moo:
         return self.tried("GET", "/seq", None, Deadline(self.patience))["seq"]
 
     def object(self, number):
-        """What is built in of an object, by names; `E_INVARG` where it is none."""
+        """What is built in of an object, by names; `E_INVARG` if there is no such object."""
         said = self.tried("GET", f"/object/{int(number)}", None, Deadline(self.patience))
         return {name: read_shown(name, value) for name, value in said.items()}
 

@@ -23,12 +23,12 @@ def free_port():
 
 def said(*words, text=""):
     """The status of the program with these words, and what it printed."""
-    ran = subprocess.run([PROGRAM, *map(str, words)], input=text, stdout=subprocess.PIPE, text=True, timeout=SECONDS)
+    ran = subprocess.run([PROGRAM, *map(str, words)], input=text, stdout=subprocess.PIPE, stderr=subprocess.DEVNULL, text=True, timeout=SECONDS)
     return ran.returncode, ran.stdout
 
 
 def checked(file):
-    """The number of a whole world in a file; None where `check` finds none."""
+    """The number of a whole world in a file; None if `check` finds no whole one."""
     status, line = said("check", file)
     found = re.fullmatch(r"ok seq (\d+) objects \d+\n", line)
     return int(found[1]) if status == 0 and found else None
