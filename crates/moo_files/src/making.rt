@@ -12,7 +12,8 @@ ghost use Rattle.moo_store.specs.Opening.{IsOfStore};
 ghost use Rattle.moo_store.specs.World.{store_of, StandsFor};
 ghost use Rattle.moo_files.specs.Contents.{HoldsState};
 
-use crate::opening::open_fault;
+use crate::opening::open_connection;
+use crate::remains::Remains;
 use moo_store::{StoreFault, World, create_in};
 use sqlite::{Connection, File, FileFrom, FileStore, Start, Unknown};
 use sqlite_disk::Disk;
@@ -38,22 +39,19 @@ pub fn create_from<T: Start>(
     rt: &HostRuntime,
     path: &str,
     start: T,
-) -> Result<World<FileStore<FileFrom<T>>>, StoreFault>
+) -> Result<World<FileStore<FileFrom<T>>>, (StoreFault, Remains<FileFrom<T>>)>
     ensures stands { IfOk result (λ world. StandsFor over_files true world (state_of opening_maps)) }
     // Files that hold a world are no place for another.
     ensures taken { (s : State) → HoldsState (image_at T.Start) s → IfOk result (λ world. HasCleanDisk (store_of over_files world) → ⊥) }
-    ensures fault { IfErr result IsOfStore }
+    ensures fault { IfErr result (λ e. IsOfStore e.0) }
 {
-    let conn = match Connection::open_from(rt, path, false, start) {
+    let conn = match open_connection(rt, path, start) {
         Ok(conn) => conn,
-        Err((error, _)) => return Err(open_fault(error)),
+        Err((fault, remains)) => return Err((fault, remains)),
     };
     match create_files(rt.alloc(), conn) {
         Ok(world) => Ok(world),
-        Err((fault, conn)) => {
-            let _closed = conn.close();
-            Err(fault)
-        }
+        Err((fault, conn)) => Err((fault, Remains::Connection(conn))),
     }
 }
 
@@ -66,5 +64,11 @@ pub fn create_at(rt: &HostRuntime, path: &str) -> Result<World<FileStore<File>>,
     ensures stands { IfOk result (λ world. StandsFor over_files true world (state_of opening_maps)) }
     ensures fault { IfErr result IsOfStore }
 {
-    create_from(rt, path, Unknown)
+    match create_from(rt, path, Unknown) {
+        Ok(world) => Ok(world),
+        Err((fault, remains)) => {
+            remains.close();
+            Err(fault)
+        }
+    }
 }

@@ -2,7 +2,8 @@
 
 ghost use Rattle.std.specs.Prelude.{◌≡◌, ◌⊎◌, IfOk, IfErr, IsTrue, false, true};
 ghost use Rattle.sqlite.specs.State.{HasCleanDisk, Survives};
-ghost use Rattle.sqlite.specs.Files.{over_files, file_state};
+ghost use Rattle.sqlite.specs.Files.{over_files, file_state, IsOpened};
+ghost use Rattle.sqlite.specs.Start.{FindsIn};
 ghost use Rattle.sqlite.specs.WalFiles.{image_at};
 ghost use Rattle.moo_world.specs.Rows.{IsGood};
 ghost use Rattle.moo_world.specs.Judge.{State, state_of};
@@ -14,11 +15,14 @@ ghost use Rattle.moo_store.specs.Opening.{Says, IsOfStore, Adopts};
 ghost use Rattle.moo_store.specs.World.{store_of, StandsFor, Left};
 ghost use Rattle.moo_files.specs.Contents.{HoldsTables, HoldsState};
 
+use crate::remains::Remains;
 use moo_store::{StoreFault, World, adopt};
 use sqlite::{Connection, Error, ErrorCode, File, FileFrom, FileStore, Start, Unknown};
 use sqlite_disk::Disk;
 use std::alloc::Global;
 use std::fs;
+
+const CANNOT_OPEN: StoreFault = StoreFault::Store(Error::SqliteFailure(ErrorCode::CannotOpen));
 
 /// Why a database can't be opened, as a fault.
 pub(crate) fn open_fault(error: Error) -> StoreFault
@@ -27,6 +31,24 @@ pub(crate) fn open_fault(error: Error) -> StoreFault
     match error {
         Error::SqliteFailure(ErrorCode::OutOfMemory) => StoreFault::OutOfMemory,
         error => StoreFault::Store(error),
+    }
+}
+
+/// A connection to the files, or the fault and what is left of them.
+pub(crate) fn open_connection<T: Start>(
+    rt: &HostRuntime,
+    path: &str,
+    start: T,
+) -> Result<Connection<FileStore<FileFrom<T>>>, (StoreFault, Remains<FileFrom<T>>)>
+    ensures opened { IfOk result (λ conn. HasCleanDisk (file_state conn) → IsOpened conn) }
+    ensures found { IfOk result (λ conn. HasCleanDisk (file_state conn) → FindsIn (image_at T.Start) (file_state conn)) }
+    ensures outside { IfOk result (λ conn. conn.in_transaction ≡ false) }
+    ensures fault { IfErr result (λ e. IsOfStore e.0) }
+{
+    match Connection::open_from(rt, path, false, start) {
+        Ok(conn) => Ok(conn),
+        Err((error, None)) => Err((open_fault(error), Remains::Untouched)),
+        Err((error, Some(left))) => Err((open_fault(error), Remains::Leftover(left))),
     }
 }
 
@@ -62,7 +84,7 @@ pub fn open_from<T: Start>(
     rt: &HostRuntime,
     path: &str,
     start: T,
-) -> Result<World<FileStore<FileFrom<T>>>, StoreFault>
+) -> Result<World<FileStore<FileFrom<T>>>, (StoreFault, Remains<FileFrom<T>>)>
     // Where they hold a state, a World that is opened stands for it, on a disk that returns what was written.
     ensures kept { (s : State) → HoldsState (image_at T.Start) s → IfOk result (λ world. HasCleanDisk (store_of over_files world) → StandsFor over_files true world s) }
     // Where they hold tables that show no world, none is opened: the rows are those that the tables show.
@@ -72,18 +94,15 @@ pub fn open_from<T: Start>(
     ensures works { IfOk result (λ world. world.failed ≡ false) }
 {
     if fs::metadata(rt, path).is_err() {
-        return Err(StoreFault::Store(Error::SqliteFailure(ErrorCode::CannotOpen)));
+        return Err((CANNOT_OPEN, Remains::Untouched));
     }
-    let conn = match Connection::open_from(rt, path, false, start) {
+    let conn = match open_connection(rt, path, start) {
         Ok(conn) => conn,
-        Err((error, _)) => return Err(open_fault(error)),
+        Err((fault, remains)) => return Err((fault, remains)),
     };
     match adopt_files(rt.alloc(), conn) {
         Ok(world) => Ok(world),
-        Err((fault, conn)) => {
-            let _closed = conn.close();
-            Err(fault)
-        }
+        Err((fault, conn)) => Err((fault, Remains::Connection(conn))),
     }
 }
 
@@ -100,5 +119,11 @@ pub fn open_at(rt: &HostRuntime, path: &str) -> Result<World<FileStore<File>>, S
     ensures rows { IfOk result (λ world. IsGood world.rows.maps × StandsFor over_files false world (state_of world.rows.maps)) }
     ensures works { IfOk result (λ world. world.failed ≡ false) }
 {
-    open_from(rt, path, Unknown)
+    match open_from(rt, path, Unknown) {
+        Ok(world) => Ok(world),
+        Err((fault, remains)) => {
+            remains.close();
+            Err(fault)
+        }
+    }
 }
