@@ -3,6 +3,7 @@ use Rattle.std.proofs.Common.{◌≡◌, ◌≢◌, ◌⊎◌, inl, inr, ℕ, ze
 use Rattle.std.specs.Prelude.{length}
 use Rattle.sqlite.specs.Recovery.{Image}
 use Rattle.sqlite.specs.Schema.{Schema}
+use Rattle.sqlite.specs.Tree.{Trees}
 use Rattle.sqlite.specs.State.{State as Database, HasCleanDisk, Survives, Opens, IsLive}
 use Rattle.sqlite.specs.Start.{FindsIn}
 use Rattle.sqlite.specs.declared.error.Error.{Error}
@@ -13,6 +14,7 @@ use Rattle.moo_tables.specs.Tables.{Tables, schema_of, no_schema}
 use Rattle.moo_tables.specs.Inside.{Rests, Leaves}
 use Rattle.moo_tables.proofs.ReopenLemmas.{opened}
 use Rattle.moo_store.specs.States.{ShowsState}
+use Rattle.moo_store.specs.World.{Left}
 use Rattle.moo_store.specs.Opening.{IsOfStore}
 use Rattle.moo_store.specs.declared.fault.StoreFault.{StoreFault}
 use Rattle.moo_store.specs.declared.fault.StoreFault.TheVariants.{Store, OutOfMemory}
@@ -40,6 +42,18 @@ shows_held image store s opens live found it =
       shows = leaves.shows;
       good = it.shows.good;
       state = it.shows.state;
+    }
+
+-- and a crash leaves it
+pub left_held : (image : Image) (store : Database) (s : State) → Opens store → IsLive store → FindsIn image store → ((tables : Tables) → Rests store tables → (trees : Trees) → store.may_leave trees → Leaves trees tables)
+    → HoldsState image s → Left store s
+left_held image store s opens live found leaves it trees lies =
+    let shown = shows_held image store s opens live found it in
+    record {
+      rows = shown.rows;
+      good = shown.good;
+      state = shown.state;
+      leaves = record { tables = shown.tables; leaves = leaves shown.tables shown.rests trees lies; shows = shown.shows };
     }
 
 -- each version has tables

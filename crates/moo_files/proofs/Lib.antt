@@ -1,1 +1,2 @@
 mod ContentsLemmas
+mod RemainsLemmas

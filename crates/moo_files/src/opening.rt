@@ -1,6 +1,6 @@
 //! Opening the world that a file holds.
 
-ghost use Rattle.std.specs.Prelude.{◌≡◌, ◌⊎◌, IfOk, IfErr, IsTrue, false, true};
+ghost use Rattle.std.specs.Prelude.{◌≡◌, ◌⊎◌, IfOk, IfErr, MatchOption, IsTrue, false, true};
 ghost use Rattle.sqlite.specs.State.{HasCleanDisk, Survives};
 ghost use Rattle.sqlite.specs.Files.{over_files, file_state, IsOpened};
 ghost use Rattle.sqlite.specs.Start.{FindsIn};
@@ -8,16 +8,19 @@ ghost use Rattle.sqlite.specs.WalFiles.{image_at};
 ghost use Rattle.moo_world.specs.Rows.{IsGood};
 ghost use Rattle.moo_world.specs.Judge.{State, state_of};
 ghost use Rattle.moo_tables.specs.Tables.{Tables};
-ghost use Rattle.moo_tables.specs.Inside.{Rests, RestsAt};
+ghost use Rattle.sqlite.specs.Tree.{Trees};
+ghost use Rattle.moo_tables.specs.Inside.{Rests, RestsAt, Leaves};
 ghost use Rattle.moo_cells.specs.Shows.{ShowsRows};
 ghost use Rattle.moo_store.specs.States.{ShowsState};
 ghost use Rattle.moo_store.specs.Opening.{Says, IsOfStore, Adopts};
 ghost use Rattle.moo_store.specs.World.{store_of, StandsFor, Left};
 ghost use Rattle.moo_files.specs.Contents.{HoldsTables, HoldsState};
+ghost use Rattle.moo_files.specs.Remains.{IsCleanRemains, StillHolds};
 
 use crate::remains::Remains;
 use moo_store::{StoreFault, World, adopt};
-use sqlite::{Connection, Error, ErrorCode, File, FileFrom, FileStore, Start, Unknown};
+use moo_tables::left_is_committed;
+use sqlite::{Connection, Error, ErrorCode, File, FileFrom, FileStore, Leftover, Start, Unknown};
 use sqlite_disk::Disk;
 use std::alloc::Global;
 use std::fs;
@@ -34,6 +37,23 @@ pub(crate) fn open_fault(error: Error) -> StoreFault
     }
 }
 
+/// `left_is_committed` at the store in files.
+fn leave_their_tables<D: Disk + Drop>(conn: &Connection<FileStore<D>>)
+    ensures { (tables : Tables) → Rests (file_state conn.now) tables → (trees : Trees) → (file_state conn.now).may_leave trees → Leaves trees tables }
+{
+    left_is_committed(conn);
+}
+
+/// What is left of the files where no connection to them was opened.
+fn remains_of<D: Disk>(left: Option<Leftover<D>>) -> Remains<D>
+    ensures { MatchOption left (result ≡ Remains.Untouched) (λ it. result ≡ Remains.Leftover it) }
+{
+    match left {
+        None => Remains::Untouched,
+        Some(left) => Remains::Leftover(left),
+    }
+}
+
 /// A connection to the files, or the fault and what is left of them.
 pub(crate) fn open_connection<T: Start>(
     rt: &HostRuntime,
@@ -43,12 +63,16 @@ pub(crate) fn open_connection<T: Start>(
     ensures opened { IfOk result (λ conn. HasCleanDisk (file_state conn) → IsOpened conn) }
     ensures found { IfOk result (λ conn. HasCleanDisk (file_state conn) → FindsIn (image_at T.Start) (file_state conn)) }
     ensures outside { IfOk result (λ conn. conn.in_transaction ≡ false) }
+    ensures left { IfOk result (λ conn. (tables : Tables) → Rests (file_state conn) tables → (trees : Trees) → (file_state conn).may_leave trees → Leaves trees tables) }
     ensures fault { IfErr result (λ e. IsOfStore e.0) }
+    ensures refused { (s : State) → HoldsState (image_at T.Start) s → IfErr result (λ e. IsCleanRemains e.1 → StillHolds (image_at T.Start) e.1 s) }
 {
     match Connection::open_from(rt, path, false, start) {
-        Ok(conn) => Ok(conn),
-        Err((error, None)) => Err((open_fault(error), Remains::Untouched)),
-        Err((error, Some(left))) => Err((open_fault(error), Remains::Leftover(left))),
+        Ok(conn) => {
+            leave_their_tables(&conn);
+            Ok(conn)
+        }
+        Err((error, left)) => Err((open_fault(error), remains_of(left))),
     }
 }
 
@@ -92,6 +116,12 @@ pub fn open_from<T: Start>(
     // Whatever they hold, its rows are good, and what is said of rows alone is said of them.
     ensures rows { IfOk result (λ world. IsGood world.rows.maps × StandsFor over_files false world (state_of world.rows.maps)) }
     ensures works { IfOk result (λ world. world.failed ≡ false) }
+    // Where they hold a state, no refusal tells of damage. Where they hold tables, a damage that is told is theirs.
+    ensures whole { (s : State) → HoldsState (image_at T.Start) s → IfErr result (λ e. IsCleanRemains e.1 → IsOfStore e.0) }
+    ensures fault { (tables : Tables) → HoldsTables (image_at T.Start) tables → IfErr result (λ e. IsCleanRemains e.1 → Says tables e.0) }
+    // After a refusal they hold the state still, and so does what a crash leaves, then and of a World that was opened.
+    ensures refused { (s : State) → HoldsState (image_at T.Start) s → IfErr result (λ e. IsCleanRemains e.1 → StillHolds (image_at T.Start) e.1 s) }
+    ensures crash { (s : State) → HoldsState (image_at T.Start) s → IfOk result (λ world. HasCleanDisk (store_of over_files world) → Left (store_of over_files world) s) }
 {
     if fs::metadata(rt, path).is_err() {
         return Err((CANNOT_OPEN, Remains::Untouched));
