@@ -2,8 +2,10 @@
 use Rattle.sqlite.specs.Recovery.{Image}
 use Rattle.sqlite.specs.Tree.{Trees}
 use Rattle.sqlite.specs.Files.{HoldsDatabase}
+use Rattle.sqlite.specs.Effect.{IsDatabase}
 use Rattle.moo_world.specs.Judge.{State}
-use Rattle.moo_tables.specs.Tables.{Tables}
+use Rattle.moo_tables.specs.declared.version.Version.{Version}
+use Rattle.moo_tables.specs.Tables.{Tables, schema_of}
 use Rattle.moo_tables.specs.Inside.{Leaves}
 use Rattle.moo_store.specs.States.{LeavesState}
 
@@ -18,3 +20,7 @@ pub record HoldsState (image : Image) (s : State) : Type 0 where
   pub trees : Trees
   pub holds : HoldsDatabase image trees
   pub shows : LeavesState trees s
+
+-- the tables of no version of ours
+abbrev pub HasOtherTables : Trees → Type 0
+HasOtherTables trees = (version : Version) → ¬ IsDatabase (record { schema = schema_of version; trees = trees })

@@ -9,13 +9,14 @@ ghost use Rattle.moo_world.specs.Judge.{State, state_of};
 ghost use Rattle.moo_tables.specs.Tables.{no_schema};
 ghost use Rattle.moo_store.specs.States.{LeavesState};
 ghost use Rattle.moo_store.specs.Opening.{IsOfStore};
-ghost use Rattle.moo_store.specs.World.{store_of, StandsFor};
+ghost use Rattle.moo_store.specs.World.{store_of, StandsFor, Left};
 ghost use Rattle.moo_files.specs.Contents.{HoldsState};
+ghost use Rattle.moo_files.specs.Remains.{IsCleanRemains, StillHolds};
 
 use crate::opening::open_connection;
 use crate::remains::Remains;
 use moo_store::{StoreFault, World, create_in};
-use sqlite::{Connection, File, FileFrom, FileStore, Start, Unknown};
+use sqlite::{Connection, Error, ErrorCode, File, FileFrom, FileStore, Start, Unknown};
 use sqlite_disk::Disk;
 use std::alloc::Global;
 
@@ -26,12 +27,20 @@ pub fn create_files<D: Disk + Drop>(
 ) -> Result<World<FileStore<D>>, (StoreFault, Connection<FileStore<D>>)>
     requires outside { conn.in_transaction ≡ false }
     ensures stands { IfOk result (λ world. StandsFor over_files true world (state_of opening_maps)) }
-    // A database that has tables is refused.
-    ensures refused { (file_state conn).now.schema ≢ no_schema → IsErrAnd result (λ e. e.1 ≡ conn) }
+    // A database that has tables is refused, and comes back as it is.
+    ensures refused { (file_state conn).now.schema ≢ no_schema → IsErrAnd result (λ e. (e.0 ≡ StoreFault.Store (Error.SqliteFailure ErrorCode.NameTaken)) × (e.1 ≡ conn)) }
     ensures fault { IfErr result (λ e. IsOfStore e.0) }
     ensures crash { IfOk result (λ world. Survives (file_state conn) (store_of over_files world) (λ trees. LeavesState trees (state_of opening_maps))) }
+    ensures crash_refused { IfErr result (λ e. (e.1 ≡ conn) ⊎ Survives (file_state conn) (file_state e.1) (λ trees. LeavesState trees (state_of opening_maps))) }
 {
     create_in(alloc, conn)
+}
+
+/// `World::leaves` at the store in files, for a World that works.
+fn leaves_its_state<D: Disk + Drop>(world: &World<FileStore<D>>)
+    ensures { (s : State) → StandsFor over_files true world.now s → HasCleanDisk (store_of over_files world.now) → Left (store_of over_files world.now) s }
+{
+    world.leaves();
 }
 
 /// `create_at`, where `T` stands for what the files hold: it is proved for all contents, and no code reads them.
@@ -44,13 +53,20 @@ pub fn create_from<T: Start>(
     // Files that hold a world are no place for another.
     ensures taken { (s : State) → HoldsState (image_at T.Start) s → IfOk result (λ world. HasCleanDisk (store_of over_files world) → ⊥) }
     ensures fault { IfErr result (λ e. IsOfStore e.0) }
+    // After a refusal they hold it still, and so does what a crash leaves.
+    ensures refused { (s : State) → HoldsState (image_at T.Start) s → IfErr result (λ e. IsCleanRemains e.1 → StillHolds (image_at T.Start) e.1 s) }
+    // A crash of a new World leaves it as it was made.
+    ensures crash { IfOk result (λ world. HasCleanDisk (store_of over_files world) → Left (store_of over_files world) (state_of opening_maps)) }
 {
     let conn = match open_connection(rt, path, start) {
         Ok(conn) => conn,
         Err((fault, remains)) => return Err((fault, remains)),
     };
     match create_files(rt.alloc(), conn) {
-        Ok(world) => Ok(world),
+        Ok(world) => {
+            leaves_its_state(&world);
+            Ok(world)
+        }
         Err((fault, conn)) => Err((fault, Remains::Connection(conn))),
     }
 }

@@ -1,20 +1,21 @@
 //! Opening the world that a file holds.
 
-ghost use Rattle.std.specs.Prelude.{◌≡◌, ◌⊎◌, IfOk, IfErr, MatchOption, IsTrue, false, true};
+ghost use Rattle.std.specs.Prelude.{◌≡◌, ◌≢◌, ◌⊎◌, [], IfOk, IfErr, IsErrAnd, IfSome, MatchOption, IsTrue, false, true};
 ghost use Rattle.sqlite.specs.State.{HasCleanDisk, Survives};
-ghost use Rattle.sqlite.specs.Files.{over_files, file_state, IsOpened};
+ghost use Rattle.sqlite.specs.Files.{over_files, file_state, IsOpened, HoldsDatabase};
 ghost use Rattle.sqlite.specs.Start.{FindsIn};
 ghost use Rattle.sqlite.specs.WalFiles.{image_at};
 ghost use Rattle.moo_world.specs.Rows.{IsGood};
 ghost use Rattle.moo_world.specs.Judge.{State, state_of};
-ghost use Rattle.moo_tables.specs.Tables.{Tables};
+ghost use Rattle.moo_tables.specs.Tables.{Tables, schema_of};
+ghost use Rattle.moo_tables.specs.declared.version.Version.{Version};
 ghost use Rattle.sqlite.specs.Tree.{Trees};
 ghost use Rattle.moo_tables.specs.Inside.{Rests, RestsAt, Leaves};
 ghost use Rattle.moo_cells.specs.Shows.{ShowsRows};
 ghost use Rattle.moo_store.specs.States.{ShowsState};
 ghost use Rattle.moo_store.specs.Opening.{Says, IsOfStore, Adopts};
 ghost use Rattle.moo_store.specs.World.{store_of, StandsFor, Left};
-ghost use Rattle.moo_files.specs.Contents.{HoldsTables, HoldsState};
+ghost use Rattle.moo_files.specs.Contents.{HoldsTables, HoldsState, HasOtherTables};
 ghost use Rattle.moo_files.specs.Remains.{IsCleanRemains, StillHolds};
 
 use crate::remains::Remains;
@@ -26,6 +27,20 @@ use std::alloc::Global;
 use std::fs;
 
 const CANNOT_OPEN: StoreFault = StoreFault::Store(Error::SqliteFailure(ErrorCode::CannotOpen));
+
+const NO_DATABASE: StoreFault = StoreFault::Store(Error::SqliteFailure(ErrorCode::NotADatabase));
+
+/// Why a file is refused before it is opened: there is none, or it holds no byte. An empty file would be made a blank database
+/// by opening it. A log beside an empty file counts for nothing.
+fn unfit(rt: &HostRuntime, path: &str) -> Option<StoreFault>
+    ensures { IfSome result IsOfStore }
+{
+    match fs::metadata(rt, path) {
+        Ok(data) if data.is_file() && data.len() == 0 => Some(NO_DATABASE),
+        Ok(_) => None,
+        Err(_) => Some(CANNOT_OPEN),
+    }
+}
 
 /// Why a database can't be opened, as a fault.
 pub(crate) fn open_fault(error: Error) -> StoreFault
@@ -89,6 +104,8 @@ pub fn adopt_files<D: Disk + Drop>(
     // Nothing else is opened, and a damage that is answered is that of the tables.
     ensures shown { IfOk result (λ world. HasCleanDisk (store_of over_files world) → (tables : Tables) → Rests (file_state conn) tables → ShowsRows tables world.rows.maps × IsGood world.rows.maps) }
     ensures fault { IfErr result (λ e. HasCleanDisk (file_state e.1) → (tables : Tables) → Rests (file_state conn) tables → Says tables e.0) }
+    // Other tables than ours are refused, and so is a database without tables.
+    ensures other { ((version : Version) → (file_state conn).now.schema ≢ schema_of version) → IsErrAnd result (λ e. IsOfStore e.0 × (e.1 ≡ conn)) }
     // Whatever is opened, its rows are good, and what is said of rows alone is said of them.
     ensures rows { IfOk result (λ world. IsGood world.rows.maps × StandsFor over_files false world (state_of world.rows.maps)) }
     ensures works { IfOk result (λ world. world.failed ≡ false) }
@@ -113,6 +130,9 @@ pub fn open_from<T: Start>(
     ensures kept { (s : State) → HoldsState (image_at T.Start) s → IfOk result (λ world. HasCleanDisk (store_of over_files world) → StandsFor over_files true world s) }
     // Where they hold tables that show no world, none is opened: the rows are those that the tables show.
     ensures only { (tables : Tables) → HoldsTables (image_at T.Start) tables → IfOk result (λ world. HasCleanDisk (store_of over_files world) → ShowsRows tables world.rows.maps) }
+    // Where they hold nothing, or other tables than ours, none is opened.
+    ensures nothing { (image_at T.Start).db ≡ [] → IfOk result (λ world. HasCleanDisk (store_of over_files world) → ⊥) }
+    ensures other { (trees : Trees) → HoldsDatabase (image_at T.Start) trees → HasOtherTables trees → IfOk result (λ world. HasCleanDisk (store_of over_files world) → ⊥) }
     // Whatever they hold, its rows are good, and what is said of rows alone is said of them.
     ensures rows { IfOk result (λ world. IsGood world.rows.maps × StandsFor over_files false world (state_of world.rows.maps)) }
     ensures works { IfOk result (λ world. world.failed ≡ false) }
@@ -123,8 +143,8 @@ pub fn open_from<T: Start>(
     ensures refused { (s : State) → HoldsState (image_at T.Start) s → IfErr result (λ e. IsCleanRemains e.1 → StillHolds (image_at T.Start) e.1 s) }
     ensures crash { (s : State) → HoldsState (image_at T.Start) s → IfOk result (λ world. HasCleanDisk (store_of over_files world) → Left (store_of over_files world) s) }
 {
-    if fs::metadata(rt, path).is_err() {
-        return Err((CANNOT_OPEN, Remains::Untouched));
+    if let Some(fault) = unfit(rt, path) {
+        return Err((fault, Remains::Untouched));
     }
     let conn = match open_connection(rt, path, start) {
         Ok(conn) => conn,

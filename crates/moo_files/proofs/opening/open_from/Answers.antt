@@ -2,7 +2,7 @@ use Rattle.sqlite.specs.Files.{over_files, file_state}
 use Rattle.sqlite.specs.WalFiles.{image_at}
 use Rattle.moo_store.specs.Opening.{Adopts}
 use Rattle.moo_store.specs.World.{store_of}
-use Rattle.moo_files.proofs.ContentsLemmas.{was_clean, rests_held, shows_held, left_held}
+use Rattle.moo_files.proofs.ContentsLemmas.{was_clean, rests_held, shows_held, left_held, empty_other, foreign_other}
 use Rattle.moo_files.proofs.opening.open_from.Goals as goal
 
 pub returns-in-Ok-adopt_files-clause-kept : goal.returns-in-Ok-adopt_files-clause-kept
@@ -52,3 +52,17 @@ returns-in-Err-adopt_files-clause-refused g c s holds clean =
     let found = c.in-Ok.ensures.found early in
     c.in-Err-adopt_files.ensures.left_refused s (shows_held image (file_state conn) s opened.0 opened.1 found holds)
     (left_held image (file_state conn) s opened.0 opened.1 found c.in-Ok.ensures.left holds) clean
+
+pub returns-in-Ok-adopt_files-clause-nothing : goal.returns-in-Ok-adopt_files-clause-nothing
+returns-in-Ok-adopt_files-clause-nothing g c none clean =
+    let conn = c.in-Ok.conn in
+    let early = was_clean (file_state conn) (store_of over_files c.in-Ok-adopt_files.world) (Adopts (file_state conn)) c.in-Ok-adopt_files.ensures.crash clean in
+    let opened = c.in-Ok.ensures.opened early in
+    c.in-Ok-adopt_files.ensures.other (empty_other (image_at g.T.Start) (file_state conn) opened.0 opened.1 (c.in-Ok.ensures.found early) none)
+
+pub returns-in-Ok-adopt_files-clause-other : goal.returns-in-Ok-adopt_files-clause-other
+returns-in-Ok-adopt_files-clause-other g c trees holds others clean =
+    let conn = c.in-Ok.conn in
+    let early = was_clean (file_state conn) (store_of over_files c.in-Ok-adopt_files.world) (Adopts (file_state conn)) c.in-Ok-adopt_files.ensures.crash clean in
+    let opened = c.in-Ok.ensures.opened early in
+    c.in-Ok-adopt_files.ensures.other (foreign_other (image_at g.T.Start) (file_state conn) trees opened.0 opened.1 (c.in-Ok.ensures.found early) holds others)
