@@ -1,2 +1,3 @@
+pub mod AgainLemmas
 mod ContentsLemmas
 mod RemainsLemmas

@@ -1,5 +1,5 @@
 -- What is left of files that held an image.
-use Rattle.std.proofs.Common.{◌≡◌, ◌⊎◌, inl, inr, ℕ, Bool, cond, List, [], ◌∷◌, Option, None, Some, IfSome, MatchOption, ap₂, sym, subst, subst₂}
+use Rattle.std.proofs.Common.{◌≡◌, inl, inr, ℕ, Bool, cond, List, [], ◌∷◌, Option, None, Some, IfSome, MatchOption, sym, subst, subst₂}
 use Rattle.sqlite_disk.specs.declared.Disk.{Ghosts}
 use Rattle.sqlite_disk.specs.declared.Files.{Files}
 use Rattle.sqlite_disk.specs.Events.{Event, replay, settled}

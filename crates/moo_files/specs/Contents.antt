@@ -1,6 +1,7 @@
 -- What the files of a database hold.
 use Rattle.sqlite.specs.Recovery.{Image}
 use Rattle.sqlite.specs.Tree.{Trees}
+use Rattle.sqlite.specs.State.{State as Database}
 use Rattle.sqlite.specs.Files.{HoldsDatabase}
 use Rattle.sqlite.specs.Effect.{IsDatabase}
 use Rattle.moo_world.specs.Judge.{State}
@@ -24,3 +25,9 @@ pub record HoldsState (image : Image) (s : State) : Type 0 where
 -- the tables of no version of ours
 abbrev pub HasOtherTables : Trees → Type 0
 HasOtherTables trees = (version : Version) → ¬ IsDatabase (record { schema = schema_of version; trees = trees })
+
+-- a log and its file hold a database that a crash of this store may leave
+pub record IsLeftBy (store : Database) (image : Image) : Type 0 where
+  pub trees : Trees
+  pub left : store.may_leave trees
+  pub holds : HoldsDatabase image trees

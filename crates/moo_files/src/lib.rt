@@ -1,10 +1,12 @@
 //! Worlds in files: opened, and made.
 #![tactic(auto)]
 
+mod again;
 mod making;
 mod opening;
 mod remains;
 
+pub use again::open_again;
 pub use making::{create_at, create_from};
 pub use opening::{open_at, open_from};
 pub use remains::Remains;

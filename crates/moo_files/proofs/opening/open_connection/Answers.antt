@@ -1,4 +1,4 @@
-use Rattle.std.proofs.Common.{◌≡◌, ℕ, List, Bool, cond, ap₂}
+use Rattle.std.proofs.Common.{ℕ, List, Bool, cond, ap₂}
 use Rattle.sqlite_disk.specs.Events.{Event, replay}
 use Rattle.sqlite_wal.specs.Recovery.{Image}
 use Rattle.sqlite.specs.WalFiles.{image_at}
