@@ -1,4 +1,5 @@
 mod Connections
+mod Refusals
 mod Reporting
 mod Service
 mod Tasks

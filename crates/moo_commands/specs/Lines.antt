@@ -64,6 +64,11 @@ store_failure store_fault.NewerVersion = NewerVersion
 store_failure store_fault.OutOfMemory = NoMemory
 store_failure store_fault.Closed = Store (SqliteFailure code.Closed)
 
+-- The failure tells of this fault of opening. That there is no such file is told apart, for what is said on standard error.
+abbrev pub Tells : StoreFault → Failure → Type 0
+Tells fault failure =
+    (failure ≡ store_failure fault) ⊎ ((store_failure fault ≡ Store (SqliteFailure code.CannotOpen)) × (failure ≡ NoFile))
+
 abbrev pub dump_failure : DumpFault → Failure
 dump_failure dump_fault.Write = Write
 dump_failure dump_fault.OutOfMemory = NoMemory

@@ -1,26 +1,30 @@
 //! The file of a task.
 
-ghost use Rattle.std.specs.Prelude.{◌≡◌, Bool, IsTrue, true, false, IfOk, IfSome, MatchOption, MatchResult};
+ghost use Rattle.std.specs.Prelude.{◌≡◌, Bool, IsTrue, true, false, IfOk, IfErr};
 ghost use Rattle.sqlite.specs.State.{HasCleanDisk};
 ghost use Rattle.sqlite.specs.Files.{over_files, file_state};
 ghost use Rattle.sqlite.specs.WalFiles.{image_at};
-ghost use Rattle.moo_rows.specs.Maps.{Maps};
 ghost use Rattle.moo_rows.specs.Opening.{opening_maps};
 ghost use Rattle.moo_world.specs.Rows.{IsGood};
 ghost use Rattle.moo_world.specs.Judge.{State, state_of};
 ghost use Rattle.moo_tables.specs.Tables.{Tables};
 ghost use Rattle.moo_cells.specs.Shows.{ShowsRows};
+ghost use Rattle.moo_store.specs.Opening.{Says, IsOfStore};
 ghost use Rattle.moo_store.specs.World.{store_of, CrashLeaves, StandsFor};
 ghost use Rattle.moo_files.specs.Contents.{HoldsTables, HoldsState};
-ghost use Rattle.moo_commands.specs.Run.{begins_anew, file_of, IsOpening, MayRefuse, FailsAtOnce, RefusesFile, RunsFrom, RunsUnseen, RunsTask};
+ghost use Rattle.moo_files.specs.Remains.{IsCleanRemains, StillHolds};
+ghost use Rattle.moo_commands.specs.Lines.{Tells, store_failure};
+ghost use Rattle.moo_commands.specs.Run.{begins_anew, file_of, RunsFrom, RunsTask};
+ghost use Rattle.moo_commands.specs.Ends.{RunsFile, EndsWith};
 
+use crate::ends::Ends;
 use crate::failure::Failure;
 use crate::output::report;
 use crate::over::{begins_anew, run_in, run_over};
-use moo_files::{create_from, open_from};
+use moo_files::{Remains, create_from, open_from};
 use moo_store::{StoreFault, World};
 use moo_words::Task;
-use sqlite::{Connection, Error, ErrorCode, FileFrom, FileStore, Start, Unknown};
+use sqlite::{Connection, Error, ErrorCode, FileFrom, FileStore, Start};
 use sqlite_disk::Disk;
 use std::fs;
 use std::io::{Read, Write};
@@ -61,53 +65,22 @@ fn run_in_files<R: Read + Drop, W: Write, D: Disk + Drop>(
     run_in(rt, world, task, input, output, status)
 }
 
-/// Makes a new world in a file; none where it holds a world already.
-fn make<T: Start>(
-    rt: &HostRuntime,
-    file: &str,
-    start: T,
-) -> Result<World<FileStore<FileFrom<T>>>, Failure>
-    ensures made { MatchResult result (λ world. StandsFor over_files true world (state_of opening_maps)) IsOpening }
-    ensures taken { (s : State) → HoldsState (image_at T.Start) s → IfOk result (λ world. HasCleanDisk (store_of over_files world) → ⊥) }
-{
-    match create_from(rt, file, start) {
-        Ok(world) => Ok(world),
-        Err(fault) => Err(Failure::from(fault)),
-    }
-}
-
 /// Each fault of opening refuses the file.
 fn refusal(fault: StoreFault) -> Failure
-    ensures { MayRefuse result }
+    ensures { result ≡ store_failure fault }
 {
     Failure::from(fault)
 }
 
 /// Why a file isn't opened. That there is none is told apart, for what is said of it on standard error.
-fn refusal_of(rt: &HostRuntime, file: &str, fault: StoreFault) -> Failure
-    ensures { MayRefuse result }
+fn refusal_of(rt: &HostRuntime, file: &str, task: Task<'_>, fault: StoreFault) -> Failure
+    ensures { Tells fault result }
 {
     let failure = refusal(fault);
-    if failure == CANNOT_OPEN && fs::metadata(rt, file).is_err() {
+    if failure == CANNOT_OPEN && !begins_anew(task) && fs::metadata(rt, file).is_err() {
         return Failure::NoFile;
     }
     failure
-}
-
-/// Opens the world that a file holds.
-fn open<T: Start>(
-    rt: &HostRuntime,
-    file: &str,
-    start: T,
-) -> Result<World<FileStore<FileFrom<T>>>, Failure>
-    ensures opened { MatchResult result (λ world. IsGood world.rows.maps × StandsFor over_files false world (state_of world.rows.maps)) MayRefuse }
-    ensures kept { (s : State) → HoldsState (image_at T.Start) s → IfOk result (λ world. HasCleanDisk (store_of over_files world) → StandsFor over_files true world s) }
-    ensures only { (tables : Tables) → HoldsTables (image_at T.Start) tables → IfOk result (λ world. HasCleanDisk (store_of over_files world) → ShowsRows tables world.rows.maps) }
-{
-    match open_from(rt, file, start) {
-        Ok(world) => Ok(world),
-        Err(fault) => Err(refusal_of(rt, file, fault)),
-    }
 }
 
 /// The world that a task begins with. Only `init` makes a file.
@@ -116,22 +89,26 @@ fn world_of<T: Start>(
     file: &str,
     start: T,
     task: Task<'_>,
-) -> Result<World<FileStore<FileFrom<T>>>, Failure>
-    ensures anew { begins_anew task.entry ≡ true → MatchResult result (λ world. StandsFor over_files true world (state_of opening_maps)) IsOpening }
-    ensures taken { (s : State) → begins_anew task.entry ≡ true → HoldsState (image_at T.Start) s → IfOk result (λ world. HasCleanDisk (store_of over_files world) → ⊥) }
-    ensures opened { begins_anew task.entry ≡ false → MatchResult result (λ world. IsGood world.rows.maps × StandsFor over_files false world (state_of world.rows.maps)) MayRefuse }
-    ensures kept { (s : State) → begins_anew task.entry ≡ false → HoldsState (image_at T.Start) s → IfOk result (λ world. HasCleanDisk (store_of over_files world) → StandsFor over_files true world s) }
-    ensures only { (tables : Tables) → begins_anew task.entry ≡ false → HoldsTables (image_at T.Start) tables → IfOk result (λ world. HasCleanDisk (store_of over_files world) → ShowsRows tables world.rows.maps) }
+) -> Result<World<FileStore<FileFrom<T>>>, (StoreFault, Remains<FileFrom<T>>)>
+    ensures anew { begins_anew task.entry ≡ true → IfOk result (λ world. StandsFor over_files true world (state_of opening_maps)) }
+    ensures made { begins_anew task.entry ≡ true → IfErr result (λ e. IsOfStore e.0) }
+    ensures taken { begins_anew task.entry ≡ true → (s : State) → HoldsState (image_at T.Start) s → IfOk result (λ world. HasCleanDisk (store_of over_files world) → ⊥) }
+    ensures opened { begins_anew task.entry ≡ false → IfOk result (λ world. IsGood world.rows.maps × StandsFor over_files false world (state_of world.rows.maps)) }
+    ensures kept { begins_anew task.entry ≡ false → (s : State) → HoldsState (image_at T.Start) s → IfOk result (λ world. HasCleanDisk (store_of over_files world) → StandsFor over_files true world s) }
+    ensures only { begins_anew task.entry ≡ false → (tables : Tables) → HoldsTables (image_at T.Start) tables → IfOk result (λ world. HasCleanDisk (store_of over_files world) → ShowsRows tables world.rows.maps) }
+    ensures whole { begins_anew task.entry ≡ false → (s : State) → HoldsState (image_at T.Start) s → IfErr result (λ e. IsCleanRemains e.1 → IsOfStore e.0) }
+    ensures fault { begins_anew task.entry ≡ false → (tables : Tables) → HoldsTables (image_at T.Start) tables → IfErr result (λ e. IsCleanRemains e.1 → Says tables e.0) }
+    ensures left { (s : State) → HoldsState (image_at T.Start) s → IfErr result (λ e. IsCleanRemains e.1 → StillHolds (image_at T.Start) e.1 s) }
 {
     if begins_anew(task) {
-        make(rt, file, start)
+        create_from(rt, file, start)
     } else {
-        open(rt, file, start)
+        open_from(rt, file, start)
     }
 }
 
-/// Does what a task says over its file, writes the line of a failure, and hands back the connection to the file where a world was
-/// opened or made. The status is that of `run_words`.
+/// Does what a task says over its file, writes the line of a failure, and hands back what is left of the file. The status is that
+/// of `run_words`.
 ///
 /// `T` stands for what the files hold: it is proved for all contents, and no code reads them. The program calls it for files that
 /// nobody has read.
@@ -143,25 +120,14 @@ pub fn run_from<T: Start, R: Read + Drop, W: Write>(
     input: R,
     output: &mut W,
     status: &mut u8,
-) -> Option<Connection<FileStore<FileFrom<T>>>>
-    // A task that begins with a new world runs from the opening world on, and not over another.
-    ensures anew { begins_anew task.entry ≡ true → MatchOption result (FailsAtOnce (W.contents output.old) (W.contents output.new) status.new)
-        (λ conn. RunsFrom task.entry (state_of opening_maps) (R.remaining input) (W.contents output.old) (W.contents output.new) status.new (HasCleanDisk (file_state conn)) (CrashLeaves (file_state conn))) }
-    ensures taken { (s : State) → begins_anew task.entry ≡ true → HoldsState (image_at T.Start) s → IfSome result (λ conn. HasCleanDisk (file_state conn) → ⊥) }
-    // Any other runs from the state on that the files hold, whatever bytes these are, on a disk that returns what was written.
-    ensures kept { (s : State) → begins_anew task.entry ≡ false → HoldsState (image_at T.Start) s → IfSome result (λ conn. HasCleanDisk (file_state conn) →
-        RunsFrom task.entry s (R.remaining input) (W.contents output.old) (W.contents output.new) status.new (HasCleanDisk (file_state conn)) (CrashLeaves (file_state conn))) }
-    // Where they hold tables that show no world, it runs from none.
-    ensures only { (tables : Tables) → begins_anew task.entry ≡ false → HoldsTables (image_at T.Start) tables → IfSome result (λ conn. HasCleanDisk (file_state conn) → (rows : Maps) × IsGood rows × ShowsRows tables rows) }
-    // Whatever they hold, the file is refused, or the task runs from a well formed world on.
-    ensures opened { begins_anew task.entry ≡ false → MatchOption result (RefusesFile (W.contents output.old) (W.contents output.new) status.new)
-        (λ conn. (rows : Maps) × IsGood rows × RunsUnseen task.entry (state_of rows) (R.remaining input) (W.contents output.old) (W.contents output.new) status.new) }
+) -> Ends<FileFrom<T>>
+    ensures { RunsFile task.entry (image_at T.Start) result (R.remaining input) (W.contents output.old) (W.contents output.new) status.new }
 {
     match world_of(rt, file, start, task) {
-        Ok(world) => Some(run_in_files(rt, world, task, input, output, status)),
-        Err(failure) => {
-            *status = report(rt, failure, output);
-            None
+        Ok(world) => Ends::Ran(run_in_files(rt, world, task, input, output, status)),
+        Err((fault, remains)) => {
+            *status = report(rt, refusal_of(rt, file, task, fault), output);
+            Ends::Refused(remains)
         }
     }
 }
@@ -183,38 +149,23 @@ fn run_in_memory<R: Read + Drop, W: Write>(
     status
 }
 
-/// Does what a task says over its file, and closes it.
-///
-/// Where the file can't be closed at the end, a part of what was committed stands in its log alone, which the next open reads.
-fn run_in_file<R: Read + Drop, W: Write>(
-    rt: &HostRuntime,
-    file: &str,
-    task: Task<'_>,
-    input: R,
-    output: &mut W,
-) -> u8
-    ensures { RunsTask task.entry (R.remaining input) (W.contents output.old) (W.contents output.new) result }
-{
-    let mut status = 0;
-    if let Some(conn) = run_from(rt, file, Unknown, task, input, output, &mut status) {
-        let _closed = conn.close();
-    }
-    status
-}
-
-/// Does what a task says, and answers the exit status.
-pub(crate) fn run_task<R: Read + Drop, W: Write>(
+/// Does what a task says, and hands back what is left of its file. The status is that of `run_words`.
+pub(crate) fn run_task<T: Start, R: Read + Drop, W: Write>(
     rt: &HostRuntime,
     task: Task<'_>,
+    start: T,
     input: R,
     output: &mut W,
-) -> u8
-    ensures { RunsTask task.entry (R.remaining input) (W.contents output.old) (W.contents output.new) result }
+    status: &mut u8,
+) -> Ends<FileFrom<T>>
+    ensures runs { RunsTask task.entry (R.remaining input) (W.contents output.old) (W.contents output.new) status.new }
+    ensures ends { EndsWith task.entry (image_at T.Start) result (R.remaining input) (W.contents output.old) (W.contents output.new) status.new }
 {
     let file = file_of(task);
     if file == ":memory:" {
-        run_in_memory(rt, task, input, output)
+        *status = run_in_memory(rt, task, input, output);
+        Ends::NoFile
     } else {
-        run_in_file(rt, file, task, input, output)
+        run_from(rt, file, start, task, input, output, status)
     }
 }

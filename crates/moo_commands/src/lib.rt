@@ -2,6 +2,7 @@
 #![tactic(auto)]
 
 mod commands;
+mod ends;
 mod failure;
 mod files;
 mod output;
@@ -9,6 +10,7 @@ mod over;
 mod run;
 mod standard;
 
+pub use ends::Ends;
 pub use failure::Failure;
 pub use files::run_from;
 pub use output::report;

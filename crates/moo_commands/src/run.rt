@@ -3,13 +3,17 @@
 ghost use Rattle.std.specs.Prelude.{◌≡◌, ℕ, List, map};
 ghost use Rattle.clap.specs.Kinds.{Kinds, HasKind};
 ghost use Rattle.moo_words.specs.Tasks.{IsRefusal, mistakes};
+ghost use Rattle.sqlite.specs.WalFiles.{image_at};
 ghost use Rattle.moo_commands.specs.Run.{mistake_status, EndsUsage, RunsWords};
+ghost use Rattle.moo_commands.specs.Ends.{RunsOver};
 
+use crate::ends::Ends;
 use crate::failure::Failure;
 use crate::files::run_task;
 use crate::output::{put_line, report};
 use clap::error::ErrorKind;
 use moo_words::{Usage, read_words};
+use sqlite::{FileFrom, Start};
 use std::io::{Read, Write};
 
 /// The status of what the reader of the words says: 0 for help and the version, 2 for a mistake.
@@ -46,7 +50,7 @@ fn report_usage<W: Write>(rt: &HostRuntime, usage: &Usage, output: &mut W) -> u8
     }
 }
 
-/// Does what the words say, which begin with `moo`, and answers the exit status: `init`, `apply`, `ask`, `dump`, `check` or
+/// Does what the words say, which begin with `moo`, and sets the exit status: `init`, `apply`, `ask`, `dump`, `check` or
 /// `serve` on a file, or on a new world in memory for `:memory:`; with no other word `apply :memory: -`.
 ///
 /// What the command writes goes to the output, and so does the line of a failure behind it: 1 where the store, the reader or
@@ -57,16 +61,27 @@ fn report_usage<W: Write>(rt: &HostRuntime, usage: &Usage, output: &mut W) -> u8
 ///
 /// At the end of a run the file is closed: it then holds all that was committed, and its log FILE-wal beside it is short. Where
 /// closing fails, and after a kill, the log holds a part of what was committed; the next open reads it, and the status is the same.
-pub fn run_words<R: Read + Drop, W: Write>(
+///
+/// `T` stands for what the file of the words holds: it is proved for all contents, and no code reads them. What is left of the file
+/// is handed back, to be closed.
+pub fn run_words<T: Start, R: Read + Drop, W: Write>(
     rt: &HostRuntime,
     words: &[&str],
+    start: T,
     input: R,
     output: &mut W,
-) -> u8
-    ensures { RunsWords (map (λ word. word.now) words.now) (R.remaining input) (W.contents output.old) (W.contents output.new) result }
+    status: &mut u8,
+) -> Ends<FileFrom<T>>
+    // What is written, whatever the file holds.
+    ensures words { RunsWords (map (λ word. word.now) words.now) (R.remaining input) (W.contents output.old) (W.contents output.new) status.new }
+    // And by what it holds: the run is one over the world that it shows.
+    ensures over { RunsOver (map (λ word. word.now) words.now) (image_at T.Start) result (R.remaining input) (W.contents output.old) (W.contents output.new) status.new }
 {
     match read_words(rt.alloc(), words) {
-        Ok(task) => run_task(rt, task, input, output),
-        Err(usage) => report_usage(rt, &usage, output),
+        Ok(task) => run_task(rt, task, start, input, output, status),
+        Err(usage) => {
+            *status = report_usage(rt, &usage, output);
+            Ends::NoFile
+        }
     }
 }

@@ -3,6 +3,7 @@
 use crate::failure::Failure;
 use crate::output::report;
 use crate::run::run_words;
+use sqlite::Unknown;
 use std::{env, io};
 
 /// The words of the command line, and `moo` in the place of the program's path.
@@ -19,7 +20,9 @@ fn command_words(rt: &HostRuntime) -> io::Result<Vec<String>> {
 fn run_standard(rt: &HostRuntime) -> io::Result<u8> {
     let words = command_words(rt)?;
     let words: Vec<&str> = words.iter().map(|word| word.as_str()).collect(rt.alloc())?;
-    Ok(run_words(rt, &words, rt.stdin(), &mut rt.stdout()))
+    let mut status = 0;
+    run_words(rt, &words, Unknown, rt.stdin(), &mut rt.stdout(), &mut status).close();
+    Ok(status)
 }
 
 /// Why the words can't be read: memory ran out, or one of them isn't UTF-8.

@@ -1,0 +1,41 @@
+-- What is reported of a file that is refused.
+use Rattle.std.proofs.Common.{◌≡◌, ◌⊎◌, inl, inr, ℕ, Bool, true, false, List, Option, Some, None, refl, sym, subst, ap}
+use Rattle.std.specs.Prelude.{codes}
+use Rattle.std.specs.Str.{bytes_eq}
+use Rattle.sqlite_disk.specs.declared.Disk.{Ghosts}
+use Rattle.sqlite_wal.specs.Recovery.{Image}
+use Rattle.sqlite.specs.State.{HasCleanDisk}
+use Rattle.sqlite.specs.Files.{file_state}
+use Rattle.moo_rows.specs.Opening.{opening_maps}
+use Rattle.moo_world.specs.Judge.{state_of}
+use Rattle.moo_store.specs.Opening.{IsOfStore}
+use Rattle.moo_store.specs.World.{CrashLeaves}
+use Rattle.moo_store.specs.declared.fault.StoreFault.{StoreFault}
+use Rattle.moo_words.specs.declared.task.Task.{Task}
+use Rattle.moo_commands.specs.Lines.{Reports, Tells, store_failure}
+use Rattle.moo_commands.specs.Run.{RunsTask, FailsAtOnce, RefusesFile}
+use Rattle.moo_commands.specs.Ends.{RunsFile}
+use Rattle.moo_commands.specs.declared.ends.Ends.{Ends}
+use Rattle.moo_commands.specs.declared.ends.Ends.TheVariants as variant
+use Rattle.moo_commands.specs.declared.failure.Failure.{Failure}
+use Rattle.moo_commands.proofs.Connections.{of_opening, of_refusal, unseen}
+
+module _ (fault : StoreFault) where
+  -- the line that there is no such file is that of a store that can't open it
+  pub tells_fault : (failure : Failure) (old new : Option (List ℕ)) (status : ℕ) → Tells fault failure → Reports failure old new status → Reports (store_failure fault) old new status
+  tells_fault failure old new status (inl is) reports = subst (λ f. Reports f old new status) is reports
+  tells_fault failure old new status (inr (cannot, none)) reports =
+      subst (λ f. Reports f old new status) (sym cannot) (subst (λ f. Reports f old new status) none reports)
+
+  pub fails_at_once : (old new : Option (List ℕ)) (status : ℕ) → IsOfStore fault → Reports (store_failure fault) old new status → FailsAtOnce old new status
+  fails_at_once old new status of_store reports = (store_failure fault, of_opening fault (store_failure fault) refl of_store, reports)
+
+  pub refuses_file : (old new : Option (List ℕ)) (status : ℕ) → Reports (store_failure fault) old new status → RefusesFile old new status
+  refuses_file old new status reports = (store_failure fault, of_refusal fault (store_failure fault) refl, reports)
+
+module _ {D : Type 0} {g : Ghosts D} (task : Task) (image : Image) where
+  -- what a run over a file writes, whatever the file holds
+  pub runs_task : (end : Ends D g) (input old new : Option (List ℕ)) (status : ℕ) → RunsFile task image end input old new status → RunsTask task input old new status
+  runs_task (variant.Ran conn) input old new status it = record { anew = λ anew. inr (unseen _ _ _ _ _ _ _ _ (it.anew anew)); opened = λ other. inr (it.opened other) }
+  runs_task (variant.Refused remains) input old new status it = record { anew = λ anew. inl (it.anew anew); opened = λ other. inl (it.opened other) }
+  runs_task variant.NoFile input old new status it = record { anew = λ anew. absurd (it.anew anew); opened = λ other. absurd (it.opened other) }
