@@ -1,7 +1,6 @@
 -- A task over a connection.
-use Rattle.std.proofs.Common.{◌≡◌, ◌⊎◌, inl, inr, ℕ, zero, suc, false, List, Option, Result, Ok, Err, IfOk, IfErr, refl, sym, subst, subst₂, ap, ◌∙◌, arith, Bool, true, IsTrue}
+use Rattle.std.proofs.Common.{◌≡◌, ◌⊎◌, inl, inr, ℕ, List, Option, Result, Ok, Err, IfOk, IfErr, refl, sym, subst, subst₂, ap, ◌∙◌, Bool, true, IsTrue}
 use Rattle.std.specs.Prelude.{MatchResult}
-use Rattle.sqlite_trees.specs.View.{doubt}
 use Rattle.sqlite.specs.State.{State as Database, HasCleanDisk, Survives}
 use Rattle.sqlite.specs.Store.{Ghosts}
 use Rattle.sqlite.specs.Held.{Held, state}
@@ -13,9 +12,9 @@ use Rattle.moo_commands.specs.declared.failure.Failure.TheVariants.{Usage, NoFil
 use Rattle.sqlite.specs.declared.error.Error.{Error}
 use Rattle.moo_commands.specs.Lines.{Reports, store_failure}
 use Rattle.moo_commands.specs.Run.{Done, StopsTask, EndsTask, RunsFrom, RunsUnseen, IsOpening, MayRefuse, FailsAtOnce, LeavesAsBefore}
-use Rattle.moo_world.specs.Judge.{State, state_of}
+use Rattle.moo_world.specs.Judge.{State}
 use Rattle.moo_store.specs.Kept.{World}
-use Rattle.moo_store.specs.World.{store_of, CrashLeaves, StandsFor}
+use Rattle.moo_store.specs.World.{store_of, CrashLeaves}
 use Rattle.moo_store.specs.declared.fault.StoreFault.{StoreFault}
 use Rattle.moo_store.specs.declared.fault.StoreFault.TheVariants as store_fault
 use Rattle.moo_store.specs.Opening.{IsOfStore, Adopts}

@@ -1,15 +1,8 @@
 -- What is reported of a file that is refused.
-use Rattle.std.proofs.Common.{◌≡◌, ◌⊎◌, inl, inr, ℕ, Bool, true, false, List, Option, Some, None, refl, sym, subst, ap}
-use Rattle.std.specs.Prelude.{codes}
-use Rattle.std.specs.Str.{bytes_eq}
+use Rattle.std.proofs.Common.{inl, inr, ℕ, List, Option, refl, sym, subst}
 use Rattle.sqlite_disk.specs.declared.Disk.{Ghosts}
 use Rattle.sqlite_wal.specs.Recovery.{Image}
-use Rattle.sqlite.specs.State.{HasCleanDisk}
-use Rattle.sqlite.specs.Files.{file_state}
-use Rattle.moo_rows.specs.Opening.{opening_maps}
-use Rattle.moo_world.specs.Judge.{state_of}
 use Rattle.moo_store.specs.Opening.{IsOfStore}
-use Rattle.moo_store.specs.World.{CrashLeaves}
 use Rattle.moo_store.specs.declared.fault.StoreFault.{StoreFault}
 use Rattle.moo_words.specs.declared.task.Task.{Task}
 use Rattle.moo_commands.specs.Lines.{Reports, Tells, store_failure}

@@ -21,7 +21,15 @@ fn run_standard(rt: &HostRuntime) -> io::Result<u8> {
     let words = command_words(rt)?;
     let words: Vec<&str> = words.iter().map(|word| word.as_str()).collect(rt.alloc())?;
     let mut status = 0;
-    run_words(rt, &words, Unknown, rt.stdin(), &mut rt.stdout(), &mut status).close();
+    run_words(
+        rt,
+        &words,
+        Unknown,
+        rt.stdin(),
+        &mut rt.stdout(),
+        &mut status,
+    )
+    .close();
     Ok(status)
 }
 

@@ -1,5 +1,4 @@
 use Rattle.std.proofs.Common.{inl, inr, true, false}
-use Rattle.sqlite.specs.State.{HasCleanDisk}
 use Rattle.sqlite.specs.Held.{state}
 use Rattle.moo_world.specs.Judge.{state_of}
 use Rattle.moo_commands.proofs.Connections.{of_opening, of_refusal, as_before, surely, unseen}
