@@ -26,7 +26,7 @@ use Rattle.sqlite_rules.specs.Keys.{AreConflicts, conflicts}
 use Rattle.moo_tables.specs.Cells.{petition_head_cells, with_counter}
 use Rattle.moo_tables.specs.Tables.{Tables, second_schema, petition_head_table, cells_at, petition_head_places, numbered_in, numbered_with, same_number}
 use Rattle.moo_tables.specs.Texts.{put_counter_text}
-use Rattle.moo_tables.specs.Inside.{AreKeyed, Sees, Changes, RanStatement}
+use Rattle.moo_tables.specs.Inside.{AreKeyed, Sees, Changes, RanStatement, KeepsSlot}
 use Rattle.moo_tables.proofs.TextLemmas.{put_counter_is, put_counter_plain, number_terms, number_overwrite, counter_filter, writes_where}
 use Rattle.moo_tables.proofs.NumberLemmas as number
 use Rattle.moo_tables.proofs.NumberLemmas.{HasNumbers, stored_at}
@@ -129,7 +129,7 @@ module _ (next : ℕ) (db after : Trees) (keyed : AreKeyed (db 10)) (sound : IsS
       go true e = rw e (ap (numbered_in petition_head_places rows) (number_exact k (pos 1) e) ∙ there)
       go false e = rw e refl
 
-puts : (old new : State) (next : ℕ) (count : ℕ) (tables : Tables) → Sees old tables → Executes put_counter_text (petition_head_cells next) old new (Ok count) → IsTrue new.in_transaction → Sees new (with_counter next tables)
+puts : (old new : State) (next : ℕ) (count : ℕ) (tables : Tables) → Sees old tables → Executes put_counter_text (petition_head_cells next) old new (Ok count) → IsTrue new.in_transaction → Sees new (with_counter next tables) × KeepsSlot old.now new.now
 puts old new next count tables seen h inside =
     let has = schema_seen seen in
     let source = stored next in
@@ -143,7 +143,7 @@ puts old new next count tables seen h inside =
     by it.schema_is w.sound w.shown.is_open (settles next old.now.trees new.now.trees keyed (sound_seen seen) it.found met ends)
   where
     by : new.now.schema ≡ second_schema → IsDatabase new.now → IsTrue new.is_open
-        → StandsAlone (pos 1) (stored next) 10 old.now.trees new.now.trees (counter_seen seen) ⊎ WasSo next old.now.trees new.now.trees (counter_seen seen) (sound_seen seen) → Sees new (with_counter next tables)
+        → StandsAlone (pos 1) (stored next) 10 old.now.trees new.now.trees (counter_seen seen) ⊎ WasSo next old.now.trees new.now.trees (counter_seen seen) (sound_seen seen) → Sees new (with_counter next tables) × KeepsSlot old.now new.now
     by schema_is sound is_open (inl put) =
         let source = stored next in
         let old_rows = old.now.trees 10 in

@@ -7,7 +7,7 @@ use Rattle.sqlite.specs.State.{State, HasCleanDisk}
 use Rattle.moo_tables.specs.declared.version.Version.TheVariants.{First}
 use Rattle.moo_tables.specs.Tables.{Tables, schema_of, first_schema, slot2_schema, petition_schema, second_schema, slot2_table, petition_table, petition_head_table, numbered_in, paired_in, head_places, object_places, prop_places, slot_places, verb_places, petition_places, petition_head_places}
 use Rattle.moo_tables.specs.Cells.{with_counter}
-use Rattle.moo_tables.specs.Inside.{AreKeyed, Holds, Sees, StaysInside, Changes, RanStatement, IsGrown, grown, no_tables, no_first_tables}
+use Rattle.moo_tables.specs.Inside.{AreKeyed, Holds, Sees, StaysInside, Changes, RanStatement, IsGrown, grown, no_tables, no_first_tables, KeepsSlot}
 use Rattle.moo_tables.specs.Texts.{create_text}
 use Rattle.moo_tables.proofs.TextLemmas.{create_slot2_is, create_petition_is, create_petition_head_is}
 use Rattle.moo_tables.proofs.CreateLemmas.{runs_making}
@@ -39,7 +39,7 @@ makes_petition old new (Ok count) ran = λ clean base was.
     }
 
 pub makes_petition_head : (old new : State) (r : Result ℕ Error) → RanStatement (create_text petition_head_table) [] old new r
-    → OnOk r (HasCleanDisk new → (base : Database) → IsGrown base petition_schema (7 ∷ 9 ∷ []) old.now → (tables : Tables) → Holds base tables → tables.version ≡ First → Sees new (grown tables))
+    → OnOk r (HasCleanDisk new → (base : Database) → IsGrown base petition_schema (7 ∷ 9 ∷ []) old.now → (tables : Tables) → Holds base tables → tables.version ≡ First → Sees new (grown tables) × KeepsSlot base new.now)
 makes_petition_head old new (Err e) ran = tt
 makes_petition_head old new (Ok count) ran = λ clean base was tables holds first.
     let it = runs_making petition_schema second_schema petition_head_table create_petition_head_is refl old new count was.schema_is (ran clean).1 in
@@ -52,25 +52,27 @@ makes_petition_head old new (Ok count) ran = λ clean base was tables holds firs
     let verb = same.1.1.1.1.0 ∙ kept.1.1.1.1.0 in
     let slot = same.1.1.1.1.1.0 ∙ was.empty.0 in
     let petition = same.1.1.1.1.1.1.0 ∙ was.empty.1.0 in
-    let counter = it.made.empty in
-    record {
-      is_open = it.is_open;
-      inside = (ran clean).0;
-      current = refl;
-      holds = record {
-        sound = it.sound;
-        schema = it.made.schema_is;
-        rows = same_tables refl (ap (numbered_in head_places) head ∙ ap (λ (t : Tables). t.head) held.rows) (ap (numbered_in object_places) object ∙ ap (λ (t : Tables). t.object) held.rows) (ap (numbered_in prop_places) prop ∙ ap (λ (t : Tables). t.prop) held.rows)
-            (ap (paired_in slot_places) slot) (ap (paired_in verb_places) verb ∙ ap (λ (t : Tables). t.verb) held.rows) (ap (numbered_in petition_places) petition) (ap (numbered_in petition_head_places) counter);
-        heads = subst AreKeyed (sym head) held.heads;
-        objects = subst AreKeyed (sym object) held.objects;
-        props = subst AreKeyed (sym prop) held.props;
-        slots = subst AreKeyed (sym slot) (tt, tt);
-        verbs = subst AreKeyed (sym verb) held.verbs;
-        petitions = subst AreKeyed (sym petition) (tt, tt);
-        petition_heads = subst AreKeyed (sym counter) (tt, tt);
-      };
-    }
+    let counter = it.made.empty in (
+      record {
+        is_open = it.is_open;
+        inside = (ran clean).0;
+        current = refl;
+        holds = record {
+          sound = it.sound;
+          schema = it.made.schema_is;
+          rows = same_tables refl (ap (numbered_in head_places) head ∙ ap (λ (t : Tables). t.head) held.rows) (ap (numbered_in object_places) object ∙ ap (λ (t : Tables). t.object) held.rows) (ap (numbered_in prop_places) prop ∙ ap (λ (t : Tables). t.prop) held.rows)
+              (ap (paired_in slot_places) slot) (ap (paired_in verb_places) verb ∙ ap (λ (t : Tables). t.verb) held.rows) (ap (numbered_in petition_places) petition) (ap (numbered_in petition_head_places) counter);
+          heads = subst AreKeyed (sym head) held.heads;
+          objects = subst AreKeyed (sym object) held.objects;
+          props = subst AreKeyed (sym prop) held.props;
+          slots = subst AreKeyed (sym slot) (tt, tt);
+          verbs = subst AreKeyed (sym verb) held.verbs;
+          petitions = subst AreKeyed (sym petition) (tt, tt);
+          petition_heads = subst AreKeyed (sym counter) (tt, tt);
+        };
+      },
+      same.1.1.1.0 ∙ kept.1.1.1.0,
+    )
 
 -- ---- the statements one after another
 
@@ -79,14 +81,14 @@ Grows before made after more old new = HasCleanDisk new → (base : Database) �
 
 -- the tables of the first layout are there in the second, and those that it adds are empty
 abbrev Grown : State → State → Type 0
-Grown old new = HasCleanDisk new → (tables : Tables) → Holds old.now tables → tables.version ≡ First → Sees new (grown tables)
+Grown old new = HasCleanDisk new → (tables : Tables) → Holds old.now tables → tables.version ≡ First → Sees new (grown tables) × KeepsSlot old.now new.now
 
 -- and the first petition has its number
 abbrev pub Becomes : State → State → Type 0
-Becomes old new = HasCleanDisk new → (tables : Tables) → Holds old.now tables → tables.version ≡ First → Sees new (with_counter 1 (grown tables))
+Becomes old new = HasCleanDisk new → (tables : Tables) → Holds old.now tables → tables.version ≡ First → Sees new (with_counter 1 (grown tables)) × KeepsSlot old.now new.now
 
 pub three_made : (a b d z : State) (r : Result ℕ Error) → StaysInside b d → StaysInside d z → Grows first_schema [] slot2_schema (7 ∷ []) a b → Grows slot2_schema (7 ∷ []) petition_schema (7 ∷ 9 ∷ []) b d
-    → OnOk r (HasCleanDisk z → (base : Database) → IsGrown base petition_schema (7 ∷ 9 ∷ []) d.now → (tables : Tables) → Holds base tables → tables.version ≡ First → Sees z (grown tables))
+    → OnOk r (HasCleanDisk z → (base : Database) → IsGrown base petition_schema (7 ∷ 9 ∷ []) d.now → (tables : Tables) → Holds base tables → tables.version ≡ First → Sees z (grown tables) × KeepsSlot base z.now)
     → OnOk r (Grown a z)
 three_made a b d z (Err e) quiet-two quiet-three one two three = tt
 three_made a b d z (Ok count) quiet-two quiet-three one two three = λ clean tables holds first.
@@ -97,8 +99,11 @@ three_made a b d z (Ok count) quiet-two quiet-three one two three = λ clean tab
 
 pub becomes_then : (a b z : State) (r : Result ℕ Error) → StaysInside b z → Grown a b → OnOk r (Changes (with_counter 1) b z) → OnOk r (Becomes a z)
 becomes_then a b z (Err e) quiet one two = tt
-becomes_then a b z (Ok count) quiet one two = λ clean tables holds first. two clean (grown tables) (one (clean_before b z _ quiet.survives clean) tables holds first)
+becomes_then a b z (Ok count) quiet one two = λ clean tables holds first.
+    let was = one (clean_before b z _ quiet.survives clean) tables holds first in
+    let is = two clean (grown tables) was.0 in
+    (is.0, is.1 ∙ was.1)
 
 pub all_made : (a b z : State) (P : Type 0) (r : Result ℕ Error) → StaysInside b z → (HasCleanDisk b → P → Holds b.now no_first_tables) → OnOk r (Grown b z) → OnOk r (HasCleanDisk z → P → Sees z no_tables)
 all_made a b z P (Err e) quiet one two = tt
-all_made a b z P (Ok count) quiet one two = λ clean p. two clean no_first_tables (one (clean_before b z _ quiet.survives clean) p) refl
+all_made a b z P (Ok count) quiet one two = λ clean p. (two clean no_first_tables (one (clean_before b z _ quiet.survives clean) p) refl).0

@@ -1,5 +1,5 @@
 -- What the migration does.
-use Rattle.std.proofs.Common.{◌≡◌, ℕ, List, [], ◌∷◌, filter, not, true, false, Option, Ok, Err, Result, OnOk, IsTrue, refl, ◌∙◌}
+use Rattle.std.proofs.Common.{◌≡◌, ℕ, List, [], ◌∷◌, filter, not, true, false, Option, Ok, Err, Result, OnOk, IsTrue, refl, sym, subst, ◌∙◌}
 use Rattle.sqlite.specs.declared.types.Value.TheVariants.{Null}
 use Rattle.sqlite.specs.declared.error.Error.{Error}
 use Rattle.sqlite.specs.Order.{Row}
@@ -13,9 +13,9 @@ use Rattle.moo_rows.specs.declared.row.Head.{Head}
 use Rattle.moo_rows.specs.declared.row.PropId.{PropId}
 use Rattle.moo_tables.specs.declared.slot.SlotCells.{SlotCells}
 use Rattle.moo_tables.specs.declared.version.Version.TheVariants.{First}
-use Rattle.moo_tables.specs.Tables.{Tables, second_schema}
+use Rattle.moo_tables.specs.Tables.{Tables, second_schema, slot_tree}
 use Rattle.moo_tables.specs.Cells.{with_each, with_head_cells, with_slot_cells, migrated}
-use Rattle.moo_tables.specs.Inside.{AreKeyed, Holds, Sees, Rests, HasTables, StaysInside, Changes, RanStatement}
+use Rattle.moo_tables.specs.Inside.{AreKeyed, Holds, Sees, Rests, HasTables, StaysInside, Changes, RanStatement, HasNoSlot}
 use Rattle.moo_tables.proofs.TextLemmas.{empty_slots_text, empty_slots_is, empty_slots_plain, rowids_where}
 use Rattle.moo_tables.proofs.InsideLemmas.{clean_before, commits}
 use Rattle.moo_tables.proofs.ChangeLemmas.{slots_in_turn}
@@ -27,7 +27,7 @@ use Rattle.moo_tables.proofs.StepLemmas.{deletes}
 
 -- ---- a table that is emptied
 
-pub empties_beside : (old new : State) (r : Result ℕ Error) → RanStatement empty_slots_text [] old new r → OnOk r (Changes (λ tables. tables) old new)
+pub empties_beside : (old new : State) (r : Result ℕ Error) → RanStatement empty_slots_text [] old new r → OnOk r (HasCleanDisk new → (tables : Tables) → Sees old tables → Sees new tables)
 empties_beside old new (Err e) ran = tt
 empties_beside old new (Ok count) ran = λ clean tables seen.
     let it = ran clean in
@@ -58,14 +58,20 @@ goes_on old new text params (Ok count) ran clean = (ran clean).0
 -- ---- the statements of the migration, one after another
 
 pub all_migrated : (a b d e z : State) (head : Head) (slots : List ((ObjNo × PropId) × Option SlotCells)) (r : Result ℕ Error) → StaysInside b d → StaysInside d e → StaysInside e z
-    → Becomes a b → Changes (with_head_cells head) b d → Changes (with_each with_slot_cells slots) d e → OnOk r (Changes (λ tables. tables) e z)
-    → OnOk r (HasCleanDisk z → (tables : Tables) → Holds a.now tables → tables.version ≡ First → Sees z (migrated head slots tables))
-all_migrated a b d e z head slots (Err error) quiet-two quiet-three quiet-four one two three four = tt
-all_migrated a b d e z head slots (Ok count) quiet-two quiet-three quiet-four one two three four = λ clean tables holds first.
+    → Becomes a b → Changes (with_head_cells head) b d → Changes (with_each with_slot_cells slots) d e → OnOk r (HasCleanDisk z → (tables : Tables) → Sees e tables → Sees z tables)
+    → OnOk r (HasCleanDisk z → HasTables second_schema e → AreKeyed (e.now.trees 3) → HasNoSlot z.now)
+    → OnOk r (HasCleanDisk z → (tables : Tables) → Holds a.now tables → tables.version ≡ First → Sees z (migrated head slots tables) × HasNoSlot z.now)
+all_migrated a b d e z head slots (Err error) quiet-two quiet-three quiet-four one two three four five = tt
+all_migrated a b d e z head slots (Ok count) quiet-two quiet-three quiet-four one two three four five = λ clean tables holds first.
     let late = clean_before e z _ quiet-four.survives clean in
     let mid = clean_before d e _ quiet-three.survives late in
     let early = clean_before b d _ quiet-two.survives mid in
-    four clean _ (slots_in_turn slots d e three late _ (two mid _ (one early tables holds first)))
+    let first_step = one early tables holds first in
+    let second_step = two mid _ first_step.0 in
+    let third_step = slots_in_turn slots d e three late _ second_step.0 in
+    let same = third_step.1 ∙ second_step.1 ∙ first_step.1 in
+    let keyed = subst AreKeyed (sym same) (subst (λ v. AreKeyed (a.now.trees (slot_tree v))) first holds.slots) in
+    (four clean _ third_step.0, five clean (schema_seen third_step.0) keyed)
 
 -- ---- the whole transaction
 
@@ -73,3 +79,8 @@ pub rests_then : (old last end : State) (next : Tables → Tables) (r : Result (
     → ((tables : Tables) → Holds old.now tables → tables.version ≡ First → Sees last (next tables)) → OnOk r ((tables : Tables) → Rests old tables → tables.version ≡ First → Rests end (next tables))
 rests_then old last end next (Err e) ok seen = tt
 rests_then old last end next (Ok _) ok seen = λ tables was first. commits last end (next tables) ok.1 (seen tables was.holds first)
+
+pub empty_then : (old last end : State) (r : Result (Unit {0}) Error) → OnOk r (IsTrue last.in_transaction × Shows last end last.now last.now false × KeepsCounts last end × (end.marks ≡ []))
+    → ((tables : Tables) → Holds old.now tables → tables.version ≡ First → HasNoSlot last.now) → OnOk r ((tables : Tables) → Rests old tables → tables.version ≡ First → HasNoSlot end.now)
+empty_then old last end (Err e) ok none = tt
+empty_then old last end (Ok _) ok none = λ tables was first. subst (λ db. HasNoSlot db) (sym ok.1.now_is) (none tables was.holds first)

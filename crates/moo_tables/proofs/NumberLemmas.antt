@@ -26,7 +26,7 @@ use Rattle.sqlite_schema.specs.declared.schema.Column.{Column}
 use Rattle.sqlite_value.specs.Keys.{first_key, plain}
 use Rattle.moo_tables.specs.Tables.{Tables, second_schema, numbered, number_places, cells_at, numbered_in, numbered_with, same_number}
 use Rattle.moo_tables.specs.Texts.{put_text, remove_text}
-use Rattle.moo_tables.specs.Inside.{AreKeyed, Sees, Changes, RanStatement}
+use Rattle.moo_tables.specs.Inside.{AreKeyed, Sees, Changes, RanStatement, KeepsSlot}
 use Rattle.moo_tables.proofs.TextLemmas.{WritesByNumber, number_terms, number_overwrite, written_over, by_number, rowids_where}
 use Rattle.moo_tables.proofs.CastLemmas.{fit, kept_all}
 use Rattle.moo_tables.proofs.StepLemmas.{cast_int, deletes}
@@ -87,8 +87,8 @@ module _ {K C : Type 0} (name : List ℕ) (tree : ℕ) (columns : List Column) (
   -- the table stands at this place of the schema, and a change of its tree changes this one of the tables
   module _ (at : ℕ) (is : slice_get second_schema.tables at ≡ Some (numbered name tree columns)) (writes : WritesByNumber at (numbered name tree columns)) (With : ℤ → Option Row → Tables → Tables) (keyed_seen : (s : State) (tables : Tables) → Sees s tables → AreKeyed (s.now.trees tree))
       (sees : (old new : State) (tables : Tables) (key : ℤ) (shown : Option Row) (rows : List Row) → Sees old tables → SetsTree old new tree rows → AreKeyed rows
-      → ((k : ℤ) → numbered_in places rows k ≡ numbered_with key shown (numbered_in places (old.now.trees tree)) k) → Sees new (With key shown tables)) where
-    puts : (old new : State) (key : K) (row : C) (count : ℕ) (tables : Tables) → Sees old tables → Executes (put_text t) (cells key row) old new (Ok count) → IsTrue new.in_transaction → Sees new (With (number key) (Some (cells key row)) tables)
+      → ((k : ℤ) → numbered_in places rows k ≡ numbered_with key shown (numbered_in places (old.now.trees tree)) k) → Sees new (With key shown tables) × KeepsSlot old.now new.now) where
+    puts : (old new : State) (key : K) (row : C) (count : ℕ) (tables : Tables) → Sees old tables → Executes (put_text t) (cells key row) old new (Ok count) → IsTrue new.in_transaction → Sees new (With (number key) (Some (cells key row)) tables) × KeepsSlot old.now new.now
     puts old new key row count tables seen h inside =
         let has = schema_seen seen in
         let n = number key in
@@ -109,7 +109,7 @@ module _ {K C : Type 0} (name : List ℕ) (tree : ℕ) (columns : List Column) (
         (λ k. after_put same_number has_rowid (cells_at places) number_exact number_apart n source old_rows (has_itself n (drop 1 source)) (number_free n source old_rows refl) k
         ∙ ap (λ shown. numbered_with n (Some shown) (numbered_in places old_rows) k) (it_has.placed key row))
 
-    removes : (old new : State) (key : K) (count : ℕ) (tables : Tables) → Sees old tables → Executes (remove_text t) (Int (number key) ∷ []) old new (Ok count) → IsTrue new.in_transaction → Sees new (With (number key) None tables)
+    removes : (old new : State) (key : K) (count : ℕ) (tables : Tables) → Sees old tables → Executes (remove_text t) (Int (number key) ∷ []) old new (Ok count) → IsTrue new.in_transaction → Sees new (With (number key) None tables) × KeepsSlot old.now new.now
     removes old new key count tables seen h inside =
         let has = schema_seen seen in
         let n = number key in

@@ -26,7 +26,7 @@ use Rattle.sqlite_schema.specs.declared.schema.Column.{Column}
 use Rattle.sqlite_value.specs.Keys.{first_key, plain}
 use Rattle.moo_tables.specs.Tables.{Tables, second_schema, paired, pair_places, has_pair, cells_at, paired_in, paired_with, same_numbers}
 use Rattle.moo_tables.specs.Texts.{put_text, remove_text}
-use Rattle.moo_tables.specs.Inside.{AreKeyed, Sees, Changes, RanStatement}
+use Rattle.moo_tables.specs.Inside.{AreKeyed, Sees, Changes, RanStatement, KeepsSlot}
 use Rattle.moo_tables.proofs.TextLemmas.{WritesByPair, pair_terms, pair_overwrite, written_over, by_pair, rowids_where}
 use Rattle.moo_tables.proofs.CastLemmas.{fit, kept_all}
 use Rattle.moo_tables.proofs.StepLemmas.{cast_null, cast_int, deletes}
@@ -96,8 +96,8 @@ module _ {K C : Type 0} (name : List ℕ) (tree : ℕ) (columns : List Column) (
   -- the table stands at this place of the schema, and a change of its tree changes this one of the tables
   module _ (at : ℕ) (is : slice_get second_schema.tables at ≡ Some (paired name tree columns)) (writes : WritesByPair at (paired name tree columns)) (With : ℤ × ℤ → Option Row → Tables → Tables) (keyed_seen : (s : State) (tables : Tables) → Sees s tables → AreKeyed (s.now.trees tree)) (pairs_seen : (s : State) (tables : Tables) → Sees s tables → ArePairs (s.now.trees tree))
       (sees : (old new : State) (tables : Tables) (key : ℤ × ℤ) (shown : Option Row) (rows : List Row) → Sees old tables → SetsTree old new tree rows → AreKeyed rows
-      → ((k : ℤ × ℤ) → paired_in places rows k ≡ paired_with key shown (paired_in places (old.now.trees tree)) k) → Sees new (With key shown tables)) where
-    puts : (old new : State) (key : K) (row : C) (count : ℕ) (tables : Tables) → Sees old tables → Executes (put_text t) (cells key row) old new (Ok count) → IsTrue new.in_transaction → Sees new (With (pair key) (Some (cells key row)) tables)
+      → ((k : ℤ × ℤ) → paired_in places rows k ≡ paired_with key shown (paired_in places (old.now.trees tree)) k) → Sees new (With key shown tables) × KeepsSlot old.now new.now) where
+    puts : (old new : State) (key : K) (row : C) (count : ℕ) (tables : Tables) → Sees old tables → Executes (put_text t) (cells key row) old new (Ok count) → IsTrue new.in_transaction → Sees new (With (pair key) (Some (cells key row)) tables) × KeepsSlot old.now new.now
     puts old new key row count tables seen h inside =
         let has = schema_seen seen in
         let two = pair key in
@@ -119,7 +119,7 @@ module _ {K C : Type 0} (name : List ℕ) (tree : ℕ) (columns : List Column) (
         (λ k. after_put same_numbers has_pair (cells_at places) pair_exact pair_apart two (Int number ∷ params) old_rows (has_its_pair number key row) put.0.free k
         ∙ ap (λ shown. paired_with two (Some shown) (paired_in places old_rows) k) (it_has.placed number key row))
 
-    removes : (old new : State) (key : K) (count : ℕ) (tables : Tables) → Sees old tables → Executes (remove_text t) (Int (pair key).0 ∷ Int (pair key).1 ∷ []) old new (Ok count) → IsTrue new.in_transaction → Sees new (With (pair key) None tables)
+    removes : (old new : State) (key : K) (count : ℕ) (tables : Tables) → Sees old tables → Executes (remove_text t) (Int (pair key).0 ∷ Int (pair key).1 ∷ []) old new (Ok count) → IsTrue new.in_transaction → Sees new (With (pair key) None tables) × KeepsSlot old.now new.now
     removes old new key count tables seen h inside =
         let has = schema_seen seen in
         let two = pair key in

@@ -52,9 +52,17 @@ pub record StaysInside (old new : State) : Type 0 where
   pub kept : HasCleanDisk new → KeepsCommit old new
   pub survives : Survives old new (λ _. ⊥)
 
--- the transaction goes on, with its tables changed so
+-- the table `slot` of the first layout, which the second has and doesn't read, has the rows that it had
+abbrev pub KeepsSlot : Database → Database → Type 0
+KeepsSlot old new = new.trees (slot_tree First) ≡ old.trees (slot_tree First)
+
+-- and now it has none
+abbrev pub HasNoSlot : Database → Type 0
+HasNoSlot db = db.trees (slot_tree First) ≡ []
+
+-- the transaction goes on, with its tables changed so, and the table that isn't read stays
 abbrev pub Changes : (Tables → Tables) → State → State → Type 0
-Changes change old new = HasCleanDisk new → (tables : Tables) → Sees old tables → Sees new (change tables)
+Changes change old new = HasCleanDisk new → (tables : Tables) → Sees old tables → Sees new (change tables) × KeepsSlot old.now new.now
 
 -- a statement that succeeded ran, in the transaction
 abbrev pub RanStatement : List ℕ → Row → State → State → Result ℕ Error → Type 0

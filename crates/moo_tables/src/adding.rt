@@ -4,7 +4,7 @@ ghost use Rattle.std.specs.Prelude.{◌≡◌, OnOk};
 ghost use Rattle.sqlite.specs.Held.{state};
 ghost use Rattle.sqlite.specs.State.{HasCleanDisk};
 ghost use Rattle.moo_tables.specs.Cells.{with_counter};
-ghost use Rattle.moo_tables.specs.Inside.{StaysInside, Holds, Sees, grown};
+ghost use Rattle.moo_tables.specs.Inside.{StaysInside, Holds, Sees, KeepsSlot, grown};
 ghost use Rattle.moo_tables.specs.declared.version.Version.TheVariants.{First};
 
 use crate::counter::{create_petition_head, put_counter};
@@ -16,7 +16,7 @@ use sqlite::{Alter, Error, Transaction};
 pub(crate) fn create_added_tables<S: Alter>(tx: &mut Transaction<'_, S>) -> Result<usize, Error>
     ensures same_reference { tx.new.conn.ghost_name ≡ tx.old.conn.ghost_name }
     ensures inside { StaysInside (state S.Store tx.old.conn.now) (state S.Store tx.new.conn.now) }
-    ensures made { OnOk result (HasCleanDisk (state S.Store tx.new.conn.now) → (tables : _) → Holds (state S.Store tx.old.conn.now).now tables → tables.version ≡ First → Sees (state S.Store tx.new.conn.now) (grown tables)) }
+    ensures made { OnOk result (HasCleanDisk (state S.Store tx.new.conn.now) → (tables : _) → Holds (state S.Store tx.old.conn.now).now tables → tables.version ≡ First → Sees (state S.Store tx.new.conn.now) (grown tables) × KeepsSlot (state S.Store tx.old.conn.now).now (state S.Store tx.new.conn.now).now) }
 {
     create_slot2(tx)?;
     create_petition(tx)?;
@@ -28,7 +28,7 @@ pub(crate) fn create_added_tables<S: Alter>(tx: &mut Transaction<'_, S>) -> Resu
 pub(crate) fn add_tables<S: Alter>(tx: &mut Transaction<'_, S>) -> Result<usize, Error>
     ensures same_reference { tx.new.conn.ghost_name ≡ tx.old.conn.ghost_name }
     ensures inside { StaysInside (state S.Store tx.old.conn.now) (state S.Store tx.new.conn.now) }
-    ensures made { OnOk result (HasCleanDisk (state S.Store tx.new.conn.now) → (tables : _) → Holds (state S.Store tx.old.conn.now).now tables → tables.version ≡ First → Sees (state S.Store tx.new.conn.now) (with_counter 1 (grown tables))) }
+    ensures made { OnOk result (HasCleanDisk (state S.Store tx.new.conn.now) → (tables : _) → Holds (state S.Store tx.old.conn.now).now tables → tables.version ≡ First → Sees (state S.Store tx.new.conn.now) (with_counter 1 (grown tables)) × KeepsSlot (state S.Store tx.old.conn.now).now (state S.Store tx.new.conn.now).now) }
 {
     create_added_tables(tx)?;
     put_counter(tx, 1)

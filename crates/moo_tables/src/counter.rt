@@ -6,7 +6,7 @@ ghost use Rattle.sqlite.specs.State.{HasCleanDisk};
 ghost use Rattle.sqlite.specs.Values.{bound};
 ghost use Rattle.moo_tables.specs.Cells.{with_counter};
 ghost use Rattle.moo_tables.specs.Head.{petition_head_table, petition_head_cells};
-ghost use Rattle.moo_tables.specs.Inside.{StaysInside, Changes, Holds, Sees, Rests, ReadsTables, FailsToRead, IsGrown, grown};
+ghost use Rattle.moo_tables.specs.Inside.{StaysInside, Changes, Holds, Sees, Rests, ReadsTables, FailsToRead, IsGrown, KeepsSlot, grown};
 ghost use Rattle.moo_tables.specs.Listing.{ListsNumbers};
 ghost use Rattle.moo_tables.specs.Tables.{petition_schema, second_schema};
 ghost use Rattle.moo_tables.specs.declared.version.Version.TheVariants.{First, Second};
@@ -21,7 +21,7 @@ use sqlite_value::value::ValueRef;
 pub(crate) fn create_petition_head<S: Alter>(tx: &mut Transaction<'_, S>) -> Result<usize, Error>
     ensures same_reference { tx.new.conn.ghost_name ≡ tx.old.conn.ghost_name }
     ensures inside { StaysInside (state S.Store tx.old.conn.now) (state S.Store tx.new.conn.now) }
-    ensures made { OnOk result (HasCleanDisk (state S.Store tx.new.conn.now) → (base : _) → IsGrown base petition_schema (7 ∷ 9 ∷ []) (state S.Store tx.old.conn.now).now → (tables : _) → Holds base tables → tables.version ≡ First → Sees (state S.Store tx.new.conn.now) (grown tables)) }
+    ensures made { OnOk result (HasCleanDisk (state S.Store tx.new.conn.now) → (base : _) → IsGrown base petition_schema (7 ∷ 9 ∷ []) (state S.Store tx.old.conn.now).now → (tables : _) → Holds base tables → tables.version ≡ First → Sees (state S.Store tx.new.conn.now) (grown tables) × KeepsSlot base (state S.Store tx.new.conn.now).now) }
 {
     run(
         tx,

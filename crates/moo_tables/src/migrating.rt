@@ -5,7 +5,7 @@ ghost use Rattle.sqlite.specs.State.{HasCleanDisk, Survives};
 ghost use Rattle.sqlite.specs.Held.{state};
 ghost use Rattle.moo_tables.specs.declared.version.Version.TheVariants.{First};
 ghost use Rattle.moo_tables.specs.Cells.{migrated};
-ghost use Rattle.moo_tables.specs.Inside.{AreKeyed, StaysInside, Holds, Sees, Changes, Rests, RestsAt, HasTables, Leaves};
+ghost use Rattle.moo_tables.specs.Inside.{AreKeyed, StaysInside, Holds, Sees, HasNoSlot, Rests, RestsAt, HasTables, Leaves};
 ghost use Rattle.moo_tables.specs.Tables.{first_schema, second_schema};
 
 use crate::adding::add_tables;
@@ -22,8 +22,8 @@ fn empty_slot<S: Alter>(tx: &mut Transaction<'_, S>) -> Result<usize, Error>
     ensures same_reference { tx.new.conn.ghost_name ≡ tx.old.conn.ghost_name }
     ensures inside { StaysInside (state S.Store tx.old.conn.now) (state S.Store tx.new.conn.now) }
     ensures goes_on { HasCleanDisk (state S.Store tx.new.conn.now) → OnOk result (IsTrue (state S.Store tx.new.conn.now).in_transaction) }
-    ensures same { OnOk result (Changes (λ tables. tables) (state S.Store tx.old.conn.now) (state S.Store tx.new.conn.now)) }
-    ensures emptied { OnOk result (HasCleanDisk (state S.Store tx.new.conn.now) → HasTables second_schema (state S.Store tx.old.conn.now) → AreKeyed ((state S.Store tx.old.conn.now).now.trees 3) → (state S.Store tx.new.conn.now).now.trees 3 ≡ []) }
+    ensures same { OnOk result (HasCleanDisk (state S.Store tx.new.conn.now) → (tables : _) → Sees (state S.Store tx.old.conn.now) tables → Sees (state S.Store tx.new.conn.now) tables) }
+    ensures emptied { OnOk result (HasCleanDisk (state S.Store tx.new.conn.now) → HasTables second_schema (state S.Store tx.old.conn.now) → AreKeyed ((state S.Store tx.old.conn.now).now.trees 3) → HasNoSlot (state S.Store tx.new.conn.now).now) }
 {
     run(tx, "DELETE FROM slot", &[])
 }
@@ -38,7 +38,7 @@ fn write_second<S: Alter>(
     ensures same_reference { tx.new.conn.ghost_name ≡ tx.old.conn.ghost_name }
     ensures inside { StaysInside (state S.Store tx.old.conn.now) (state S.Store tx.new.conn.now) }
     ensures goes_on { HasCleanDisk (state S.Store tx.new.conn.now) → OnOk result (IsTrue (state S.Store tx.new.conn.now).in_transaction) }
-    ensures migrated { OnOk result (HasCleanDisk (state S.Store tx.new.conn.now) → (tables : _) → Holds (state S.Store tx.old.conn.now).now tables → tables.version ≡ First → Sees (state S.Store tx.new.conn.now) (migrated head.now slots.now tables)) }
+    ensures migrated { OnOk result (HasCleanDisk (state S.Store tx.new.conn.now) → (tables : _) → Holds (state S.Store tx.old.conn.now).now tables → tables.version ≡ First → Sees (state S.Store tx.new.conn.now) (migrated head.now slots.now tables) × HasNoSlot (state S.Store tx.new.conn.now).now) }
 {
     add_tables(tx)?;
     put_head(tx, head)?;
@@ -62,6 +62,7 @@ pub fn migrate<S: Alter>(
     requires outside { (state S.Store conn.old).in_transaction ≡ false }
     ensures outside { (state S.Store conn.new).in_transaction ≡ false }
     ensures migrated { HasCleanDisk (state S.Store conn.new) → OnOk result ((tables : _) → Rests (state S.Store conn.old) tables → tables.version ≡ First → Rests (state S.Store conn.new) (migrated head.now slots.now tables)) }
+    ensures emptied { HasCleanDisk (state S.Store conn.new) → OnOk result ((tables : _) → Rests (state S.Store conn.old) tables → tables.version ≡ First → HasNoSlot (state S.Store conn.new).now) }
     ensures restored { HasCleanDisk (state S.Store conn.new) → OnErr result (IsTrue (state S.Store conn.new).is_open → RestsAt (state S.Store conn.new) (state S.Store conn.old).committed) }
     ensures undone { HasCleanDisk (state S.Store conn.new) → OnErr result (IsTrue (state S.Store conn.new).is_open → (tables : _) → Rests (state S.Store conn.old) tables → Rests (state S.Store conn.new) tables) }
     ensures crash { (HasCleanDisk (state S.Store conn.old) → HasTables first_schema (state S.Store conn.old)) → Survives (state S.Store conn.old) (state S.Store conn.new) (λ trees. (tables : _) → Rests (state S.Store conn.old) tables → Leaves trees (migrated head.now slots.now tables)) }

@@ -2,7 +2,7 @@ use Rattle.std.proofs.Common.{◌∙◌, take, subst, sym}
 use Rattle.std.proofs.lemmas.List.{take_all}
 use Rattle.sqlite.specs.Held.{state}
 use Rattle.moo_tables.specs.Cells.{with_each}
-use Rattle.moo_tables.specs.Inside.{Sees}
+use Rattle.moo_tables.specs.Inside.{Sees, KeepsSlot}
 use Rattle.moo_tables.proofs.InsideLemmas.{stays_then, changes_then}
 use Rattle.moo_tables.proofs.ChangeLemmas.{fold_more}
 use Rattle.moo_tables.proofs.writing.write_each.Goals as goal
@@ -18,10 +18,12 @@ loop-change-preserved g c =
     let x = c.change-item.result in (
       done.same_reference ∙ was.0,
       stays_then old mid new was.1 done.inside,
-      λ texts clean tables seen. subst (Sees new) (sym (fold_more (λ t y. with_row y.0 y.1 t) tables c.args.changes.now c.loop-change.change-index x c.loop-change-test.true c.change-item.is))
+      λ texts clean tables seen. subst (λ t. Sees new t × KeepsSlot old.now new.now) (sym (fold_more (λ t y. with_row y.0 y.1 t) tables c.args.changes.now c.loop-change.change-index x c.loop-change-test.true c.change-item.is))
           (changes_then old mid new (with_each with_row (take c.loop-change.change-index c.args.changes.now)) (with_row x.0 x.1) done.inside (was.2 texts) (done.written texts) clean tables seen),
     )
 
 pub returns-clause-written : goal.returns-clause-written
 returns-clause-written g c texts clean tables seen =
-    subst (λ changes. Sees (state g.S.Store c.loop-change.tx.conn.now) (with_each g.R.TableRow.with_row changes tables)) (take_all c.loop-change.change-index c.args.changes.now c.loop-change-test.false) (c.loop-change.invariant.2 texts clean tables seen)
+    let old = state g.S.Store c.args.tx.now.conn.now in
+    let new = state g.S.Store c.loop-change.tx.conn.now in
+    subst (λ changes. Sees new (with_each g.R.TableRow.with_row changes tables) × KeepsSlot old.now new.now) (take_all c.loop-change.change-index c.args.changes.now c.loop-change-test.false) (c.loop-change.invariant.2 texts clean tables seen)
