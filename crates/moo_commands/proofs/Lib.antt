@@ -1,3 +1,4 @@
+mod AgainLemmas
 mod Connections
 mod Refusals
 mod Reporting

@@ -1,3 +1,4 @@
+pub mod Again
 pub mod Ends
 pub mod Lines
 pub mod Run

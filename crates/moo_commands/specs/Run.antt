@@ -176,9 +176,9 @@ EndsUsage found old new status =
 abbrev pub RunsOpened : Task → Option (List ℕ) → Option (List ℕ) → Option (List ℕ) → ℕ → Type 0
 RunsOpened task input old new status = RefusesFile old new status ⊎ ((rows : Maps) × IsGood rows × RunsUnseen task (state_of rows) input old new status)
 
--- What the words come to. A task that begins with a new world runs from the opening world on, or that world can't be made. Any other
--- runs from the world on that was found in its file, or the file is refused. (No clause can say what a file holds: that it is the
--- world which the file's tables show, is `run_from`'s to say.)
+-- What the words come to, whatever their file holds. A task that begins with a new world runs from the opening world on, or that world
+-- can't be made. Any other runs from the world on that was found in its file, or the file is refused. (That it is the world which the
+-- file's tables show, `RunsFile` says.)
 pub record RunsTask (task : Task) (input old new : Option (List ℕ)) (status : ℕ) : Type 0 where
   pub anew : begins_anew task ≡ true → FailsAtOnce old new status ⊎ RunsUnseen task (state_of opening_maps) input old new status
   pub opened : begins_anew task ≡ false → RunsOpened task input old new status

@@ -1,6 +1,7 @@
 //! What the program does: the words of the command line, over a world in a file or in memory.
 #![tactic(auto)]
 
+mod again;
 mod commands;
 mod ends;
 mod failure;
@@ -10,6 +11,7 @@ mod over;
 mod run;
 mod standard;
 
+pub use again::run_crash_run;
 pub use ends::Ends;
 pub use failure::Failure;
 pub use files::run_from;
