@@ -5,6 +5,8 @@ from pathlib import Path
 
 TOP = Path(__file__).resolve().parents[2]
 DEFINED = re.compile(r"(?:abbrev |unfoldable )?pub (?:record |data )?([A-Za-z]\w*)[ :]")
+# Within a module of a file a definition is indented, as the fields of a record are.
+DEFINED_WITHIN = re.compile(r" +(?:(?:abbrev|unfoldable) pub |pub (?:record|data) )([A-Za-z]\w*)[ :]")
 NO_WORDS = {"abbrev", "data", "mod", "record", "unfoldable", "use"}
 # The model's world, and the struct that keeps one over a connection.
 TWO_THINGS = {"World"}
@@ -15,7 +17,7 @@ def words_defined():
     files = defaultdict(set)
     for file in sorted((TOP / "crates").glob("moo*/specs/**/*.antt")):
         for line in file.read_text().splitlines():
-            found = DEFINED.match(line)
+            found = DEFINED.match(line) or DEFINED_WITHIN.match(line)
             if found and found[1] not in NO_WORDS:
                 files[found[1]].add(str(file.relative_to(TOP / "crates")))
     return files
