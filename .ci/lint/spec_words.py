@@ -8,8 +8,8 @@ DEFINED = re.compile(r"(?:abbrev |unfoldable )?pub (?:record |data )?([A-Za-z]\w
 # Within a module of a file a definition is indented, as the fields of a record are.
 DEFINED_WITHIN = re.compile(r" +(?:(?:abbrev|unfoldable) pub |pub (?:record|data) )([A-Za-z]\w*)[ :]")
 NO_WORDS = {"abbrev", "data", "mod", "record", "unfoldable", "use"}
-# The model's world, and the struct that keeps one over a connection.
-TWO_THINGS = {"World"}
+# The model's world, and the struct that keeps one over a connection; a row with one field changed, and a map with one key changed.
+TWO_THINGS = {"World", "changed"}
 
 
 def words_defined():
