@@ -16,7 +16,7 @@ use Rattle.moo_words.specs.declared.task.Task.{Task}
 use Rattle.moo_words.specs.declared.task.Task.TheVariants.{Init, Apply, Ask, Dump, Check, Serve}
 use Rattle.moo_commands.specs.Run.{begins_anew, file_of}
 use Rattle.moo_commands.specs.Ends.{MatchFile, RunsFile, EndsWith, RunsOver}
-use Rattle.moo_commands.specs.Again.{StartsFrom, RanFrom, TakesUp, IfRan, CrashesTo}
+use Rattle.moo_commands.specs.Again.{StartsFrom, RanFrom, TakesUp, CrashesTo}
 use Rattle.moo_commands.specs.declared.ends.Ends.{Ends}
 use Rattle.moo_commands.specs.declared.ends.Ends.TheVariants as variant
 
