@@ -14,9 +14,10 @@ ghost use Rattle.moo_store.specs.World.{store_of, CrashLeaves, StandsFor};
 ghost use Rattle.moo_files.specs.Contents.{HoldsTables, HoldsState};
 ghost use Rattle.moo_files.specs.Remains.{IsCleanRemains, StillHolds};
 ghost use Rattle.moo_commands.specs.Lines.{Tells, store_failure};
-ghost use Rattle.moo_commands.specs.Run.{begins_anew, file_of, RunsFrom, RunsTask};
+ghost use Rattle.moo_commands.specs.Run.{begins_anew, file_of, texts_by, RunsFrom, RunsTask, ShowsTables};
 ghost use Rattle.moo_commands.specs.Ends.{RunsFile, EndsWith};
 
+use crate::batches::BatchFiles;
 use crate::ends::Ends;
 use crate::failure::Failure;
 use crate::output::report;
@@ -36,33 +37,30 @@ fn file_of<'a>(task: Task<'a>) -> &'a str
     ensures { result.now ≡ file_of task.entry }
 {
     match task {
-        Task::Init { file } => file,
-        Task::Apply { file, batches: _ } => file,
-        Task::Ask { file, batches: _ } => file,
-        Task::Dump { file } => file,
-        Task::Check { file } => file,
-        Task::Serve {
-            file,
-            port: _,
-            count: _,
-        } => file,
+        Task::Init { file }
+        | Task::Apply { file, .. }
+        | Task::Ask { file, .. }
+        | Task::Dump { file }
+        | Task::Check { file }
+        | Task::Serve { file, .. } => file,
     }
 }
 
 /// `run_in` at the store in files. What is known of that store weighs on each function that calls a generic one at it, so
 /// that the one such call stands here, over any disk.
-fn run_in_files<R: Read + Drop, W: Write, D: Disk + Drop>(
+fn run_in_files<B: BatchFiles, R: Read + Drop, W: Write, D: Disk + Drop>(
     rt: &HostRuntime,
     world: World<FileStore<D>>,
     task: Task<'_>,
+    files: &B,
     input: R,
     output: &mut W,
     status: &mut u8,
 ) -> Connection<FileStore<D>>
-    ensures runs { (known : Bool) (s : State) → StandsFor over_files known world s → RunsFrom task.entry s (R.remaining input) (W.contents output.old) (W.contents output.new) status.new (IsTrue known × HasCleanDisk (file_state result)) (CrashLeaves (file_state result)) }
+    ensures runs { (known : Bool) (s : State) → StandsFor over_files known world s → RunsFrom task.entry s (texts_by (R.remaining input) (B.text files.now)) (W.contents output.old) (W.contents output.new) status.new (IsTrue known × HasCleanDisk (file_state result)) (CrashLeaves (file_state result)) (ShowsTables over_files world (file_state result)) }
     ensures clean { (known : Bool) (s : State) → StandsFor over_files known world s → HasCleanDisk (file_state result) → HasCleanDisk (store_of over_files world) }
 {
-    run_in(rt, world, task, input, output, status)
+    run_in(rt, world, task, files, input, output, status)
 }
 
 /// Each fault of opening refuses the file.
@@ -112,19 +110,20 @@ fn world_of<T: Start>(
 ///
 /// `T` stands for what the files hold: it is proved for all contents, and no code reads them. The program calls it for files that
 /// nobody has read.
-pub fn run_from<T: Start, R: Read + Drop, W: Write>(
+pub fn run_from<T: Start, B: BatchFiles, R: Read + Drop, W: Write>(
     rt: &HostRuntime,
     file: &str,
     start: T,
     task: Task<'_>,
+    files: &B,
     input: R,
     output: &mut W,
     status: &mut u8,
 ) -> Ends<FileFrom<T>>
-    ensures { RunsFile task.entry (image_at T.Start) result (R.remaining input) (W.contents output.old) (W.contents output.new) status.new }
+    ensures { RunsFile task.entry (image_at T.Start) result (texts_by (R.remaining input) (B.text files.now)) (W.contents output.old) (W.contents output.new) status.new }
 {
     match world_of(rt, file, start, task) {
-        Ok(world) => Ends::Ran(run_in_files(rt, world, task, input, output, status)),
+        Ok(world) => Ends::Ran(run_in_files(rt, world, task, files, input, output, status)),
         Err((fault, remains)) => {
             *status = report(rt, refusal_of(rt, file, task, fault), output);
             Ends::Refused(remains)
@@ -133,39 +132,41 @@ pub fn run_from<T: Start, R: Read + Drop, W: Write>(
 }
 
 /// Does what a task says over a new world in memory.
-fn run_in_memory<R: Read + Drop, W: Write>(
+fn run_in_memory<B: BatchFiles, R: Read + Drop, W: Write>(
     rt: &HostRuntime,
     task: Task<'_>,
+    files: &B,
     input: R,
     output: &mut W,
 ) -> u8
-    ensures { RunsTask task.entry (R.remaining input) (W.contents output.old) (W.contents output.new) result }
+    ensures { RunsTask task.entry (texts_by (R.remaining input) (B.text files.now)) (W.contents output.old) (W.contents output.new) result }
 {
     let Ok(conn) = Connection::open_in_memory(rt.alloc()) else {
         return report(rt, Failure::NoMemory, output);
     };
     let mut status = 0;
-    let _conn = run_over(rt, conn, task, input, output, &mut status);
+    let _conn = run_over(rt, conn, task, files, input, output, &mut status);
     status
 }
 
 /// Does what a task says, and hands back what is left of its file. The status is that of `run_words`.
-pub(crate) fn run_task<T: Start, R: Read + Drop, W: Write>(
+pub(crate) fn run_task<T: Start, B: BatchFiles, R: Read + Drop, W: Write>(
     rt: &HostRuntime,
     task: Task<'_>,
     start: T,
+    files: &B,
     input: R,
     output: &mut W,
     status: &mut u8,
 ) -> Ends<FileFrom<T>>
-    ensures runs { RunsTask task.entry (R.remaining input) (W.contents output.old) (W.contents output.new) status.new }
-    ensures ends { EndsWith task.entry (image_at T.Start) result (R.remaining input) (W.contents output.old) (W.contents output.new) status.new }
+    ensures runs { RunsTask task.entry (texts_by (R.remaining input) (B.text files.now)) (W.contents output.old) (W.contents output.new) status.new }
+    ensures ends { EndsWith task.entry (image_at T.Start) result (texts_by (R.remaining input) (B.text files.now)) (W.contents output.old) (W.contents output.new) status.new }
 {
     let file = file_of(task);
     if file == ":memory:" {
-        *status = run_in_memory(rt, task, input, output);
+        *status = run_in_memory(rt, task, files, input, output);
         Ends::NoFile
     } else {
-        run_from(rt, file, start, task, input, output, status)
+        run_from(rt, file, start, task, files, input, output, status)
     }
 }

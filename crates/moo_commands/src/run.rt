@@ -4,9 +4,10 @@ ghost use Rattle.std.specs.Prelude.{◌≡◌, ℕ, List, map};
 ghost use Rattle.clap.specs.Kinds.{Kinds, HasKind};
 ghost use Rattle.moo_words.specs.Tasks.{IsRefusal, mistakes};
 ghost use Rattle.sqlite.specs.WalFiles.{image_at};
-ghost use Rattle.moo_commands.specs.Run.{mistake_status, EndsUsage, RunsWords};
+ghost use Rattle.moo_commands.specs.Run.{mistake_status, texts_by, EndsUsage, RunsWords};
 ghost use Rattle.moo_commands.specs.Ends.{RunsOver};
 
+use crate::batches::BatchFiles;
 use crate::ends::Ends;
 use crate::failure::Failure;
 use crate::files::run_task;
@@ -64,21 +65,22 @@ fn report_usage<W: Write>(rt: &HostRuntime, usage: &Usage, output: &mut W) -> u8
 ///
 /// `T` stands for what the file of the words holds: it is proved for all contents, and no code reads them. What is left of the file
 /// is handed back, to be closed.
-pub fn run_words<T: Start, R: Read + Drop, W: Write>(
+pub fn run_words<T: Start, B: BatchFiles, R: Read + Drop, W: Write>(
     rt: &HostRuntime,
     words: &[&str],
     start: T,
+    files: &B,
     input: R,
     output: &mut W,
     status: &mut u8,
 ) -> Ends<FileFrom<T>>
     // What is written, whatever the file holds.
-    ensures words { RunsWords (map (λ word. word.now) words.now) (R.remaining input) (W.contents output.old) (W.contents output.new) status.new }
+    ensures words { RunsWords (map (λ word. word.now) words.now) (texts_by (R.remaining input) (B.text files.now)) (W.contents output.old) (W.contents output.new) status.new }
     // And by what it holds: the run is one over the world that it shows.
-    ensures over { RunsOver (map (λ word. word.now) words.now) (image_at T.Start) result (R.remaining input) (W.contents output.old) (W.contents output.new) status.new }
+    ensures over { RunsOver (map (λ word. word.now) words.now) (image_at T.Start) result (texts_by (R.remaining input) (B.text files.now)) (W.contents output.old) (W.contents output.new) status.new }
 {
     match read_words(rt.alloc(), words) {
-        Ok(task) => run_task(rt, task, start, input, output, status),
+        Ok(task) => run_task(rt, task, start, files, input, output, status),
         Err(usage) => {
             *status = report_usage(rt, &usage, output);
             Ends::NoFile
