@@ -1,8 +1,9 @@
 //! The file of a task.
 
-ghost use Rattle.std.specs.Prelude.{◌≡◌, Bool, IsTrue, true, false, IfOk, IfErr};
+ghost use Rattle.std.specs.Prelude.{◌≡◌, Bool, IsTrue, true, false, [], IfOk, IfErr};
 ghost use Rattle.sqlite.specs.State.{HasCleanDisk};
-ghost use Rattle.sqlite.specs.Files.{over_files, file_state};
+ghost use Rattle.sqlite.specs.Tree.{Trees};
+ghost use Rattle.sqlite.specs.Files.{over_files, file_state, HoldsDatabase};
 ghost use Rattle.sqlite.specs.WalFiles.{image_at};
 ghost use Rattle.moo_rows.specs.Opening.{opening_maps};
 ghost use Rattle.moo_world.specs.Rows.{IsGood};
@@ -11,7 +12,7 @@ ghost use Rattle.moo_tables.specs.Tables.{Tables};
 ghost use Rattle.moo_cells.specs.Shows.{ShowsRows};
 ghost use Rattle.moo_store.specs.Opening.{Says, IsOfStore};
 ghost use Rattle.moo_store.specs.World.{store_of, CrashLeaves, StandsFor};
-ghost use Rattle.moo_files.specs.Contents.{HoldsTables, HoldsState};
+ghost use Rattle.moo_files.specs.Contents.{HoldsTables, HoldsState, HasOtherTables};
 ghost use Rattle.moo_files.specs.Remains.{IsCleanRemains, StillHolds};
 ghost use Rattle.moo_commands.specs.Lines.{Tells, store_failure};
 ghost use Rattle.moo_commands.specs.Run.{begins_anew, file_of, texts_by, RunsFrom, RunsTask, ShowsTables};
@@ -94,6 +95,8 @@ fn world_of<T: Start>(
     ensures opened { begins_anew task.entry ≡ false → IfOk result (λ world. IsGood world.rows.maps × StandsFor over_files false world (state_of world.rows.maps)) }
     ensures kept { begins_anew task.entry ≡ false → (s : State) → HoldsState (image_at T.Start) s → IfOk result (λ world. HasCleanDisk (store_of over_files world) → StandsFor over_files true world s) }
     ensures only { begins_anew task.entry ≡ false → (tables : Tables) → HoldsTables (image_at T.Start) tables → IfOk result (λ world. HasCleanDisk (store_of over_files world) → ShowsRows tables world.rows.maps) }
+    ensures nothing { begins_anew task.entry ≡ false → (image_at T.Start).db ≡ [] → IfOk result (λ world. HasCleanDisk (store_of over_files world) → ⊥) }
+    ensures other { begins_anew task.entry ≡ false → (trees : Trees) → HoldsDatabase (image_at T.Start) trees → HasOtherTables trees → IfOk result (λ world. HasCleanDisk (store_of over_files world) → ⊥) }
     ensures whole { begins_anew task.entry ≡ false → (s : State) → HoldsState (image_at T.Start) s → IfErr result (λ e. IsCleanRemains e.1 → IsOfStore e.0) }
     ensures fault { begins_anew task.entry ≡ false → (tables : Tables) → HoldsTables (image_at T.Start) tables → IfErr result (λ e. IsCleanRemains e.1 → Says tables e.0) }
     ensures left { (s : State) → HoldsState (image_at T.Start) s → IfErr result (λ e. IsCleanRemains e.1 → StillHolds (image_at T.Start) e.1 s) }

@@ -2,6 +2,7 @@
 #![tactic(auto)]
 
 mod again;
+mod batches;
 mod commands;
 mod ends;
 mod failure;
@@ -12,10 +13,11 @@ mod run;
 mod standard;
 
 pub use again::run_crash_run;
+pub use batches::{BatchFiles, SystemFiles};
 pub use ends::Ends;
 pub use failure::Failure;
 pub use files::run_from;
 pub use output::report;
-pub use over::run_over;
+pub use over::{run_in, run_over};
 pub use run::run_words;
 pub use standard::run_command;
