@@ -1,6 +1,7 @@
 //! Opening the world that a file holds.
 
-ghost use Rattle.std.specs.Prelude.{◌≡◌, ◌≢◌, ◌⊎◌, IfOk, IfErr, IsErrAnd, IfSome, IsTrue, false, true};
+ghost use Rattle.std.specs.Prelude.{◌≡◌, ◌≢◌, ◌⊎◌, IfOk, IfErr, IsErr, IsErrAnd, Some, None, IfSome, IsTrue, false, true};
+ghost use Rattle.std.specs.Fs.{file_type, metadata_len, IsFile};
 ghost use Rattle.sqlite.specs.State.{HasCleanDisk, Survives};
 ghost use Rattle.sqlite.specs.Files.{over_files, file_state, IsNothing};
 ghost use Rattle.sqlite.specs.WalFiles.{image_at};
@@ -22,21 +23,25 @@ use moo_store::{StoreFault, World, adopt};
 use sqlite::{Connection, Error, ErrorCode, File, FileFrom, FileStore, Start, Unknown};
 use sqlite_disk::Disk;
 use std::alloc::Global;
-use std::fs;
+use std::fs::{self, Metadata};
+use std::io;
 
 const CANNOT_OPEN: StoreFault = StoreFault::Store(Error::SqliteFailure(ErrorCode::CannotOpen));
 
 const NO_DATABASE: StoreFault = StoreFault::Store(Error::SqliteFailure(ErrorCode::NotADatabase));
 
-/// Why a file is refused before it is opened: there is none, or it holds no byte. An empty file would be made a blank database
-/// by opening it. A log beside an empty file counts for nothing.
-fn unfit(rt: &HostRuntime, path: &str) -> Option<StoreFault>
-    ensures { IfSome result (λ fault. (fault ≡ cannot_open) ⊎ (fault ≡ not_ours)) }
+/// Why a file with this metadata is refused before it is opened: there is none, or it holds no byte. An empty file would be made a
+/// blank database by opening it. A log beside an empty file counts for nothing.
+fn unfit(found: io::Result<Metadata>) -> Option<StoreFault>
+    ensures missing { IsErr found → result ≡ Some cannot_open }
+    ensures empty { IfOk found (λ data. IsFile (file_type data) → metadata_len data ≡ 0 → result ≡ Some not_ours) }
+    ensures fit { IfOk found (λ data. (IsFile (file_type data) → metadata_len data ≢ 0) → result ≡ None) }
+    ensures fault { IfSome result (λ fault. (fault ≡ cannot_open) ⊎ (fault ≡ not_ours)) }
 {
-    match fs::metadata(rt, path) {
+    match found {
         Ok(data) if data.is_file() && data.len() == 0 => Some(NO_DATABASE),
-        Ok(_) => None,
-        Err(_) => Some(CANNOT_OPEN),
+        Ok(_data) => None,
+        Err(_error) => Some(CANNOT_OPEN),
     }
 }
 
@@ -98,7 +103,7 @@ pub fn open_from<T: Start>(
     ensures refused { (s : State) → HoldsState (image_at T.Start) s → IfErr result (λ e. IsCleanRemains e.1 → StillHolds (image_at T.Start) e.1 s) }
     ensures crash { (s : State) → HoldsState (image_at T.Start) s → IfOk result (λ world. HasCleanDisk (store_of over_files world) → Left (store_of over_files world) s) }
 {
-    if let Some(fault) = unfit(rt, path) {
+    if let Some(fault) = unfit(fs::metadata(rt, path)) {
         return Err((fault, Remains::Untouched(start)));
     }
     let conn = match open_connection(rt, path, start) {
