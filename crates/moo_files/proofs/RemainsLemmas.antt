@@ -8,7 +8,7 @@ use Rattle.sqlite_disk.specs.Events.{Event, replay, settled}
 use Rattle.sqlite_disk.specs.History.{MayLeave}
 use Rattle.sqlite_wal.specs.Format.{be32}
 use Rattle.sqlite_wal.specs.Recovery as raw
-use Rattle.sqlite_wal.specs.Recovery.{Image, IsIgnored}
+use Rattle.sqlite_wal.specs.Recovery.{Image, Pages, IsIgnored}
 use Rattle.sqlite_wal.specs.Files.{outcomes}
 use Rattle.sqlite_pool.specs.Stored.{stored_size, reserved, is_summed, StandsAs}
 use Rattle.sqlite_pool.specs.Stored.{Adopts, used_size, sealed}
@@ -18,7 +18,6 @@ use Rattle.sqlite_pool.specs.File.{header_in, IsSoundFile}
 use Rattle.sqlite_pool.proofs.ProbeLemmas.{size_by_log, size_by_file, reserved_word, first_byte}
 use Rattle.sqlite_wal.proofs.AppendLemmas.{some_value}
 use Rattle.sqlite_wal.proofs.CreateLemmas.{begun_is_not_blank}
-use Rattle.sqlite_pages.specs.PageMap.{PageMap}
 use Rattle.sqlite_store.specs.Unopened.{state_of}
 use Rattle.sqlite_trees.specs.Props.{Trees-set}
 use Rattle.sqlite.specs.Tree.{Trees}
@@ -101,10 +100,10 @@ long_size : (size : ℕ) (page : List ℕ) → length (take 16 (take 100 (take s
 long_size size page len = omega (arith, len, length-take 16 (take 100 (take size page)), length-take 100 (take size page), length-take size page)
 
 -- a sound file isn't nothing, whatever its page size
-something : (size : ℕ) (image : Image) (pages : PageMap) → Adopts size image pages → IsSoundFile size pages → ¬ IsNothing image
+something : (size : ℕ) (image : Image) (pages : Pages) → Adopts size image pages → IsSoundFile size pages → ¬ IsNothing image
 something size image pages found sound nothing =
     let (page, is) = some_value (found.stored 1) found.whole.first in
-    let used : pages 1 ≡ Some (take size page) = ap (λ (p : PageMap). p 1) (sym found.shows) ∙ trimmed_some size _ 1 page is in
+    let used : pages 1 ≡ Some (take size page) = ap (λ (p : Pages). p 1) (sym found.shows) ∙ trimmed_some size _ 1 page is in
     let head : header_in pages ≡ take 100 (take size page) = ap (λ (o : Option (List ℕ)). take 100 (unwrap_or o [])) used in
     let magic = ap (take 16) (sym head) ∙ sound.header.0.magic in
     let long : 16 ≤ size = long_size size page (ap length magic) in

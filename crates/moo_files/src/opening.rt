@@ -34,8 +34,8 @@ const NO_DATABASE: StoreFault = StoreFault::Store(Error::SqliteFailure(ErrorCode
 /// blank database by opening it. A log beside an empty file counts for nothing.
 fn unfit(found: io::Result<Metadata>) -> Option<StoreFault>
     ensures missing { IsErr found → result ≡ Some cannot_open }
-    ensures empty { IfOk found (λ data. IsFile (file_type data) → metadata_len data ≡ 0 → result ≡ Some not_ours) }
-    ensures fit { IfOk found (λ data. (IsFile (file_type data) → metadata_len data ≢ 0) → result ≡ None) }
+    ensures empty { IfOk found (λ meta. IsFile (file_type meta) → metadata_len meta ≡ 0 → result ≡ Some not_ours) }
+    ensures fit { IfOk found (λ meta. (IsFile (file_type meta) → metadata_len meta ≢ 0) → result ≡ None) }
     ensures fault { IfSome result (λ fault. (fault ≡ cannot_open) ⊎ (fault ≡ not_ours)) }
 {
     match found {
