@@ -26,9 +26,9 @@ module _ (fault : StoreFault) where
   pub refuses_file : (old new : Option (List ℕ)) (status : ℕ) → Reports (store_failure fault) old new status → RefusesFile old new status
   refuses_file old new status reports = (store_failure fault, of_refusal fault (store_failure fault) refl, reports)
 
-module _ {D : Type 0} {g : Ghosts D} (task : Task) (image : Image) where
+module _ {T D : Type 0} {g : Ghosts D} (task : Task) (image : Image) where
   -- what a run over a file writes, whatever the file holds
-  pub runs_task : (end : Ends D g) (texts : Texts) (old new : Option (List ℕ)) (status : ℕ) → RunsFile task image end texts old new status → RunsTask task texts old new status
+  pub runs_task : (end : Ends T D g) (texts : Texts) (old new : Option (List ℕ)) (status : ℕ) → RunsFile task image end texts old new status → RunsTask task texts old new status
   runs_task (variant.Ran conn) texts old new status it = record { anew = λ anew. inr (unseen _ _ _ _ _ _ _ _ _ (it.anew anew)); opened = λ other. inr (it.opened other) }
   runs_task (variant.Refused remains) texts old new status it = record { anew = λ anew. inl (it.anew anew); opened = λ other. inl (it.opened other) }
   runs_task variant.NoFile texts old new status it = record { anew = λ anew. absurd (it.anew anew); opened = λ other. absurd (it.opened other) }

@@ -1,9 +1,9 @@
 //! The file of a task.
 
-ghost use Rattle.std.specs.Prelude.{◌≡◌, Bool, IsTrue, true, false, [], IfOk, IfErr};
+ghost use Rattle.std.specs.Prelude.{◌≡◌, Bool, IsTrue, ◌⊎◌, true, false, IfOk, IfErr};
 ghost use Rattle.sqlite.specs.State.{HasCleanDisk};
 ghost use Rattle.sqlite.specs.Tree.{Trees};
-ghost use Rattle.sqlite.specs.Files.{over_files, file_state, HoldsDatabase};
+ghost use Rattle.sqlite.specs.Files.{over_files, file_state, IsNothing};
 ghost use Rattle.sqlite.specs.WalFiles.{image_at};
 ghost use Rattle.moo_rows.specs.Opening.{opening_maps};
 ghost use Rattle.moo_world.specs.Rows.{IsGood};
@@ -11,9 +11,10 @@ ghost use Rattle.moo_world.specs.Judge.{State, state_of};
 ghost use Rattle.moo_tables.specs.Tables.{Tables};
 ghost use Rattle.moo_cells.specs.Shows.{ShowsRows};
 ghost use Rattle.moo_store.specs.Opening.{Says, IsOfStore};
+ghost use Rattle.moo_store.specs.States.{LeavesState};
 ghost use Rattle.moo_store.specs.World.{store_of, CrashLeaves, StandsFor};
-ghost use Rattle.moo_files.specs.Contents.{HoldsTables, HoldsState, HasOtherTables};
-ghost use Rattle.moo_files.specs.Remains.{IsCleanRemains, StillHolds};
+ghost use Rattle.moo_files.specs.Contents.{HoldsTrees, HoldsTables, HoldsState, HasOtherTables, HasAnyTable};
+ghost use Rattle.moo_files.specs.Remains.{IsCleanRemains, MayStopAs, KeepsSuch, KeepsNothingBut, StillHolds, StillHoldsTrees};
 ghost use Rattle.moo_commands.specs.Lines.{Tells, store_failure};
 ghost use Rattle.moo_commands.specs.Run.{begins_anew, file_of, texts_by, RunsFrom, RunsTask, ShowsTables};
 ghost use Rattle.moo_commands.specs.Ends.{RunsFile, EndsWith};
@@ -88,17 +89,22 @@ fn world_of<T: Start>(
     file: &str,
     start: T,
     task: Task<'_>,
-) -> Result<World<FileStore<FileFrom<T>>>, (StoreFault, Remains<FileFrom<T>>)>
+) -> Result<World<FileStore<FileFrom<T>>>, (StoreFault, Remains<T, FileFrom<T>>)>
     ensures anew { begins_anew task.entry ≡ true → IfOk result (λ world. StandsFor over_files true world (state_of opening_maps)) }
     ensures made { begins_anew task.entry ≡ true → IfErr result (λ e. IsOfStore e.0) }
     ensures taken { begins_anew task.entry ≡ true → (s : State) → HoldsState (image_at T.Start) s → IfOk result (λ world. HasCleanDisk (store_of over_files world) → ⊥) }
     ensures opened { begins_anew task.entry ≡ false → IfOk result (λ world. IsGood world.rows.maps × StandsFor over_files false world (state_of world.rows.maps)) }
     ensures kept { begins_anew task.entry ≡ false → (s : State) → HoldsState (image_at T.Start) s → IfOk result (λ world. HasCleanDisk (store_of over_files world) → StandsFor over_files true world s) }
     ensures only { begins_anew task.entry ≡ false → (tables : Tables) → HoldsTables (image_at T.Start) tables → IfOk result (λ world. HasCleanDisk (store_of over_files world) → ShowsRows tables world.rows.maps) }
-    ensures nothing { begins_anew task.entry ≡ false → (image_at T.Start).db ≡ [] → IfOk result (λ world. HasCleanDisk (store_of over_files world) → ⊥) }
-    ensures other { begins_anew task.entry ≡ false → (trees : Trees) → HoldsDatabase (image_at T.Start) trees → HasOtherTables trees → IfOk result (λ world. HasCleanDisk (store_of over_files world) → ⊥) }
+    ensures nothing { begins_anew task.entry ≡ false → IsNothing (image_at T.Start) → IfOk result (λ world. HasCleanDisk (store_of over_files world) → ⊥) }
+    ensures other { begins_anew task.entry ≡ false → (trees : Trees) → HoldsTrees (image_at T.Start) trees → HasOtherTables trees → IfOk result (λ world. HasCleanDisk (store_of over_files world) → ⊥) }
     ensures whole { begins_anew task.entry ≡ false → (s : State) → HoldsState (image_at T.Start) s → IfErr result (λ e. IsCleanRemains e.1 → IsOfStore e.0) }
     ensures fault { begins_anew task.entry ≡ false → (tables : Tables) → HoldsTables (image_at T.Start) tables → IfErr result (λ e. IsCleanRemains e.1 → Says tables e.0) }
+    ensures trees { begins_anew task.entry ≡ false → (trees : Trees) → HoldsTrees (image_at T.Start) trees → IfErr result (λ e. IsCleanRemains e.1 → StillHoldsTrees (image_at T.Start) e.1 trees) }
+    ensures spared { begins_anew task.entry ≡ true → (trees : Trees) → HoldsTrees (image_at T.Start) trees → HasAnyTable trees → IfErr result (λ e. IsCleanRemains e.1 → KeepsSuch (λ found. found ≡ trees) (image_at T.Start) e.1) }
+    ensures unmade { begins_anew task.entry ≡ true → (trees : Trees) → HoldsTrees (image_at T.Start) trees → IfErr result (λ e. IsCleanRemains e.1 → KeepsSuch (λ found. (found ≡ trees) ⊎ LeavesState found (state_of opening_maps)) (image_at T.Start) e.1) }
+    ensures blank { begins_anew task.entry ≡ false → IsNothing (image_at T.Start) → IfErr result (λ e. IsCleanRemains e.1 → KeepsNothingBut (λ _. ⊥) (image_at T.Start) e.1) }
+    ensures stopped { IfErr result (λ e. MayStopAs e.0 e.1) }
     ensures left { (s : State) → HoldsState (image_at T.Start) s → IfErr result (λ e. IsCleanRemains e.1 → StillHolds (image_at T.Start) e.1 s) }
 {
     if begins_anew(task) {
@@ -122,7 +128,7 @@ pub fn run_from<T: Start, B: BatchFiles, R: Read + Drop, W: Write>(
     input: R,
     output: &mut W,
     status: &mut u8,
-) -> Ends<FileFrom<T>>
+) -> Ends<T, FileFrom<T>>
     ensures { RunsFile task.entry (image_at T.Start) result (texts_by (R.remaining input) (B.text files.now)) (W.contents output.old) (W.contents output.new) status.new }
 {
     match world_of(rt, file, start, task) {
@@ -161,7 +167,7 @@ pub(crate) fn run_task<T: Start, B: BatchFiles, R: Read + Drop, W: Write>(
     input: R,
     output: &mut W,
     status: &mut u8,
-) -> Ends<FileFrom<T>>
+) -> Ends<T, FileFrom<T>>
     ensures runs { RunsTask task.entry (texts_by (R.remaining input) (B.text files.now)) (W.contents output.old) (W.contents output.new) status.new }
     ensures ends { EndsWith task.entry (image_at T.Start) result (texts_by (R.remaining input) (B.text files.now)) (W.contents output.old) (W.contents output.new) status.new }
 {

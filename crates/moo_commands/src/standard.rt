@@ -1,29 +1,32 @@
 //! The program over the words of the command line and the standard streams.
 
 ghost use Rattle.std.specs.Prelude.{◌≡◌, ◌≢◌, ◌⊎◌, ◌∷◌, codes, map, drop, string_bytes, IfOk, IfErr};
-ghost use Rattle.std.specs.Vec.Iter.{into_iter_items};
 ghost use Rattle.std.specs.IoError.{error_kind};
 ghost use Rattle.moo_commands.specs.Lines.{Reports};
-ghost use Rattle.moo_commands.specs.Run.{texts_by, RunsWords};
+ghost use Rattle.sqlite.specs.WalFiles.{image_at};
+ghost use Rattle.moo_commands.specs.Run.{texts_by};
+ghost use Rattle.moo_commands.specs.Ends.{RunsClosed};
 
 use crate::batches::{BatchFiles, SystemFiles};
 use crate::failure::Failure;
 use crate::output::report;
-use crate::run::run_words;
-use sqlite::{Start, Unknown};
+use crate::run::run_to_end;
+use moo_files::Remains;
+use sqlite::{FileFrom, Start, Unknown};
 use std::alloc::{AllocError, Global};
-use std::env::{Args, args};
+use std::env::args;
 use std::io;
 use std::io::{ErrorKind, Read, Write};
 
-/// The words that were given, and before them `moo` in place of the program's path.
-fn named_words(alloc: Global, given: Args) -> io::Result<Vec<String>>
-    ensures { IfOk result (λ words. map string_bytes words.items ≡ codes "moo" ∷ map string_bytes (drop 1 (into_iter_items given))) }
+/// The words of a command line, with `moo` in place of the program's path.
+fn named_words(alloc: Global, mut words: Vec<String>) -> io::Result<Vec<String>>
+    ensures { IfOk result (λ named. map string_bytes named.items ≡ codes "moo" ∷ map string_bytes (drop 1 words.items)) }
 {
-    let mut words = Vec::new(alloc);
-    words.push(String::from_str(alloc, "moo")?)?;
-    for word in given.skip(1) {
-        words.push(word)?;
+    let name = String::from_str(alloc, "moo")?;
+    if words.is_empty() {
+        words.push(name)?;
+    } else {
+        words[0] = name;
     }
     Ok(words)
 }
@@ -50,7 +53,8 @@ fn words_failure(error: &io::Error) -> Failure
     }
 }
 
-/// Does what the words say, or says why they can't be read.
+/// Does what the words say and closes their file, or says why the words can't be read. What is left of the file is handed back, to be
+/// dropped.
 pub fn run_given<T: Start, B: BatchFiles, R: Read + Drop, W: Write>(
     rt: &HostRuntime,
     words: io::Result<Vec<String>>,
@@ -58,40 +62,46 @@ pub fn run_given<T: Start, B: BatchFiles, R: Read + Drop, W: Write>(
     files: &B,
     input: R,
     output: &mut W,
-) -> u8
-    // What the words come to, as `run_words` says it; or memory runs out before that.
-    ensures read { IfOk words (λ words. Reports Failure.NoMemory (W.contents output.old) (W.contents output.new) result
-        ⊎ RunsWords (map string_bytes words.items) (texts_by (R.remaining input) (B.text files.now)) (W.contents output.old) (W.contents output.new) result) }
+    status: &mut u8,
+) -> Option<Remains<T, FileFrom<T>>>
+    // What the words come to, as `run_to_end` says it; or memory runs out before that.
+    ensures read { IfOk words (λ words. Reports Failure.NoMemory (W.contents output.old) (W.contents output.new) status.new
+        ⊎ RunsClosed (map string_bytes words.items) (image_at T.Start) result (texts_by (R.remaining input) (B.text files.now)) (W.contents output.old) (W.contents output.new) status.new) }
     // If they can't be read, the line says whether memory ran out.
-    ensures memory { IfErr words (λ error. error_kind error ≡ ErrorKind.OutOfMemory → Reports Failure.NoMemory (W.contents output.old) (W.contents output.new) result) }
-    ensures unread { IfErr words (λ error. error_kind error ≢ ErrorKind.OutOfMemory → Reports Failure.Usage (W.contents output.old) (W.contents output.new) result) }
+    ensures memory { IfErr words (λ error. error_kind error ≡ ErrorKind.OutOfMemory → Reports Failure.NoMemory (W.contents output.old) (W.contents output.new) status.new) }
+    ensures unread { IfErr words (λ error. error_kind error ≢ ErrorKind.OutOfMemory → Reports Failure.Usage (W.contents output.old) (W.contents output.new) status.new) }
 {
     let words = match words {
         Ok(words) => words,
-        Err(error) => return report(rt, words_failure(&error), output),
+        Err(error) => {
+            *status = report(rt, words_failure(&error), output);
+            return None;
+        }
     };
     let Ok(words) = borrowed(rt.alloc(), &words) else {
-        return report(rt, Failure::NoMemory, output);
+        *status = report(rt, Failure::NoMemory, output);
+        return None;
     };
-    let mut status = 0;
-    run_words(rt, &words, start, files, input, output, &mut status).close();
-    status
+    run_to_end(rt, &words, start, files, input, output, status)
 }
 
 /// The words of the command line.
 fn command_words(rt: &HostRuntime) -> io::Result<Vec<String>> {
-    named_words(rt.alloc(), args(rt)?)
+    named_words(rt.alloc(), args(rt)?.collect(rt.alloc())?)
 }
 
 /// The whole program: `run_given` over the words of the command line, the files of the system and the standard streams. It has no type
 /// parameter, so that the check of `main` needn't know what streams are.
 pub fn run_command(rt: &HostRuntime) -> u8 {
-    run_given(
+    let mut status = 0;
+    let _closed = run_given(
         rt,
         command_words(rt),
         Unknown,
         &SystemFiles,
         rt.stdin(),
         &mut rt.stdout(),
-    )
+        &mut status,
+    );
+    status
 }

@@ -25,6 +25,11 @@ returns-in-Ok g c =
           let found = c.in-Ok.ensures.opened other in
           (world.rows.maps, found.0, unseen _ _ _ _ _ _ _ _ _ (ran.runs false here found.1));
       left = λ s holds. tt;
+      trees = λ trees other holds. tt;
+      spared = λ trees anew holds any. tt;
+      unmade = λ trees anew holds. tt;
+      blank = λ other none. tt;
+      told = tt;
     }
 
 pub returns-in-Err : goal.returns-in-Err
@@ -42,4 +47,9 @@ returns-in-Err g c =
       other = λ trees other holds others. tt;
       opened = λ other. refuses_file fault old new c.report.result reports;
       left = c.in-Err.ensures.left;
+      trees = λ trees other holds. c.in-Err.ensures.trees other trees holds;
+      spared = λ trees anew holds any. c.in-Err.ensures.spared anew trees holds any;
+      unmade = λ trees anew holds. c.in-Err.ensures.unmade anew trees holds;
+      blank = λ other none. c.in-Err.ensures.blank other none;
+      told = (fault, c.in-Err.ensures.stopped, reports);
     }
