@@ -37,6 +37,14 @@ on_file (Dump file) other = other
 on_file (Check file) other = other
 on_file (Serve file port count) other = other
 
+module _ {D : Type 0} {g : Ghosts D} where
+  -- what is found after a connection was closed is what a crash might have left before
+  found_left : (T : Type 0) (store : Database) (left_over : Leftover D g) (next : Image) → IsLeftOf store left_over → IsFoundIn {T = T} (Some (remains.Leftover left_over)) next → IsLeftBy store next
+  found_left T store (left.Files now) next of (inl is) = subst (IsLeftBy store) (sym is) of.0
+  found_left T store (left.Files now) next of (inr out) = of.1 next out
+  found_left T store (left.Unopened now) next of found = absurd of
+  found_left T store (left.Store now) next of found = record { trees = found.trees; holds = found.holds; such = of found.trees found.such }
+
 module _ {T D : Type 0} {g : Ghosts D} where
   ran_on_file : (conn : Held (FileStore D g)) → ◌≡◌ {A = Ends T D g} (variant.Ran conn) variant.NoFile → ⊥
   ran_on_file conn is = subst (λ (ends : Ends T D g). MatchFile ends (λ conn. ⊤) (λ remains. ⊤)) is tt
@@ -98,31 +106,25 @@ module _ {T D : Type 0} {g : Ghosts D} where
       (still, goes s still)
   crashes_to words image variant.NoFile texts old new status next Next over goes = tt
 
-  -- what is found after a connection was closed is what a crash might have left before
-  found_left : (store : Database) (left_over : Leftover D g) (next : Image) → IsLeftOf store left_over → IsFoundIn (Some (remains.Leftover left_over)) next → IsLeftBy store next
-  found_left store (left.Files now) next of (inl is) = subst (IsLeftBy store) (sym is) of.0
-  found_left store (left.Files now) next of (inr out) = of.1 next out
-  found_left store (left.Unopened now) next of found = absurd of
-  found_left store (left.Store now) next of found = record { trees = found.trees; holds = found.holds; such = of found.trees found.such }
-
   -- what is closed keeps what it kept
   kept_closed : (P : Trees → Type 0) (image : Image) (was now : Remains T D g) → IsClosedFrom was now → IsCleanRemains now → (IsCleanRemains was → KeepsSuch P image was) → KeepsSuch P image now
   kept_closed P image (remains.Untouched start) now is clean keeps = subst (KeepsSuch P image) (sym is) (keeps tt)
   kept_closed P image (remains.NotOpened seal) now is clean keeps = subst (KeepsSuch P image) (sym is) (keeps tt)
   kept_closed P image (remains.Leftover rest) now is clean keeps = subst (KeepsSuch P image) (sym is) (keeps (subst IsCleanRemains is clean))
-  kept_closed P image (remains.Connection conn) now (rest, is, copied, left) clean keeps =
-      let both = left (subst IsCleanRemains is clean) in
+  kept_closed P image (remains.Connection conn) now (rest, is, copied, closes) clean keeps =
+      let both = closes (subst IsCleanRemains is clean) in
       subst (KeepsSuch P image) (sym is) (kept_left rest both.1 (keeps both.0))
     where
       kept_left : (rest : Leftover D g) → IsLeftOf (file_state conn) rest → ((trees : Trees) → (file_state conn).may_leave trees → P trees) → LeftoverKeeps P image rest
-      kept_left (left.Files files) of all found out = let it = of.1 found out in record { trees = it.trees; holds = it.holds; such = all it.trees it.such }
+      kept_left (left.Files files) of all = λ found out. let it = of.1 found out in record { trees = it.trees; holds = it.holds; such = all it.trees it.such }
       kept_left (left.Unopened files) of all = absurd of
-      kept_left (left.Store store) of all trees recovers = all trees (of trees recovers)
+      kept_left (left.Store store) of all = λ trees recovers. all trees (of trees recovers)
 
   pub closes_to : (words : List (List ℕ)) (image : Image) (closed : Option (Remains T D g)) (texts : Texts) (old new : Option (List ℕ)) (status : ℕ) (next : Image) (Next : State → Type 0)
       → RunsClosed words image closed texts old new status → ((t : State) → HoldsState next t → Next t) → ClosesTo words image closed texts old new status next Next
   closes_to words image (Some now) texts old new status next Next (variant.Ran conn, over, rest, is, copied, left) goes = (
     variant.Ran conn,
+    over,
     (rest, is, copied, left),
     λ clean.
         let both = left (subst IsCleanRemains is clean) in
@@ -131,12 +133,13 @@ module _ {T D : Type 0} {g : Ghosts D} where
           ran.1,
           λ s starts.
               let run = ran.2 s starts in
-              (run.0, λ found. run.1 (found_left (file_state conn) rest next both.1 (subst (λ it. IsFoundIn (Some it) next) is found))),
+              (run.0, λ found. run.1 (found_left T (file_state conn) rest next both.1 (subst (λ it. IsFoundIn (Some it) next) is found))),
         ),
   )
   closes_to words image None texts old new status next Next (variant.Ran conn, over, none) goes = absurd none
   closes_to words image (Some now) texts old new status next Next (variant.Refused was, over, from) goes = (
     variant.Refused was,
+    over,
     from,
     λ clean s holds left.
         let kept = kept_closed (λ trees. LeavesState trees s) image was now from clean (λ early. refused_left words image was texts old new status over s holds early) in
@@ -145,4 +148,4 @@ module _ {T D : Type 0} {g : Ghosts D} where
   )
   closes_to words image None texts old new status next Next (variant.Refused was, over, none) goes = absurd none
   closes_to words image (Some now) texts old new status next Next (variant.NoFile, over, none) goes = absurd none
-  closes_to words image None texts old new status next Next (variant.NoFile, over, none) goes = (variant.NoFile, tt, tt)
+  closes_to words image None texts old new status next Next (variant.NoFile, over, none) goes = (variant.NoFile, over, tt, tt)

@@ -21,7 +21,7 @@ use Rattle.moo_files.specs.declared.remains.Remains.TheVariants as remains
 use Rattle.moo_words.specs.declared.task.Task.{Task}
 use Rattle.moo_words.specs.Tasks.{NamesTask, mistakes}
 use Rattle.moo_commands.specs.Run.{Texts, begins_anew, RunsFrom, FailsAtOnce, EndsUsage}
-use Rattle.moo_commands.specs.Ends.{MatchFile, IsClosedEnd}
+use Rattle.moo_commands.specs.Ends.{MatchFile, RunsOver, IsClosedEnd}
 use Rattle.moo_commands.specs.declared.ends.Ends.{Ends}
 use Rattle.moo_commands.specs.declared.ends.Ends.TheVariants as variant
 
@@ -86,7 +86,7 @@ module _ {T D : Type 0} {g : Ghosts D} where
 
   -- the same, if the file was closed before the next run, with a crash or without one
   abbrev pub ClosesTo : List (List ℕ) → Image → Option (Remains T D g) → Texts → Option (List ℕ) → Option (List ℕ) → ℕ → Image → (State → Type 0) → Type 0
-  ClosesTo words image closed texts old new status next Next = (ends : Ends T D g) × IsClosedEnd ends closed × IfFile ends
+  ClosesTo words image closed texts old new status next Next = (ends : Ends T D g) × RunsOver words image ends texts old new status × IsClosedEnd ends closed × IfFile ends
       (λ conn. IsCleanEnd closed → (task : Task) × NamesTask words task × ((s : State) → StartsFrom task image s →
       (run : RanFrom task s conn texts old new status) × (IsFoundIn closed next → (t : State) × MayLeave run.end t × HoldsState next t × Next t)))
       (λ remains. IsCleanEnd closed → (s : State) → HoldsState image s → IsFoundAfter image closed next → HoldsState next s × Next s)

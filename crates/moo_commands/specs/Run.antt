@@ -152,7 +152,7 @@ IsOpening (Store error) = ⊤
 IsOpening NoMemory = ⊤
 IsOpening failure = ⊥
 
--- why a file isn't opened, whatever it holds: there is none, it is damaged or of a later version, or one of these two
+-- why a file isn't opened, whatever it holds: it is missing, damaged or of a later version, or one of these two
 abbrev pub MayRefuse : Failure → Type 0
 MayRefuse NoFile = ⊤
 MayRefuse (Damaged kind key) = ⊤
@@ -170,7 +170,7 @@ FailsAtOnce old new status = (failure : Failure) × IsOpening failure × Reports
 abbrev pub LeavesAsBefore : State → Database → Database → Type 0
 LeavesAsBefore s old new = (trees : Trees) → new.may_leave trees → old.may_leave trees ⊎ LeavesState trees s
 
--- the status of a mistake in the words: asking for help or the version is none
+-- the status of a mistake in the words; asking for help or the version is 0
 abbrev pub mistake_status : ErrorKind → ℕ
 mistake_status DisplayHelp = 0
 mistake_status DisplayVersion = 0

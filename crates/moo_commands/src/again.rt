@@ -15,8 +15,8 @@ use std::io::{Read, Write};
 
 /// Runs words over a file, and then words over what a crash left of it.
 ///
-/// Nothing calls it: its contract is the law of the program over a stop. `T` stands for what the file held at first, `U` for what it
-/// held after the crash, which comes when the task is at its end and its file isn't closed yet.
+/// Nothing calls it: its contract is the law of the program over a stop. `T` is what the file held at first, `U` what it held after the
+/// crash, which comes when the task is at its end and its file isn't closed yet.
 pub fn run_crash_run<
     T: Start,
     B: BatchFiles,

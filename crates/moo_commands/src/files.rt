@@ -48,8 +48,8 @@ fn file_of<'a>(task: Task<'a>) -> &'a str
     }
 }
 
-/// `run_in` at the store in files. What is known of that store weighs on each function that calls a generic one at it, so
-/// that the one such call stands here, over any disk.
+/// `run_in` at the store in files, over any disk. What is known of that store weighs on each function that calls a generic one at it,
+/// so this call has a function of its own.
 fn run_in_files<B: BatchFiles, R: Read + Drop, W: Write, D: Disk + Drop>(
     rt: &HostRuntime,
     world: World<FileStore<D>>,
@@ -72,7 +72,7 @@ fn refusal(fault: StoreFault) -> Failure
     Failure::from(fault)
 }
 
-/// Why a file isn't opened. That there is none is told apart, for what is said of it on standard error.
+/// Why a file isn't opened. A missing file is told apart, for what is said of it on standard error.
 fn refusal_of(rt: &HostRuntime, file: &str, task: Task<'_>, fault: StoreFault) -> Failure
     ensures { Tells fault result }
 {
@@ -117,8 +117,8 @@ fn world_of<T: Start>(
 /// Does what a task says over its file, writes the line of a failure, and hands back what is left of the file. The status is that
 /// of `run_words`.
 ///
-/// `T` stands for what the files hold: it is proved for all contents, and no code reads them. The program calls it for files that
-/// nobody has read.
+/// `T` is what the file of the words holds, and `B` the files of batches: it is proved for all contents, and no code reads them. The
+/// program calls it for files that nobody has read.
 pub fn run_from<T: Start, B: BatchFiles, R: Read + Drop, W: Write>(
     rt: &HostRuntime,
     file: &str,

@@ -61,8 +61,7 @@ fn report_usage<W: Write>(rt: &HostRuntime, usage: &Usage, output: &mut W) -> u8
 /// help and the version. If the store, the batches or the port failed, the cause goes to standard error, and so does a hint
 /// if a batch met a fault of the store. A connection that fails is no failure of `serve`.
 ///
-/// `T` stands for what the file of the words holds, and `B` for the files of batches: it is proved for all contents, and no code reads
-/// them. What is left of the file is handed back, to be closed.
+/// `T` is what the file of the words holds, and `B` the files of batches: it is proved for all contents, and no code reads them. What is left of the file is handed back, to be closed.
 pub fn run_words<T: Start, B: BatchFiles, R: Read + Drop, W: Write>(
     rt: &HostRuntime,
     words: &[&str],
