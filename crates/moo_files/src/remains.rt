@@ -6,9 +6,11 @@ ghost use Rattle.sqlite.specs.State.{HasCleanDisk};
 ghost use Rattle.sqlite.specs.Files.{file_state, IsOpened, IsNothing};
 ghost use Rattle.sqlite.specs.Start.{FindsIn};
 ghost use Rattle.sqlite.specs.WalFiles.{image_at};
+ghost use Rattle.sqlite_wal.specs.Recovery.{Image};
 ghost use Rattle.moo_store.specs.Opening.{IsOfStore};
 ghost use Rattle.moo_files.specs.Contents.{HoldsTrees};
-ghost use Rattle.moo_files.specs.Remains.{IsCleanRemains, MayStopAs, KeepsSuch, KeepsNothingBut};
+ghost use Rattle.moo_files.specs.Remains.{IsCleanRemains, MayStopAs, KeepsSuch, StillHolds, StillHoldsTrees, KeepsNothingBut};
+ghost use Rattle.moo_world.specs.Judge.{State};
 ghost use Rattle.moo_files.specs.Closing.{IsClosedFrom};
 
 use crate::closing::{close_connection, leave_commit};
@@ -47,7 +49,11 @@ impl<T: Drop, D: Disk + Drop> Drop for Remains<T, D> {
 impl<T: Drop, D: Disk + Drop> Remains<T, D> {
     /// Closes a connection, as `close_connection` does; anything else comes back as it is.
     pub fn close(self) -> Remains<T, D>
-        ensures { IsClosedFrom self result }
+        ensures closed { IsClosedFrom self result }
+        // So they hold once they are closed what they held before, and so does what a crash leaves of them.
+        ensures state { (image : Image) (s : State) → (IsCleanRemains self → StillHolds image self s) → IsCleanRemains result → StillHolds image result s }
+        ensures trees { (image : Image) (trees : Trees) → (IsCleanRemains self → StillHoldsTrees image self trees) → IsCleanRemains result → StillHoldsTrees image result trees }
+        ensures blank { (image : Image) → (IsCleanRemains self → KeepsNothingBut (λ _. ⊥) image self) → IsCleanRemains result → KeepsNothingBut (λ _. ⊥) image result }
     {
         match self {
             Remains::Connection(conn) => Remains::Leftover(close_connection(conn)),
