@@ -18,7 +18,7 @@ use moo_store::StoreFault;
 use sqlite::{Connection, Error, ErrorCode, FileFrom, FileStore, Leftover, Start};
 use sqlite_disk::Disk;
 
-/// `sqlite` opened no file. Only this module can say so.
+/// `sqlite` couldn't open the files, and handed nothing back. Only this module can say so.
 #[derive(Drop)]
 pub struct NotOpened(());
 
@@ -26,9 +26,9 @@ pub struct NotOpened(());
 pub enum Remains<T, D: Disk> {
     /// `sqlite` wasn't asked, since there is no such file or it holds no byte. The start is unspent.
     Untouched(T),
-    /// `sqlite` opened no file.
+    /// `sqlite` couldn't open the files, and handed nothing back.
     NotOpened(NotOpened),
-    /// What `sqlite` left of files that are no database, or that it couldn't read as one.
+    /// What `sqlite` left of files that aren't a database, or that it couldn't read as one.
     Leftover(Leftover<D>),
     /// The connection, outside a transaction.
     Connection(Connection<FileStore<D>>),
