@@ -1,3 +1,3 @@
 pub mod AgainLemmas
 mod ContentsLemmas
-mod RemainsLemmas
+pub mod RemainsLemmas
