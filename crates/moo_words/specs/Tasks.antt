@@ -7,7 +7,7 @@ use Rattle.clap.specs.Kinds.{Kinds, HasKind}
 use Rattle.clap.specs.Faults.{fault_of}
 use Rattle.moo_words.specs.Commands.{moo_app}
 use Rattle.moo_words.specs.declared.task.Task.{Task}
-use Rattle.moo_words.specs.declared.task.Task.TheVariants.{Init, Apply, Ask, Dump, Check, Serve}
+use Rattle.moo_words.specs.declared.task.Task.TheVariants.{Init, Apply, Ask, Dump, Load, Check, Serve}
 use Rattle.moo_words.specs.declared.task.Usage.{Usage}
 use Rattle.moo_words.specs.declared.task.Usage.TheVariants.{Refused, Absent}
 
@@ -28,6 +28,8 @@ IsTask (name, rows) (Apply file batches) =
 IsTask (name, rows) (Ask file batches) =
     (name ≡ codes "ask") × HasText rows (codes "FILE") file.now × HasText rows (codes "BATCHES") batches.now
 IsTask (name, rows) (Dump file) = (name ≡ codes "dump") × HasText rows (codes "FILE") file.now
+IsTask (name, rows) (Load file dump) =
+    (name ≡ codes "load") × HasText rows (codes "FILE") file.now × HasText rows (codes "DUMP") dump.now
 IsTask (name, rows) (Check file) = (name ≡ codes "check") × HasText rows (codes "FILE") file.now
 IsTask (name, rows) (Serve file port count) =
     (name ≡ codes "serve") × HasText rows (codes "FILE") file.now
@@ -40,6 +42,7 @@ IsDefault (Init file) = ⊥
 IsDefault (Apply file batches) = (file.now ≡ codes ":memory:") × (batches.now ≡ codes "-")
 IsDefault (Ask file batches) = ⊥
 IsDefault (Dump file) = ⊥
+IsDefault (Load file dump) = ⊥
 IsDefault (Check file) = ⊥
 IsDefault (Serve file port count) = ⊥
 
@@ -56,6 +59,7 @@ request_of (Init file) = record { command = codes "init"; file = file.now; batch
 request_of (Apply file batches) = record { command = codes "apply"; file = file.now; batches = batches.now; port = 0; count = 0 }
 request_of (Ask file batches) = record { command = codes "ask"; file = file.now; batches = batches.now; port = 0; count = 0 }
 request_of (Dump file) = record { command = codes "dump"; file = file.now; batches = []; port = 0; count = 0 }
+request_of (Load file dump) = record { command = codes "load"; file = file.now; batches = dump.now; port = 0; count = 0 }
 request_of (Check file) = record { command = codes "check"; file = file.now; batches = []; port = 0; count = 0 }
 request_of (Serve file port count) = record { command = codes "serve"; file = file.now; batches = []; port = port; count = count }
 

@@ -10,7 +10,8 @@ use std::alloc::{AllocError, Global};
 
 /// What the program is to do.
 ///
-/// `file` is the path of a database, or `:memory:` for a new world; `batches` the path of a text, or `-` for standard input.
+/// `file` is the path of a database, or `:memory:` for a new world. `batches` is the path of a text of batches, and `dump` that of a
+/// dump; `-` is standard input.
 #[derive(Clone, Copy, Debug, PartialEq, Eq, Drop)]
 pub enum Task<'a> {
     /// Make a new world.
@@ -30,6 +31,11 @@ pub enum Task<'a> {
     /// Print the whole world.
     Dump {
         file: &'a str,
+    },
+    /// Make the world of a dump.
+    Load {
+        file: &'a str,
+        dump: &'a str,
     },
     /// Test that the file holds a whole world.
     Check {
@@ -101,6 +107,10 @@ fn task_in<'a>(name: &str, matches: &ArgMatches<'a>) -> Option<Task<'a>>
     } else if name == "dump" {
         let file = text_of(matches, "FILE")?;
         Some(Task::Dump { file })
+    } else if name == "load" {
+        let file = text_of(matches, "FILE")?;
+        let dump = text_of(matches, "DUMP")?;
+        Some(Task::Load { file, dump })
     } else if name == "check" {
         let file = text_of(matches, "FILE")?;
         Some(Task::Check { file })
