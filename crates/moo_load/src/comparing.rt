@@ -26,7 +26,7 @@ pub(crate) struct Comparing<'a> {
 }
 
 impl<'a> Comparing<'a> {
-    ghost use Rattle.std.specs.Prelude.{◌≡◌, ◌≤◌, length, take};
+    ghost use Rattle.std.specs.Prelude.{◌≡◌, true, take};
 
     /// Nothing is compared yet.
     pub(crate) fn new(text: &'a [u8]) -> Comparing<'a>
@@ -34,6 +34,14 @@ impl<'a> Comparing<'a> {
         ensures at { result.at ≡ 0 }
     {
         Comparing { text, at: 0 }
+    }
+
+    /// Whether all of this text was taken. That it is the one to compare with isn't known after a call that wrote, so it is
+    /// asked too.
+    pub(crate) fn has_taken(&self, text: &[u8]) -> bool
+        ensures { result ≡ true → take self.now.at self.now.text.now ≡ text.now }
+    {
+        self.at == text.len() && self.text == text
     }
 }
 
