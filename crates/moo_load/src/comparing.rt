@@ -41,7 +41,10 @@ impl<'a> Comparing<'a> {
     pub(crate) fn has_taken(&self, text: &[u8]) -> bool
         ensures { result ≡ true → take self.now.at self.now.text.now ≡ text.now }
     {
-        self.at == text.len() && self.text == text
+        if self.text != text {
+            return false;
+        }
+        self.at == text.len()
     }
 }
 

@@ -1,6 +1,7 @@
 //! The first two lines of a dump.
 
-ghost use Rattle.std.specs.Prelude.{◌≡◌, ◌<◌, ◌≤◌, ◌^◌, pos, negsuc, ◌≤ℤ◌, length, IfOk, IfErr};
+ghost use Rattle.std.specs.Prelude.{◌≡◌, ◌<◌, ◌≤◌, ◌^◌, pos, negsuc, ◌≤ℤ◌, length, FitsSigned, IfOk, IfErr};
+ghost use Rattle.std.specs.Int.{w32};
 ghost use Rattle.moo_rows.specs.Maps.{no_maps};
 ghost use Rattle.moo_load.specs.Loaded.{SaysOfText};
 ghost use Rattle.moo_load.specs.Rows.{AreRead};
@@ -26,6 +27,7 @@ fn seq_of(alloc: Global, line: &[u8]) -> Result<u64, LineFault>
 fn top_of(alloc: Global, line: &[u8]) -> Result<i32, LineFault>
     ensures least { IfOk result (λ top. negsuc 0 ≤ℤ top) }
     ensures most { IfOk result (λ top. top ≤ℤ pos 2147483647) }
+    ensures fits { IfOk result (λ top. FitsSigned w32 top) }
 {
     let literal = line.strip_prefix(b"top ").ok_or(LineFault::Unreadable)?;
     match read_whole_literal(alloc, literal)? {

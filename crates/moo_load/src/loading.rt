@@ -49,9 +49,12 @@ pub fn read_dump(alloc: Global, text: &[u8]) -> Result<Flat, LoadFault>
     ensures fault { IfErr result (SaysOfText text.now) }
 {
     let rows = read_rows(alloc, text)?;
-    if let Some((kind, key)) = damage_of(alloc, &rows)? {
-        return Err(LoadFault::Damaged(kind, key));
+    let damage = damage_of(alloc, &rows)?;
+    match damage {
+        Some((kind, key)) => Err(LoadFault::Damaged(kind, key)),
+        None => {
+            compare(alloc, &rows, text)?;
+            Ok(rows)
+        }
     }
-    compare(alloc, &rows, text)?;
-    Ok(rows)
 }

@@ -1,7 +1,6 @@
 //! The values of an object's line.
 
 ghost use Rattle.std.specs.Prelude.{◌≡◌, true, IfOk};
-ghost use Rattle.moo_dump.specs.Dump.{object_values};
 ghost use Rattle.moo_world.specs.World.{row_fits};
 
 use crate::fault::LineFault;
@@ -12,7 +11,6 @@ use std::alloc::Global;
 
 /// The object with its number.
 pub(crate) fn read_object(alloc: Global, values: &[Value]) -> Result<(ObjNo, ObjRow), LineFault>
-    ensures shown { IfOk result (λ r. values.now ≡ object_values r.0 r.1) }
     ensures fits { IfOk result (λ r. row_fits r.1 ≡ true) }
 {
     let [

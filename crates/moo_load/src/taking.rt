@@ -36,8 +36,11 @@ pub(crate) fn take_property(
     let row = read_property(alloc, values)?;
     let mut head = rows.head();
     let id = head.next_prop;
-    head.next_prop = id.checked_add(1).ok_or(LineFault::Unreadable)?;
+    if id == u32::MAX {
+        return Err(LineFault::Unreadable);
+    }
     rows.put_prop(PropId(id), row)?;
+    head.next_prop = id + 1;
     rows.set_head(head);
     Ok(())
 }
@@ -50,8 +53,11 @@ pub(crate) fn take_verb(alloc: Global, values: &[Value], rows: &mut Flat) -> Res
     let (object, row) = read_verb(alloc, values)?;
     let mut head = rows.head();
     let id = head.next_verb;
-    head.next_verb = id.checked_add(1).ok_or(LineFault::Unreadable)?;
+    if id == u32::MAX {
+        return Err(LineFault::Unreadable);
+    }
     rows.put_verb((object, VerbId(id)), row)?;
+    head.next_verb = id + 1;
     rows.set_head(head);
     Ok(())
 }
@@ -66,10 +72,12 @@ pub(crate) fn take_petition(
     ensures { OnOk result (AreRead rows.new.maps) }
 {
     let (id, row) = read_petition(alloc, values)?;
-    let mut head = rows.head();
-    head.next_petition = head.next_petition.max(id.0 + 1);
     rows.put_petition(id, row)?;
-    rows.set_head(head);
+    let mut head = rows.head();
+    if head.next_petition <= id.0 {
+        head.next_petition = id.0 + 1;
+        rows.set_head(head);
+    }
     Ok(())
 }
 
