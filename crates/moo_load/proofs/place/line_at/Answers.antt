@@ -1,4 +1,4 @@
-use Rattle.std.proofs.Common.{◌≡◌, ◌+◌, ◌∙◌, sym, ap, take, drop, length, arith, take-append-drop}
+use Rattle.std.proofs.Common.{◌≡◌, ◌+◌, ◌∙◌, sym, ap, take, drop, arith, take-append-drop}
 use Rattle.std.proofs.lemmas.List.{take_all}
 use Rattle.moo_load.specs.Lines.{line_ends}
 use Rattle.moo_load.proofs.place.line_at.Goals as goal

@@ -1,4 +1,4 @@
-use Rattle.std.proofs.Common.{◌≡◌, ap, ◌∙◌, rules}
+use Rattle.std.proofs.Common.{ap, ◌∙◌, rules}
 use Rattle.moo_value.specs.Literal.{Fits}
 use Rattle.moo_world.specs.Arguments.{fits}
 use Rattle.moo_world.proofs.Form.Ranges.{fits_of}

@@ -1,6 +1,6 @@
-use Rattle.std.proofs.Common.{◌≡◌, ◌≤◌, ◌<◌, ◌+◌, ap, sym, subst, ◌∙◌, refl, arith}
+use Rattle.std.proofs.Common.{◌≡◌, ◌+◌, ap, sym, subst, ◌∙◌, refl, arith}
 use Rattle.moo_rows.specs.declared.row.Head.{Head}
-use Rattle.moo_rows.specs.Maps.{Held, with_prop}
+use Rattle.moo_rows.specs.Maps.{Held}
 use Rattle.moo_load.specs.Rows.{AreRead}
 use Rattle.moo_load.proofs.Within.{property_put, counted, IsNext}
 use Rattle.moo_load.proofs.taking.take_property.Goals as goal

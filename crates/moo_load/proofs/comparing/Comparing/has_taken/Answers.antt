@@ -1,5 +1,4 @@
-use Rattle.std.proofs.Common.{◌≡◌, true, take, length, ap, sym, ◌∙◌, arith, rules}
-use Rattle.std.specs.Str.{bytes_eq}
+use Rattle.std.proofs.Common.{◌≡◌, take, length, ap, ◌∙◌, arith, rules}
 use Rattle.std.proofs.lemmas.List.{take_all}
 use Rattle.std.proofs.lemmas.Slice.Eq.{bytes_eq-Decides}
 use Rattle.moo_load.proofs.comparing.Comparing.has_taken.Goals as goal
