@@ -1,0 +1,15 @@
+//! Why a line of a batch can't be read, and why a call is refused, in words for people.
+//!
+//! These words go to standard error. Nothing that is proved rests on them: what a batch is answered is judged elsewhere.
+#![tactic(auto)]
+
+mod calls;
+mod headers;
+mod names;
+mod refusals;
+mod values;
+mod words;
+
+pub use calls::call_reason;
+pub use headers::header_reason;
+pub use refusals::refusal_reason;
