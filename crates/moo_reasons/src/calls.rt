@@ -79,8 +79,10 @@ pub fn call_reason(alloc: Global, line: &[u8], out: &mut Vec<u8>) -> Result<(), 
     if word.is_empty() {
         return put_start_reason(line, out);
     }
-    if word == b"batch" {
-        return out.extend_from_slice(b"`batch` inside a batch: the line `end` before it is missing");
+    if word == b"batch".as_slice() {
+        return out.extend_from_slice(
+            b"`batch` inside a batch: the line `end` before it is missing",
+        );
     }
     if CallName::read(word).is_none() {
         return put_name_reason(word, out);
@@ -89,7 +91,9 @@ pub fn call_reason(alloc: Global, line: &[u8], out: &mut Vec<u8>) -> Result<(), 
         Some(rest) => put_values_reason(alloc, rest, out),
         None => {
             put_shown(word, out)?;
-            out.extend_from_slice(b" is followed by its values in brackets, as in get(#2, \"name\")")
+            out.extend_from_slice(
+                b" is followed by its values in brackets, as in get(#2, \"name\")",
+            )
         }
     }
 }

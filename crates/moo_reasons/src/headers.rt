@@ -9,7 +9,7 @@ const FORM: &[u8] = b"a batch begins with a line `batch as #N`, in small letters
 /// What is wrong after the programmer, where only `at` and a number may come.
 fn put_end_reason(rest: &[u8], out: &mut Vec<u8>) -> Result<(), AllocError> {
     match next_word(rest) {
-        Some((word, _)) if word == b"at" => out.extend_from_slice(
+        Some((word, _)) if word == b"at".as_slice() => out.extend_from_slice(
             b"`at` is followed by one number, at most 9223372036854775807, and nothing more",
         ),
         Some((word, _)) => {
@@ -21,13 +21,11 @@ fn put_end_reason(rest: &[u8], out: &mut Vec<u8>) -> Result<(), AllocError> {
 }
 
 /// What is wrong after `batch as`.
-fn put_programmer_reason(
-    alloc: Global,
-    rest: &[u8],
-    out: &mut Vec<u8>,
-) -> Result<(), AllocError> {
+fn put_programmer_reason(alloc: Global, rest: &[u8], out: &mut Vec<u8>) -> Result<(), AllocError> {
     let Some((word, rest)) = next_word(rest) else {
-        return out.extend_from_slice(b"`batch as` is followed by the programmer, as in `batch as #3`");
+        return out.extend_from_slice(
+            b"`batch as` is followed by the programmer, as in `batch as #3`",
+        );
     };
     if object_of(alloc, word)?.is_some() {
         return put_end_reason(rest, out);
@@ -39,8 +37,10 @@ fn put_programmer_reason(
 /// What is wrong after `batch`.
 fn put_as_reason(alloc: Global, rest: &[u8], out: &mut Vec<u8>) -> Result<(), AllocError> {
     match next_word(rest) {
-        Some((word, rest)) if word == b"as" => put_programmer_reason(alloc, rest, out),
-        _ => out.extend_from_slice(b"`batch` is followed by `as` and the programmer, as in `batch as #3`"),
+        Some((word, rest)) if word == b"as".as_slice() => put_programmer_reason(alloc, rest, out),
+        _ => out.extend_from_slice(
+            b"`batch` is followed by `as` and the programmer, as in `batch as #3`",
+        ),
     }
 }
 
@@ -61,7 +61,7 @@ pub fn header_reason(alloc: Global, line: &[u8], out: &mut Vec<u8>) -> Result<()
         return out.extend_from_slice(b"`end` outside a batch");
     }
     match next_word(line) {
-        Some((word, rest)) if word == b"batch" => put_as_reason(alloc, rest, out),
+        Some((word, rest)) if word == b"batch".as_slice() => put_as_reason(alloc, rest, out),
         _ => put_other_reason(alloc, line, out),
     }
 }

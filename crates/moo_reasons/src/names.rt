@@ -35,7 +35,7 @@ fn distance(word: &[u8], name: &[u8]) -> usize {
 pub(crate) fn nearest_name(word: &[u8]) -> Option<CallName> {
     let mut nearest = None;
     let mut least = MOST_CHANGED.saturating_add(1);
-    for name in CallName::all() {
+    for name in CallName::all().iter() {
         let distance = distance(word, name.spelling());
         if distance < least {
             nearest = Some(*name);

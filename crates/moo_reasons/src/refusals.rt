@@ -31,7 +31,8 @@ fn put_call(alloc: Global, call: &Call, out: &mut Vec<u8>) -> Result<(), AllocEr
         is_first = false;
         put_value(alloc, value, out)?;
     }
-    out.push(b')')
+    out.push(b')')?;
+    Ok(())
 }
 
 /// How a call is written.

@@ -18,7 +18,8 @@ pub(crate) fn put_shown(bytes: &[u8], out: &mut Vec<u8>) -> Result<(), AllocErro
     if MOST_SHOWN < bytes.len() {
         out.extend_from_slice(b"..")?;
     }
-    out.push(b'\'')
+    out.push(b'\'')?;
+    Ok(())
 }
 
 /// Appends a number.
