@@ -70,7 +70,7 @@ fn put_start_reason(line: &[u8], out: &mut Vec<u8>) -> Result<(), AllocError> {
 }
 
 /// Appends why a line is no call of a batch, or one too many. AllocError: memory ran out.
-pub fn call_reason(alloc: Global, line: &[u8], out: &mut Vec<u8>) -> Result<(), AllocError> {
+pub(crate) fn call_reason(alloc: Global, line: &[u8], out: &mut Vec<u8>) -> Result<(), AllocError> {
     if !is_short(line) {
         return out.extend_from_slice(b"a line of over 262144 bytes");
     }

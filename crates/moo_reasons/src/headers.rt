@@ -53,7 +53,11 @@ fn put_other_reason(alloc: Global, line: &[u8], out: &mut Vec<u8>) -> Result<(),
 }
 
 /// Appends why a line is no header of a batch. AllocError: memory ran out.
-pub fn header_reason(alloc: Global, line: &[u8], out: &mut Vec<u8>) -> Result<(), AllocError> {
+pub(crate) fn header_reason(
+    alloc: Global,
+    line: &[u8],
+    out: &mut Vec<u8>,
+) -> Result<(), AllocError> {
     if !is_short(line) {
         return out.extend_from_slice(b"a line of over 262144 bytes");
     }

@@ -6,10 +6,9 @@
 mod calls;
 mod headers;
 mod names;
+mod notes;
 mod refusals;
 mod values;
 mod words;
 
-pub use calls::call_reason;
-pub use headers::header_reason;
-pub use refusals::refusal_reason;
+pub use notes::StandardNotes;

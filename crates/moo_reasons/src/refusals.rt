@@ -166,7 +166,7 @@ fn cause(name: CallName, code: Code) -> &'static str {
 }
 
 /// Appends the call with its values, the error and why it came. AllocError: memory ran out.
-pub fn refusal_reason(
+pub(crate) fn refusal_reason(
     alloc: Global,
     call: &Call,
     code: Code,
