@@ -89,13 +89,6 @@ const ALL: [CallName; 33] = [
 ];
 
 impl CallName {
-    /// Every call.
-    pub fn all() -> &'static [CallName]
-        ensures { result.now ≡ all_names }
-    {
-        &ALL
-    }
-
     /// The name of the call, in lower case.
     pub fn spelling(self) -> &'static [u8]
         ensures { result.now ≡ spelling self }
