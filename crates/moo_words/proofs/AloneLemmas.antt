@@ -7,7 +7,7 @@ use Rattle.clap.specs.Walk.{Row, Text, first_of, one_of}
 use Rattle.clap.specs.Simple.{subcommand_of}
 use Rattle.moo_words.specs.Commands.{moo_app}
 use Rattle.moo_words.specs.declared.task.Task.{Task}
-use Rattle.moo_words.specs.declared.task.Task.TheVariants.{Init, Apply, Ask, Dump, Check, Serve}
+use Rattle.moo_words.specs.declared.task.Task.TheVariants.{Init, Apply, Ask, Dump, Load, Check, Serve}
 use Rattle.moo_words.specs.Tasks.{HasText, HasNumber, IsTask, IsDefault, NamesTask, NamesAlone, Request, request_of}
 
 abbrev text_in : List Row → Text → Text
@@ -24,7 +24,7 @@ abbrev request_in : Text → List Row → Request
 request_in name rows = record {
   command = name;
   file = text_in rows (codes "FILE");
-  batches = if has_batches name then text_in rows (codes "BATCHES") else [];
+  text = if has_batches name then text_in rows (codes "BATCHES") else if bytes_eq name (codes "load") then text_in rows (codes "DUMP") else [];
   port = if bytes_eq name (codes "serve") then number_in rows (codes "PORT") else 0;
   count = if bytes_eq name (codes "serve") then number_in rows (codes "COUNT") else 0;
 }
@@ -38,30 +38,34 @@ number_is rows id n (text, one, value) = sym value ∙ ap (λ o. digits_value 10
 of_matches : (name : Text) (rows : List Row) (task : Task) → IsTask (name, rows) task → request_of task ≡ request_in name rows
 of_matches name rows (Init file) (is, has) =
     subst (λ n. request_of (Init file) ≡ request_in n rows) (sym is)
-    (ap (λ f. record { command = codes "init"; file = f; batches = []; port = 0; count = 0 }) (text_is rows (codes "FILE") file.now has))
+    (ap (λ f. record { command = codes "init"; file = f; text = []; port = 0; count = 0 }) (text_is rows (codes "FILE") file.now has))
 of_matches name rows (Apply file batches) (is, has, texts) =
     subst (λ n. request_of (Apply file batches) ≡ request_in n rows) (sym is)
-    (ap₂ (λ f b. record { command = codes "apply"; file = f; batches = b; port = 0; count = 0 }) (text_is rows (codes "FILE") file.now has) (text_is rows (codes "BATCHES") batches.now texts))
+    (ap₂ (λ f b. record { command = codes "apply"; file = f; text = b; port = 0; count = 0 }) (text_is rows (codes "FILE") file.now has) (text_is rows (codes "BATCHES") batches.now texts))
 of_matches name rows (Ask file batches) (is, has, texts) =
     subst (λ n. request_of (Ask file batches) ≡ request_in n rows) (sym is)
-    (ap₂ (λ f b. record { command = codes "ask"; file = f; batches = b; port = 0; count = 0 }) (text_is rows (codes "FILE") file.now has) (text_is rows (codes "BATCHES") batches.now texts))
+    (ap₂ (λ f b. record { command = codes "ask"; file = f; text = b; port = 0; count = 0 }) (text_is rows (codes "FILE") file.now has) (text_is rows (codes "BATCHES") batches.now texts))
 of_matches name rows (Dump file) (is, has) =
     subst (λ n. request_of (Dump file) ≡ request_in n rows) (sym is)
-    (ap (λ f. record { command = codes "dump"; file = f; batches = []; port = 0; count = 0 }) (text_is rows (codes "FILE") file.now has))
+    (ap (λ f. record { command = codes "dump"; file = f; text = []; port = 0; count = 0 }) (text_is rows (codes "FILE") file.now has))
+of_matches name rows (Load file dump) (is, has, texts) =
+    subst (λ n. request_of (Load file dump) ≡ request_in n rows) (sym is)
+    (ap₂ (λ f b. record { command = codes "load"; file = f; text = b; port = 0; count = 0 }) (text_is rows (codes "FILE") file.now has) (text_is rows (codes "DUMP") dump.now texts))
 of_matches name rows (Check file) (is, has) =
     subst (λ n. request_of (Check file) ≡ request_in n rows) (sym is)
-    (ap (λ f. record { command = codes "check"; file = f; batches = []; port = 0; count = 0 }) (text_is rows (codes "FILE") file.now has))
+    (ap (λ f. record { command = codes "check"; file = f; text = []; port = 0; count = 0 }) (text_is rows (codes "FILE") file.now has))
 of_matches name rows (Serve file port count) (is, has, port_has, least, count_has, most) =
     subst (λ n. request_of (Serve file port count) ≡ request_in n rows) (sym is)
-    (ap (λ f. record { command = codes "serve"; file = f; batches = []; port = port; count = count }) (text_is rows (codes "FILE") file.now has)
-    ∙ ap₂ (λ p c. record { command = codes "serve"; file = text_in rows (codes "FILE"); batches = []; port = p; count = c })
+    (ap (λ f. record { command = codes "serve"; file = f; text = []; port = port; count = count }) (text_is rows (codes "FILE") file.now has)
+    ∙ ap₂ (λ p c. record { command = codes "serve"; file = text_in rows (codes "FILE"); text = []; port = p; count = c })
     (number_is rows (codes "PORT") port port_has) (number_is rows (codes "COUNT") count count_has))
 
-of_default : (task : Task) → IsDefault task → request_of task ≡ record { command = codes "apply"; file = codes ":memory:"; batches = codes "-"; port = 0; count = 0 }
+of_default : (task : Task) → IsDefault task → request_of task ≡ record { command = codes "apply"; file = codes ":memory:"; text = codes "-"; port = 0; count = 0 }
 of_default (Init file) it = absurd it
-of_default (Apply file batches) (is, given) = ap₂ (λ f b. record { command = codes "apply"; file = f; batches = b; port = 0; count = 0 }) is given
+of_default (Apply file batches) (is, given) = ap₂ (λ f b. record { command = codes "apply"; file = f; text = b; port = 0; count = 0 }) is given
 of_default (Ask file batches) it = absurd it
 of_default (Dump file) it = absurd it
+of_default (Load file dump) it = absurd it
 of_default (Check file) it = absurd it
 of_default (Serve file port count) it = absurd it
 

@@ -46,22 +46,22 @@ IsDefault (Load file dump) = ⊥
 IsDefault (Check file) = ⊥
 IsDefault (Serve file port count) = ⊥
 
--- What a task asks for: a command, its file, and its batches, port and count if the command has these.
+-- What a task asks for: a command, its file, and its text (batches or a dump), port and count if the command has these.
 pub record Request : Type 0 where
   pub command : Text
   pub file : Text
-  pub batches : Text
+  pub text : Text
   pub port : ℕ
   pub count : ℕ
 
 abbrev pub request_of : Task → Request
-request_of (Init file) = record { command = codes "init"; file = file.now; batches = []; port = 0; count = 0 }
-request_of (Apply file batches) = record { command = codes "apply"; file = file.now; batches = batches.now; port = 0; count = 0 }
-request_of (Ask file batches) = record { command = codes "ask"; file = file.now; batches = batches.now; port = 0; count = 0 }
-request_of (Dump file) = record { command = codes "dump"; file = file.now; batches = []; port = 0; count = 0 }
-request_of (Load file dump) = record { command = codes "load"; file = file.now; batches = dump.now; port = 0; count = 0 }
-request_of (Check file) = record { command = codes "check"; file = file.now; batches = []; port = 0; count = 0 }
-request_of (Serve file port count) = record { command = codes "serve"; file = file.now; batches = []; port = port; count = count }
+request_of (Init file) = record { command = codes "init"; file = file.now; text = []; port = 0; count = 0 }
+request_of (Apply file batches) = record { command = codes "apply"; file = file.now; text = batches.now; port = 0; count = 0 }
+request_of (Ask file batches) = record { command = codes "ask"; file = file.now; text = batches.now; port = 0; count = 0 }
+request_of (Dump file) = record { command = codes "dump"; file = file.now; text = []; port = 0; count = 0 }
+request_of (Load file dump) = record { command = codes "load"; file = file.now; text = dump.now; port = 0; count = 0 }
+request_of (Check file) = record { command = codes "check"; file = file.now; text = []; port = 0; count = 0 }
+request_of (Serve file port count) = record { command = codes "serve"; file = file.now; text = []; port = port; count = count }
 
 -- what is wrong with the words, by clap's rules for the program: the kinds of error that they give, help and the version among these;
 -- none if they are those of a command
