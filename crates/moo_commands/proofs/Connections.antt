@@ -83,7 +83,7 @@ done_when (Init file) s end Shown Less on texts old new status it = it
 done_when (Apply file batches) s end Shown Less on texts old new status it = it
 done_when (Ask file batches) s end Shown Less on texts old new status it = it
 done_when (Dump file) s end Shown Less on texts old new status it = it
-done_when (Check file) s end Shown Less on texts old new status (e, shown, rest) = (e, on shown, rest)
+done_when (Check file) s end Shown Less on texts old new status (e, shown, written, zero) = (e, on shown, written, zero)
 done_when (Serve file port count) s end Shown Less on texts old new status it = it
 
 -- what is known if less is known of the disk, and nothing of what a check found
