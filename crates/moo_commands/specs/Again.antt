@@ -20,14 +20,16 @@ use Rattle.moo_files.specs.declared.remains.Remains.{Remains}
 use Rattle.moo_files.specs.declared.remains.Remains.TheVariants as remains
 use Rattle.moo_words.specs.declared.task.Task.{Task}
 use Rattle.moo_words.specs.Tasks.{NamesTask, mistakes}
-use Rattle.moo_commands.specs.Run.{Texts, begins_anew, RunsFrom, FailsAtOnce, EndsUsage}
+use Rattle.moo_commands.specs.Run.{Texts, begins_anew, BeginsWith, RunsFrom, FailsAtOnce, EndsUsage}
 use Rattle.moo_commands.specs.Ends.{MatchFile, RunsOver, IsClosedEnd}
 use Rattle.moo_commands.specs.declared.ends.Ends.{Ends}
 use Rattle.moo_commands.specs.declared.ends.Ends.TheVariants as variant
 
--- a task starts from the state that its file holds, or from the opening world
-abbrev pub StartsFrom : Task → Image → State → Type 0
-StartsFrom task image s = ((begins_anew task ≡ false) × HoldsState image s) ⊎ ((begins_anew task ≡ true) × (s ≡ state_of opening_maps))
+-- The task started so: from the state that its file holds, if it takes it up; or from one that it may begin with.
+abbrev pub Started : Task → Image → Texts → (State → Type 0) → Type 0
+Started task image texts From =
+    (begins_anew task ≡ false → (s : State) → HoldsState image s → From s)
+    × (begins_anew task ≡ true → (s : State) × BeginsWith task texts s × From s)
 
 module _ {T D : Type 0} {g : Ghosts D} where
   -- the task ran over its file from s, with what a crash then leaves
@@ -65,7 +67,7 @@ module _ {T D : Type 0} {g : Ghosts D} where
   -- the state that the file held.
   abbrev pub CrashesTo : List (List ℕ) → Image → Ends T D g → Texts → Option (List ℕ) → Option (List ℕ) → ℕ → Image → (State → Type 0) → Type 0
   CrashesTo words image ends texts old new status next Next = IfFile ends
-      (λ conn. HasCleanDisk (file_state conn) → (task : Task) × NamesTask words task × ((s : State) → StartsFrom task image s →
+      (λ conn. HasCleanDisk (file_state conn) → (task : Task) × NamesTask words task × Started task image texts (λ s.
       (run : RanFrom task s conn texts old new status) × (IsLeftBy (file_state conn) next → (t : State) × MayLeave run.end t × HoldsState next t × Next t)))
       (λ remains. IsCleanRemains remains → (s : State) → HoldsState image s → IsLeftAfter image remains next → HoldsState next s × Next s)
 
@@ -87,6 +89,6 @@ module _ {T D : Type 0} {g : Ghosts D} where
   -- the same, if the file was closed before the next run, with a crash or without one
   abbrev pub ClosesTo : List (List ℕ) → Image → Option (Remains T D g) → Texts → Option (List ℕ) → Option (List ℕ) → ℕ → Image → (State → Type 0) → Type 0
   ClosesTo words image closed texts old new status next Next = (ends : Ends T D g) × RunsOver words image ends texts old new status × IsClosedEnd ends closed × IfFile ends
-      (λ conn. IsCleanEnd closed → (task : Task) × NamesTask words task × ((s : State) → StartsFrom task image s →
+      (λ conn. IsCleanEnd closed → (task : Task) × NamesTask words task × Started task image texts (λ s.
       (run : RanFrom task s conn texts old new status) × (IsFoundIn closed next → (t : State) × MayLeave run.end t × HoldsState next t × Next t)))
       (λ remains. IsCleanEnd closed → (s : State) → HoldsState image s → IsFoundAfter image closed next → HoldsState next s × Next s)

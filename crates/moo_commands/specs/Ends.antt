@@ -1,5 +1,5 @@
 -- What a run over a file comes to, by what the file holds.
-use Rattle.std.specs.Prelude.{◌≡◌, ◌<◌, ◌⊎◌, ℕ, true, false, List, Option, Some, None, length, codes, ⊤}
+use Rattle.std.specs.Prelude.{IsTrue, ◌≡◌, ◌<◌, ◌⊎◌, ℕ, true, false, List, Option, Some, None, length, codes, ⊤}
 use Rattle.std.specs.Str.{bytes_eq}
 use Rattle.sqlite_disk.specs.declared.Disk.{Ghosts}
 use Rattle.sqlite_store.specs.declared.store.FileStore.{FileStore}
@@ -26,7 +26,7 @@ use Rattle.moo_files.specs.declared.remains.Remains.TheVariants as remains
 use Rattle.moo_words.specs.declared.task.Task.{Task}
 use Rattle.moo_words.specs.Tasks.{NamesTask, NamesAlone, mistakes}
 use Rattle.moo_commands.specs.Lines.{Reports, store_failure}
-use Rattle.moo_commands.specs.Run.{Texts, file_of, begins_anew, RunsFrom, RunsUnseen, RunsTask, FailsAtOnce, RefusesFile, EndsUsage}
+use Rattle.moo_commands.specs.Run.{Texts, file_of, begins_anew, is_load, BeginsWith, FailsToBegin, RunsFrom, RunsUnseen, RunsTask, FailsAtOnce, RefusesFile, EndsUsage}
 use Rattle.moo_commands.specs.declared.ends.Ends.{Ends}
 use Rattle.moo_commands.specs.declared.ends.Ends.TheVariants as variant
 
@@ -39,10 +39,10 @@ module _ {T D : Type 0} {g : Ghosts D} where
 
   -- A task over the file that held this image, on a disk that returns what was written.
   pub record RunsFile (task : Task) (image : Image) (ends : Ends T D g) (texts : Texts) (old new : Option (List ℕ)) (status : ℕ) : Type 0 where
-    -- a task that begins with a new world runs from the opening world, or none can be made
+    -- a task that begins with a new world runs from that, or it can't be made
     pub anew : begins_anew task ≡ true → MatchFile ends
-        (λ conn. RunsFrom task (state_of opening_maps) texts old new status (HasCleanDisk (file_state conn)) (CrashLeaves (file_state conn)) ⊤)
-        (λ remains. FailsAtOnce old new status)
+        (λ conn. (s : State) × BeginsWith task texts s × RunsFrom task s texts old new status (HasCleanDisk (file_state conn)) (CrashLeaves (file_state conn)) ⊤)
+        (λ remains. FailsToBegin task old new status)
     -- and never over another world
     pub taken : (s : State) → begins_anew task ≡ true → HoldsState image s → MatchFile ends (λ conn. HasCleanDisk (file_state conn) → ⊥) (λ remains. ⊤)
     -- Any other runs from the state that the file holds. Or the store fails or memory runs out, and no damage is told.
@@ -68,10 +68,10 @@ module _ {T D : Type 0} {g : Ghosts D} where
     pub trees : (trees : Trees) → begins_anew task ≡ false → HoldsTrees image trees → MatchFile ends (λ conn. ⊤) (λ remains. IsCleanRemains remains → StillHoldsTrees image remains trees)
     pub spared : (trees : Trees) → begins_anew task ≡ true → HoldsTrees image trees → HasAnyTable trees → MatchFile ends (λ conn. ⊤) (λ remains. IsCleanRemains remains → KeepsSuch (λ found. found ≡ trees) image remains)
     pub unmade : (trees : Trees) → begins_anew task ≡ true → HoldsTrees image trees → MatchFile ends (λ conn. ⊤)
-        (λ remains. IsCleanRemains remains → KeepsSuch (λ found. (found ≡ trees) ⊎ LeavesState found (state_of opening_maps)) image remains)
+        (λ remains. IsCleanRemains remains → KeepsSuch (λ found. (found ≡ trees) ⊎ ((s : State) × BeginsWith task texts s × LeavesState found s)) image remains)
     pub blank : begins_anew task ≡ false → IsNothing image → MatchFile ends (λ conn. ⊤) (λ remains. IsCleanRemains remains → KeepsNothingBut (λ _. ⊥) image remains)
-    -- if no file was opened, the line tells why
-    pub told : MatchFile ends (λ conn. ⊤) (λ remains. (fault : StoreFault) × MayStopAs fault remains × Reports (store_failure fault) old new status)
+    -- if no file was opened, the line tells why, or why a dump shows no world
+    pub told : MatchFile ends (λ conn. ⊤) (λ remains. ((fault : StoreFault) × MayStopAs fault remains × Reports (store_failure fault) old new status) ⊎ (IsTrue (is_load task) × FailsToBegin task old new status))
 
   -- a task on a file runs over it, and one on `:memory:` over none
   pub record EndsWith (task : Task) (image : Image) (ends : Ends T D g) (texts : Texts) (old new : Option (List ℕ)) (status : ℕ) : Type 0 where

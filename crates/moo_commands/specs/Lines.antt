@@ -15,8 +15,12 @@ use Rattle.moo_store.specs.declared.dumping.DumpFault.{DumpFault}
 use Rattle.moo_store.specs.declared.dumping.DumpFault.TheVariants as dump_fault
 use Rattle.moo_http.specs.declared.service.ServiceFault.{ServiceFault}
 use Rattle.moo_http.specs.declared.service.ServiceFault.TheVariants as service_fault
+use Rattle.moo_load.specs.declared.input.ReadFault.{ReadFault}
+use Rattle.moo_load.specs.declared.input.ReadFault.TheVariants as read_fault
+use Rattle.moo_load.specs.declared.fault.LoadFault.{LoadFault}
+use Rattle.moo_load.specs.declared.fault.LoadFault.TheVariants as load_fault
 use Rattle.moo_commands.specs.declared.failure.Failure.{Failure}
-use Rattle.moo_commands.specs.declared.failure.Failure.TheVariants.{Usage, NoFile, Store, Damaged, NewerVersion, NoBatches, Read, Write, TooLong, Port, NoMemory}
+use Rattle.moo_commands.specs.declared.failure.Failure.TheVariants.{Usage, NoFile, Store, Damaged, NewerVersion, NotADump, NoBatches, Read, Write, TooLong, Port, NoMemory}
 
 -- ---- failures
 
@@ -27,6 +31,7 @@ word_of NoFile = codes "moo: store fault\n"
 word_of (Store error) = codes "moo: store fault\n"
 word_of (Damaged kind key) = codes "moo: damaged\n"
 word_of NewerVersion = codes "moo: newer version\n"
+word_of (NotADump line) = codes "moo: not a dump\n"
 word_of NoBatches = codes "moo: read fault\n"
 word_of Read = codes "moo: read fault\n"
 word_of Write = []
@@ -37,12 +42,16 @@ word_of NoMemory = codes "moo: no memory\n"
 abbrev pub damaged_line : Kind → Key → List ℕ
 damaged_line kind key = codes "moo: damaged " ++ (kind_text kind ++ (codes " " ++ (key_text key ++ codes "\n")))
 
+abbrev pub not_a_dump_line : ℕ → List ℕ
+not_a_dump_line line = codes "moo: not a dump, line " ++ (decimal line ++ codes "\n")
+
 abbrev pub status_of : Failure → ℕ
 status_of Usage = 2
 status_of NoFile = 1
 status_of (Store error) = 1
 status_of (Damaged kind key) = 3
 status_of NewerVersion = 3
+status_of (NotADump line) = 3
 status_of NoBatches = 1
 status_of Read = 1
 status_of Write = 1
@@ -79,6 +88,16 @@ service_failure service_fault.Port = Port
 service_failure service_fault.Write = Write
 service_failure service_fault.OutOfMemory = NoMemory
 
+abbrev pub read_failure : ReadFault → Failure
+read_failure read_fault.Read = Read
+read_failure read_fault.TooLong = TooLong
+read_failure read_fault.OutOfMemory = NoMemory
+
+abbrev pub load_failure : LoadFault → Failure
+load_failure (load_fault.NotADump line) = NotADump line
+load_failure (load_fault.Damaged kind key) = Damaged kind key
+load_failure load_fault.OutOfMemory = NoMemory
+
 -- The line is written, and this status answered. Or the writer fails on the way: a front of the line is written, and the status is
 -- that of a failed writer.
 abbrev pub WritesLine : List ℕ → ℕ → Option (List ℕ) → Option (List ℕ) → ℕ → Type 0
@@ -90,12 +109,17 @@ WritesLine line known old new status =
 abbrev pub Reports : Failure → Option (List ℕ) → Option (List ℕ) → ℕ → Type 0
 Reports (Damaged kind key) old new status =
     WritesLine (damaged_line kind key) 3 old new status ⊎ WritesLine (word_of NoMemory) (status_of NoMemory) old new status
+Reports (NotADump line) old new status =
+    WritesLine (not_a_dump_line line) 3 old new status ⊎ WritesLine (word_of NoMemory) (status_of NoMemory) old new status
 Reports failure old new status = WritesLine (word_of failure) (status_of failure) old new status
 
 -- ---- what is done
 
 abbrev pub created_line : List ℕ
 created_line = codes "created\n"
+
+abbrev pub loaded_line : ℕ → ℕ → List ℕ
+loaded_line seq objects = codes "loaded seq " ++ (decimal seq ++ (codes " objects " ++ (decimal objects ++ codes "\n")))
 
 abbrev pub checked_line : ℕ → ℕ → List ℕ
 checked_line seq objects = codes "ok seq " ++ (decimal seq ++ (codes " objects " ++ (decimal objects ++ codes "\n")))

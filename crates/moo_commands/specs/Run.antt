@@ -1,5 +1,5 @@
 -- What a run of the program writes, the status that it ends with, and what a crash then leaves.
-use Rattle.std.specs.Prelude.{◌≡◌, ◌<◌, ◌⊎◌, ◌==◌, ℕ, Bool, true, List, [], take, length, Option, codes, if◌then◌else◌, ⊤, IsTrue, false}
+use Rattle.std.specs.Prelude.{◌≡◌, ◌<◌, ◌⊎◌, ◌==◌, ℕ, Bool, true, List, [], take, length, Option, IfSome, codes, if◌then◌else◌, ⊤, IsTrue, false}
 use Rattle.std.specs.Str.{bytes_eq}
 use Rattle.std.specs.Io.KnownBytes.{Appends}
 use Rattle.clap.specs.Kinds.{Kinds, IsAmong}
@@ -19,7 +19,7 @@ use Rattle.moo_tables.specs.Inside.{Rests}
 use Rattle.moo_cells.specs.Shows.{ShowsRows}
 use Rattle.moo_text.specs.declared.fault.TextFault.{TextFault}
 use Rattle.moo_text.specs.declared.reply.Answer.{Answer}
-use Rattle.moo_dump.specs.Dump.{dump}
+use Rattle.moo_dump.specs.Dump.{dump as dump_of}
 use Rattle.moo_store.specs.declared.fault.StoreFault.{StoreFault}
 use Rattle.moo_store.specs.Stand.{Stand, Works, RunsBatch, AsksBatch}
 use Rattle.moo_store.specs.Turns.{Completes, Halts}
@@ -30,11 +30,11 @@ use Rattle.moo_store.specs.World.{store_of, CrashLeaves}
 use Rattle.moo_words.specs.declared.task.Task.{Task}
 use Rattle.moo_http.specs.Lines.{listening_line}
 use Rattle.moo_http.specs.Connections.{ServesAll}
-use Rattle.moo_words.specs.declared.task.Task.TheVariants.{Init, Apply, Ask, Dump, Check, Serve}
+use Rattle.moo_words.specs.declared.task.Task.TheVariants.{Init, Apply, Ask, Dump, Load, Check, Serve}
 use Rattle.moo_words.specs.Tasks.{NamesTask, NamesAlone, mistakes}
-use Rattle.moo_commands.specs.Lines.{Reports, WritesLine, text_failure, store_failure, created_line, checked_line}
+use Rattle.moo_commands.specs.Lines.{Reports, WritesLine, text_failure, store_failure, created_line, loaded_line, checked_line}
 use Rattle.moo_commands.specs.declared.failure.Failure.{Failure}
-use Rattle.moo_commands.specs.declared.failure.Failure.TheVariants.{Usage, NoFile, Store, Damaged, NewerVersion, NoBatches, Write, Port, NoMemory}
+use Rattle.moo_commands.specs.declared.failure.Failure.TheVariants.{Usage, NoFile, Store, Damaged, NewerVersion, NotADump, NoBatches, Read, TooLong, Write, Port, NoMemory}
 
 -- ---- tasks
 
@@ -44,25 +44,55 @@ file_of (Init file) = file.now
 file_of (Apply file batches) = file.now
 file_of (Ask file batches) = file.now
 file_of (Dump file) = file.now
+file_of (Load file dump) = file.now
 file_of (Check file) = file.now
 file_of (Serve file port count) = file.now
 
--- the task begins with a new world: `init`, and each task on `:memory:`
+-- the task begins with a new world: `init`, `load`, and each task on `:memory:`
 abbrev pub begins_anew : Task → Bool
 begins_anew (Init file) = true
 begins_anew (Apply file batches) = bytes_eq file.now (codes ":memory:")
 begins_anew (Ask file batches) = bytes_eq file.now (codes ":memory:")
 begins_anew (Dump file) = bytes_eq file.now (codes ":memory:")
+begins_anew (Load file dump) = true
 begins_anew (Check file) = bytes_eq file.now (codes ":memory:")
 begins_anew (Serve file port count) = bytes_eq file.now (codes ":memory:")
 
--- the text of each word for batches, if it is known
+-- the world that the task begins with is read from a dump
+abbrev pub is_load : Task → Bool
+is_load (Init file) = false
+is_load (Apply file batches) = false
+is_load (Ask file batches) = false
+is_load (Dump file) = false
+is_load (Load file dump) = true
+is_load (Check file) = false
+is_load (Serve file port count) = false
+
+-- the word for that dump
+abbrev pub dump_word : Task → List ℕ
+dump_word (Init file) = []
+dump_word (Apply file batches) = []
+dump_word (Ask file batches) = []
+dump_word (Dump file) = []
+dump_word (Load file dump) = dump.now
+dump_word (Check file) = []
+dump_word (Serve file port count) = []
+
+-- the text of each word for batches or a dump, if it is known
 abbrev pub Texts : Type 0
 Texts = List ℕ → Option (List ℕ)
 
 -- `-` names the input, and any other word the file of that path
 abbrev pub texts_by : Option (List ℕ) → Texts → Texts
 texts_by input files batches = if bytes_eq batches (codes "-") then input else files batches
+
+-- the dump of this state is the text, byte for byte, if it is known
+abbrev pub IsDumpedAs : Option (List ℕ) → State → Type 0
+IsDumpedAs text s = IfSome text (λ bytes. dump_of s ≡ bytes)
+
+-- The state of the new world that a task begins with: one that is dumped as the text of the dump, or the opening state.
+abbrev pub BeginsWith : Task → Texts → State → Type 0
+BeginsWith task texts s = if is_load task then IsDumpedAs (texts (dump_word task)) s else (s ≡ state_of opening_maps)
 
 -- 1 if an answer is `fault` or `closed`
 abbrev pub lost_status : ℕ → ℕ
@@ -90,7 +120,8 @@ abbrev pub Done : Task → State → Stand → Type 0 → Texts → Option (List
 Done (Init file) s end Shown texts old new status = (end ≡ Works s) × Appends old new created_line × (status ≡ 0)
 Done (Apply file batches) s end Shown texts old new status = RunsText RunsBatch s end (texts batches.now) old new status
 Done (Ask file batches) s end Shown texts old new status = (end ≡ Works s) × RunsText AsksBatch s (Works s) (texts batches.now) old new status
-Done (Dump file) s end Shown texts old new status = (end ≡ Works s) × Appends old new (dump s) × (status ≡ 0)
+Done (Dump file) s end Shown texts old new status = (end ≡ Works s) × Appends old new (dump_of s) × (status ≡ 0)
+Done (Load file dump) s end Shown texts old new status = (end ≡ Works s) × Appends old new (loaded_line s.seq (length (objects_of s.world))) × (status ≡ 0)
 Done (Check file) s end Shown texts old new status =
     (end ≡ Works s) × Shown × Appends old new (checked_line s.seq (length (objects_of s.world))) × (status ≡ 0)
 Done (Serve file port count) s end Shown texts old new status = Serving port count s end old new status
@@ -112,7 +143,8 @@ abbrev pub StopsTask : Task → State → Stand → Failure → Type 0 → Texts
 StopsTask (Init file) s end failure Clean texts old new = (end ≡ Works s) × StopsIn created_line failure old new
 StopsTask (Apply file batches) s end failure Clean texts old new = StopsText RunsBatch s end failure (texts batches.now) old new
 StopsTask (Ask file batches) s end failure Clean texts old new = (end ≡ Works s) × StopsText AsksBatch s (Works s) failure (texts batches.now) old new
-StopsTask (Dump file) s end failure Clean texts old new = (end ≡ Works s) × StopsIn (dump s) failure old new
+StopsTask (Dump file) s end failure Clean texts old new = (end ≡ Works s) × StopsIn (dump_of s) failure old new
+StopsTask (Load file dump) s end failure Clean texts old new = (end ≡ Works s) × StopsIn (loaded_line s.seq (length (objects_of s.world))) failure old new
 StopsTask (Check file) s end failure Clean texts old new =
     (end ≡ Works s)
     × (((fault : StoreFault) × (failure ≡ store_failure fault) × (Clean → IsOfStore fault) × (new ≡ old))
@@ -166,6 +198,27 @@ RefusesFile old new status = (failure : Failure) × MayRefuse failure × Reports
 abbrev pub FailsAtOnce : Option (List ℕ) → Option (List ℕ) → ℕ → Type 0
 FailsAtOnce old new status = (failure : Failure) × IsOpening failure × Reports failure old new status
 
+-- why a dump gives no world: it is missing, can't be read, is too long, isn't a dump, or shows no world; or memory ran out
+abbrev pub IsOfDump : Failure → Type 0
+IsOfDump NoBatches = ⊤
+IsOfDump Read = ⊤
+IsOfDump TooLong = ⊤
+IsOfDump (NotADump line) = ⊤
+IsOfDump (Damaged kind key) = ⊤
+IsOfDump NoMemory = ⊤
+IsOfDump failure = ⊥
+
+-- why a new world can't be made: as any, or the dump gives none
+abbrev pub MayNotBegin : Task → Failure → Type 0
+MayNotBegin task failure = IsOpening failure ⊎ (IsTrue (is_load task) × IsOfDump failure)
+
+abbrev pub FailsToBegin : Task → Option (List ℕ) → Option (List ℕ) → ℕ → Type 0
+FailsToBegin task old new status = (failure : Failure) × MayNotBegin task failure × Reports failure old new status
+
+-- a new world can't be made, or the task runs from the one that it begins with
+abbrev pub RunsNew : Task → Texts → Option (List ℕ) → Option (List ℕ) → ℕ → Type 0
+RunsNew task texts old new status = FailsToBegin task old new status ⊎ ((s : State) × BeginsWith task texts s × RunsUnseen task s texts old new status)
+
 -- a crash leaves nothing that it couldn't leave before, but tables that show this state
 abbrev pub LeavesAsBefore : State → Database → Database → Type 0
 LeavesAsBefore s old new = (trees : Trees) → new.may_leave trees → old.may_leave trees ⊎ LeavesState trees s
@@ -194,11 +247,11 @@ RunsShown task tables texts old new status =
     ((fault : StoreFault) × Says tables fault × Reports (store_failure fault) old new status)
     ⊎ ((rows : Maps) × IsGood rows × ShowsRows tables rows × RunsUnseen task (state_of rows) texts old new status)
 
--- What a task comes to, whatever its file holds. If it begins with a new world, it runs from the opening world, or that world can't be
--- made. Any other runs from the world that was found in its file, or the file is refused. (That it is the world which the file's tables
+-- What a task comes to, whatever its file holds. If it begins with a new world, it runs from that, or it can't be made. Any
+-- other runs from the world that was found in its file, or the file is refused. (That it is the world which the file's tables
 -- show, `RunsFile` says.)
 pub record RunsTask (task : Task) (texts : Texts) (old new : Option (List ℕ)) (status : ℕ) : Type 0 where
-  pub anew : begins_anew task ≡ true → FailsAtOnce old new status ⊎ RunsUnseen task (state_of opening_maps) texts old new status
+  pub anew : begins_anew task ≡ true → RunsNew task texts old new status
   pub opened : begins_anew task ≡ false → RunsOpened task texts old new status
 
 -- the same of the task that the words name; or they have a mistake

@@ -12,12 +12,12 @@ ghost use Rattle.moo_store.specs.Opening.{IsOfStore};
 ghost use Rattle.moo_store.specs.Stand.{Works, RunsBatch, AsksBatch};
 ghost use Rattle.moo_store.specs.Turns.{Halts};
 ghost use Rattle.moo_store.specs.World.{store_of, StandsFor};
-ghost use Rattle.moo_commands.specs.Lines.{text_failure, store_failure, checked_line};
+ghost use Rattle.moo_commands.specs.Lines.{text_failure, store_failure, checked_line, loaded_line};
 ghost use Rattle.moo_commands.specs.Run.{texts_by, lost_status, RunsText, StopsText, StopsIn, Serving, StopsServing, ShowsTables, Done, StopsTask, EndsTask};
 
 use crate::batches::BatchFiles;
 use crate::failure::Failure;
-use crate::output::{checked_text, explain_lost};
+use crate::output::{checked_text, loaded_text, explain_lost};
 use moo_dump::put_all;
 use moo_http::serve_port;
 use moo_store::{Tally, World, apply_text, ask_text};
@@ -155,6 +155,23 @@ fn check<W: Write, S: Alter + Drop>(
     }
 }
 
+/// Says how much was loaded.
+fn show_loaded<W: Write, S: Alter + Drop>(
+    alloc: Global,
+    world: &World<S>,
+    output: &mut W,
+) -> Result<u8, Failure>
+    ensures done { (known : Bool) (s : State) → StandsFor S.Store known world.now s → IfOk result (λ status. Appends (W.contents output.old) (W.contents output.new) (loaded_line s.seq (length (objects_of s.world))) × (status ≡ 0)) }
+    ensures stops { (known : Bool) (s : State) → StandsFor S.Store known world.now s → IfErr result (λ failure. StopsIn (loaded_line s.seq (length (objects_of s.world))) failure (W.contents output.old) (W.contents output.new)) }
+{
+    let seq = world.seq()?;
+    let objects = world.object_count()?;
+    match loaded_text(alloc, seq, objects) {
+        Ok(line) => put_text(line.as_str(), output),
+        Err(_) => Err(Failure::NoMemory),
+    }
+}
+
 /// Serves so many connections on a port of 127.0.0.1.
 fn serve<W: Write, S: Alter + Drop>(
     rt: &HostRuntime,
@@ -192,6 +209,7 @@ pub(crate) fn do_task<B: BatchFiles, R: Read + Drop, W: Write, S: Alter + Drop>(
         Task::Apply { batches, .. } => apply(rt, world, batches, files, input, output),
         Task::Ask { batches, .. } => ask(rt, world, batches, files, input, output),
         Task::Dump { .. } => show(world, output),
+        Task::Load { .. } => show_loaded(rt.alloc(), world, output),
         Task::Check { .. } => check(rt.alloc(), world, output),
         Task::Serve { port, count, .. } => serve(rt, world, port, count, output),
     }

@@ -1,10 +1,11 @@
 //! How a run of the program fails.
 
 ghost use Rattle.std.specs.Prelude.{◌≡◌};
-ghost use Rattle.moo_commands.specs.Lines.{word_of, status_of, text_failure, store_failure, dump_failure, service_failure};
+ghost use Rattle.moo_commands.specs.Lines.{word_of, status_of, text_failure, store_failure, dump_failure, service_failure, read_failure, load_failure};
 
 use moo_damage::{Key, Kind};
 use moo_http::ServiceFault;
+use moo_load::{LoadFault, ReadFault};
 use moo_store::{DumpFault, StoreFault};
 use moo_text::TextFault;
 use sqlite::{Error, ErrorCode};
@@ -22,6 +23,8 @@ pub enum Failure {
     Damaged(Kind, Key),
     /// The tables are those of a later version.
     NewerVersion,
+    /// This line of a text, from 1 on, isn't as a dump has it.
+    NotADump(u64),
     /// There is no such file of batches, or it can't be opened.
     NoBatches,
     /// The reader failed.
@@ -46,6 +49,7 @@ impl Failure {
             Failure::NoFile | Failure::Store(_) => "moo: store fault\n",
             Failure::Damaged(_, _) => "moo: damaged\n",
             Failure::NewerVersion => "moo: newer version\n",
+            Failure::NotADump(_) => "moo: not a dump\n",
             Failure::NoBatches | Failure::Read => "moo: read fault\n",
             Failure::Write => "",
             Failure::TooLong => "moo: input too long\n",
@@ -68,7 +72,7 @@ impl Failure {
             | Failure::TooLong
             | Failure::Port => 1,
             Failure::Usage => 2,
-            Failure::Damaged(_, _) | Failure::NewerVersion => 3,
+            Failure::Damaged(_, _) | Failure::NewerVersion | Failure::NotADump(_) => 3,
             Failure::NoMemory => 4,
         }
     }
@@ -121,6 +125,30 @@ impl From<ServiceFault> for Failure {
             ServiceFault::Port => Failure::Port,
             ServiceFault::Write => Failure::Write,
             ServiceFault::OutOfMemory => Failure::NoMemory,
+        }
+    }
+}
+
+impl From<ReadFault> for Failure {
+    ghost from_gives = { λ fault failure. failure ≡ read_failure fault };
+
+    fn from(fault: ReadFault) -> Failure {
+        match fault {
+            ReadFault::Read => Failure::Read,
+            ReadFault::TooLong => Failure::TooLong,
+            ReadFault::OutOfMemory => Failure::NoMemory,
+        }
+    }
+}
+
+impl From<LoadFault> for Failure {
+    ghost from_gives = { λ fault failure. failure ≡ load_failure fault };
+
+    fn from(fault: LoadFault) -> Failure {
+        match fault {
+            LoadFault::NotADump(line) => Failure::NotADump(line),
+            LoadFault::Damaged(kind, key) => Failure::Damaged(kind, key),
+            LoadFault::OutOfMemory => Failure::NoMemory,
         }
     }
 }

@@ -43,6 +43,7 @@ fn file_of<'a>(task: Task<'a>) -> &'a str
         | Task::Apply { file, .. }
         | Task::Ask { file, .. }
         | Task::Dump { file }
+        | Task::Load { file, .. }
         | Task::Check { file }
         | Task::Serve { file, .. } => file,
     }

@@ -7,6 +7,7 @@ mod commands;
 mod ends;
 mod failure;
 mod files;
+mod loading;
 mod output;
 mod over;
 mod run;

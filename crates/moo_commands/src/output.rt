@@ -1,7 +1,7 @@
 //! What is written of a failure, and the lines with numbers.
 
-ghost use Rattle.std.specs.Prelude.{◌≡◌, IfOk};
-ghost use Rattle.moo_commands.specs.Lines.{WritesLine, Reports, checked_line, damaged_line};
+ghost use Rattle.std.specs.Prelude.{MatchResult, ◌≡◌, IfOk};
+ghost use Rattle.moo_commands.specs.Lines.{WritesLine, word_of, status_of, Reports, checked_line, damaged_line, loaded_line, not_a_dump_line};
 
 use crate::failure::Failure;
 use moo_damage::{Key, Kind};
@@ -23,6 +23,20 @@ fn damaged_text(alloc: Global, kind: Kind, key: Key) -> Result<String, AllocErro
     ensures { IfOk result (λ text. text.bytes.items ≡ damaged_line kind key) }
 {
     format!(in alloc; "moo: damaged {kind} {key}\n")
+}
+
+/// The line of a load.
+pub(crate) fn loaded_text(alloc: Global, seq: u64, objects: u64) -> Result<String, AllocError>
+    ensures { IfOk result (λ text. text.bytes.items ≡ loaded_line seq objects) }
+{
+    format!(in alloc; "loaded seq {seq} objects {objects}\n")
+}
+
+/// The line of a text that isn't a dump.
+fn not_a_dump_text(alloc: Global, line: u64) -> Result<String, AllocError>
+    ensures { IfOk result (λ text. text.bytes.items ≡ not_a_dump_line line) }
+{
+    format!(in alloc; "moo: not a dump, line {line}\n")
 }
 
 /// Writes a line, and answers the status; or that of a writer that fails.
@@ -82,17 +96,31 @@ pub(crate) fn explain_lost(rt: &HostRuntime, tally: Tally) {
     }
 }
 
+/// Writes a line that was made, or that there was no memory to make it.
+fn put_made_line<W: Write>(line: Result<String, AllocError>, status: u8, output: &mut W) -> u8
+    ensures { MatchResult line
+        (λ text. WritesLine text.bytes.items status (W.contents output.old) (W.contents output.new) result)
+        (λ _. WritesLine (word_of Failure.NoMemory) (status_of Failure.NoMemory) (W.contents output.old) (W.contents output.new) result) }
+{
+    match line {
+        Ok(line) => put_line(line.as_str(), status, output),
+        Err(_) => put_line(Failure::NoMemory.word(), Failure::NoMemory.status(), output),
+    }
+}
+
 /// Writes the line of a failure, and answers its status. If the store, the batches or the port failed, the cause goes to standard
 /// error.
 pub fn report<W: Write>(rt: &HostRuntime, failure: Failure, output: &mut W) -> u8
     ensures { Reports failure (W.contents output.old) (W.contents output.new) result }
 {
     explain(rt, failure);
-    let Failure::Damaged(kind, key) = failure else {
-        return put_line(failure.word(), failure.status(), output);
-    };
-    match damaged_text(rt.alloc(), kind, key) {
-        Ok(line) => put_line(line.as_str(), failure.status(), output),
-        Err(_) => put_line(Failure::NoMemory.word(), Failure::NoMemory.status(), output),
+    match failure {
+        Failure::Damaged(kind, key) => {
+            put_made_line(damaged_text(rt.alloc(), kind, key), failure.status(), output)
+        }
+        Failure::NotADump(line) => {
+            put_made_line(not_a_dump_text(rt.alloc(), line), failure.status(), output)
+        }
+        _ => put_line(failure.word(), failure.status(), output),
     }
 }

@@ -10,23 +10,27 @@ ghost use Rattle.moo_tables.specs.Inside.{Rests};
 ghost use Rattle.moo_store.specs.States.{ShowsState};
 ghost use Rattle.moo_store.specs.World.{store_of, CrashLeaves, StandsFor};
 ghost use Rattle.moo_commands.specs.Lines.{Reports};
-ghost use Rattle.moo_commands.specs.Run.{begins_anew, texts_by, ShowsTables, RunsFrom, RunsOpened, RunsShown, FailsAtOnce, LeavesAsBefore};
+ghost use Rattle.moo_commands.specs.Run.{begins_anew, is_load, dump_word, BeginsWith, FailsToBegin, texts_by, ShowsTables, RunsFrom, RunsOpened, RunsShown, FailsAtOnce, LeavesAsBefore};
 
 use crate::batches::BatchFiles;
 use crate::commands::do_task;
 use crate::failure::Failure;
+use crate::loading::{dump_word, read_world};
 use crate::output::report;
-use moo_store::{World, adopt, create_in};
+use moo_store::{World, adopt, create_in, load_in};
 use moo_words::Task;
 use sqlite::{Alter, Connection};
 use std::io::{Read, Write};
 
-/// Whether a task begins with a new world: `init` does, and each task on `:memory:`.
+/// Nothing is left to be read once a dump was.
+const NO_INPUT: &[u8] = &[];
+
+/// Whether a task begins with a new world: `init` and `load` do, and each task on `:memory:`.
 pub(crate) fn begins_anew(task: Task<'_>) -> bool
     ensures { result ≡ begins_anew task.entry }
 {
     match task {
-        Task::Init { .. } => true,
+        Task::Init { .. } | Task::Load { .. } => true,
         Task::Apply { file, .. }
         | Task::Ask { file, .. }
         | Task::Dump { file }
@@ -90,6 +94,39 @@ fn run_anew<B: BatchFiles, R: Read + Drop, W: Write, S: Alter + Drop>(
     }
 }
 
+/// Makes the world of a dump in a connection that has no tables, and does what the task says over it.
+fn run_loaded<B: BatchFiles, R: Read + Drop, W: Write, S: Alter + Drop>(
+    rt: &HostRuntime,
+    conn: Connection<S>,
+    dump: &str,
+    task: Task<'_>,
+    files: &B,
+    input: R,
+    output: &mut W,
+    status: &mut u8,
+) -> Connection<S>
+    requires outside { conn.in_transaction ≡ false }
+    requires load { is_load task.entry ≡ true }
+    requires word { dump_word task.entry ≡ dump.now }
+    ensures { FailsToBegin task.entry (W.contents output.old) (W.contents output.new) status.new
+        ⊎ ((s : State) × BeginsWith task.entry (texts_by (R.remaining input) (B.text files.now)) s × RunsFrom task.entry s (texts_by (R.remaining input) (B.text files.now)) (W.contents output.old) (W.contents output.new) status.new (HasCleanDisk (state S.Store result)) (CrashLeaves (state S.Store result)) ⊤) }
+{
+    let rows = match read_world(rt, dump, files, input) {
+        Ok(rows) => rows,
+        Err(failure) => {
+            *status = report(rt, failure, output);
+            return conn;
+        }
+    };
+    match load_in(rt.alloc(), conn, rows) {
+        Ok(world) => run_in(rt, world, task, files, NO_INPUT, output, status),
+        Err((fault, conn)) => {
+            *status = report(rt, Failure::from(fault), output);
+            conn
+        }
+    }
+}
+
 /// Opens the world that the tables of a connection show, and does what a task says over it.
 fn run_opened<B: BatchFiles, R: Read + Drop, W: Write, S: Alter + Drop>(
     rt: &HostRuntime,
@@ -131,9 +168,9 @@ pub fn run_over<B: BatchFiles, R: Read + Drop, W: Write, S: Alter + Drop>(
     status: &mut u8,
 ) -> Connection<S>
     requires outside { conn.in_transaction ≡ false }
-    // A task that begins with a new world runs from the opening world.
-    ensures anew { begins_anew task.entry ≡ true → FailsAtOnce (W.contents output.old) (W.contents output.new) status.new
-        ⊎ RunsFrom task.entry (state_of opening_maps) (texts_by (R.remaining input) (B.text files.now)) (W.contents output.old) (W.contents output.new) status.new (HasCleanDisk (state S.Store result)) (CrashLeaves (state S.Store result)) ⊤ }
+    // A task that begins with a new world runs from that.
+    ensures anew { begins_anew task.entry ≡ true → FailsToBegin task.entry (W.contents output.old) (W.contents output.new) status.new
+        ⊎ ((s : State) × BeginsWith task.entry (texts_by (R.remaining input) (B.text files.now)) s × RunsFrom task.entry s (texts_by (R.remaining input) (B.text files.now)) (W.contents output.old) (W.contents output.new) status.new (HasCleanDisk (state S.Store result)) (CrashLeaves (state S.Store result)) ⊤) }
     // Any other runs from the state that the tables of the connection show, of either version, on a disk that returns what was written.
     ensures kept { (s : State) → begins_anew task.entry ≡ false → ShowsState (state S.Store conn) s → HasCleanDisk (state S.Store result) →
         (FailsAtOnce (W.contents output.old) (W.contents output.new) status.new × LeavesAsBefore s (state S.Store conn) (state S.Store result))
@@ -144,7 +181,9 @@ pub fn run_over<B: BatchFiles, R: Read + Drop, W: Write, S: Alter + Drop>(
     // Whatever they show, it is refused, or the task runs from a well formed world.
     ensures opened { begins_anew task.entry ≡ false → RunsOpened task.entry (texts_by (R.remaining input) (B.text files.now)) (W.contents output.old) (W.contents output.new) status.new }
 {
-    if begins_anew(task) {
+    if let Some(dump) = dump_word(task) {
+        run_loaded(rt, conn, dump, task, files, input, output, status)
+    } else if begins_anew(task) {
         run_anew(rt, conn, task, files, input, output, status)
     } else {
         run_opened(rt, conn, task, files, input, output, status)

@@ -25,7 +25,7 @@ use sqlite::{Alter, Connection, Error, ErrorCode};
 use std::alloc::Global;
 
 /// The number of objects. Takes no memory.
-fn object_count<R: Rows>(rows: &R) -> u64
+pub(crate) fn object_count<R: Rows>(rows: &R) -> u64
     requires { IsGood (R.held rows.now).maps }
     ensures { result ≡ length (objects_of (world_of (R.held rows.now).maps)) }
 {

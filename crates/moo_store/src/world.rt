@@ -1,5 +1,6 @@
 //! A World: the rows in memory, over the tables of a store.
 
+use crate::checking::object_count;
 use crate::committing::commit_cells;
 use crate::fault::StoreFault;
 use crate::printing::print_changes;
@@ -47,6 +48,7 @@ impl<S: Alter + Drop> World<S> {
     ghost use Rattle.moo_rows.specs.Maps.{Maps};
     ghost use Rattle.moo_world.specs.Rows.{IsGood};
     ghost use Rattle.moo_world.specs.Judge.{state_of, judge as verdict, after};
+    ghost use Rattle.moo_world.specs.ObjectLists.{objects_of};
     ghost use Rattle.moo_draft.specs.Changes.{AreChanges};
     ghost use Rattle.moo_store.specs.Printed.{Prints};
     ghost use Rattle.moo_cells.specs.Shows.{ShowsRows};
@@ -243,6 +245,17 @@ impl<S: Alter + Drop> World<S> {
             return Err(StoreFault::Closed);
         }
         Ok(self.rows.head().seq)
+    }
+
+    /// The number of objects. Takes no memory. The only fault is Closed.
+    pub fn object_count(&self) -> Result<u64, StoreFault>
+        ensures count { (known : Bool) (s : _) → StandsFor S.Store known self.now s → result ≡ Ok (length (objects_of s.world)) }
+        ensures closed { IsTrue self.now.failed → IsErrOf result StoreFault.Closed }
+    {
+        if self.failed {
+            return Err(StoreFault::Closed);
+        }
+        Ok(object_count(&self.rows))
     }
 
     /// The connection, with its tables.

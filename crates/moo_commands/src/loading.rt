@@ -1,0 +1,62 @@
+//! The world of a dump.
+
+ghost use Rattle.std.specs.Prelude.{◌≡◌, ◌<◌, ◌^◌, true, false, IfOk, IfErr, MatchOption};
+ghost use Rattle.moo_world.specs.Rows.{IsGood};
+ghost use Rattle.moo_world.specs.Judge.{state_of};
+ghost use Rattle.moo_commands.specs.Run.{IsDumpedAs, IsOfDump, is_load, dump_word, texts_by};
+
+use crate::batches::BatchFiles;
+use crate::failure::Failure;
+use moo_flat::Flat;
+use moo_load::{read_dump, read_text};
+use moo_words::Task;
+use std::alloc::Global;
+use std::io::Read;
+
+/// The word for the dump of a task, if it begins with the world of one.
+pub(crate) fn dump_word<'a>(task: Task<'a>) -> Option<&'a str>
+    ensures { MatchOption result (is_load task.entry ≡ false) (λ dump. (is_load task.entry ≡ true) × (dump_word task.entry ≡ dump.now)) }
+{
+    match task {
+        Task::Load { dump, .. } => Some(dump),
+        Task::Init { .. }
+        | Task::Apply { .. }
+        | Task::Ask { .. }
+        | Task::Dump { .. }
+        | Task::Check { .. }
+        | Task::Serve { .. } => None,
+    }
+}
+
+/// The rows of the world that a text is the dump of.
+fn rows_of<R: Read>(alloc: Global, mut text: R) -> Result<Flat, Failure>
+    ensures good { IfOk result (λ rows. IsGood rows.maps) }
+    ensures limit { IfOk result (λ rows. rows.maps.head.seq < 2 ^ 63) }
+    ensures dumped { IfOk result (λ rows. IsDumpedAs (R.remaining text) (state_of rows.maps)) }
+    ensures failure { IfErr result IsOfDump }
+{
+    let bytes = read_text(alloc, &mut text)?;
+    let rows = read_dump(alloc, &bytes)?;
+    Ok(rows)
+}
+
+/// The rows of the world that a file is the dump of, or the input for `-`.
+pub(crate) fn read_world<B: BatchFiles, R: Read + Drop>(
+    rt: &HostRuntime,
+    dump: &str,
+    files: &B,
+    input: R,
+) -> Result<Flat, Failure>
+    ensures good { IfOk result (λ rows. IsGood rows.maps) }
+    ensures limit { IfOk result (λ rows. rows.maps.head.seq < 2 ^ 63) }
+    ensures dumped { IfOk result (λ rows. IsDumpedAs (texts_by (R.remaining input) (B.text files.now) dump.now) (state_of rows.maps)) }
+    ensures failure { IfErr result IsOfDump }
+{
+    if dump == "-" {
+        return rows_of(rt.alloc(), input);
+    }
+    match files.open(rt, dump) {
+        Ok(text) => rows_of(rt.alloc(), text),
+        Err(_) => Err(Failure::NoBatches),
+    }
+}
