@@ -3,12 +3,14 @@
 
 mod again;
 mod closing;
+mod loading;
 mod making;
 mod opening;
 mod remains;
 
 pub use again::open_again;
 pub use closing::close_connection;
+pub use loading::load_from;
 pub use making::{create_at, create_from};
 pub use opening::{open_at, open_from};
 pub use remains::{NotOpened, Remains};

@@ -2,7 +2,8 @@
 
 ghost use Rattle.std.specs.Prelude.{◌≡◌, ◌≢◌, ◌⊎◌, ◌<◌, ◌^◌, IfOk, IfErr, IsErrAnd, false, true};
 ghost use Rattle.sqlite.specs.State.{HasCleanDisk, Survives};
-ghost use Rattle.sqlite.specs.Files.{over_files, file_state};
+ghost use Rattle.sqlite.specs.Tree.{Trees};
+ghost use Rattle.sqlite.specs.Files.{over_files, file_state, IsNothing};
 ghost use Rattle.sqlite.specs.WalFiles.{image_at};
 ghost use Rattle.moo_world.specs.Judge.{State, state_of};
 ghost use Rattle.moo_world.specs.Rows.{IsGood};
@@ -10,12 +11,11 @@ ghost use Rattle.moo_tables.specs.Tables.{no_schema};
 ghost use Rattle.moo_store.specs.States.{LeavesState};
 ghost use Rattle.moo_store.specs.Opening.{IsOfStore};
 ghost use Rattle.moo_store.specs.World.{store_of, StandsFor, Left};
-ghost use Rattle.moo_files.specs.Contents.{HoldsState};
-ghost use Rattle.moo_files.specs.Remains.{IsCleanRemains, StillHolds};
+ghost use Rattle.moo_files.specs.Contents.{HoldsTrees, HoldsState, HasAnyTable};
+ghost use Rattle.moo_files.specs.Remains.{IsCleanRemains, MayStopAs, KeepsSuch, StillHolds, KeepsNothingBut};
 
 use crate::making::leaves_its_state;
-use crate::opening::open_connection;
-use crate::remains::Remains;
+use crate::remains::{Remains, open_connection};
 use moo_flat::Flat;
 use moo_store::{StoreFault, World, load_in};
 use sqlite::{Connection, Error, ErrorCode, FileFrom, FileStore, Start};
@@ -52,14 +52,21 @@ pub fn load_from<T: Start>(
     path: &str,
     start: T,
     rows: Flat,
-) -> Result<World<FileStore<FileFrom<T>>>, (StoreFault, Remains<FileFrom<T>>)>
+) -> Result<World<FileStore<FileFrom<T>>>, (StoreFault, Remains<T, FileFrom<T>>)>
     requires good { IsGood rows.maps }
     requires limit { rows.maps.head.seq < 2 ^ 63 }
     ensures stands { IfOk result (λ world. StandsFor over_files true world (state_of rows.maps)) }
     // Files that hold a world are no place for another.
     ensures taken { (s : State) → HoldsState (image_at T.Start) s → IfOk result (λ world. HasCleanDisk (store_of over_files world) → ⊥) }
     ensures fault { IfErr result (λ e. IsOfStore e.0) }
-    // After a refusal they still hold it, and so does what a crash leaves.
+    // After a refusal files that held any table hold the same database, and so does what a crash leaves. If they held no table, or
+    // nothing, a crash leaves nothing but the world of these rows.
+    ensures kept { (trees : Trees) → HoldsTrees (image_at T.Start) trees → HasAnyTable trees → IfErr result (λ e. IsCleanRemains e.1 → KeepsSuch (λ found. found ≡ trees) (image_at T.Start) e.1) }
+    ensures trees { (trees : Trees) → HoldsTrees (image_at T.Start) trees → IfErr result (λ e. IsCleanRemains e.1 → KeepsSuch (λ found. (found ≡ trees) ⊎ LeavesState found (state_of rows.maps)) (image_at T.Start) e.1) }
+    ensures blank { IsNothing (image_at T.Start) → IfErr result (λ e. IsCleanRemains e.1 → KeepsNothingBut (λ found. LeavesState found (state_of rows.maps)) (image_at T.Start) e.1) }
+    // A file that wasn't opened is refused for one of few reasons.
+    ensures stopped { IfErr result (λ e. MayStopAs e.0 e.1) }
+    // So a state that they held is still there.
     ensures refused { (s : State) → HoldsState (image_at T.Start) s → IfErr result (λ e. IsCleanRemains e.1 → StillHolds (image_at T.Start) e.1 s) }
     // A crash of a new World leaves it as it was made.
     ensures crash { IfOk result (λ world. HasCleanDisk (store_of over_files world) → Left (store_of over_files world) (state_of rows.maps)) }

@@ -42,7 +42,7 @@ shows_nothing = record {
 pub has_no_tables : (db : Content) → db.schema ≡ no_schema → HasNoTables db
 has_no_tables db e = record { schema_is = e; empty = tt }
 
-changed_from_none : {K X : Type 0} (cmp : K → K → Ordering) (m : FinMap cmp X) → IsChanges cmp (get (empty {cmp = cmp})) (get m) (all_of m)
+changed_from_none : {K X : Type 0} (cmp : K → K → Ordering) (m : FinMap cmp X) → IsChanges cmp (get (let none : FinMap cmp X = empty in none)) (get m) (all_of m)
 changed_from_none cmp m = subst (λ base. IsChanges cmp base (get m) (all_of m)) (λ i k. sym (get-empty cmp k) i) (all_changed cmp m)
 
 -- all rows are what changed from no rows

@@ -6,6 +6,9 @@ use Rattle.moo_store.specs.States.{LeavesState}
 use Rattle.moo_store.specs.World.{store_of, StandsFor}
 use Rattle.moo_store.proofs.creating.create_in.Goals as goal
 
+pub load_in-requires-clause-good : goal.load_in-requires-clause-good
+load_in-requires-clause-good g c = c.good_opening.ensures c.in-Ok.rows.maps c.in-Ok.ensures
+
 pub returns-clause-stands : goal.returns-clause-stands
 returns-clause-stands g c = subst (λ m. IfOk c.load_in.result (λ world. StandsFor g.S.Store true world (state_of m))) c.in-Ok.ensures c.load_in.ensures.stands
 

@@ -26,14 +26,14 @@ returns-in-Ok-create_tables-clause-crash g c =
     subst (λ conn. Survives (state g.S.Store c.args.conn) (state g.S.Store conn) (λ trees. LeavesState trees (state_of c.args.rows.maps))) (sym c.over.ensures.connection)
     (survives_all (state g.S.Store c.args.conn) (state g.S.Store c.in-Ok-create_tables.connection) c.in-Ok.cells c.args.rows.maps c.in-Ok.ensures c.requires.good (c.in-Ok-create_tables.ensures.crash (λ clean. none)))
 
-pub returns-clause-undone : goal.returns-clause-undone
-returns-clause-undone g c =
+pub returns-in-Err-clause-undone : goal.returns-in-Err-clause-undone
+returns-in-Err-clause-undone g c =
     let new : IsTrue c.is_new.result = search rules in
     let none = has_no_tables (state g.S.Store c.args.conn).now (c.is_new.ensures.0 new) in
-    inr (λ clean opened. c.in-Err-create_tables.ensures.undone clean none opened)
+    inr (λ clean opened. c.in-Err.ensures.undone clean none opened)
 
-pub returns-clause-crash_refused : goal.returns-clause-crash_refused
-returns-clause-crash_refused g c =
+pub returns-in-Err-clause-crash_refused : goal.returns-in-Err-clause-crash_refused
+returns-in-Err-clause-crash_refused g c =
     let new : IsTrue c.is_new.result = search rules in
     let none = has_no_tables (state g.S.Store c.args.conn).now (c.is_new.ensures.0 new) in
-    inr (survives_all (state g.S.Store c.args.conn) (state g.S.Store c.in-Err-create_tables.conn) c.in-Ok.cells c.args.rows.maps c.in-Ok.ensures c.requires.good (c.in-Err-create_tables.ensures.crash_refused (λ clean. none)))
+    inr (survives_all (state g.S.Store c.args.conn) (state g.S.Store c.in-Err.conn) c.in-Ok.cells c.args.rows.maps c.in-Ok.ensures c.requires.good (c.in-Err.ensures.crash_refused (λ clean. none)))

@@ -1,9 +1,12 @@
-use Rattle.std.proofs.Common.{Some, sym, subst}
+use Rattle.std.proofs.Common.{◌≡◌, Some, None, rules, ap, sym, subst}
 use Rattle.moo_store.proofs.AllRows.{ArePrinted, none_printed, one_printed, all_printed}
 use Rattle.moo_store.proofs.printing.print_left.Goals as goal
 
 pub loop-key-init : goal.loop-key-init
-loop-key-init g c = λ rest gives. subst (λ cells. ArePrinted g.V.Print.prints cells (rest c.args.left) (rest c.args.left)) (sym c.new-cells.ensures.items) (none_printed g.V.Print.prints (rest c.args.left) (rest c.args.left) refl)
+loop-key-init g c = λ rest gives.
+    let same : c.into_iter-key-iterator.result ≡ c.args.left = search rules in
+    subst (λ cells. ArePrinted g.V.Print.prints cells (rest c.into_iter-key-iterator.result) (rest c.args.left)) (sym c.new-cells.ensures.items)
+    (none_printed g.V.Print.prints (rest c.into_iter-key-iterator.result) (rest c.args.left) (ap rest same))
 
 pub loop-key-preserved : goal.loop-key-preserved
 loop-key-preserved g c = λ rest gives.
