@@ -17,7 +17,7 @@ ghost use Rattle.moo_commands.specs.Run.{texts_by, lost_status, RunsText, StopsT
 
 use crate::batches::BatchFiles;
 use crate::failure::Failure;
-use crate::output::{checked_text, loaded_text, explain_lost};
+use crate::output::{checked_text, explain_lost, loaded_text};
 use moo_dump::put_all;
 use moo_http::serve_port;
 use moo_store::{Tally, World, apply_text, ask_text};

@@ -16,15 +16,16 @@ ghost use Rattle.moo_store.specs.World.{store_of, CrashLeaves, StandsFor};
 ghost use Rattle.moo_files.specs.Contents.{HoldsTrees, HoldsTables, HoldsState, HasOtherTables, HasAnyTable};
 ghost use Rattle.moo_files.specs.Remains.{IsCleanRemains, MayStopAs, KeepsSuch, KeepsNothingBut, StillHolds, StillHoldsTrees};
 ghost use Rattle.moo_commands.specs.Lines.{Tells, store_failure};
-ghost use Rattle.moo_commands.specs.Run.{begins_anew, file_of, texts_by, RunsFrom, RunsTask, ShowsTables};
+ghost use Rattle.moo_commands.specs.Run.{begins_anew, file_of, is_load, dump_word, texts_by, RunsFrom, RunsTask, ShowsTables};
 ghost use Rattle.moo_commands.specs.Ends.{RunsFile, EndsWith};
 
 use crate::batches::BatchFiles;
 use crate::ends::Ends;
 use crate::failure::Failure;
+use crate::loading::{dump_word, read_world};
 use crate::output::report;
-use crate::over::{begins_anew, run_in, run_over};
-use moo_files::{Remains, create_from, open_from};
+use crate::over::{NO_INPUT, begins_anew, run_in, run_over};
+use moo_files::{Remains, create_from, load_from, open_from};
 use moo_store::{StoreFault, World};
 use moo_words::Task;
 use sqlite::{Connection, Error, ErrorCode, FileFrom, FileStore, Start};
@@ -115,6 +116,61 @@ fn world_of<T: Start>(
     }
 }
 
+/// Makes the world of a dump in a file, does what the task says over it, and hands back what is left of the file.
+fn run_loaded<T: Start, B: BatchFiles, R: Read + Drop, W: Write>(
+    rt: &HostRuntime,
+    file: &str,
+    start: T,
+    dump: &str,
+    task: Task<'_>,
+    files: &B,
+    input: R,
+    output: &mut W,
+    status: &mut u8,
+) -> Ends<T, FileFrom<T>>
+    requires load { is_load task.entry ≡ true }
+    requires word { dump_word task.entry ≡ dump.now }
+    ensures { RunsFile task.entry (image_at T.Start) result (texts_by (R.remaining input) (B.text files.now)) (W.contents output.old) (W.contents output.new) status.new }
+{
+    let rows = match read_world(rt, dump, files, input) {
+        Ok(rows) => rows,
+        Err(failure) => {
+            *status = report(rt, failure, output);
+            return Ends::Refused(Remains::Untouched(start));
+        }
+    };
+    match load_from(rt, file, start, rows) {
+        Ok(world) => Ends::Ran(run_in_files(rt, world, task, files, NO_INPUT, output, status)),
+        Err((fault, remains)) => {
+            *status = report(rt, refusal(fault), output);
+            Ends::Refused(remains)
+        }
+    }
+}
+
+/// Does what a task says over the world of its file or over the opening world, and hands back what is left of the file.
+fn run_begun<T: Start, B: BatchFiles, R: Read + Drop, W: Write>(
+    rt: &HostRuntime,
+    file: &str,
+    start: T,
+    task: Task<'_>,
+    files: &B,
+    input: R,
+    output: &mut W,
+    status: &mut u8,
+) -> Ends<T, FileFrom<T>>
+    requires load { is_load task.entry ≡ false }
+    ensures { RunsFile task.entry (image_at T.Start) result (texts_by (R.remaining input) (B.text files.now)) (W.contents output.old) (W.contents output.new) status.new }
+{
+    match world_of(rt, file, start, task) {
+        Ok(world) => Ends::Ran(run_in_files(rt, world, task, files, input, output, status)),
+        Err((fault, remains)) => {
+            *status = report(rt, refusal_of(rt, file, task, fault), output);
+            Ends::Refused(remains)
+        }
+    }
+}
+
 /// Does what a task says over its file, writes the line of a failure, and hands back what is left of the file. The status is that
 /// of `run_words`.
 ///
@@ -132,12 +188,9 @@ pub fn run_from<T: Start, B: BatchFiles, R: Read + Drop, W: Write>(
 ) -> Ends<T, FileFrom<T>>
     ensures { RunsFile task.entry (image_at T.Start) result (texts_by (R.remaining input) (B.text files.now)) (W.contents output.old) (W.contents output.new) status.new }
 {
-    match world_of(rt, file, start, task) {
-        Ok(world) => Ends::Ran(run_in_files(rt, world, task, files, input, output, status)),
-        Err((fault, remains)) => {
-            *status = report(rt, refusal_of(rt, file, task, fault), output);
-            Ends::Refused(remains)
-        }
+    match dump_word(task) {
+        Some(dump) => run_loaded(rt, file, start, dump, task, files, input, output, status),
+        None => run_begun(rt, file, start, task, files, input, output, status),
     }
 }
 

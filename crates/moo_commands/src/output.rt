@@ -116,7 +116,11 @@ pub fn report<W: Write>(rt: &HostRuntime, failure: Failure, output: &mut W) -> u
     explain(rt, failure);
     match failure {
         Failure::Damaged(kind, key) => {
-            put_made_line(damaged_text(rt.alloc(), kind, key), failure.status(), output)
+            put_made_line(
+                damaged_text(rt.alloc(), kind, key),
+                failure.status(),
+                output,
+            )
         }
         Failure::NotADump(line) => {
             put_made_line(not_a_dump_text(rt.alloc(), line), failure.status(), output)

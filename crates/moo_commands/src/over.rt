@@ -23,7 +23,7 @@ use sqlite::{Alter, Connection};
 use std::io::{Read, Write};
 
 /// Nothing is left to be read once a dump was.
-const NO_INPUT: &[u8] = &[];
+pub(crate) const NO_INPUT: &[u8] = &[];
 
 /// Whether a task begins with a new world: `init` and `load` do, and each task on `:memory:`.
 pub(crate) fn begins_anew(task: Task<'_>) -> bool

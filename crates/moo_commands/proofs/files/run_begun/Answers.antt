@@ -3,7 +3,7 @@ use Rattle.moo_rows.specs.Opening.{opening_maps}
 use Rattle.moo_world.specs.Judge.{state_of}
 use Rattle.moo_commands.proofs.Connections.{surely, unseen}
 use Rattle.moo_commands.proofs.Refusals.{fails_at_once, refuses_file, tells_fault}
-use Rattle.moo_commands.proofs.files.run_from.Goals as goal
+use Rattle.moo_commands.proofs.files.run_begun.Goals as goal
 
 pub returns-in-Ok : goal.returns-in-Ok
 returns-in-Ok g c =
