@@ -20,6 +20,7 @@ use crate::failure::Failure;
 use crate::output::{checked_text, explain_lost, loaded_text};
 use moo_dump::put_all;
 use moo_http::serve_port;
+use moo_reasons::StandardNotes;
 use moo_store::{Tally, World, apply_text, ask_text};
 use moo_words::Task;
 use sqlite::Alter;
@@ -33,10 +34,12 @@ fn status_after(tally: Tally) -> u8
     if tally.lost == 0 { 0 } else { 1 }
 }
 
-/// Runs the batches of a text. If the store failed in one, standard error says what to do.
+/// Runs the batches of a text, that of this path if it isn't the input's. Standard error says why a batch isn't accepted, and what to do if the
+/// store failed in one.
 fn run_text<R: Read + Drop, W: Write, S: Alter + Drop>(
     rt: &HostRuntime,
     world: &mut World<S>,
+    path: Option<&str>,
     text: R,
     output: &mut W,
 ) -> Result<u8, Failure>
@@ -44,7 +47,10 @@ fn run_text<R: Read + Drop, W: Write, S: Alter + Drop>(
     ensures stops { (known : Bool) (s : State) → StandsFor S.Store known world.old s → IfErr result (λ failure. EndsTask S.Store known world.old world.new (λ end.
         (fault : TextFault) × (failure ≡ text_failure fault) × Halts RunsBatch (Works s) end (R.remaining text) (W.contents output.old) (W.contents output.new) fault)) }
 {
-    match apply_text(rt.alloc(), text, output, world) {
+    let mut notes = StandardNotes::new(rt, rt.alloc(), path);
+    let ran = apply_text(rt.alloc(), text, output, world, &mut notes);
+    notes.finish();
+    match ran {
         Ok(tally) => {
             explain_lost(rt, tally);
             Ok(status_after(tally))
@@ -67,18 +73,19 @@ fn apply<B: BatchFiles, R: Read + Drop, W: Write, S: Alter + Drop>(
 {
     world.leaves();
     if batches == "-" {
-        return run_text(rt, world, input, output);
+        return run_text(rt, world, None, input, output);
     }
     match files.open(rt, batches) {
-        Ok(file) => run_text(rt, world, file, output),
+        Ok(file) => run_text(rt, world, Some(batches), file, output),
         Err(_) => Err(Failure::NoBatches),
     }
 }
 
-/// Says what the batches of a text would come to.
+/// Says what the batches of a text would come to, that of this path if it isn't the input's. Standard error says why a batch isn't accepted.
 fn ask_batches<R: Read + Drop, W: Write, S: Alter + Drop>(
-    alloc: Global,
+    rt: &HostRuntime,
     world: &World<S>,
+    path: Option<&str>,
     text: R,
     output: &mut W,
 ) -> Result<u8, Failure>
@@ -86,7 +93,10 @@ fn ask_batches<R: Read + Drop, W: Write, S: Alter + Drop>(
     ensures stops { (known : Bool) (s : State) → StandsFor S.Store known world.now s → IfErr result (λ failure.
         (fault : TextFault) × (failure ≡ text_failure fault) × Halts AsksBatch (Works s) (Works s) (R.remaining text) (W.contents output.old) (W.contents output.new) fault) }
 {
-    match ask_text(alloc, text, output, world) {
+    let mut notes = StandardNotes::new(rt, rt.alloc(), path);
+    let asked = ask_text(rt.alloc(), text, output, world, &mut notes);
+    notes.finish();
+    match asked {
         Ok(tally) => Ok(status_after(tally)),
         Err(fault) => Err(Failure::from(fault)),
     }
@@ -105,10 +115,10 @@ fn ask<B: BatchFiles, R: Read + Drop, W: Write, S: Alter + Drop>(
     ensures stops { (known : Bool) (s : State) → StandsFor S.Store known world.now s → IfErr result (λ failure. StopsText AsksBatch s (Works s) failure (texts_by (R.remaining input) (B.text files.now) batches.now) (W.contents output.old) (W.contents output.new)) }
 {
     if batches == "-" {
-        return ask_batches(rt.alloc(), world, input, output);
+        return ask_batches(rt, world, None, input, output);
     }
     match files.open(rt, batches) {
-        Ok(file) => ask_batches(rt.alloc(), world, file, output),
+        Ok(file) => ask_batches(rt, world, Some(batches), file, output),
         Err(_) => Err(Failure::NoBatches),
     }
 }
