@@ -21,7 +21,7 @@ use Rattle.moo_files.specs.declared.remains.Remains.{Remains}
 use Rattle.moo_files.specs.declared.remains.Remains.TheVariants as remains
 use Rattle.moo_files.proofs.AgainLemmas.{held_after}
 use Rattle.moo_words.specs.declared.task.Task.{Task}
-use Rattle.moo_words.specs.declared.task.Task.TheVariants.{Init, Apply, Ask, Dump, Check, Serve}
+use Rattle.moo_words.specs.declared.task.Task.TheVariants.{Init, Apply, Ask, Dump, Load, Check, Serve}
 use Rattle.moo_commands.specs.Run.{Texts, begins_anew, file_of}
 use Rattle.moo_commands.specs.Ends.{MatchFile, RunsFile, EndsWith, RunsOver, RunsClosed}
 use Rattle.moo_commands.specs.Again.{StartsFrom, RanFrom, TakesUp, IsLeftAfter, CrashesTo, IsFoundIn, ClosesTo}
@@ -34,6 +34,7 @@ on_file (Init file) other = absurd (true≢false other)
 on_file (Apply file batches) other = other
 on_file (Ask file batches) other = other
 on_file (Dump file) other = other
+on_file (Load file dump) other = absurd (true≢false other)
 on_file (Check file) other = other
 on_file (Serve file port count) other = other
 

@@ -5,10 +5,10 @@ use Rattle.sqlite.specs.State.{State as Database, HasCleanDisk, Survives}
 use Rattle.sqlite.specs.Store.{Ghosts}
 use Rattle.sqlite.specs.Held.{Held, state}
 use Rattle.moo_words.specs.declared.task.Task.{Task}
-use Rattle.moo_words.specs.declared.task.Task.TheVariants.{Init, Apply, Ask, Dump, Check, Serve}
+use Rattle.moo_words.specs.declared.task.Task.TheVariants.{Init, Apply, Ask, Dump, Load, Check, Serve}
 use Rattle.moo_store.specs.Stand.{Stand}
 use Rattle.moo_commands.specs.declared.failure.Failure.{Failure}
-use Rattle.moo_commands.specs.declared.failure.Failure.TheVariants.{Usage, NoFile, Store, Damaged, NewerVersion, NoBatches, Read, Write, TooLong, Port, NoMemory}
+use Rattle.moo_commands.specs.declared.failure.Failure.TheVariants.{Usage, NoFile, Store, Damaged, NewerVersion, NotADump, NoBatches, Read, Write, TooLong, Port, NoMemory}
 use Rattle.sqlite.specs.declared.error.Error.{Error}
 use Rattle.moo_commands.specs.Lines.{Reports, store_failure}
 use Rattle.moo_commands.specs.Run.{Texts, Done, StopsTask, ShowsTables, EndsTask, RunsFrom, RunsUnseen, IsOpening, MayRefuse, FailsAtOnce, LeavesAsBefore}
@@ -74,6 +74,7 @@ stops_when (Init file) s end failure Clean More on texts old new it = it
 stops_when (Apply file batches) s end failure Clean More on texts old new it = it
 stops_when (Ask file batches) s end failure Clean More on texts old new it = it
 stops_when (Dump file) s end failure Clean More on texts old new it = it
+stops_when (Load file dump) s end failure Clean More on texts old new it = it
 stops_when (Check file) s end failure Clean More on texts old new (e, inl (fault, is, of_store, same)) = (e, inl (fault, is, (λ more. of_store (on more)), same))
 stops_when (Check file) s end failure Clean More on texts old new (e, inr front) = (e, inr front)
 stops_when (Serve file port count) s end failure Clean More on texts old new it = it
@@ -83,6 +84,7 @@ done_when (Init file) s end Shown Less on texts old new status it = it
 done_when (Apply file batches) s end Shown Less on texts old new status it = it
 done_when (Ask file batches) s end Shown Less on texts old new status it = it
 done_when (Dump file) s end Shown Less on texts old new status it = it
+done_when (Load file dump) s end Shown Less on texts old new status it = it
 done_when (Check file) s end Shown Less on texts old new status (e, shown, written, zero) = (e, on shown, written, zero)
 done_when (Serve file port count) s end Shown Less on texts old new status it = it
 
@@ -127,6 +129,7 @@ opening_refuses Usage it = absurd it
 opening_refuses NoFile it = tt
 opening_refuses (Damaged kind key) it = tt
 opening_refuses NewerVersion it = tt
+opening_refuses (NotADump line) it = absurd it
 opening_refuses NoBatches it = absurd it
 opening_refuses Read it = absurd it
 opening_refuses Write it = absurd it

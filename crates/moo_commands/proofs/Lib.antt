@@ -1,4 +1,5 @@
 mod AgainLemmas
+mod Beginning
 mod Connections
 mod Refusals
 mod Reporting

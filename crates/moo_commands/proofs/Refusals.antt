@@ -29,6 +29,6 @@ module _ (fault : StoreFault) where
 module _ {T D : Type 0} {g : Ghosts D} (task : Task) (image : Image) where
   -- what a run over a file writes, whatever the file holds
   pub runs_task : (end : Ends T D g) (texts : Texts) (old new : Option (List ℕ)) (status : ℕ) → RunsFile task image end texts old new status → RunsTask task texts old new status
-  runs_task (variant.Ran conn) texts old new status it = record { anew = λ anew. inr (unseen _ _ _ _ _ _ _ _ _ (it.anew anew)); opened = λ other. inr (it.opened other) }
+  runs_task (variant.Ran conn) texts old new status it = record { anew = λ anew. let run = it.anew anew in inr (run.0, run.1, unseen _ _ _ _ _ _ _ _ _ run.2); opened = λ other. inr (it.opened other) }
   runs_task (variant.Refused remains) texts old new status it = record { anew = λ anew. inl (it.anew anew); opened = λ other. inl (it.opened other) }
   runs_task variant.NoFile texts old new status it = record { anew = λ anew. absurd (it.anew anew); opened = λ other. absurd (it.opened other) }

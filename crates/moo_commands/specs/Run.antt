@@ -92,7 +92,8 @@ IsDumpedAs text s = IfSome text (λ bytes. dump_of s ≡ bytes)
 
 -- The state of the new world that a task begins with: one that is dumped as the text of the dump, or the opening state.
 abbrev pub BeginsWith : Task → Texts → State → Type 0
-BeginsWith task texts s = if is_load task then IsDumpedAs (texts (dump_word task)) s else (s ≡ state_of opening_maps)
+BeginsWith (Load file dump) texts s = IsDumpedAs (texts dump.now) s
+BeginsWith task texts s = s ≡ state_of opening_maps
 
 -- 1 if an answer is `fault` or `closed`
 abbrev pub lost_status : ℕ → ℕ

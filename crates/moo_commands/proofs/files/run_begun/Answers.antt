@@ -1,6 +1,7 @@
 use Rattle.std.proofs.Common.{true, false}
 use Rattle.moo_rows.specs.Opening.{opening_maps}
 use Rattle.moo_world.specs.Judge.{state_of}
+use Rattle.moo_commands.proofs.Beginning.{begins_opening, fails_to_begin}
 use Rattle.moo_commands.proofs.Connections.{surely, unseen}
 use Rattle.moo_commands.proofs.Refusals.{fails_at_once, refuses_file, tells_fault}
 use Rattle.moo_commands.proofs.files.run_begun.Goals as goal
@@ -11,7 +12,7 @@ returns-in-Ok g c =
     let here = state_of world.rows.maps in
     let ran = c.run_in_files.ensures in
     record {
-      anew = λ anew. surely _ _ _ _ _ _ _ _ _ (ran.runs true (state_of opening_maps) (c.in-Ok.ensures.anew anew));
+      anew = λ anew. (state_of opening_maps, begins_opening c.args.task _ c.args.load, surely _ _ _ _ _ _ _ _ _ (ran.runs true (state_of opening_maps) (c.in-Ok.ensures.anew anew)));
       taken = λ s anew holds clean. c.in-Ok.ensures.taken anew s holds (ran.clean true (state_of opening_maps) (c.in-Ok.ensures.anew anew) clean);
       kept = λ s other holds clean.
           let early = ran.clean false here (c.in-Ok.ensures.opened other).1 clean in
@@ -39,7 +40,7 @@ returns-in-Err g c =
     let new = g.W.Write.contents c.report.new.output in
     let reports = tells_fault fault c.refusal_of.result old new c.report.result c.refusal_of.ensures c.report.ensures in
     record {
-      anew = λ anew. fails_at_once fault old new c.report.result (c.in-Err.ensures.made anew) reports;
+      anew = λ anew. fails_to_begin c.args.task old new c.report.result (fails_at_once fault old new c.report.result (c.in-Err.ensures.made anew) reports);
       taken = λ s anew holds. tt;
       kept = λ s other holds clean. fails_at_once fault old new c.report.result (c.in-Err.ensures.whole other s holds clean) reports;
       only = λ tables other holds clean. (fault, c.in-Err.ensures.fault other tables holds clean, reports);
@@ -51,5 +52,5 @@ returns-in-Err g c =
       spared = λ trees anew holds any. c.in-Err.ensures.spared anew trees holds any;
       unmade = λ trees anew holds. c.in-Err.ensures.unmade anew trees holds;
       blank = λ other none. c.in-Err.ensures.blank other none;
-      told = (fault, c.in-Err.ensures.stopped, reports);
+      told = inl (fault, c.in-Err.ensures.stopped, reports);
     }

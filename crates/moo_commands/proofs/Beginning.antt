@@ -1,0 +1,58 @@
+-- The world that a task begins with.
+use Rattle.std.proofs.Common.{◌≡◌, ◌⊎◌, inl, inr, ℕ, List, Option, refl, sym, subst, true, false, IsTrue}
+use Rattle.std.specs.Bool.{⊤}
+use Rattle.std.proofs.lemmas.Bool.{true≢false}
+use Rattle.moo_rows.specs.Opening.{opening_maps}
+use Rattle.moo_world.specs.Judge.{State, state_of}
+use Rattle.moo_store.specs.Stand.{Stand}
+use Rattle.moo_words.specs.declared.task.Task.{Task}
+use Rattle.moo_words.specs.declared.task.Task.TheVariants.{Init, Apply, Ask, Dump, Load, Check, Serve}
+use Rattle.moo_commands.specs.Run.{Texts, begins_anew, is_load, dump_word, IsDumpedAs, BeginsWith, RunsFrom, RunsUnseen, FailsAtOnce, FailsToBegin, RunsNew}
+use Rattle.moo_commands.proofs.Connections.{unseen}
+
+pub begins_opening : (task : Task) (texts : Texts) → is_load task ≡ false → BeginsWith task texts (state_of opening_maps)
+begins_opening (Init file) texts no = refl
+begins_opening (Apply file batches) texts no = refl
+begins_opening (Ask file batches) texts no = refl
+begins_opening (Dump file) texts no = refl
+begins_opening (Load file dump) texts no = absurd (true≢false no)
+begins_opening (Check file) texts no = refl
+begins_opening (Serve file port count) texts no = refl
+
+pub begins_dumped : (task : Task) (texts : Texts) (dump : List ℕ) (s : State) → is_load task ≡ true → dump_word task ≡ dump → IsDumpedAs (texts dump) s → BeginsWith task texts s
+begins_dumped (Init file) texts dump s yes is it = absurd (true≢false (sym yes))
+begins_dumped (Apply file batches) texts dump s yes is it = absurd (true≢false (sym yes))
+begins_dumped (Ask file batches) texts dump s yes is it = absurd (true≢false (sym yes))
+begins_dumped (Dump file) texts dump s yes is it = absurd (true≢false (sym yes))
+begins_dumped (Load file word) texts dump s yes is it = subst (λ w. IsDumpedAs (texts w) s) (sym is) it
+begins_dumped (Check file) texts dump s yes is it = absurd (true≢false (sym yes))
+begins_dumped (Serve file port count) texts dump s yes is it = absurd (true≢false (sym yes))
+
+pub load_begins : (task : Task) → is_load task ≡ true → begins_anew task ≡ true
+load_begins (Init file) yes = refl
+load_begins (Apply file batches) yes = absurd (true≢false (sym yes))
+load_begins (Ask file batches) yes = absurd (true≢false (sym yes))
+load_begins (Dump file) yes = absurd (true≢false (sym yes))
+load_begins (Load file dump) yes = refl
+load_begins (Check file) yes = absurd (true≢false (sym yes))
+load_begins (Serve file port count) yes = absurd (true≢false (sym yes))
+
+-- what comes after a load reads no text
+pub of_other_texts : (task : Task) → is_load task ≡ true → (s : State) (texts others : Texts) (old new : Option (List ℕ)) (status : ℕ) (Clean : Type 0) (Crash : Stand → Type 0) (Shown : Type 0)
+    → RunsFrom task s texts old new status Clean Crash Shown → RunsFrom task s others old new status Clean Crash Shown
+of_other_texts (Init file) yes s texts others old new status Clean Crash Shown it = absurd (true≢false (sym yes))
+of_other_texts (Apply file batches) yes s texts others old new status Clean Crash Shown it = absurd (true≢false (sym yes))
+of_other_texts (Ask file batches) yes s texts others old new status Clean Crash Shown it = absurd (true≢false (sym yes))
+of_other_texts (Dump file) yes s texts others old new status Clean Crash Shown it = absurd (true≢false (sym yes))
+of_other_texts (Load file dump) yes s texts others old new status Clean Crash Shown it = record { end = it.end; crash = it.crash; writes = it.writes }
+of_other_texts (Check file) yes s texts others old new status Clean Crash Shown it = absurd (true≢false (sym yes))
+of_other_texts (Serve file port count) yes s texts others old new status Clean Crash Shown it = absurd (true≢false (sym yes))
+
+pub fails_to_begin : (task : Task) (old new : Option (List ℕ)) (status : ℕ) → FailsAtOnce old new status → FailsToBegin task old new status
+fails_to_begin task old new status (failure, opening, reports) = (failure, inl opening, reports)
+
+-- a run from the world that a task begins with, of which nothing more is said than what is written
+pub new_unseen : (task : Task) (texts : Texts) (old new : Option (List ℕ)) (status : ℕ) (Clean : Type 0) (Crash : Stand → Type 0) (Shown : Type 0)
+    → FailsToBegin task old new status ⊎ ((s : State) × BeginsWith task texts s × RunsFrom task s texts old new status Clean Crash Shown) → RunsNew task texts old new status
+new_unseen task texts old new status Clean Crash Shown (inl fails) = inl fails
+new_unseen task texts old new status Clean Crash Shown (inr (s, begins, it)) = inr (s, begins, unseen task s texts old new status Clean Crash Shown it)
