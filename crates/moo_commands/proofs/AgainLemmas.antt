@@ -24,7 +24,7 @@ use Rattle.moo_words.specs.declared.task.Task.{Task}
 use Rattle.moo_words.specs.declared.task.Task.TheVariants.{Init, Apply, Ask, Dump, Load, Check, Serve}
 use Rattle.moo_commands.specs.Run.{Texts, begins_anew, file_of}
 use Rattle.moo_commands.specs.Ends.{MatchFile, RunsFile, EndsWith, RunsOver, RunsClosed}
-use Rattle.moo_commands.specs.Again.{StartsFrom, RanFrom, TakesUp, IsLeftAfter, CrashesTo, IsFoundIn, ClosesTo}
+use Rattle.moo_commands.specs.Again.{Started, RanFrom, TakesUp, IsLeftAfter, CrashesTo, IsFoundIn, ClosesTo}
 use Rattle.moo_commands.specs.declared.ends.Ends.{Ends}
 use Rattle.moo_commands.specs.declared.ends.Ends.TheVariants as variant
 
@@ -37,6 +37,9 @@ on_file (Dump file) other = other
 on_file (Load file dump) other = absurd (true≢false other)
 on_file (Check file) other = other
 on_file (Serve file port count) other = other
+
+started_map : (task : Task) (image : Image) (texts : Texts) (From Then : State → Type 0) → ((s : State) → From s → Then s) → Started task image texts From → Started task image texts Then
+started_map task image texts From Then on it = ((λ other s holds. on s (it.0 other s holds)), (λ anew. let begun = it.1 anew in (begun.0, begun.1, on begun.0 begun.2)))
 
 module _ {D : Type 0} {g : Ghosts D} where
   -- what is found after a connection was closed is what a crash might have left before
@@ -55,10 +58,10 @@ module _ {T D : Type 0} {g : Ghosts D} where
       → EndsWith task image (variant.Ran conn) texts old new status → RunsFile task image (variant.Ran conn) texts old new status
   ran_file task image conn texts old new status it = it.file (false_from_ne_true _ (λ is. ran_on_file conn (it.memory is)))
 
-  ran_from : (task : Task) (image : Image) (conn : Held (FileStore D g)) (texts : Texts) (old new : Option (List ℕ)) (status : ℕ) (s : State)
-      → HasCleanDisk (file_state conn) → RunsFile task image (variant.Ran conn) texts old new status → StartsFrom task image s → RanFrom task s conn texts old new status
-  ran_from task image conn texts old new status s clean it (inl (other, holds)) = it.kept s other holds clean
-  ran_from task image conn texts old new status s clean it (inr (anew, is)) = subst (λ s. RanFrom task s conn texts old new status) (sym is) (it.anew anew)
+  -- it started from the state that the file held, or from one that it may begin with
+  ran_from : (task : Task) (image : Image) (conn : Held (FileStore D g)) (texts : Texts) (old new : Option (List ℕ)) (status : ℕ) (After : State → Type 0)
+      → HasCleanDisk (file_state conn) → RunsFile task image (variant.Ran conn) texts old new status → ((s : State) → RanFrom task s conn texts old new status → After s) → Started task image texts After
+  ran_from task image conn texts old new status After clean it after = ((λ other s holds. after s (it.kept s other holds clean)), (λ anew. let begun = it.anew anew in (begun.0, begun.1, after begun.0 begun.2)))
 
   -- words over a file that holds a state take it up
   pub takes_up : (words : List (List ℕ)) (image : Image) (ends : Ends T D g) (texts : Texts) (old new : Option (List ℕ)) (status : ℕ)
@@ -93,13 +96,13 @@ module _ {T D : Type 0} {g : Ghosts D} where
   crashes_to words image (variant.Ran conn) texts old new status next Next (inl (task, named, alone, runs, it)) goes = λ clean. (
     task,
     named,
-    λ s starts.
-        let run = ran_from task image conn texts old new status s clean (ran_file task image conn texts old new status it) starts in (
-          run,
-          λ left.
-              let lies = held_after (file_state conn) run.end next left.trees (run.crash clean) left.such left.holds in
-              (lies.0, lies.1, lies.2, goes lies.0 lies.2),
-        ),
+    ran_from task image conn texts old new status _ clean (ran_file task image conn texts old new status it)
+    (λ s run. (
+      run,
+      λ left.
+          let lies = held_after (file_state conn) run.end next left.trees (run.crash clean) left.such left.holds in
+          (lies.0, lies.1, lies.2, goes lies.0 lies.2),
+    )),
   )
   crashes_to words image (variant.Ran conn) texts old new status next Next (inr (some, usage, none)) goes = absurd (ran_on_file conn none)
   crashes_to words image (variant.Refused rest) texts old new status next Next over goes = λ clean s holds left.
@@ -132,9 +135,7 @@ module _ {T D : Type 0} {g : Ghosts D} where
         let ran = crashes_to words image (variant.Ran conn) texts old new status next Next over goes both.0 in (
           ran.0,
           ran.1,
-          λ s starts.
-              let run = ran.2 s starts in
-              (run.0, λ found. run.1 (found_left T (file_state conn) rest next both.1 (subst (λ it. IsFoundIn (Some it) next) is found))),
+          started_map ran.0 image texts _ _ (λ s run. (run.0, λ found. run.1 (found_left T (file_state conn) rest next both.1 (subst (λ it. IsFoundIn (Some it) next) is found)))) ran.2.1,
         ),
   )
   closes_to words image None texts old new status next Next (variant.Ran conn, over, none) goes = absurd none
