@@ -23,7 +23,7 @@ use Rattle.moo_files.proofs.AgainLemmas.{held_after}
 use Rattle.moo_words.specs.declared.task.Task.{Task}
 use Rattle.moo_words.specs.declared.task.Task.TheVariants.{Init, Apply, Ask, Dump, Load, Check, Serve}
 use Rattle.moo_commands.specs.Run.{Texts, begins_anew, file_of}
-use Rattle.moo_commands.specs.Ends.{MatchFile, RunsFile, EndsWith, RunsOver, RunsClosed}
+use Rattle.moo_commands.specs.Ends.{MatchFile, RunsFile, EndsWith, RunsOver, IsClosedEnd, RunsClosed}
 use Rattle.moo_commands.specs.Again.{Started, RanFrom, TakesUp, IsLeftAfter, CrashesTo, IsFoundIn, ClosesTo}
 use Rattle.moo_commands.specs.declared.ends.Ends.{Ends}
 use Rattle.moo_commands.specs.declared.ends.Ends.TheVariants as variant
@@ -124,30 +124,34 @@ module _ {T D : Type 0} {g : Ghosts D} where
       kept_left (left.Unopened files) of all = absurd of
       kept_left (left.Store store) of all = λ trees recovers. all trees (of trees recovers)
 
-  pub closes_to : (words : List (List ℕ)) (image : Image) (closed : Option (Remains T D g)) (texts : Texts) (old new : Option (List ℕ)) (status : ℕ) (next : Image) (Next : State → Type 0)
-      → RunsClosed words image closed texts old new status → ((t : State) → HoldsState next t → Next t) → ClosesTo words image closed texts old new status next Next
-  closes_to words image (Some now) texts old new status next Next (variant.Ran conn, over, rest, is, copied, left) goes = (
+  closes_by : (words : List (List ℕ)) (image : Image) (ends : Ends T D g) (closed : Option (Remains T D g)) (texts : Texts) (old new : Option (List ℕ)) (status : ℕ) (next : Image) (Next : State → Type 0)
+      → RunsOver words image ends texts old new status → IsClosedEnd ends closed → ((t : State) → HoldsState next t → Next t) → ClosesTo words image closed texts old new status next Next
+  closes_by words image (variant.Ran conn) (Some now) texts old new status next Next over (rest, is, copied, closes) goes = (
     variant.Ran conn,
     over,
-    (rest, is, copied, left),
+    (rest, is, copied, closes),
     λ clean.
-        let both = left (subst IsCleanRemains is clean) in
+        let both = closes (subst IsCleanRemains is clean) in
         let ran = crashes_to words image (variant.Ran conn) texts old new status next Next over goes both.0 in (
           ran.0,
           ran.1,
           started_map ran.0 image texts _ _ (λ s run. (run.0, λ found. run.1 (found_left T (file_state conn) rest next both.1 (subst (λ it. IsFoundIn (Some it) next) is found)))) ran.2.1,
         ),
   )
-  closes_to words image None texts old new status next Next (variant.Ran conn, over, none) goes = absurd none
-  closes_to words image (Some now) texts old new status next Next (variant.Refused was, over, from) goes = (
+  closes_by words image (variant.Ran conn) None texts old new status next Next over none goes = absurd none
+  closes_by words image (variant.Refused was) (Some now) texts old new status next Next over from goes = (
     variant.Refused was,
     over,
     from,
-    λ clean s holds left.
+    λ clean s holds found.
         let kept = kept_closed (λ trees. LeavesState trees s) image was now from clean (λ early. refused_left words image was texts old new status over s holds early) in
-        let still = still_such (λ trees. LeavesState trees s) image now next kept holds left in
+        let still = still_such (λ trees. LeavesState trees s) image now next kept holds found in
         (still, goes s still),
   )
-  closes_to words image None texts old new status next Next (variant.Refused was, over, none) goes = absurd none
-  closes_to words image (Some now) texts old new status next Next (variant.NoFile, over, none) goes = absurd none
-  closes_to words image None texts old new status next Next (variant.NoFile, over, none) goes = (variant.NoFile, over, tt, tt)
+  closes_by words image (variant.Refused was) None texts old new status next Next over none goes = absurd none
+  closes_by words image variant.NoFile (Some now) texts old new status next Next over none goes = absurd none
+  closes_by words image variant.NoFile None texts old new status next Next over from goes = (variant.NoFile, over, tt, tt)
+
+  pub closes_to : (words : List (List ℕ)) (image : Image) (closed : Option (Remains T D g)) (texts : Texts) (old new : Option (List ℕ)) (status : ℕ) (next : Image) (Next : State → Type 0)
+      → RunsClosed words image closed texts old new status → ((t : State) → HoldsState next t → Next t) → ClosesTo words image closed texts old new status next Next
+  closes_to words image closed texts old new status next Next it goes = closes_by words image it.0 closed texts old new status next Next it.1 it.2 goes
