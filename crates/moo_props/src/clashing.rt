@@ -1,4 +1,4 @@
-//! Names that stand in the way of a new property, or of a change of parent.
+//! Names that keep out a new property, or a change of parent.
 
 ghost use Rattle.std.specs.Prelude.{◌≡◌, is_some};
 ghost use Rattle.std.specs.List.{list_any};
