@@ -24,7 +24,7 @@ use Rattle.moo_world.proofs.Shown.MapLaws.{decided_alike}
 use Rattle.moo_world.proofs.Shown.Seen.{chain_of_row, chain_of_no_row, is_object_seen}
 use Rattle.moo_tree.proofs.Listing.{children_listed}
 use Rattle.moo_tree.proofs.Searching.{child_listed, listed_child, is_there}
-use Rattle.moo_props.specs.Descent.{children_past, below, levels_below, descendants, branches, after_branch, after_below, after, from_here}
+use Rattle.moo_props.specs.Descent.{children_past, below, levels_below, descendants, branches, after_branch, after_below, walk_after, from_here}
 
 -- ---- lists
 
@@ -271,8 +271,8 @@ module _ (t : Maps) (tree : IsTree (world_of t)) where
     pub sideward : (c y next : ObjNo) (r : ObjRow) → get t.objects c ≡ Some r → r.parent ≡ y → is_among x (chain w y) ≡ true → IsFirst object_cmp (is_linked t (ChildOf y)) c (Some next) → from_here t x (Some next) ≡ after_below t x c
     sideward c y next r e p h first = onward y c next h first ∙ sym (beside c y r e p h)
 
-    pub downward : (y c : ObjNo) → is_among x (chain w y) ≡ true → IsFirst object_cmp (is_linked t (ChildOf y)) nothing (Some c) → from_here t x (Some c) ≡ after t x y
+    pub downward : (y c : ObjNo) → is_among x (chain w y) ≡ true → IsFirst object_cmp (is_linked t (ChildOf y)) nothing (Some c) → from_here t x (Some c) ≡ walk_after t x y
     downward y c h first = onward y nothing c h first ∙ ap (λ l. l ++ after_below t x y) (sym (descend y))
 
-    pub leaf : (y : ObjNo) → IsFirst object_cmp (is_linked t (ChildOf y)) nothing None → after_below t x y ≡ after t x y
+    pub leaf : (y : ObjNo) → IsFirst object_cmp (is_linked t (ChildOf y)) nothing None → after_below t x y ≡ walk_after t x y
     leaf y first = ap (λ l. l ++ after_below t x y) (sym (descend y ∙ ap (branches t) (children_over y nothing first)))

@@ -39,10 +39,10 @@ abbrev pub after_below : Maps → ObjNo → ObjNo → List ObjNo
 after_below t x y = after_branch t x y (drop 1 (chain (world_of t) y))
 
 -- what comes after y in x's subtree
-abbrev pub after : Maps → ObjNo → ObjNo → List ObjNo
-after t x y = descendants t y ++ after_below t x y
+abbrev pub walk_after : Maps → ObjNo → ObjNo → List ObjNo
+walk_after t x y = descendants t y ++ after_below t x y
 
 -- the walk from an object on, or its end
 abbrev pub from_here : Maps → ObjNo → Option ObjNo → List ObjNo
 from_here t x None = []
-from_here t x (Some y) = y ∷ after t x y
+from_here t x (Some y) = y ∷ walk_after t x y

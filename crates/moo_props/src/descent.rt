@@ -7,7 +7,7 @@ ghost use Rattle.moo_world.specs.ObjectLists.{subtree_of};
 ghost use Rattle.moo_world.specs.Objects.{is_among};
 ghost use Rattle.moo_world.specs.Rows.{world_of};
 ghost use Rattle.moo_world.specs.World.{IsTree, chain};
-ghost use Rattle.moo_props.specs.Descent.{after, after_below, from_here};
+ghost use Rattle.moo_props.specs.Descent.{walk_after, after_below, from_here};
 
 use moo_rows::{Link, Rows};
 use moo_tree::{nothing, valid};
@@ -40,7 +40,7 @@ fn next_beside<R: Rows>(rows: &R, x: ObjNo, y: ObjNo) -> Option<ObjNo>
 pub(crate) fn next_under<R: Rows>(rows: &R, x: ObjNo, y: ObjNo) -> Option<ObjNo>
     requires tree { IsTree (world_of (R.held rows.now).maps) }
     requires under { is_among x (chain (world_of (R.held rows.now).maps) y) ≡ true }
-    ensures next { from_here (R.held rows.now).maps x result ≡ after (R.held rows.now).maps x y }
+    ensures next { from_here (R.held rows.now).maps x result ≡ walk_after (R.held rows.now).maps x y }
     ensures under { IfSome result (λ z. is_among x (chain (world_of (R.held rows.now).maps) z) ≡ true) }
 {
     match rows.next_linked(Link::ChildOf(y), nothing()) {

@@ -5,7 +5,7 @@ use Rattle.moo_value.specs.declared.value.ObjNo.{ObjNo}
 use Rattle.moo_world.specs.ObjectLists.{subtree_of}
 use Rattle.moo_world.specs.PropertyCalls.{defines_name}
 use Rattle.moo_world.specs.Rows.{world_of}
-use Rattle.moo_props.specs.Descent.{after, from_here}
+use Rattle.moo_props.specs.Descent.{walk_after, from_here}
 use Rattle.moo_props.proofs.NameClashes.{any_defines}
 use Rattle.moo_props.proofs.clashing.is_defined_under.Goals as goal
 
@@ -14,7 +14,7 @@ returns-then-defines_named g c =
     let t = (g.R.Rows.held c.args.rows.now).maps in
     let w = world_of t in
     let test : ObjNo → Bool = λ y. defines_name w y c.args.name.now in
-    sym (or_left (test c.in-Some.y) (list_any test (after t c.args.x c.in-Some.y)) (sym c.defines_named.ensures ∙ c.if-defines_named.true))
+    sym (or_left (test c.in-Some.y) (list_any test (walk_after t c.args.x c.in-Some.y)) (sym c.defines_named.ensures ∙ c.if-defines_named.true))
     ∙ ap (λ at. list_any test (from_here t c.args.x at)) (sym c.in-Some.is)
     ∙ c.loop-at.invariant.any
     ∙ any_defines w (subtree_of w c.args.x) c.args.name.now
