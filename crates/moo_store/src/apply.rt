@@ -8,7 +8,7 @@ ghost use Rattle.moo_store.specs.Text.{RunsAndAnswers, Applies, StopsRun};
 use crate::answering::{Answering, answer_all, answered_by};
 use crate::tally::Tally;
 use crate::world::World;
-use moo_text::{Answer, TextFault};
+use moo_text::{Answer, Notes, TextFault};
 use moo_world::Batch;
 use sqlite::Alter;
 use std::alloc::Global;
@@ -25,13 +25,16 @@ impl<S: Alter + Drop> Answering for World<S> {
 /// Runs the batches of a text in turn, and writes each answer before the next batch is read. Answers how many batches the text had
 /// and how many met a fault; behind a `fault` the text is read on, and its batches are answered `closed`.
 ///
+/// The notes are told of each item once its answer is written.
+///
 /// The faults: Read where the reader fails, and the unfinished batch is dropped; Write where the writer fails or takes no
 /// bytes, and OutOfMemory, which may come after a commit that stands; Long where the text goes on behind 1,073,741,824 bytes.
-pub fn apply_text<R: Read + Drop, W: Write, S: Alter + Drop>(
+pub fn apply_text<R: Read + Drop, W: Write, S: Alter + Drop, N: Notes>(
     alloc: Global,
     reader: R,
     writer: &mut W,
     world: &mut World<S>,
+    notes: &mut N,
 ) -> Result<Tally, TextFault>
     // The answers of all items of the text that the reader gave are written, and nothing else.
     ensures applies { IfOk result (λ tally. (known : Bool) (stand : Stand) → StandsAt S.Store known world.old stand →
@@ -41,5 +44,5 @@ pub fn apply_text<R: Read + Drop, W: Write, S: Alter + Drop>(
     ensures stops { IfErr result (λ fault. (known : Bool) (stand : Stand) → StandsAt S.Store known world.old stand →
         StopsRun S.Store known stand (R.remaining reader) (W.contents writer.old) (W.contents writer.new) world.old world.new fault) }
 {
-    answer_all(alloc, reader, writer, world)
+    answer_all(alloc, reader, writer, world, notes)
 }

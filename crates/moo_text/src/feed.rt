@@ -11,18 +11,24 @@ use crate::header::{Header, read_header};
 use crate::line::{is_blank_line, is_end_line};
 pub use crate::lines::LONGEST_TEXT;
 use crate::lines::LineReader;
+use crate::marks::Marks;
 use crate::next::Next;
 use moo_world::{Batch, Calls, MOST_CALLS};
 use std::alloc::Global;
 use std::io::Read;
 
-/// Reads on behind the first bad line of a batch, to its end.
-fn skip_batch<R: Read>(number: u32, lines: &mut LineReader<R>) -> Result<Next, TextFault>
+/// Reads on after the first bad line of a batch, to its end.
+fn skip_batch<R: Read>(
+    number: u32,
+    bad: Vec<u8>,
+    lines: &mut LineReader<R>,
+) -> Result<Next, TextFault>
     ensures item { IfOk result (λ item. ReadsFirst (skipping number) (lines_side R.remaining lines.old) (lines_side R.remaining lines.new) item) }
     ensures falls { OnOk result (lines_room lines.new ≤ lines_room lines.old) }
     ensures ends { IfOk result (λ item. EndsAt item (lines_side R.remaining lines.new)) }
     ensures cause { IfErr result (λ fault. BreaksOff (lines_side R.remaining lines.old) (lines_side R.remaining lines.new) fault) }
 {
+    lines.marks.spoil(bad);
     loop {
         match lines.next_line()? {
             Some(line) => {
@@ -66,11 +72,11 @@ fn rest_of_batch<R: Read>(
         match call_in(alloc, &line)? {
             Some(call) => {
                 if MOST_CALLS <= calls.len() {
-                    return skip_batch(number, lines);
+                    return skip_batch(number, line, lines);
                 }
                 calls.push(call)?;
             }
-            None => return skip_batch(number, lines),
+            None => return skip_batch(number, line, lines),
         }
     }
 }
@@ -90,11 +96,12 @@ fn next_item<R: Read>(alloc: Global, lines: &mut LineReader<R>) -> Result<Next, 
             continue;
         }
         if is_end_line(&line) {
+            lines.marks.spoil(line);
             return Ok(Next::Malformed(1));
         }
         match read_header(alloc, &line)? {
             Some(header) => return rest_of_batch(alloc, header, lines),
-            None => return skip_batch(1, lines),
+            None => return skip_batch(1, line, lines),
         }
     }
 }
@@ -159,5 +166,10 @@ impl<R: Read> Feed<R> {
             return Err(fault);
         }
         result
+    }
+
+    /// Where the lines of the last item are in the text.
+    pub fn marks(&self) -> &Marks {
+        &self.lines.marks
     }
 }

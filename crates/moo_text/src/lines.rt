@@ -7,6 +7,7 @@ ghost use Rattle.std.specs.Str.Lines.{strip_carriage_return};
 use crate::ahead::Ahead;
 use crate::fault::TextFault;
 use crate::line::LONGEST_LINE;
+use crate::marks::Marks;
 use std::alloc::{AllocError, Global};
 use std::io::Read;
 
@@ -51,6 +52,7 @@ pub struct LineReader<R> {
     pub(crate) ahead: Ahead,
     room: usize,
     ended: bool,
+    pub(crate) marks: Marks,
     ghost limited: { length ahead + room ≤ 1073741824 },
 }
 
@@ -70,6 +72,7 @@ impl<R: Read> LineReader<R> {
             ahead: Ahead::new(alloc),
             room: room.min(LONGEST_TEXT),
             ended: false,
+            marks: Marks::new(alloc),
         }
     }
 
@@ -113,7 +116,7 @@ impl<R: Read> LineReader<R> {
     }
 
     /// The next line, and none at the end of the text. Of a line over the limit so much is given that it is seen to be over it.
-    pub fn next_line(&mut self) -> Result<Option<Vec<u8>>, TextFault>
+    fn read_line(&mut self) -> Result<Option<Vec<u8>>, TextFault>
         ensures line { IfOk result (λ line. ReadsLine (lines_side R.remaining self.old) (lines_side R.remaining self.new) (option_map (λ l. l.items) line)) }
         ensures falls { IfOk result (λ line. MatchOption line (lines_room self.new ≤ lines_room self.old) (λ _. lines_room self.new < lines_room self.old)) }
         ensures ends { IfOk result (λ line. IfNone line (IsOver (lines_side R.remaining self.new))) }
@@ -140,5 +143,19 @@ impl<R: Read> LineReader<R> {
                 return Ok(Some(line));
             }
         }
+    }
+
+    /// The next line, and none at the end of the text. Of a line over the limit so much is given that it is seen to be over it.
+    pub fn next_line(&mut self) -> Result<Option<Vec<u8>>, TextFault>
+        ensures line { IfOk result (λ line. ReadsLine (lines_side R.remaining self.old) (lines_side R.remaining self.new) (option_map (λ l. l.items) line)) }
+        ensures falls { IfOk result (λ line. MatchOption line (lines_room self.new ≤ lines_room self.old) (λ _. lines_room self.new < lines_room self.old)) }
+        ensures ends { IfOk result (λ line. IfNone line (IsOver (lines_side R.remaining self.new))) }
+        ensures cause { IfErr result (λ fault. BreaksOff (lines_side R.remaining self.old) (lines_side R.remaining self.new) fault) }
+    {
+        let read = self.read_line();
+        if let Ok(Some(line)) = &read {
+            self.marks.add(line);
+        }
+        read
     }
 }
