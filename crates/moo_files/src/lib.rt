@@ -2,11 +2,13 @@
 #![tactic(auto)]
 
 mod again;
+mod blank;
 mod making;
 mod opening;
 mod remains;
 
 pub use again::open_again;
+pub use blank::open_or_make;
 pub use making::{create_at, create_from};
 pub use opening::{open_at, open_from};
 pub use remains::Remains;
