@@ -3,12 +3,14 @@
 
 mod again;
 mod blank;
+mod closing;
 mod making;
 mod opening;
 mod remains;
 
 pub use again::open_again;
 pub use blank::open_or_make;
+pub use closing::close_connection;
 pub use making::{create_at, create_from};
 pub use opening::{open_at, open_from};
-pub use remains::Remains;
+pub use remains::{NotOpened, Remains};
