@@ -11,7 +11,7 @@ use Rattle.moo_store.specs.World.{store_of, CrashLeaves, StandsAt}
 use Rattle.moo_http.specs.declared.fault.ServeFault.{ServeFault}
 use Rattle.moo_http.specs.declared.service.ServiceFault.{ServiceFault}
 use Rattle.moo_http.specs.declared.service.ServiceFault.TheVariants as service
-use Rattle.moo_http.specs.Connections.{Connected, StandsAtEnd, WritesFront, SaysAll, SaysByResult}
+use Rattle.moo_http.specs.Connections.{Connected, StandsAtEnd, WritesFront, SaysByResult}
 use Rattle.moo_http.specs.Lines.{listening_line, served_line}
 use Rattle.moo_http.specs.Serves.{Served}
 use Rattle.moo_http.proofs.Serving.{appends_nothing, appends_both}
@@ -69,16 +69,3 @@ module _ (Holds : ℕ → ℕ → Type 0) (Stays : Type 0) (port count : ℕ) wh
       inr (listening_line port ++ served_line answered failed, (answered, failed, sum, holds, refl), front_behind (listening_line port) (served_line answered failed) before between after listening front)
   says_all (Err service.OutOfMemory) answered failed before between after sum holds listening served front other =
       inr (listening_line port ++ served_line answered failed, (answered, failed, sum, holds, refl), front_behind (listening_line port) (served_line answered failed) before between after listening front)
-
--- the same, of which something else holds
-module _ (Holds Others : ℕ → ℕ → Type 0) (Stays Rests : Type 0) (port count : ℕ) (then : (answered failed : ℕ) → answered + failed ≡ count → Holds answered failed → Others answered failed) (still : Stays → Rests) where
-  text_as : (text : List ℕ) → SaysAll Holds port count text → SaysAll Others port count text
-  text_as text (answered, failed, sum, holds, is) = (answered, failed, sum, then answered failed sum holds, is)
-
-  pub says_as : (r : Result (Unit {0}) ServiceFault) (before after : Option (List ℕ)) → SaysByResult Holds Stays r port count before after → SaysByResult Others Rests r port count before after
-  says_as (Ok done) before after (text, all, wrote) = (text, text_as text all, wrote)
-  says_as (Err service.Port) before after (stays, unwritten) = (still stays, unwritten)
-  says_as (Err service.Write) before after (inl (stays, front)) = inl (still stays, front)
-  says_as (Err service.Write) before after (inr (text, all, front)) = inr (text, text_as text all, front)
-  says_as (Err service.OutOfMemory) before after (inl (stays, front)) = inl (still stays, front)
-  says_as (Err service.OutOfMemory) before after (inr (text, all, front)) = inr (text, text_as text all, front)

@@ -100,7 +100,9 @@ pub fn serve_from<S: Alter + Drop, A: Arrivals, W: Write>(
 ) -> Result<(), ServiceFault>
     ensures serves { (known : Bool) (stand : Stand) → StandsAt S.Store known world.old stand → StandsAtEnd S.Store known world.new (λ end.
         ServesFrom A.hands_out A.takes_back A.Reader.remaining A.Writer.contents result port count arrivals.old stand arrivals.new end (W.contents output.old) (W.contents output.new)) }
-    ensures fault { IfErr result (λ fault. fault ≢ ServiceFault.Port) }
+    // The same of the World alone, whatever the source tells.
+    ensures moves { (known : Bool) (stand : Stand) → StandsAt S.Store known world.old stand →
+        StandsAtEnd S.Store known world.new (λ end. ServesPort result port count stand end (W.contents output.old) (W.contents output.new)) }
     ensures clean { HasCleanDisk (store_of S.Store world.new) → HasCleanDisk (store_of S.Store world.old) }
 {
     world.leaves();
