@@ -41,7 +41,7 @@ whole_front text before behind it = (length text, subst (λ bs. Appends before b
 pub no_front : (text : List ℕ) (before : Option (List ℕ)) → WritesFront text before before
 no_front text before = (0, appends_nothing before)
 
--- a front behind a text that is written whole
+-- a front after a text that is written whole
 pub front_behind : (first second : List ℕ) (before between behind : Option (List ℕ)) → Appends before between first → WritesFront second between behind → WritesFront (first ++ second) before behind
 front_behind first second before between behind all (sent, it) =
     (length first + sent, subst (λ bs. Appends before behind bs) (sym (take-append-add first second sent)) (appends_both before between behind first (take sent second) all it))

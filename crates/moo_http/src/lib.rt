@@ -18,7 +18,7 @@ mod write;
 pub use arrivals::{Arrivals, Closing, Connection};
 pub use fault::ServeFault;
 pub use laws::answers_are_defined;
-pub use listen::{Served, serve_connection, serve_on};
+pub use listen::{Served, serve_connection, serve_next, serve_on};
 pub use log::Log;
 pub use note::{Note, Route, Trouble};
 pub use serve::serve_one;

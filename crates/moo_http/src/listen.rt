@@ -58,8 +58,9 @@ pub fn serve_connection<S: Alter + Drop, R: Read, W: Write>(
     served.is_ok()
 }
 
-/// Takes the next connection, serves it, and gives it back to be closed; whether it was answered.
-fn serve_next<S: Alter + Drop, A: Arrivals>(
+/// Takes the next connection of a source, serves it, and gives it back to be closed; whether it was answered. If none can be taken that is
+/// noted, and nothing is done.
+pub fn serve_next<S: Alter + Drop, A: Arrivals>(
     alloc: Global,
     routes: &Routes,
     arrivals: &mut A,
