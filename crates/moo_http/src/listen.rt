@@ -52,10 +52,7 @@ pub fn serve_connection<S: Alter + Drop, R: Read, W: Write>(
         return false;
     }
     let served = serve_one(alloc, routes, reader, writer, world, note);
-    if let Err(fault) = served {
-        note.fails(Trouble::from(fault));
-    }
-    served.is_ok()
+    note.ends(served)
 }
 
 /// Takes the next connection of a source, serves it, and gives it back to be closed; whether it was answered. If none can be taken that is

@@ -1,7 +1,7 @@
 //! What is noted of a connection.
 
-ghost use Rattle.std.specs.Prelude.{◌≡◌, ◌≢◌, IfSome, OnNone};
-ghost use Rattle.moo_responses.specs.Responses.{response_of};
+ghost use Rattle.std.specs.Prelude.{◌≡◌, ◌≢◌, IfSome, IfNone, is_ok};
+ghost use Rattle.moo_responses.specs.Responses.{response_of, reply_response};
 
 use crate::arrivals::Closing;
 use crate::fault::ServeFault;
@@ -101,7 +101,10 @@ fn closing_after(asked: &Asked) -> Closing {
 }
 
 /// Why a reply is answered 503, if it is.
-fn trouble_of_reply(reply: &Reply) -> Option<Trouble> {
+fn trouble_of_reply(reply: &Reply) -> Option<Trouble>
+    ensures some { IfSome result (λ _. (reply_response reply.now).status ≡ 503) }
+    ensures none { IfNone result ((reply_response reply.now).status ≢ 503) }
+{
     match reply {
         Reply::NoMemory => Some(Trouble::NoMemory),
         _ => None,
@@ -111,7 +114,7 @@ fn trouble_of_reply(reply: &Reply) -> Option<Trouble> {
 /// Why an outcome is answered 503, if it is.
 fn trouble_of(outcome: &Outcome) -> Option<Trouble>
     ensures some { IfSome result (λ _. (response_of outcome.now).status ≡ 503) }
-    ensures none { OnNone result ((response_of outcome.now).status ≢ 503) }
+    ensures none { IfNone result ((response_of outcome.now).status ≢ 503) }
 {
     match outcome {
         Outcome::Closed => Some(Trouble::Closed),
@@ -149,5 +152,18 @@ impl Note {
             self.trouble = Some(trouble);
         }
         self.closing = Closing::AtOnce;
+    }
+
+    /// Notes how serving it ended; whether it was answered.
+    pub(crate) fn ends(&mut self, served: Result<(), ServeFault>) -> bool
+        ensures { result ≡ is_ok served }
+    {
+        match served {
+            Ok(()) => true,
+            Err(fault) => {
+                self.fails(Trouble::from(fault));
+                false
+            }
+        }
     }
 }

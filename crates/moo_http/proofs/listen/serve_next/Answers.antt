@@ -8,11 +8,10 @@ pub returns-clause-turn : goal.returns-clause-turn
 returns-clause-turn g c known stand at =
     let served = c.serve_connection-is_answered in
     let opened = c.in-Some.connection in
-    let closed = record { reader = served.new.reader; writer = served.new.writer; is_limited = opened.is_limited } in
     ends_as g.S.Store known served.new.world
     (λ end. Visited served.result stand end (g.A.Reader.Read.remaining opened.reader) (g.A.Reader.Read.remaining served.new.reader) (g.A.Writer.Write.contents opened.writer) (g.A.Writer.Write.contents served.new.writer))
     (λ end. Turn g.A.Arrivals.hands_out g.A.Arrivals.takes_back g.A.Reader.Read.remaining g.A.Writer.Write.contents served.result c.args.arrivals.now stand c.close.new.self end)
-    (λ end visit. inl (opened, closed, c.accept.new.self, c.in-Some.ensures, visit, c.close.ensures)) (served.ensures.visited known stand at)
+    (λ end visit. inl (opened, record { reader = served.new.reader; writer = served.new.writer; is_limited = opened.is_limited }, c.accept.new.self, c.in-Some.ensures, visit, c.close.ensures)) (served.ensures.visited known stand at)
 
 -- if no connection came the World stands as it did
 pub returns-in_default-clause-turn : goal.returns-in_default-clause-turn
