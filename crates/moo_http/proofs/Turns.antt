@@ -49,7 +49,7 @@ visited g known old was world left rest before after r answered is at served =
 
 -- a connection that is neither read nor written
 pub unvisited : (old : Stand) (left rest before : Option (List ℕ)) → Visited false old old left rest before before
-unvisited old left rest before = (Read, refl, refl)
+unvisited old left rest before = (Read, (refl, refl))
 
 -- ---- many
 
