@@ -2,6 +2,7 @@
 #![tactic(auto)]
 
 mod again;
+mod blank;
 mod closing;
 mod making;
 mod opening;
