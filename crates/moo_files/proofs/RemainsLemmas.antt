@@ -21,7 +21,8 @@ use Rattle.sqlite_wal.proofs.CreateLemmas.{begun_is_not_blank}
 use Rattle.sqlite_store.specs.Unopened.{state_of}
 use Rattle.sqlite_trees.specs.Props.{Trees-set}
 use Rattle.sqlite.specs.Tree.{Trees}
-use Rattle.sqlite.specs.Files.{IsNothing, IsEmpty, HoldsDatabase, NamesSize, SaysSums, IsCleanLeft, LeavesFiles, AreFoundIn, image_of}
+use Rattle.sqlite.specs.State.{State as Database}
+use Rattle.sqlite.specs.Files.{IsNothing, IsEmpty, HoldsDatabase, NamesSize, SaysSums, IsCleanLeft, LeavesFiles, AreFoundIn, image_of, file_state}
 use Rattle.sqlite.specs.declared.file.Leftover.{Leftover}
 use Rattle.sqlite.specs.declared.file.Leftover.TheVariants as left
 use Rattle.sqlite.proofs.FileLemmas.{is_something}
@@ -36,7 +37,8 @@ use Rattle.moo_files.specs.Contents.{HoldsTrees, HoldsSuch, HoldsNothingBut, Has
 use Rattle.moo_files.specs.declared.remains.NotOpened.{NotOpened}
 use Rattle.moo_files.specs.declared.remains.Remains.{Remains}
 use Rattle.moo_files.specs.declared.remains.Remains.TheVariants as remains
-use Rattle.moo_files.specs.Remains.{cannot_open, busy, MayStopAs, IsResealed, LeftoverKeeps, LeftoverBlank, KeepsSuch, KeepsNothingBut}
+use Rattle.moo_files.specs.Closing.{IsLeftOf, IsClosedFrom}
+use Rattle.moo_files.specs.Remains.{cannot_open, busy, IsCleanRemains, MayStopAs, IsResealed, LeftoverKeeps, LeftoverBlank, KeepsSuch, KeepsNothingBut}
 
 -- ---- the two files, as they were settled
 
@@ -225,10 +227,6 @@ module _ {T D : Type 0} {g : Ghosts D} where
   blank_more P Q goes image (remains.Leftover (left.Store now)) it = λ trees lies. empty_or P Q goes trees (it trees lies)
   blank_more P Q goes image (remains.Connection conn) it = λ trees lies. empty_or P Q goes trees (it trees lies)
 
-  -- files that weren't opened hold what they held
-  pub untouched_keeps : (P : Trees → Type 0) (image : Image) (start : T) (trees : Trees) → HoldsTrees image trees → P trees → KeepsSuch {g = g} P image (remains.Untouched start)
-  untouched_keeps P image start trees holds such = record { trees = trees; holds = holds; such = such }
-
 pub each_some : {A : Type 0} {P Q : A → Type 0} (o : Option A) → IfSome o P → ((a : A) → P a → Q a) → IfSome o Q
 each_some None it f = tt
 each_some (Some a) it f = f a it
@@ -245,3 +243,34 @@ pub stop_fault : (error : Error) (fault : StoreFault) → (error ≡ SqliteFailu
 stop_fault error fault memory other (inl is) = inl (other (λ out. let e = sym is ∙ out in cc) ∙ ap Store is)
 stop_fault error fault memory other (inr (inl is)) = inr (inl (memory is))
 stop_fault error fault memory other (inr (inr is)) = inr (inr (other (λ out. let e = sym is ∙ out in cc) ∙ ap Store is))
+
+-- ---- closing
+
+module _ {D : Type 0} {g : Ghosts D} (P : Trees → Type 0) (store : Database) where
+  closed_keeps : (image : Image) (left : Leftover D g) → IsLeftOf store left → ((trees : Trees) → store.may_leave trees → P trees) → LeftoverKeeps P image left
+  closed_keeps image (left.Files now) it keeps = λ found lies. such_more store.may_leave P keeps found (it.1 found lies)
+  closed_keeps image (left.Unopened now) it keeps = absurd it
+  closed_keeps image (left.Store now) it keeps = λ trees lies. keeps trees (it trees lies)
+
+  closed_blank : (left : Leftover D g) → IsLeftOf store left → ((trees : Trees) → store.may_leave trees → IsEmpty trees ⊎ P trees) → LeftoverBlank P left
+  closed_blank (left.Files now) it keeps = λ found lies. inr ∣ such_more store.may_leave (λ trees. IsEmpty trees ⊎ P trees) keeps found (it.1 found lies) ∣₁
+  closed_blank (left.Unopened now) it keeps = absurd it
+  closed_blank (left.Store now) it keeps = λ trees lies. keeps trees (it trees lies)
+
+module _ {T D : Type 0} {g : Ghosts D} (P : Trees → Type 0) (image : Image) where
+  -- what is true of the remains is true of them once they are closed
+  pub keeps_closed : (was now : Remains T D g) → IsClosedFrom was now → (IsCleanRemains was → KeepsSuch P image was) → IsCleanRemains now → KeepsSuch P image now
+  keeps_closed (remains.Untouched start) now is keeps = subst (λ (r : Remains T D g). IsCleanRemains r → KeepsSuch P image r) (sym is) keeps
+  keeps_closed (remains.NotOpened seal) now is keeps = subst (λ (r : Remains T D g). IsCleanRemains r → KeepsSuch P image r) (sym is) keeps
+  keeps_closed (remains.Leftover left) now is keeps = subst (λ (r : Remains T D g). IsCleanRemains r → KeepsSuch P image r) (sym is) keeps
+  keeps_closed (remains.Connection conn) now it keeps =
+      let done : IsCleanRemains {T = T} (remains.Leftover it.0) → KeepsSuch {T = T} P image (remains.Leftover it.0) = (λ clean. let leaves = it.3 clean in closed_keeps P (file_state conn) image it.0 leaves.1 (keeps leaves.0)) in
+      subst (λ (r : Remains T D g). IsCleanRemains r → KeepsSuch P image r) (sym it.1) done
+
+  pub blank_closed : (was now : Remains T D g) → IsClosedFrom was now → (IsCleanRemains was → KeepsNothingBut P image was) → IsCleanRemains now → KeepsNothingBut P image now
+  blank_closed (remains.Untouched start) now is keeps = subst (λ (r : Remains T D g). IsCleanRemains r → KeepsNothingBut P image r) (sym is) keeps
+  blank_closed (remains.NotOpened seal) now is keeps = subst (λ (r : Remains T D g). IsCleanRemains r → KeepsNothingBut P image r) (sym is) keeps
+  blank_closed (remains.Leftover left) now is keeps = subst (λ (r : Remains T D g). IsCleanRemains r → KeepsNothingBut P image r) (sym is) keeps
+  blank_closed (remains.Connection conn) now it keeps =
+      let done : IsCleanRemains {T = T} (remains.Leftover it.0) → KeepsNothingBut {T = T} P image (remains.Leftover it.0) = (λ clean. let leaves = it.3 clean in closed_blank P (file_state conn) it.0 leaves.1 (keeps leaves.0)) in
+      subst (λ (r : Remains T D g). IsCleanRemains r → KeepsNothingBut P image r) (sym it.1) done

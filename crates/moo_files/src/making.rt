@@ -43,7 +43,7 @@ fn leaves_its_state<D: Disk + Drop>(world: &World<FileStore<D>>)
     world.leaves();
 }
 
-/// `create_at`, where `T` stands for what the files hold: it is proved for all contents, and no code reads them.
+/// As `create_at`, for any contents: `T` stands for what the files hold, and no code reads it.
 pub fn create_from<T: Start>(
     rt: &HostRuntime,
     path: &str,
@@ -81,7 +81,7 @@ pub fn create_from<T: Start>(
 /// Makes a new world in a file that holds no table, or makes the file.
 ///
 /// Store with `ErrorCode::NameTaken`: it has a table, an index or a view already, and stays as it is. Store with any other code:
-/// the file can't be made or opened, is no database, is open elsewhere, or the disk failed. OutOfMemory: memory was refused. At
+/// the file can't be made or opened, isn't a database, is open elsewhere, or the disk failed. OutOfMemory: memory was refused. At
 /// each refusal the file is closed.
 pub fn create_at(rt: &HostRuntime, path: &str) -> Result<World<FileStore<File>>, StoreFault>
     ensures stands { IfOk result (λ world. StandsFor over_files true world (state_of opening_maps)) }

@@ -74,7 +74,7 @@ pub fn adopt_files<D: Disk + Drop>(
     adopt(alloc, conn)
 }
 
-/// `open_at`, where `T` stands for what the files hold: it is proved for all contents, and no code reads them.
+/// As `open_at`, for any contents: `T` stands for what the files hold, and no code reads it.
 pub fn open_from<T: Start>(
     rt: &HostRuntime,
     path: &str,
@@ -119,9 +119,9 @@ pub fn open_from<T: Start>(
 /// Opens the world that a file holds. It never makes the file. One of the first version is migrated to the second, in one
 /// transaction, once the whole world was read and found sound; nothing else is written.
 ///
-/// Store with `ErrorCode::CannotOpen`: there is no file of this name, it is none, or it can't be opened. Store with
-/// `ErrorCode::DatabaseBusy`: another handle has it open. Store with `ErrorCode::NotADatabase`: it is no database, or has other
-/// tables than ours. Any other Store: the disk failed, or what it holds is no whole database. Damaged and NewerVersion: its
+/// Store with `ErrorCode::CannotOpen`: there is no file of this name, it isn't a file, or it can't be opened. Store with
+/// `ErrorCode::DatabaseBusy`: another handle has it open. Store with `ErrorCode::NotADatabase`: it isn't a database, or has
+/// other tables than ours. Any other Store: the disk failed, or what it holds isn't a whole database. Damaged and NewerVersion: its
 /// tables show no world, and say where, or are those of a later version. OutOfMemory: memory was refused. At each refusal the
 /// file is closed; a log that an earlier run left is copied into it first.
 pub fn open_at(rt: &HostRuntime, path: &str) -> Result<World<FileStore<File>>, StoreFault>

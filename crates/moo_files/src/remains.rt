@@ -8,9 +8,11 @@ ghost use Rattle.sqlite.specs.Files.{file_state, IsOpened, IsNothing, IsEmpty};
 ghost use Rattle.moo_files.specs.Blank.{IsBlank};
 ghost use Rattle.sqlite.specs.Start.{FindsIn};
 ghost use Rattle.sqlite.specs.WalFiles.{image_at};
+ghost use Rattle.sqlite_wal.specs.Recovery.{Image};
 ghost use Rattle.moo_store.specs.Opening.{IsOfStore};
 ghost use Rattle.moo_files.specs.Contents.{HoldsTrees};
-ghost use Rattle.moo_files.specs.Remains.{cannot_open, busy, IsCleanRemains, MayStopAs, KeepsSuch, KeepsNothingBut};
+ghost use Rattle.moo_files.specs.Remains.{cannot_open, busy, IsCleanRemains, MayStopAs, KeepsSuch, StillHolds, StillHoldsTrees, KeepsNothingBut};
+ghost use Rattle.moo_world.specs.Judge.{State};
 ghost use Rattle.moo_files.specs.Closing.{IsClosedFrom};
 
 use crate::blank::open_or_make;
@@ -22,7 +24,7 @@ use sqlite_std_file::OpenError as PathError;
 use std::hash::{BuildHasher, RandomState};
 use std::io::ErrorKind;
 
-/// `sqlite` opened no file. Only this module can say so.
+/// `sqlite` couldn't open the files, and handed nothing back. Only this module can say so.
 #[derive(Drop)]
 pub struct NotOpened(());
 
@@ -30,9 +32,9 @@ pub struct NotOpened(());
 pub enum Remains<T, D: Disk> {
     /// `sqlite` wasn't asked, since there is no such file or it holds no byte. The start is unspent.
     Untouched(T),
-    /// `sqlite` opened no file.
+    /// `sqlite` couldn't open the files, and handed nothing back.
     NotOpened(NotOpened),
-    /// What `sqlite` left of files that are no database, or that it couldn't read as one.
+    /// What `sqlite` left of files that aren't a database, or that it couldn't read as one.
     Leftover(Leftover<D>),
     /// The connection, outside a transaction.
     Connection(Connection<FileStore<D>>),
@@ -53,7 +55,11 @@ impl<T: Drop, D: Disk + Drop> Drop for Remains<T, D> {
 impl<T: Drop, D: Disk + Drop> Remains<T, D> {
     /// Closes a connection, as `close_connection` does; anything else comes back as it is.
     pub fn close(self) -> Remains<T, D>
-        ensures { IsClosedFrom self result }
+        ensures closed { IsClosedFrom self result }
+        // So they hold once they are closed what they held before, and so does what a crash leaves of them.
+        ensures state { (image : Image) (s : State) → (IsCleanRemains self → StillHolds image self s) → IsCleanRemains result → StillHolds image result s }
+        ensures trees { (image : Image) (trees : Trees) → (IsCleanRemains self → StillHoldsTrees image self trees) → IsCleanRemains result → StillHoldsTrees image result trees }
+        ensures blank { (image : Image) → (IsCleanRemains self → KeepsNothingBut (λ _. ⊥) image self) → IsCleanRemains result → KeepsNothingBut (λ _. ⊥) image result }
     {
         match self {
             Remains::Connection(conn) => Remains::Leftover(close_connection(conn)),

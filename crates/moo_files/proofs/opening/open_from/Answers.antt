@@ -6,7 +6,7 @@ use Rattle.moo_store.specs.States.{LeavesState}
 use Rattle.moo_store.specs.World.{store_of}
 use Rattle.moo_files.specs.Contents.{IsKept}
 use Rattle.moo_files.proofs.ContentsLemmas.{was_clean, rests_held, shows_held, left_held, left_none, empty_other, foreign_other, kept_or_migrated, kept_state}
-use Rattle.moo_files.proofs.RemainsLemmas.{keeps_more, untouched_keeps}
+use Rattle.moo_files.proofs.RemainsLemmas.{keeps_more}
 use Rattle.moo_files.proofs.opening.open_from.Goals as goal
 
 -- ---- a World was opened
