@@ -253,7 +253,7 @@ module _ {D : Type 0} {g : Ghosts D} (P : Trees → Type 0) (store : Database) w
   closed_keeps image (left.Store now) it keeps = λ trees lies. keeps trees (it trees lies)
 
   closed_blank : (left : Leftover D g) → IsLeftOf store left → ((trees : Trees) → store.may_leave trees → IsEmpty trees ⊎ P trees) → LeftoverBlank P left
-  closed_blank (left.Files now) it keeps = λ found lies. inr ∣ such_more store.may_leave (λ trees. IsEmpty trees ⊎ P trees) keeps found (it.1 found lies) ∣₁
+  closed_blank (left.Files now) it keeps = λ found lies. inr (inr ∣ such_more store.may_leave (λ trees. IsEmpty trees ⊎ P trees) keeps found (it.1 found lies) ∣₁)
   closed_blank (left.Unopened now) it keeps = absurd it
   closed_blank (left.Store now) it keeps = λ trees lies. keeps trees (it trees lies)
 

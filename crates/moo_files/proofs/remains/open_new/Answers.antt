@@ -1,4 +1,4 @@
-use Rattle.std.proofs.Common.{◌≡◌, ℕ, List, Bool, None, cond, ap₂, subst, inl, inr}
+use Rattle.std.proofs.Common.{◌≡◌, ℕ, List, Bool, None, cond, ap₂, sym, subst, inl, inr}
 use Rattle.sqlite_disk.specs.Events.{Event, replay}
 use Rattle.sqlite_wal.specs.Recovery.{Image}
 use Rattle.sqlite.specs.Files.{HoldsDatabase, AreFoundIn, file_state, image_of}
@@ -22,7 +22,7 @@ returns-in-Ok-open_or_make-clause-found g c clean =
     elim (c.in-Ok-open_or_make.ensures.found clean) [
       | inl made ↦ inl (subst IsBlank same made.0, made.1)
       | inr found ↦ inr (record {
-        holds = λ trees held. found.holds trees (subst (λ i. HoldsDatabase i trees) (λ j. same (~ j)) held);
+        holds = λ trees held. found.holds trees (subst (λ i. HoldsDatabase i trees) (sym same) held);
         reads = subst (λ i. AreFoundIn i (file_state c.in-Ok-open_or_make.conn).committed.trees) same found.reads;
       })
     ]
