@@ -31,6 +31,7 @@ const FULL: Error = Error::SqliteFailure(ErrorCode::DiskFull);
 
 const UNSOUND: Error = Error::SqliteFailure(ErrorCode::NotADatabase);
 
+/// Why a blank database can't be made.
 fn make_error(error: OpenError) -> Error {
     match error {
         OpenError::OutOfMemory => NO_MEMORY,
@@ -40,6 +41,7 @@ fn make_error(error: OpenError) -> Error {
     }
 }
 
+/// Why the files can't be looked at.
 fn probe_error(error: sqlite_wal::Error) -> Error {
     match error {
         sqlite_wal::Error::OutOfMemory => NO_MEMORY,
@@ -118,6 +120,9 @@ fn connect_blank<D: Disk + Drop>(
 
 /// A connection to the files. If they hold no database, one without tables is made in them first, with pages of 1,024 bytes. Files
 /// that hold a database are opened as `sqlite` opens them, whatever the size of their pages.
+///
+/// Errors, each with what is left of the files: `OutOfMemory`; `NotADatabase` and `DatabaseCorrupt`: the files hold something that
+/// isn't a sound database; `DiskFull`: the disk or a limit of the format; `SystemIoFailure` and others: the disk failed.
 pub fn open_or_make<D: Disk + Drop>(
     alloc: Global,
     mut files: Files<D>,

@@ -78,7 +78,8 @@ pub fn create_from<T: Start>(
     }
 }
 
-/// Makes a new world in a file that holds no table, or makes the file.
+/// Makes a new world in a file that holds no table, or makes the file. A file that it makes, or that held no database, has pages of
+/// 1,024 bytes.
 ///
 /// Store with `ErrorCode::NameTaken`: it has a table, an index or a view already, and stays as it is. Store with any other code:
 /// the file can't be made or opened, isn't a database, is open elsewhere, or the disk failed. OutOfMemory: memory was refused. At
