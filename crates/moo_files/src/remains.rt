@@ -155,9 +155,9 @@ pub(crate) fn open_new<T: Start>(
         Err(fault) => return Err((fault, remains_of(None))),
     };
     match open_or_make(rt.alloc(), files, options) {
-        Ok(conn) => {
-            leave_commit(&conn);
-            Ok(conn)
+        Ok(made) => {
+            leave_commit(&made);
+            Ok(made)
         }
         Err((error, left)) => Err((open_fault(error), Remains::Leftover(left))),
     }

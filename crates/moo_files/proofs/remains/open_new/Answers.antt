@@ -23,7 +23,7 @@ returns-in-Ok-open_or_make-clause-found g c clean =
       | inl made ↦ inl (subst IsBlank same made.0, made.1)
       | inr found ↦ inr (record {
         holds = λ trees held. found.holds trees (subst (λ i. HoldsDatabase i trees) (sym same) held);
-        reads = subst (λ i. AreFoundIn i (file_state c.in-Ok-open_or_make.conn).committed.trees) same found.reads;
+        reads = subst (λ i. AreFoundIn i (file_state c.in-Ok-open_or_make.made).committed.trees) same found.reads;
       })
     ]
 
