@@ -33,7 +33,7 @@ FORM = r"world\.db-\d{8}T\d{6}\.\d{6}Z-seq\d+"
 
 
 def children(file):
-    """What lies under #4 in the world of a file."""
+    """What is under #4 in the world of a file."""
     _, reply = said("ask", file, "-", text="batch as #3\nchildren(#4)\nend\n")
     return moo_client.read(reply.splitlines()[1])
 

@@ -30,7 +30,7 @@ class Service:
         return self.first == f"listening 127.0.0.1:{self.port}\n"
 
     def end(self):
-        """Its status, and what it wrote behind its first line."""
+        """Its status, and what it wrote after its first line."""
         output, _ = self.process.communicate(timeout=PATIENCE)
         return self.process.returncode, output.decode()
 
