@@ -210,7 +210,7 @@ class Edits:
 
 
 def value_end(line, at):
-    """Where the literal ends that begins there, or None."""
+    """The end of the literal that begins there, or None."""
     plain = re.compile(rb'-?\d+|#-?\d+|E_[A-Z]+|"(?:[^"\\]|\\.)*"', re.S).match(line, at)
     if plain:
         return plain.end()
