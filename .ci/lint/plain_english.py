@@ -10,6 +10,7 @@ import io
 import re
 import sys
 import tokenize
+from collections import defaultdict
 from pathlib import Path
 
 TOP = Path(__file__).resolve().parents[2]
@@ -170,9 +171,12 @@ def sources():
 
 
 def cases():
-    """The name of each case, and what is wrong with it."""
+    """The name of each case, a folder or a page at the top, and what is wrong with it."""
+    folders = defaultdict(list)
     for file in pages() + (sources() if CRATES_ARE_TESTED else []):
-        yield str(file.relative_to(TOP)), list(slips_of(file))
+        name = file.relative_to(TOP)
+        folders[name.parts[0]] += [f"{name}: {slip}" for slip in slips_of(file)]
+    yield from folders.items()
     if not CRATES_ARE_TESTED:
         counts = [sum(1 for _ in slips_of(file)) for file in sources()]
         print(f"plain_english: {sum(counts)} slips in {sum(map(bool, counts))} files of the crates, which aren't tested yet", flush=True)
