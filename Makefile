@@ -18,7 +18,7 @@ build:
 
 PREFIX ?= /usr/local
 
-# the program, its manual, its tools and units, under PREFIX; DESTDIR stands before that. MOO is another program than that of these sources
+# the program, its manual, its tools and units, under PREFIX; DESTDIR is put before it. MOO is another program than that of these sources
 install:
 	@MOO="$(MOO)" packaging/install "$(PREFIX)" "$(DESTDIR)"
 

@@ -22,7 +22,7 @@ MANY = 1_000_000
 HEIRS = range(5, 5 + CALLS)
 FIRST = 5 + 2 * CALLS
 
-# Each call with what is asked of object x, and of an heir y of #4. The order matters: what comes first makes what comes behind it.
+# Each call with what is asked of object x, and of an heir y of #4. The order matters: what comes first makes what comes after it.
 SECTIONS = (
     ("valid", "valid(#{x})"),
     ("parent", "parent(#{x})"),
@@ -100,7 +100,7 @@ def by_thousands(calls):
 
 
 def parent(number):
-    """Each object behind the heirs has ten children, the first ten of them hanging from #1."""
+    """Each object after the heirs has ten children, the first ten of them hanging from #1."""
     behind = number - FIRST
     return 1 if behind < 10 else FIRST + behind // 10 - 1
 

@@ -112,7 +112,7 @@ class Edits:
         return self.with_rows(file, lambda c: {table: sorted(c.execute(f"select * from {table}"), key=repr) for table in TABLES})
 
     def cell(self, chance, table, column):
-        """A value for a cell, and how it stands in a statement."""
+        """A value for a cell, and how it is written in a statement."""
         like = chance.choice(chance.choice(list(self.rows.values())) or [(0,)])
         if (table, column) not in TEXTS:
             near = chance.choice([value for value in like if isinstance(value, int)] or [0])
@@ -187,7 +187,7 @@ class Edits:
         if self.rows_of(self.copy) != rows:
             raise Violation("check or dump changed a row")
         replied = self.run("apply", self.copy, "-", text=CREATE)
-        # A wizard who is none any more, an object that isn't there, and the last number are refusals.
+        # Who isn't a wizard any more, an object that isn't there, and the last number are refusals.
         if replied[0] or not re.fullmatch(rb"accepted %d\n0\nend\n|refused 1 E_\w+\n|full 0\n" % (seq + 1), replied[1]):
             raise Violation(f"a batch: {replied}")
         behind = seq + (1 if replied[1].startswith(b"accepted") else 0)
@@ -210,7 +210,7 @@ class Edits:
 
 
 def value_end(line, at):
-    """Where the literal ends that begins there, or None."""
+    """The end of the literal that begins there, or None."""
     plain = re.compile(rb'-?\d+|#-?\d+|E_[A-Z]+|"(?:[^"\\]|\\.)*"', re.S).match(line, at)
     if plain:
         return plain.end()

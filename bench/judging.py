@@ -5,7 +5,7 @@
 Each PROGRAM answers texts of `ask`, which commits nothing and leaves the world as it is. In worlds of N objects under #1 the calls
 `get`, `set` and `create` are asked 1,000 times each, a batch a call, on objects far from each other. Then comes a change of parent: #4 defines a,
 #5 is under it with N children, #6 defines c, and `chparent(#5, #6)` is asked; of #5 and each child a slot goes and a slot comes.
-Times are in microseconds a batch: the median of nine runs, with the least behind it in brackets.
+Times are in microseconds a batch: the median of nine runs, with the least after it in brackets.
 """
 import argparse
 import os

@@ -3,7 +3,7 @@
     python3 bench/kill.py PROGRAM ROUNDS [SEED]
 
 Each round makes a world in a new file, feeds `apply FILE -` with batches that don't end, kills it with signal 9 at a random moment (of
-its start, or behind its first reply) and opens the file by `check` and `dump`. The number has to be that of the last `accepted S` that
+its start, or after its first reply) and opens the file by `check` and `dump`. The number has to be that of the last `accepted S` that
 was printed, or one more, and the dump has to be the world of that number. It ends with status 1 at the first round that shows anything
 else.
 """

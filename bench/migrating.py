@@ -1,4 +1,4 @@
-"""How long a file of version 1 takes to be opened, which takes it over to version 2, beside opening the file that this leaves.
+"""How long a file of version 1 takes to be opened, which migrates it to version 2, beside opening the file that this leaves.
 
     python3 migrating.py [ROWS [ROUNDS [FOLDER]]]
 

@@ -5,7 +5,7 @@
 Makes a file of ROWS rows that is a sound world, by the machine's own SQLite, and in each round takes in turn: `moo check FILE` (the
 program is $MOO, or crates/moo/out/moo), `PRAGMA integrity_check`, and a read of all rows of its tables in the order of their
 keys. Each is a process of its own. Prints the median of the times, and the greatest memory of each. The time of `moo` is that of
-the whole process; that of SQLite begins where Python has started.
+the whole process; that of SQLite begins after Python has started.
 
 SHAPE is `broad` (200 classes under #1, the objects under these, and 7 slots on each object) or `wide` (one object that defines
 half of the rows as properties).
@@ -85,7 +85,7 @@ def wide(rows):
 
 
 def numbered(slots):
-    """The rows of slots in version 2, where r is 4, w 2 and c 1."""
+    """The rows of slots in version 2, in which r is 4, w 2 and c 1."""
     sums = {bits: sum({"r": 4, "w": 2, "c": 1}[letter] for letter in bits) for bits in {row[3] for row in slots}}
     return [(*row[:3], sums[row[3]], row[4]) for row in slots]
 
@@ -144,7 +144,7 @@ def measured(command):
 
 
 def timed_within(command):
-    """The same of a process that writes its own time behind what it says."""
+    """The same of a process that writes its own time after what it says."""
     _, memory, line = measured(command)
     said, taken = line.rsplit(" ", 1)
     return float(taken), memory, said

@@ -3,7 +3,7 @@
     python3 bench/serving.py PROGRAM [COUNT [CLIENTS [ROUNDS [FOLDER]]]]
 
 In each round, on new worlds: COUNT times GET /seq, and COUNT times POST /batch of one `set` of a name, by one client and by CLIENTS at
-once, each a process; and the same batches in one run of `apply`. The worlds stand in files of FOLDER and in memory. A client is a loop
+once, each a process; and the same batches in one run of `apply`. The worlds are in files of FOLDER and in memory. A client is a loop
 in Python that connects, sends, and reads to the end, so its own time is in each figure. Prints the median of the rounds, with the least
 and the greatest, in requests a second.
 """

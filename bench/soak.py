@@ -7,7 +7,7 @@ it by `apply`, and is killed with signal 9 at a random moment. The batches are r
 clients break off. Behind each kill:
 
 - `check` has to find the world whole, at the number of the last batch that was acknowledged, or one more;
-- `dump` has to be that of a second file, on which the acknowledged batches were run without a kill, in their order; where one more is
+- `dump` has to be that of a second file, on which the acknowledged batches were run without a kill, in their order; if one more is
   there, that of one which was under way;
 - each acknowledged answer has to be what that second run answers.
 
@@ -195,7 +195,7 @@ class Soak:
         return self.told(printed, sent)
 
     def told(self, printed, sent):
-        """Which batches were acknowledged by what was printed, and the one behind the last whole reply."""
+        """Which batches were acknowledged by what was printed, and the one after the last whole reply."""
         done, place = [], 0
         for reply in re.finditer(r"^(?:accepted (\d+)\n((?:.+\n)*?)end|refused \d+ E_\w+|full \d+)\n", printed, re.M):
             if reply[1]:

@@ -11,8 +11,8 @@ that name FILE or FILE-wal, or an open file of these. Then, for each of them in 
 
 Behind each run the program, now without faults, has to open the world: `check` has to say the number of the last batch that was
 acknowledged, or one more, and `dump` has to be the dump of the world of that number. The program itself has to end by a status of its
-own, and 0 only where it acknowledged all four. It prints how many runs there were, by the name of the call, and ends with status 1
-where one showed anything else.
+own, and 0 only if it acknowledged all four. It prints how many runs there were, by the name of the call, and ends with status 1
+if one showed anything else.
 """
 import collections
 import os
@@ -79,7 +79,7 @@ class Trial:
         return found
 
     def faulty(self, name, fault):
-        """What a run with a fault comes to: what is wrong, or nothing; and whether one batch more is there than was acknowledged."""
+        """What came of a run with a fault: what is wrong, or nothing; and whether one batch more is there than was acknowledged."""
         room = self.fresh()
         inject = ["strace", "-qq", "-o", "/dev/null", "-e", f"trace={name}", "-e", f"inject={name}:{fault}"]
         ran = self.run(["apply", WORLD, "-"], room, text(len(BATCHES)), inject)

@@ -33,7 +33,7 @@ FORM = r"world\.db-\d{8}T\d{6}\.\d{6}Z-seq\d+"
 
 
 def children(file):
-    """What lies under #4 in the world of a file."""
+    """What is under #4 in the world of a file."""
     _, reply = said("ask", file, "-", text="batch as #3\nchildren(#4)\nend\n")
     return moo_client.read(reply.splitlines()[1])
 
@@ -180,7 +180,7 @@ class AtRest(Copies):
         self.assert_not_copied("the copy is not whole: moo: damaged")
 
     def test_the_copy_of_version_1_is_of_version_1(self):
-        """What checks the copy takes over what it opens; so that is no part of the copy."""
+        """What checks the copy takes over what it opens; so that is not a part of the copy."""
         for end in ("", "-wal"):
             self.file.with_name("world.db" + end).unlink()
         self.assertEqual(said("init", self.file)[0], 0)

@@ -143,7 +143,7 @@ IN_ORDER = [
     ("damaged clear-definer #7 p3", "update slot2 set value = '' where object = 7 and prop = 3"),
     ("damaged strange-verb #9 v1", "insert into verb values (9, 1, 'look', 3, 'rx', 'this', 'none', 'none')"),
 ]
-# What is told where several rows have the same kind of damage, or an edit has something of several kinds.
+# What is told if several rows have the same kind of damage, or an edit has something of several kinds.
 SEVERAL = [
     ("bad-cell #2", "update object set player = 2 where n in (2, 7)", "update prop set name = ''", "update slot2 set bits = 8", "update verb set bits = 'c'"),
     ("bad-cell p1", "update prop set name = ''", "update slot2 set bits = 8", "update verb set bits = 'c'"),

@@ -97,7 +97,7 @@ def text_of(calls, programmer="#3"):
 
 
 def new_file(file, calls):
-    """Makes a file anew, with the world behind these calls, which have to be accepted."""
+    """Makes a file anew, with the world after these calls, which have to be accepted."""
     for end in ("", "-wal"):
         if os.path.exists(file + end):
             os.remove(file + end)
@@ -123,7 +123,7 @@ def rows(file):
 
 
 def made(file, calls):
-    """A file with the world behind these calls, in another spelling; its rows."""
+    """A file with the world after these calls, in another spelling; its rows."""
     new_file(file, calls)
     edit(file, *OTHER_SPELLING)
     return rows(file)
@@ -159,7 +159,7 @@ UNCHANGED = [
 
 
 def dumped(calls):
-    """What the world behind some calls is dumped as."""
+    """What the world after some calls is dumped as."""
     new_file("dump.db", calls)
     return run_bytes("dump", "dump.db")[1].decode()
 
@@ -259,7 +259,7 @@ class Dumps(ProgramTest):
 
     def test_dumps(self):
         self.case("a new world is dumped", run_bytes("dump", ":memory:"), (0, f"seq 0\ntop #3\n{OPENING}end\n".encode()))
-        # The slots of #6 stand by definers up its chain there, which is not the order of their numbers.
+        # The slots of #6 are listed by definers up its chain there, which is not the order of their numbers.
         self.case("slots are dumped by definers up the chain", dumped(SMALL_TREE), TREE)
         self.case("verbs are dumped in the order of the directory", VERB_LINES in dumped(VERBS), True)
         slots = [line.split(", ")[1] for line in dumped(CHAIN).split("\n") if line.startswith("slot {#6,")]

@@ -205,7 +205,7 @@ class Units(InFolder):
         self.assertEqual(self.asked(), "")
 
     def test_the_watch_restarts_a_service_whose_disk_was_full(self):
-        """A limit on the size of files stands for the full disk."""
+        """A limit on the size of files plays the full disk."""
         world = self.room / "world.db"
         ran(self.prefix / "bin/moo", "init", world)
         service, port = self.serve(world, "trap '' XFSZ; ulimit -f 1;")

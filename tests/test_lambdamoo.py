@@ -761,7 +761,7 @@ class Scripts(Temporary):
         self.assertIn("verbs without a program: 2,", said)
 
     def test_the_session(self):
-        """The commands of docs/LAMBDAMOO.md print what stands there."""
+        """The commands of docs/LAMBDAMOO.md print what is written there."""
         document = (TOP / "docs/LAMBDAMOO.md").read_text()
         session = document[document.index("## A session") : document.index("## Bringing a MOO in")]
         lines = [line[4:] for line in session.splitlines() if line.startswith("    ")]

@@ -8,7 +8,7 @@ from tests.support.service import Service, answer, post
 
 LONGEST = 65535
 
-# What a value is written as, and printed as; None where it is none.
+# What a value is written as, and printed as; None if it isn't a value.
 BLANKS = [
     ("blanks may stand round a value", "\t 5 ", "5"),
     ("and in a list", ' { \t1 ,\t#-1 , "a b"\t,E_Args, { \t}\t}', '{1, #-1, "a b", E_ARGS, {}}'),
@@ -40,7 +40,7 @@ LENGTHS = [
 
 ARGS = '{"any", "in", "this"}'
 
-# Calls on a new world, and their answers. A verb's names stand between spaces, and a tab is none.
+# Calls on a new world, and their answers. A verb's names are between spaces, and a tab isn't one.
 TABS = [
     (
         "a tab is a letter of a verb's name",
@@ -77,7 +77,7 @@ def string_with(byte):
 
 
 def bytes_told(front, are_strings):
-    """For each byte a batch that sets a string of what stands before it and itself, and what is replied to all of them."""
+    """For each byte a batch that sets a string of what comes before it and itself, and what is replied to all of them."""
     texts, replies = [b'batch as #3\nadd_property(#1, "v", 0, {#3, ""})\nend\n'], [b"accepted 1\n0\nend\n"]
     count = 1
     for byte in range(256):

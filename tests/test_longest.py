@@ -12,7 +12,7 @@ LONGEST = 1073741824
 
 
 def piped(front, filling, length):
-    """The program on a text of so many bytes: a front, and behind it the filling as often as there is room."""
+    """The program on a text of so many bytes: a front, and after it the filling as often as there is room."""
     ran = start([MOO], stdin=subprocess.PIPE, stdout=subprocess.PIPE, stderr=subprocess.DEVNULL, bufsize=0)
     chunk, left = filling * (1048576 // len(filling)), length - len(front)
     try:

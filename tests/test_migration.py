@@ -32,7 +32,7 @@ SPELLED = [
 ]
 
 
-# A value as it is written, and as it is printed; none where the slot is clear.
+# A value as it is written, and as it is printed; none if the slot is clear.
 VALUES = [
     ("", None), ("0", "0"), (" 007", "7"), ("-0", "0"), ("2147483648", "2147483648"), ("9223372036854775807", "9223372036854775807"),
     ("-9223372036854775808", "-9223372036854775808"), ("#-1", "#-1"), ("e_perm", "E_PERM"), ('"a\\"b"', '"a\\"b"'), ("{1,{ } }", "{1, {}}"),
@@ -58,7 +58,7 @@ REFUSED = [
 
 
 def no_room(file, room):
-    """The status of a check and what it says, where no file may be written past so many bytes."""
+    """The status of a check and what it says, if no file may be written past so many bytes."""
     def limited():
         resource.setrlimit(resource.RLIMIT_FSIZE, (room, room))
 
@@ -239,7 +239,7 @@ class Migration(ProgramTest):
         self.case(f"behind each of {rounds} kills it is the same world", wrong, [])
 
     def test_short_of_memory(self):
-        """Where memory is refused the file is as it was, or it was taken over before; it opens again all the same."""
+        """If memory is refused the file is as it was, or it was migrated before; it opens again all the same."""
         rows = descendants(3000)
         make_first("large.db", rows)
         whole = (0, f"ok seq 9 objects {len(rows['object'])}\n")

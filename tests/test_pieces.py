@@ -63,7 +63,7 @@ TEXTS = [
     ("what is no ASCII", 0, "batch as #3\nget(#1, \"n\u00e4me\")\nend\n", "malformed 2\n"),
     ("all of these at once", 0, "\nbatch as #3\r\nmax_object()\r\nend\nx\nend\nbatch as #2 at 1\nend", accepted(1, "#3") + "malformed 1\n" + accepted(2)),
 ]
-# What is shown, the front of a text, what stands in it so many times, its back, and the replies.
+# What is shown, the front of a text, what it repeats so many times, its back, and the replies.
 LIMITS = [
     ("a call of 262,144 bytes", "batch as #3\nmax_object(", " ", 262132, ")\nend\n", accepted(1, "#3")),
     ("and a carriage return", "batch as #3\nmax_object(", " ", 262132, ")\r\nend\n", accepted(1, "#3")),
@@ -115,7 +115,7 @@ def written(pieces, stream, *words):
 
 
 def in_pieces(pieces, *words):
-    """The status of the program, and what it writes, where each of its readings gives one piece."""
+    """The status of the program, and what it writes, if each of its readings gives one piece."""
     ours, ran = written(pieces, socket.SOCK_SEQPACKET, *words)
     ours.close()
     output, _ = ran.communicate(timeout=PATIENCE)
@@ -134,7 +134,7 @@ def file_at(seq):
 
 
 def heard(stream, length):
-    """So many bytes of a stream, or fewer where it ends or nothing more comes in time."""
+    """So many bytes of a stream, or fewer if it ends or nothing more comes in time."""
     came = b""
     while len(came) < length and select.select([stream], [], [], PATIENCE / 4)[0]:
         more = os.read(stream.fileno(), length - len(came))
@@ -145,7 +145,7 @@ def heard(stream, length):
 
 
 def told_of_front(count):
-    """What a text has that is cut off behind so many bytes: its first batch ends with byte 15, its second with byte 53."""
+    """What a text has that is cut off after so many bytes: its first batch ends with byte 15, its second with byte 53."""
     if count in (0, 15, 16, 17):
         return accepted(1) if count else ""
     if count < 15:
@@ -268,7 +268,7 @@ class Pieces(ProgramTest):
         self.case("with more memory it is done", run("apply", file, "-", text=batches[1][0]), (0, accepted(3, "0", *[f'"{value}"'] * 999)))
 
     def test_calls(self):
-        """A line alone, in a text and over HTTP, where blank lines aren't skipped."""
+        """A line alone, in a text and over HTTP, which skips no blank lines."""
         service = Service(MOO, ":memory:", len(CALLS) + len(NO_CALLS) + len(NO_OBJECTS) + 1)
         for line, came in CALLS:
             refused = came.startswith("E_")
@@ -288,5 +288,5 @@ class Pieces(ProgramTest):
         self.case("the same over HTTP", asked(service, "#-7", ["max_object()"]), refused)
         for word in NO_OBJECTS:
             self.case(f"no programmer is {word!r} over HTTP", asked(service, word, []), answer("400 Bad Request", '{"error":"bad request"}'))
-            # In a text blanks may stand round the word.
+            # In a text blanks may surround the word.
             self.case(f"the word {word!r} as the programmer of a text", run(text=text_of([], word)), (0, accepted(1) if word.strip() == "#7" else "malformed 1\n"))

@@ -43,7 +43,7 @@ def unavailable(word):
     return answer("503 Service Unavailable", f'{{"error":"{word}"}}').decode()
 
 
-# Where a file is opened and no answer has come.
+# If a file is opened and no answer has come.
 REFUSED = {(NO_MEMORY, 4): {0}, (STORE, 1): {0}}
 
 
@@ -53,7 +53,7 @@ def fronts(whole, worlds):
 
 
 def killed(first, ends):
-    """A front of the replies where the program was killed; each batch that was acknowledged is there, and at most one more."""
+    """A front of the replies if the program was killed; each batch that was acknowledged is there, and at most one more."""
 
     def is_end(written, status):
         if status != -9 or not ends.startswith(written):

@@ -24,7 +24,7 @@ SHAPES = [
     ("which tells in what is made", rb'{"as":"#2","as":"#3","calls":["create(#1)","get(#12,\"owner\")"]}', accepted(14, "#12", "#3")),
     ("of two numbers and two arrays the last", rb'{"as":"#3","at":1,"at":null,"calls":[1],"calls":[]}', accepted(15)),
     ("a last number that is none", rb'{"as":"#3","at":null,"at":1.5,"calls":[]}', BAD_REQUEST),
-    # A text that is no call, by its number.
+    # A text that isn't a call, by its number.
     ("an empty text", rb'{"as":"#3","calls":[""]}', malformed(1)),
     ("the second is the first that is none", rb'{"as":"#3","calls":["max_object()","end","creat(#1)"]}', malformed(2)),
     ("more behind the third", rb'{"as":"#3","calls":["max_object()","max_object()","create(#1) x"]}', malformed(3)),
@@ -32,7 +32,7 @@ SHAPES = [
     ("another shape, before a text that is no call", rb'{"as":"#3","calls":[""],"at":1.5}', BAD_REQUEST),
 ]
 
-# Where it could act, a body would: so that a wrong reading of its shape shows in the number.
+# A body that could act would: so a wrong reading of its shape shows in the number.
 OTHERS = [
     ("no bytes", b""),
     ("a blank", b" "),

@@ -13,7 +13,7 @@ PIECES = (1, 7, 4096)
 
 
 def world_of(batches, connections):
-    """The service of a new world behind so many batches, for so many further connections."""
+    """The service of a new world after so many batches, for so many further connections."""
     service = Service(MOO, ":memory:", batches + connections)
     for _ in range(batches):
         service.ask(NO_CALLS)
@@ -47,7 +47,7 @@ SILENT = [
 ]
 
 
-# More stands behind these than is wanted. Bytes that the service hasn't read are why the system resets the connection.
+# More follows these than is wanted. Bytes that the service hasn't read are why the system resets the connection.
 LEFT = [
     ("a second request behind a body", posted("/ask", b'{"as":"#3","at":7,"calls":["create(#1)"]}' + b" " * 3000) + SEQ_QUESTION, accepted(7, "#4")),
     ("one byte behind a body", posted("/ask", b'{"as":"#3","at":7,"calls":["create(#1)"]}' + b" " * 3000) + b"x", accepted(7, "#4")),
@@ -73,7 +73,7 @@ def front_of(peer, size):
 
 class RequestCuts(RequestTest):
     def test_cuts(self):
-        """The batch cut at each length; behind each cut the number is asked for."""
+        """The batch cut at each length; after each cut the number is asked for."""
         service = Service(MOO, ":memory:", 2 * len(BATCH) + 2)
         came = [(said(service, BATCH[:end]), said(service, SEQ_QUESTION)) for end in range(len(BATCH))]
         self.case("none of it has no answer", came[0], (NOTHING, seq(0)))
@@ -96,7 +96,7 @@ class RequestCuts(RequestTest):
             self.cuts_in_pieces(most)
 
     def test_resets(self):
-        """Peers that reset at each length of the batch; behind each the next client asks for the number."""
+        """Peers that reset at each length of the batch; after each the next client asks for the number."""
         service = Service(MOO, ":memory:", 2 * len(BATCH) + 2)
         rows = []
         for end in range(len(BATCH)):
@@ -183,12 +183,12 @@ class RequestCuts(RequestTest):
         self.case("each of the four is counted", (status, bool(counts) and int(counts[1]) + int(counts[2])), (0, 4))
 
     def test_half_heard(self):
-        """Peers that reset behind so many bytes of a long answer."""
+        """Peers that reset after so many bytes of a long answer."""
         for size in (0, 1, 116, 65536):
             service = Service(MOO, ":memory:", 2)
             peer = service.peer()
             peer.sendall(LONG_BATCH)
-            # Where its answer begins, the batch has been read: a reset takes none of it away.
+            # Once its answer begins, the batch has been read: a reset takes none of it away.
             begun = peer.recv(1, socket.MSG_PEEK)
             self.case(f"a long answer of which {size} bytes are read", (begun, front_of(peer, size)), (b"H", LONG_ANSWER[:size]))
             reset(peer)

@@ -40,12 +40,12 @@ ORDER = [
     ("HEAD of an object", b"HEAD /object/4 HTTP/1.1\r\n\r\n", allow("GET", is_head=True)),
     ("HEAD where POST is wanted", b"HEAD /batch HTTP/1.1\r\n\r\n", allow("POST", is_head=True)),
     ("a method that begins with HEAD", b"HEADS /seq HTTP/1.1\r\n\r\n", allow("GET")),
-    # The query is no part of the path.
+    # The query isn't a part of the path.
     ("an empty query", b"GET /seq? HTTP/1.1\r\n\r\n", seq(1)),
     ("a query that is a path", b"GET /seq?/object/4 HTTP/1.1\r\n\r\n", seq(1)),
     ("a query alone", b"GET ?/seq HTTP/1.1\r\n\r\n", NOT_FOUND),
     ("a query behind an object", b"GET /object/4?x=1 HTTP/1.1\r\n\r\n", FOUR),
-    # A body's lines aren't looked at where there is no body.
+    # A body's lines aren't looked at if there is no body.
     ("a GET with lines of a bad body", b"GET /seq HTTP/1.1\r\ncontent-length: x\r\ntransfer-encoding: chunked\r\n\r\n", seq(1)),
     ("a GET with the length of a body that isn't there", b"GET /seq HTTP/1.0\r\ncontent-length: 7\r\n\r\n", seq(1)),
     ("more behind a GET", b"GET /object/4 HTTP/1.1\r\n\r\nmore", FOUR),
@@ -88,7 +88,7 @@ LENGTHS = [
     ("the right one", b"content-length: 2\r\n", BAD_REQUEST),
 ]
 
-# A batch that acts, where its head is taken; behind it stands its body, of 34 bytes.
+# A batch that acts, if its head is taken; after it comes its body, of 34 bytes.
 CREATE = b'{"as":"#3","calls":["create(#1)"]}'
 ACTING_LENGTHS = [
     ("the same twice", b"content-length: 34\r\ncontent-length: 34\r\n", BAD_REQUEST),

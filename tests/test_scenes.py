@@ -1,4 +1,4 @@
-"""Worked batches and what they come to: each scene of tests/scenes, played as a text and over HTTP."""
+"""Worked batches and their replies: each scene of tests/scenes, played as a text and over HTTP."""
 import itertools
 from pathlib import Path
 
@@ -22,7 +22,7 @@ def new_world(scene):
 
 
 def play(scene, take):
-    """What each stretch of a scene comes to in turn, by what takes a world and batches."""
+    """What each stretch of a scene is answered in turn, by what takes a world and batches."""
     world = new_world(scene)
     came = []
     for batches, change in scene.stretches():

@@ -30,7 +30,7 @@ def type_of(table, column):
 
 
 def places(file):
-    """Where the rows of the tables with indexes stand, by their keys: a row that is written again gets another place."""
+    """The places of the rows of the tables with indexes, by their keys: a row that is written again gets another place."""
     slots, verbs = read(file, "select object, prop, rowid from slot2", "select object, id, rowid from verb")
     return {("slot2", *row[:2]): row[2] for row in slots} | {("verb", *row[:2]): row[2] for row in verbs}
 
@@ -91,7 +91,7 @@ STRANGE = [
     ("with a table of another name", ["alter table verb rename to verbs"]),
     ("with the tables of the first version and one of the second", ["drop table petition", "drop table petition_head"]),
 ]
-# The table of verbs and those behind it are made anew, with something else in its text.
+# The table of verbs and those after it are made anew, with something else in its text.
 OTHER_TEXTS = [
     ("which doesn't hold to its types", ") STRICT", ")"),
     ("a column of which may be empty", "names TEXT NOT NULL", "names TEXT"),
@@ -203,7 +203,7 @@ class Tables(ProgramTest):
         self.case("and are a whole world", run("check", file), (0, "ok seq 4 objects 2007\n"))
 
     def test_spellings(self):
-        """Another spelling of a cell is no damage. It stays until its row changes, and then the row is written as moo spells it."""
+        """Another spelling of a cell isn't damage. It stays until its row changes, and then the row is written as moo spells it."""
         file = copy_of("verbs")
         dumped = run("dump", file)[1].replace(object_line(thing(7)), object_line(thing(7, accept="{#4, #5}")))
         edit(file, *SPELLINGS)

@@ -77,7 +77,7 @@ TEXTS = [
     ("one of 262,145 is none", b"batch as #3\nend" + b" " * 262142 + b"\nend\n", b"malformed 2\n"),
 ]
 
-# A call's line on a new world: a text has its reply, and HTTP the same word. None where the line is no call.
+# A call's line on a new world: a text has its reply, and HTTP the same word. None if the line isn't a call.
 CALLS = [
     ("a call without arguments", "max_object()", "#3"),
     ("a call with two, and blanks", '\tCreate ( #1 ,{1, {"a)"}} ) ', "E_TYPE"),
@@ -115,7 +115,7 @@ def requests(bodies):
     return came
 
 
-# Words, the status, and what is written; None where it is any text.
+# Words, the status, and what is written; None if it is any text.
 WORDS = [
     ("init :memory:", 0, b"created\n"),
     ("check :memory:", 0, b"ok seq 0 objects 4\n"),
@@ -159,7 +159,7 @@ class Texts(ProgramTest):
         self.case("behind a reader that fails stand the replies before it", (ran.returncode, ran.stdout), (1, EMPTY + b"moo: read fault\n"))
 
     def test_long_texts(self):
-        """Files of the greatest length, and one byte longer, whose bytes behind their front are holes."""
+        """Files of the greatest length, and one byte longer, whose bytes after their front are holes."""
         for name, front, over, wanted in [
             ("a text of 1,073,741,824 bytes", b"end\n", 0, (0, b"malformed 1\ntruncated\n")),
             ("one byte more", b"end\n", 1, (1, b"malformed 1\nmoo: input too long\n")),

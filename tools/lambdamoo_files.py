@@ -421,7 +421,7 @@ class Database:
                 self.plain(kind)
 
     def plain(self, kind):
-        """The literal of a value that is no list and not clear."""
+        """The literal of a value that isn't a list, and isn't clear."""
         lines = self.lines
         if kind == INTEGER:
             return str(lines.integer(LEAST_INTEGER, GREATEST_INTEGER, "an integer"))

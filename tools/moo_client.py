@@ -13,7 +13,7 @@
 A call is a text, as on a line of a batch, or its name and what it is given. Values are integers, strings, lists, `Obj(4)` for #4 and
 `ErrorValue("E_PERM")` for an error. Each answer comes back as such a value.
 
-**A batch acts once, though connections break.** `run` first asks what the batch would come to, and with that it learns the number of the
+**A batch acts once, though connections break.** `run` first asks what the batch would answer, and with that it learns the number of the
 world. Then it sends the batch with that number in `at`, again and again until an answer comes. If the world has moved on in between,
 either the batch has acted and its answer was lost, or somebody else's batch came first. These tell which:
 
@@ -65,7 +65,7 @@ class ErrorValue:
 
 
 class MooError(Exception):
-    """What any answer but a good one comes to."""
+    """What any answer but a good one raises."""
 
 
 class Refused(MooError):
@@ -189,7 +189,7 @@ class NoService(Exception):
 
 
 def written(value):
-    """The text of a value, as it stands in a batch."""
+    """The text of a value, as it is in a batch."""
     if isinstance(value, (Obj, ErrorValue)):
         return str(value)
     if isinstance(value, int):
@@ -389,7 +389,7 @@ class Moo:
                 deadline.rest()
 
     def sent(self, method, path, body):
-        """The good answer to one request. Any other one is raised, and so is the want of one."""
+        """The good answer to one request. Any other one is raised, and so is a missing one."""
         connection = http.client.HTTPConnection(self.host, self.port, timeout=self.wait)
         try:
             try:

@@ -258,7 +258,7 @@ class Dump:
         return lines
 
     def no_value(self, text):
-        """The fault of a text that is no literal."""
+        """The fault of a text that isn't a literal."""
         return self.lines.broken(f"a dump doesn't have such a value: {shown(text)}")
 
     def add_value(self, text, start, depth, lines, losses):
@@ -288,7 +288,7 @@ class Dump:
         return place + 1
 
     def add_plain(self, lines, kind, text, losses):
-        """Adds the lines of a value that is no list."""
+        """Adds the lines of a value that isn't a list."""
         if kind == "integer":
             number = int(text)
             if not LEAST_INTEGER <= number <= GREATEST_INTEGER:

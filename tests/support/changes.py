@@ -3,7 +3,7 @@ and the rows that come; a row that is replaced does both. Nothing else may be wr
 from tests.support.columns import OPENING_OBJECTS, thing
 from tests.support.worlds import PETITIONS, TREE, VERBS
 
-# The table that is made, and neither read nor written behind that; and those of petitions where nobody has asked yet.
+# The table that is made, and neither read nor written after that; and those of petitions if nobody has asked yet.
 UNREAD = {"slot": []}
 NONE_ASKED = {"petition": [], "petition_head": [(1, 1)]}
 OPENING = UNREAD | NONE_ASKED | {

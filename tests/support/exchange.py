@@ -29,7 +29,7 @@ def seq(number):
 
 
 def accepted(number, *literals):
-    """Where `number` batches are accepted by now."""
+    """If `number` batches are accepted by now."""
     return answer("200 OK", json.dumps({"answers": literals, "seq": number}, separators=(",", ":")))
 
 
@@ -64,7 +64,7 @@ def posted(path, body):
 
 
 def heard_to_the_end(peer):
-    """What comes until the service closes, and how it closes: 'closed', or 'reset', where bytes were left that it hasn't read."""
+    """What comes until the service closes, and how it closes: 'closed', or 'reset' if bytes were left that it hasn't read."""
     parts = []
     try:
         while part := peer.recv(65536):
@@ -81,7 +81,7 @@ def send_in_pieces(peer, request, most):
 
 
 def said(service, request, most=1 << 20):
-    """What answers a request that comes in pieces of so many bytes, and behind which the input ends."""
+    """What answers a request that comes in pieces of so many bytes, and after which the input ends."""
     with service.peer() as peer:
         # A service that refuses what has come by then doesn't read the rest, and may have closed.
         with contextlib.suppress(OSError):

@@ -7,7 +7,7 @@ from tests.support.worlds import TREE
 
 
 class Batch(NamedTuple):
-    """A batch, and what it comes to: the first line of its reply, and its answers."""
+    """A batch, and its reply: the first line of it, and its answers."""
 
     programmer: str
     at: str
@@ -42,7 +42,7 @@ class Scene(NamedTuple):
         return any(isinstance(step, str) for step in self.steps)
 
     def stretches(self):
-        """The batches up to each change by hand, with that change; none behind the last."""
+        """The batches up to each change by hand, with that change; none after the last."""
         batches = []
         for step in self.steps:
             if isinstance(step, str):

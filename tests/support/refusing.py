@@ -44,7 +44,7 @@ def next_port():
 
 
 class Fault:
-    """The calls of a kind fail from one on: that one, or each behind it too; or the program is killed."""
+    """The calls of a kind fail from one on: that one, or each after it too; or the program is killed."""
 
     def __init__(self, kind, error, goes_on=False, piece=None):
         self.kind, self.error, self.goes_on, self.piece = kind, error, goes_on, piece
@@ -59,7 +59,7 @@ class Fault:
 
 class Task:
     """A task on a file: the ends that may come of it, and for each the worlds that may be in the file then: 0 for the one before, 1 for
-    the one behind. `is_end` says so of an end that the table hasn't."""
+    the one after it. `is_end` says so of an end that the table hasn't."""
 
     def __init__(self, world, words, text, ends, is_end=None):
         self.world, self.words, self.text, self.ends = world, words, text, ends
@@ -75,7 +75,7 @@ class Task:
         return run(self.words, room, self.text, env)
 
     def wrong(self, room, end):
-        """What is wrong with an end, and with the file behind it; or nothing."""
+        """What is wrong with an end, and with the file after it; or nothing."""
         worlds = self.ends.get(end)
         if worlds is None:
             worlds = self.is_end(*end)
@@ -87,7 +87,7 @@ class Task:
         return ""
 
     def refuse(self, fault, number):
-        """Whether a call was refused where that number is, and what was wrong."""
+        """Whether a call was refused at that number, and what was wrong."""
         with tempfile.TemporaryDirectory() as room:
             shutil.copy(self.world, f"{room}/w.db")
             told = f"{room}/told"
@@ -96,7 +96,7 @@ class Task:
 
 
 class Post(Task):
-    """A task that is a POST to the service of a file; what is written is the answer, and behind it the line of the service's end."""
+    """A task that is a POST to the service of a file; what is written is the answer, and after it the line of the service's end."""
 
     def do(self, room, env):
         service = Service(MOO, "w.db", 1, port=next_port(), folder=room, env=env)

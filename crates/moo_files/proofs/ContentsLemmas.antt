@@ -29,6 +29,8 @@ use Rattle.moo_store.specs.World.{Left}
 use Rattle.moo_store.specs.Opening.{IsOfStore, Adopts}
 use Rattle.moo_store.specs.declared.fault.StoreFault.{StoreFault}
 use Rattle.moo_store.specs.declared.fault.StoreFault.TheVariants.{Store, OutOfMemory}
+use Rattle.moo_files.specs.Blank.{IsBlank}
+use Rattle.moo_files.proofs.BlankLemmas.{holds_none}
 use Rattle.moo_files.specs.Contents.{HoldsTrees, HoldsTables, HoldsState, HasOtherTables, HasAnyTable, IsMigrated, IsKept}
 use Rattle.moo_files.proofs.RemainsLemmas.{found_empty}
 
@@ -84,6 +86,16 @@ left_only image store trees opens found only holds left lies = only opens.is_ope
 pub left_held : (image : Image) (store : Database) (s : State) → Opens store → FindsIn image store → OnlyLeaves store → HoldsState image s → Left store s
 left_held image store s opens found only it left lies = subst (λ trees. LeavesState trees s) (sym (left_only image store it.trees opens found only it.holds left lies)) it.such
 
+-- ---- files that held no database, so that a blank one was made, or what `sqlite` found
+
+abbrev pub NewOrFound : Image → Database → Type 0
+NewOrFound image store = (IsBlank image × IsEmpty store.committed.trees) ⊎ FindsIn image store
+
+-- files that hold a database aren't new
+pub finds_held : (image : Image) (store : Database) (trees : Trees) → NewOrFound image store → HoldsTrees image trees → FindsIn image store
+finds_held image store trees (inl made) holds = absurd (∥∥₁_elim holds (λ x y. absurd x) (λ held. holds_none image trees made.0 held))
+finds_held image store trees (inr found) holds = found
+
 -- each version has tables
 some_tables : (version : Version) → schema_of version ≢ no_schema
 some_tables First none = let odd : suc 4 ≡ zero = ap (λ (schema : Schema). length schema.tables) none in absurd cc
@@ -97,6 +109,10 @@ none_found image store found none = found_empty image store.committed.trees none
 
 pub left_none : (image : Image) (store : Database) → Opens store → FindsIn image store → OnlyLeaves store → IsNothing image → (left : Trees) → store.may_leave left → IsEmpty left
 left_none image store opens found only none left lies = subst IsEmpty (sym (only opens.is_open left lies)) (none_found image store found none)
+
+pub left_new : (image : Image) (store : Database) → Opens store → NewOrFound image store → OnlyLeaves store → IsNothing image → (left : Trees) → store.may_leave left → IsEmpty left
+left_new image store opens (inl made) only none left lies = subst IsEmpty (sym (only opens.is_open left lies)) made.1
+left_new image store opens (inr found) only none left lies = left_none image store opens found only none left lies
 
 pub empty_other : (image : Image) (store : Database) → Opens store → IsLive store → FindsIn image store → IsNothing image → (version : Version) → store.now.schema ≢ schema_of version
 empty_other image store opens live found none version is =

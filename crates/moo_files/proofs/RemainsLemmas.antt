@@ -1,12 +1,11 @@
 -- What is left of files that held an image.
-use Rattle.std.proofs.Common.{◌≡◌, ◌≢◌, ◌⊎◌, inl, inr, ℕ, ◌+◌, ◌*◌, ◌≤◌, Bool, true, false, cond, IsTrue, List, [], ◌∷◌, length, take, slice_index, unwrap_or, get_or-take, length-take, ◌<◌, refl, Option, None, Some, IfSome, MatchOption, arith, sym, ap, subst, subst₂, ◌∙◌}
+use Rattle.std.proofs.Common.{◌≡◌, ◌≢◌, ◌⊎◌, inl, inr, ℕ, ◌≤◌, Bool, true, false, cond, IsTrue, List, [], ◌∷◌, length, take, slice_index, unwrap_or, get_or-take, length-take, ◌<◌, refl, Option, None, Some, IfSome, MatchOption, arith, sym, ap, subst, subst₂, ◌∙◌}
 use Rattle.std.proofs.Math.Logic.{∥∥₁_elim, ∥∥₁_map}
 use Rattle.std.proofs.lemmas.Bool.{cases_eq, cases_Bool}
 use Rattle.sqlite_disk.specs.declared.Disk.{Ghosts}
 use Rattle.sqlite_disk.specs.declared.Files.{Files}
 use Rattle.sqlite_disk.specs.Events.{Event, replay, settled}
 use Rattle.sqlite_disk.specs.History.{MayLeave}
-use Rattle.sqlite_wal.specs.Format.{be32}
 use Rattle.sqlite_wal.specs.Recovery as raw
 use Rattle.sqlite_wal.specs.Recovery.{Image, Pages, IsIgnored}
 use Rattle.sqlite_wal.specs.Files.{outcomes}
@@ -22,7 +21,7 @@ use Rattle.sqlite_store.specs.Unopened.{state_of}
 use Rattle.sqlite_trees.specs.Props.{Trees-set}
 use Rattle.sqlite.specs.Tree.{Trees}
 use Rattle.sqlite.specs.State.{State as Database}
-use Rattle.sqlite.specs.Files.{IsNothing, IsEmpty, HoldsDatabase, NamesSize, SaysSums, IsCleanLeft, LeavesFiles, AreFoundIn, image_of, file_state}
+use Rattle.sqlite.specs.Files.{IsNothing, IsEmpty, HoldsDatabase, NamesSize, SaysSums, LeavesFiles, AreFoundIn, image_of, file_state}
 use Rattle.sqlite.specs.declared.file.Leftover.{Leftover}
 use Rattle.sqlite.specs.declared.file.Leftover.TheVariants as left
 use Rattle.sqlite.proofs.FileLemmas.{is_something}
@@ -31,12 +30,14 @@ use Rattle.sqlite.specs.declared.error.Error.TheVariants.{SqliteFailure}
 use Rattle.sqlite.specs.declared.error.ErrorCode.TheVariants as code
 use Rattle.moo_store.specs.declared.fault.StoreFault.{StoreFault}
 use Rattle.moo_store.specs.declared.fault.StoreFault.TheVariants.{Store, OutOfMemory}
-use Rattle.moo_files.specs.Contents.{HoldsTrees, HoldsSuch, HoldsNothingBut, HasNoSums}
+use Rattle.moo_files.specs.Blank.{IsBlank, LeavesBlank, SparesFiles}
+use Rattle.moo_files.proofs.BlankLemmas.{holds_none}
+use Rattle.moo_files.specs.Contents.{HoldsTrees, HoldsSuch, HoldsNothingBut}
 use Rattle.moo_files.specs.declared.remains.NotOpened.{NotOpened}
 use Rattle.moo_files.specs.declared.remains.Remains.{Remains}
 use Rattle.moo_files.specs.declared.remains.Remains.TheVariants as remains
 use Rattle.moo_files.specs.Closing.{IsLeftOf, IsClosedFrom}
-use Rattle.moo_files.specs.Remains.{cannot_open, busy, IsCleanRemains, MayStopAs, IsResealed, LeftoverKeeps, LeftoverBlank, KeepsSuch, KeepsNothingBut}
+use Rattle.moo_files.specs.Remains.{cannot_open, busy, IsCleanRemains, MayStopAs, LeftoverKeeps, LeftoverBlank, KeepsSuch, KeepsNothingBut}
 
 -- ---- the two files, as they were settled
 
@@ -154,11 +155,35 @@ module _ {D : Type 0} {g : Ghosts D} (image : Image) (files : Files D) (same : i
         | inl was ↦ inl (subst IsNothing (sym (only found was)) nothing)
         | inr later ↦ elim later [
           | inl still ↦ inl still
-          | inr made ↦ inr (∥∥₁_map made (λ it. record { trees = it.0; holds = ∣ it.1 ∣₁; such = inl it.2 }))
+          | inr made ↦ inr (inr (∥∥₁_map made (λ it. record { trees = it.0; holds = ∣ it.1 ∣₁; such = inl it.2 })))
         ]
       ]
   leftover_blank (left.Unopened now) (inr leaves) nothing = absurd (leaves.0 (subst IsNothing (sym same) nothing))
   leftover_blank (left.Store now) leaves nothing = λ found lies. inl (found_empty image found nothing (subst (λ i. AreFoundIn i found) same (leaves found lies).0))
+
+  -- of files that a blank database was to be made in, or that `sqlite` took up
+  pub spared_keeps : (rest : Leftover D g) (trees : Trees) → SparesFiles files rest → HoldsTrees image trees → LeftoverKeeps (λ found. found ≡ trees) image rest
+  spared_keeps rest trees (inl blank) holds = absurd (∥∥₁_elim holds (λ x y. absurd x) (λ held. holds_none image trees (subst IsBlank same blank.0) held))
+  spared_keeps rest trees (inr leaves) holds = leftover_keeps rest trees leaves holds
+
+  made_blank : (rest : Leftover D g) → LeavesBlank files rest → IsNothing image ⊎ IsBlank image → LeftoverBlank (λ _. ⊥) rest
+  made_blank (left.Files now) leaves nothing = λ found lies. elim nothing [
+    | inl none ↦ inl (subst IsNothing (sym (only found (leaves found lies))) none)
+    | inr none ↦ inr (inl (subst IsBlank (sym (only found (leaves found lies))) none))
+  ]
+  made_blank (left.Unopened now) leaves nothing = λ found lies.
+      elim (leaves found lies) [
+        | inl was ↦ elim nothing [ inl none ↦ inl (subst IsNothing (sym (only found was)) none) | inr none ↦ inr (inl (subst IsBlank (sym (only found was)) none)) ]
+        | inr later ↦ elim later [
+          | inl still ↦ inr (inl still)
+          | inr made ↦ inr (inr (∥∥₁_map made (λ it. record { trees = it.0; holds = ∣ it.1 ∣₁; such = inl it.2 })))
+        ]
+      ]
+  made_blank (left.Store now) leaves nothing = λ found lies. inl (leaves found lies)
+
+  pub spared_blank : (rest : Leftover D g) → SparesFiles files rest → IsNothing image → LeftoverBlank (λ _. ⊥) rest
+  spared_blank rest (inl blank) nothing = made_blank rest blank.1 (inl nothing)
+  spared_blank rest (inr leaves) nothing = leftover_blank rest leaves nothing
 
 -- ---- from what `sqlite` leaves to the remains
 
@@ -171,7 +196,8 @@ empty_or P Q goes trees (inr it) = inr (goes trees it)
 
 nothing_more : (P Q : Trees → Type 0) → ((trees : Trees) → P trees → Q trees) → (image : Image) → HoldsNothingBut P image → HoldsNothingBut Q image
 nothing_more P Q goes image (inl nothing) = inl nothing
-nothing_more P Q goes image (inr it) = inr (∥∥₁_map it (such_more _ _ (empty_or P Q goes) image))
+nothing_more P Q goes image (inr (inl blank)) = inr (inl blank)
+nothing_more P Q goes image (inr (inr it)) = inr (inr (∥∥₁_map it (such_more _ _ (empty_or P Q goes) image)))
 
 module _ {T D : Type 0} {g : Ghosts D} where
   pub of_leftover : (Goal : Remains T D g → Type 0) → ((seal : NotOpened) → Goal (remains.NotOpened seal)) → (rest : Option (Leftover D g)) (r : Remains T D g)
@@ -226,7 +252,7 @@ module _ {D : Type 0} {g : Ghosts D} (P : Trees → Type 0) (store : Database) w
   closed_keeps image (left.Store now) it keeps = λ trees lies. keeps trees (it trees lies)
 
   closed_blank : (left : Leftover D g) → IsLeftOf store left → ((trees : Trees) → store.may_leave trees → IsEmpty trees ⊎ P trees) → LeftoverBlank P left
-  closed_blank (left.Files now) it keeps = λ found lies. inr ∣ such_more store.may_leave (λ trees. IsEmpty trees ⊎ P trees) keeps found (it.1 found lies) ∣₁
+  closed_blank (left.Files now) it keeps = λ found lies. inr (inr ∣ such_more store.may_leave (λ trees. IsEmpty trees ⊎ P trees) keeps found (it.1 found lies) ∣₁)
   closed_blank (left.Unopened now) it keeps = absurd it
   closed_blank (left.Store now) it keeps = λ trees lies. keeps trees (it trees lies)
 

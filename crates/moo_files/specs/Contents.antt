@@ -14,6 +14,7 @@ use Rattle.moo_tables.specs.Tables.{Tables, schema_of, first_schema, no_schema}
 use Rattle.moo_tables.specs.Inside.{Leaves}
 use Rattle.moo_cells.specs.Shows.{ShowsRows}
 use Rattle.moo_store.specs.States.{LeavesRows, LeavesState}
+use Rattle.moo_files.specs.Blank.{IsBlank}
 
 -- a log and its file hold this database
 abbrev pub HoldsTrees : Image → Trees → Type 0
@@ -37,9 +38,9 @@ HoldsState image s = HoldsSuch (λ trees. LeavesState trees s) image
 abbrev pub IsLeftBy : Database → Image → Type 0
 IsLeftBy store image = HoldsSuch store.may_leave image
 
--- a log and its file hold nothing, or a database without rows, or such a database
+-- a log and its file hold nothing, be it a half-made page of either size, or a database without rows, or such a database
 abbrev pub HoldsNothingBut : (Trees → Type 0) → Image → Type 0
-HoldsNothingBut P image = IsNothing image ⊎ ∥ HoldsSuch (λ trees. IsEmpty trees ⊎ P trees) image ∥₁
+HoldsNothingBut P image = IsNothing image ⊎ (IsBlank image ⊎ ∥ HoldsSuch (λ trees. IsEmpty trees ⊎ P trees) image ∥₁)
 
 -- the pages of the database don't end in sums, as those of a file that this program made don't
 abbrev pub HasNoSums : Image → Type 0

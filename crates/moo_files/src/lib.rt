@@ -2,6 +2,7 @@
 #![tactic(auto)]
 
 mod again;
+mod blank;
 mod closing;
 mod loading;
 mod making;
@@ -9,6 +10,7 @@ mod opening;
 mod remains;
 
 pub use again::open_again;
+pub use blank::open_or_make;
 pub use closing::close_connection;
 pub use loading::load_from;
 pub use making::{create_at, create_from};

@@ -14,7 +14,7 @@ ghost use Rattle.moo_store.specs.World.{store_of, StandsFor, Left};
 ghost use Rattle.moo_files.specs.Contents.{HoldsTrees, HoldsState, HasAnyTable};
 ghost use Rattle.moo_files.specs.Remains.{IsCleanRemains, MayStopAs, KeepsSuch, StillHolds, KeepsNothingBut};
 
-use crate::remains::{Remains, open_connection};
+use crate::remains::{Remains, open_new};
 use moo_store::{StoreFault, World, create_in};
 use sqlite::{Connection, Error, ErrorCode, File, FileFrom, FileStore, Start, Unknown};
 use sqlite_disk::Disk;
@@ -65,7 +65,7 @@ pub fn create_from<T: Start>(
     // A crash of a new World leaves it as it was made.
     ensures crash { IfOk result (λ world. HasCleanDisk (store_of over_files world) → Left (store_of over_files world) (state_of opening_maps)) }
 {
-    let conn = match open_connection(rt, path, start) {
+    let conn = match open_new(rt, path, start) {
         Ok(conn) => conn,
         Err((fault, remains)) => return Err((fault, remains)),
     };
@@ -78,7 +78,8 @@ pub fn create_from<T: Start>(
     }
 }
 
-/// Makes a new world in a file that holds no table, or makes the file.
+/// Makes a new world in a file that holds no table, or makes the file. A file that it makes, or that held no database, has pages of
+/// 1,024 bytes.
 ///
 /// Store with `ErrorCode::NameTaken`: it has a table, an index or a view already, and stays as it is. Store with any other code:
 /// the file can't be made or opened, isn't a database, is open elsewhere, or the disk failed. OutOfMemory: memory was refused. At

@@ -1,22 +1,28 @@
 //! A connection to the files of a world, or what is left of them after a refusal.
 
-ghost use Rattle.std.specs.Prelude.{◌≡◌, ◌≢◌, false, IfOk, IfErr, IsTrue, MatchOption};
+ghost use Rattle.std.specs.Prelude.{◌≡◌, ◌≢◌, ◌⊎◌, true, false, IfOk, IfErr, IsTrue, MatchOption};
 ghost use Rattle.sqlite.specs.Tree.{Trees};
 ghost use Rattle.sqlite.specs.State.{HasCleanDisk};
-ghost use Rattle.sqlite.specs.Files.{file_state, IsOpened, IsNothing};
+ghost use Rattle.sqlite_std_file.specs.File.{file_is_usable, IsFresh};
+ghost use Rattle.sqlite.specs.Files.{file_state, IsOpened, IsNothing, IsEmpty};
+ghost use Rattle.moo_files.specs.Blank.{IsBlank};
 ghost use Rattle.sqlite.specs.Start.{FindsIn};
 ghost use Rattle.sqlite.specs.WalFiles.{image_at};
 ghost use Rattle.sqlite_wal.specs.Recovery.{Image};
 ghost use Rattle.moo_store.specs.Opening.{IsOfStore};
 ghost use Rattle.moo_files.specs.Contents.{HoldsTrees};
-ghost use Rattle.moo_files.specs.Remains.{IsCleanRemains, MayStopAs, KeepsSuch, StillHolds, StillHoldsTrees, KeepsNothingBut};
+ghost use Rattle.moo_files.specs.Remains.{cannot_open, busy, IsCleanRemains, MayStopAs, KeepsSuch, StillHolds, StillHoldsTrees, KeepsNothingBut};
 ghost use Rattle.moo_world.specs.Judge.{State};
 ghost use Rattle.moo_files.specs.Closing.{IsClosedFrom};
 
+use crate::blank::open_or_make;
 use crate::closing::{close_connection, leave_commit};
 use moo_store::StoreFault;
-use sqlite::{Connection, Error, ErrorCode, FileFrom, FileStore, Leftover, Start};
+use sqlite::{Connection, Error, ErrorCode, FileFrom, FileStore, Files, Leftover, Options, Start};
 use sqlite_disk::Disk;
+use sqlite_std_file::OpenError as PathError;
+use std::hash::{BuildHasher, RandomState};
+use std::io::ErrorKind;
 
 /// `sqlite` couldn't open the files, and handed nothing back. Only this module can say so.
 #[derive(Drop)]
@@ -81,6 +87,79 @@ fn remains_of<T, D: Disk>(left: Option<Leftover<D>>) -> Remains<T, D>
     match left {
         None => Remains::NotOpened(NotOpened(())),
         Some(left) => Remains::Leftover(left),
+    }
+}
+
+const CANNOT_OPEN: StoreFault = StoreFault::Store(Error::SqliteFailure(ErrorCode::CannotOpen));
+
+const BUSY: StoreFault = StoreFault::Store(Error::SqliteFailure(ErrorCode::DatabaseBusy));
+
+/// Why the two files at a path can't be opened, as a fault.
+fn path_fault(error: PathError) -> StoreFault
+    ensures { (result ≡ cannot_open) ⊎ ((result ≡ StoreFault.OutOfMemory) ⊎ (result ≡ busy)) }
+{
+    match error {
+        PathError::OutOfMemory => StoreFault::OutOfMemory,
+        PathError::Busy => BUSY,
+        PathError::Io(error) if error.kind() == ErrorKind::OutOfMemory => StoreFault::OutOfMemory,
+        _ => CANNOT_OPEN,
+    }
+}
+
+/// The two files at a path, as `sqlite` opens them. `:memory:` and a URI are no path.
+fn open_pair<T: Start>(
+    rt: &HostRuntime,
+    path: &str,
+    start: T,
+) -> Result<Files<FileFrom<T>>, StoreFault>
+    ensures usable { IfOk result (λ files. IsTrue (file_is_usable T.Start files.log) × IsTrue (file_is_usable T.Start files.db)) }
+    ensures fresh { IfOk result (λ files. IsFresh true files.log × IsFresh false files.db) }
+    ensures fault { IfErr result (λ fault. (fault ≡ cannot_open) ⊎ ((fault ≡ StoreFault.OutOfMemory) ⊎ (fault ≡ busy))) }
+{
+    if path == ":memory:" || path.starts_with("file:") {
+        return Err(CANNOT_OPEN);
+    }
+    match sqlite_std_file::open(rt, path, start) {
+        Ok(files) => Ok(files),
+        Err(error) => Err(path_fault(error)),
+    }
+}
+
+/// How `sqlite` opens files, with a random seed for the log's salts. None if there is none.
+fn options(rt: &HostRuntime) -> Option<Options> {
+    let state = RandomState::new(rt).ok()?;
+    Some(Options::new(state.hash_one(&0u8)))
+}
+
+/// A connection to files in which a world is to be made, or the fault and what is left of them. In files that hold no database a
+/// blank one is made first, as `open_or_make` does.
+pub(crate) fn open_new<T: Start>(
+    rt: &HostRuntime,
+    path: &str,
+    start: T,
+) -> Result<Connection<FileStore<FileFrom<T>>>, (StoreFault, Remains<T, FileFrom<T>>)>
+    ensures opened { IfOk result (λ conn. HasCleanDisk (file_state conn) → IsOpened conn) }
+    ensures found { IfOk result (λ conn. HasCleanDisk (file_state conn) → (IsBlank (image_at T.Start) × IsEmpty (file_state conn).committed.trees) ⊎ FindsIn (image_at T.Start) (file_state conn)) }
+    ensures outside { IfOk result (λ conn. conn.in_transaction ≡ false) }
+    ensures left { IfOk result (λ conn. IsTrue (file_state conn).is_open → (trees : Trees) → (file_state conn).may_leave trees → trees ≡ (file_state conn).committed.trees) }
+    ensures fault { IfErr result (λ e. IsOfStore e.0) }
+    ensures stopped { IfErr result (λ e. MayStopAs e.0 e.1) }
+    ensures kept { (trees : Trees) → HoldsTrees (image_at T.Start) trees → IfErr result (λ e. IsCleanRemains e.1 → KeepsSuch (λ found. found ≡ trees) (image_at T.Start) e.1) }
+    ensures blank { IsNothing (image_at T.Start) → IfErr result (λ e. IsCleanRemains e.1 → KeepsNothingBut (λ _. ⊥) (image_at T.Start) e.1) }
+{
+    let Some(options) = options(rt) else {
+        return Err((CANNOT_OPEN, remains_of(None)));
+    };
+    let files = match open_pair(rt, path, start) {
+        Ok(files) => files,
+        Err(fault) => return Err((fault, remains_of(None))),
+    };
+    match open_or_make(rt.alloc(), files, options) {
+        Ok(made) => {
+            leave_commit(&made);
+            Ok(made)
+        }
+        Err((error, left)) => Err((open_fault(error), Remains::Leftover(left))),
     }
 }
 

@@ -36,8 +36,8 @@ impl<'a> Comparing<'a> {
         Comparing { text, at: 0 }
     }
 
-    /// Whether all of this text was taken. That it is the one to compare with isn't known after a call that wrote, so it is
-    /// asked too.
+    /// Whether all of this text was taken. After a call that wrote, no clause says that this is still the text to compare with,
+    /// so that is asked too.
     pub(crate) fn has_taken(&self, text: &[u8]) -> bool
         ensures { result ≡ true → take self.now.at self.now.text.now ≡ text.now }
     {
@@ -53,7 +53,7 @@ impl<'a> Write for Comparing<'a> {
 
     ghost contents = { λ c. Some (take c.at c.text.now) };
 
-    /// Takes the bytes that the text goes on with: none where the first one is another.
+    /// Takes the bytes that the text goes on with: none if the first one is another.
     fn write(&mut self, bytes: &[u8]) -> io::Result<usize> {
         let count = shared_length(&self.text[self.at..], bytes);
         self.at += count;

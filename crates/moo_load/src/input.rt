@@ -34,8 +34,8 @@ impl From<AllocError> for ReadFault {
 
 /// The bytes that a reader gives, to its end.
 ///
-/// Errors: `Read` where the reader fails, also if it was interrupted; `TooLong` where it gives more than 1,073,741,824 bytes,
-/// of which one more is read; `OutOfMemory` where memory runs out.
+/// Errors: `Read` if the reader fails, also if it was interrupted; `TooLong` if it gives more than 1,073,741,824 bytes, of which
+/// one more is read; `OutOfMemory` if memory runs out.
 pub fn read_text<R: Read>(alloc: Global, reader: &mut R) -> Result<Vec<u8>, ReadFault>
     // The text is what the reader gave, and nothing is left in it.
     ensures given { IfOk result (λ text. Consumes (R.remaining reader.old) (R.remaining reader.new) text.items) }

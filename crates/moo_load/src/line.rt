@@ -18,7 +18,7 @@ pub(crate) enum Word {
     Petition,
 }
 
-/// The word that a line begins with, and what stands behind the space after it.
+/// The word that a line begins with, and what follows the space after it.
 pub(crate) fn split_word(line: &[u8]) -> Result<(Word, &[u8]), LineFault> {
     if let Some(literal) = line.strip_prefix(b"object ") {
         return Ok((Word::Object, literal));

@@ -17,7 +17,7 @@ pub(crate) fn line_at(text: &[u8], at: usize) -> u64
     number
 }
 
-/// The line that begins at a place of the text, without its end; none where no end follows.
+/// The line that begins at a place of the text, without its end; `None` if no end follows.
 pub(crate) fn line_from(text: &[u8], at: usize) -> Option<&[u8]>
     requires { at ≤ length text.now }
     ensures { IfSome result (λ line. at + length line.now < length text.now) }

@@ -142,19 +142,19 @@ impl<R: Read> Feed<R> {
     }
 
     /// What comes next in the text: a batch, the number of the first bad line of one, that the text ends inside one, or its end.
-    /// A line of spaces and tabs is skipped. Read where the reader fails, Long where the text goes on behind 1,073,741,824 bytes, OutOfMemory where memory
+    /// A line of spaces and tabs is skipped. Read if the reader fails, Long if the text goes on after 1,073,741,824 bytes, OutOfMemory if memory
     /// runs out. After a fault each call gives that fault again, and reads nothing. A reader that has given no bytes isn't read again.
     pub fn next_batch(&mut self) -> Result<Next, TextFault>
-        // As many bytes were given as were taken of the room, and these lead from the text before to its next item and the text behind.
+        // As many bytes were given as were taken of the room, and these lead from the text before to its next item and the text after.
         ensures next { IfOk result (λ item. ReadsNext (feed_side R.remaining self.old) (feed_side R.remaining self.new) item) }
         ensures fault { IfErr result (λ fault. self.new.fault ≡ Some fault) }
         ensures works { OnOk result (self.new.fault ≡ None) }
         ensures repeats { IfSome self.old.fault (λ fault. result ≡ Err fault) }
         ensures rests { IfSome self.old.fault (λ _. self.new ≡ self.old) }
-        // Each item but the end takes some of the room, and behind the end nothing is left.
+        // Each item but the end takes some of the room, and after the end nothing is left.
         ensures falls { IfOk result (λ item. item ≢ Next.End → feed_room self.new < feed_room self.old) }
         ensures ends { IfOk result (λ item. EndsAt item (feed_side R.remaining self.new)) }
-        // A first fault is Long only where one byte more was given than there was room for, and never Write.
+        // A first fault is Long only if one byte more was given than there was room for, and never Write.
         ensures cause { IfNone self.old.fault (IfErr result (λ fault. BreaksOff (feed_side R.remaining self.old) (feed_side R.remaining self.new) fault)) }
     {
         if let Some(fault) = self.fault {

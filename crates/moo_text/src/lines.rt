@@ -17,7 +17,7 @@ pub const LONGEST_TEXT: usize = 1073741824;
 /// So much of a line is kept: its limit, a carriage return that may be dropped, and a byte by which it is seen to be too long.
 const MOST_KEPT: usize = LONGEST_LINE + 2;
 
-/// Where the first line end stands.
+/// The place of the first line end.
 fn newline_at(text: &[u8]) -> Option<usize>
     ensures first { result ≡ position_from (λ byte. byte == 10) 0 text.now }
     ensures within { IfSome result (λ at. at < length text.now) }
@@ -76,7 +76,7 @@ impl<R: Read> LineReader<R> {
         }
     }
 
-    /// Reads one more piece, where none is left. False at the end of the text.
+    /// Reads one more piece if none is left. False at the end of the text.
     fn read_piece(&mut self) -> Result<bool, TextFault>
         requires { self.old.ahead ≡ [] }
         ensures gives { OnOk result (ReaderGives (lines_side R.remaining self.old) (lines_side R.remaining self.new) self.new.ahead) }

@@ -61,7 +61,7 @@ fn line(alloc: Global, world: &mut World<MemStore>) -> Result<String, Fail> {
     })
 }
 
-/// The calls behind a World's own rows and behind its tables, and what a check of it says, and the next one.
+/// The calls after a World's own rows and after its tables, and what a check of it says, and the next one.
 static CHECKED: [(&str, &str, &str, &str); 7] = [
     ("create(#1)", "create(#1)", "5 objects", "5 objects"),
     (NO_BATCH, "create(#1)", "damaged mismatch head", CLOSED),

@@ -1,0 +1,87 @@
+"""That the pages agree with the repository: the front page's demo, the picture and its crates, links, and the mutants that REFUSED lists."""
+import re
+import subprocess
+import sys
+from pathlib import Path
+
+TOP = Path(__file__).resolve().parents[2]
+LONGEST_README = 120
+PAGES = [*sorted(TOP.glob("*.md")), *sorted(TOP.glob("docs/*.md"))]
+ROW = re.compile(r"\| .*\| `(moo_\w+)` \| `(\w+)` \| (hand|the gate) \|$")
+
+
+def demo():
+    """The two columns of the front page's demo, without empty lines."""
+    lines = (TOP / "README.md").read_text().splitlines()
+    first = next(number for number, line in enumerate(lines) if line.lstrip().startswith("$ cat examples/lantern.txt"))
+    right = lines[first].index("$ ./moo apply")
+    last = next(number for number, line in enumerate(lines) if number > first and line and not line.startswith("    "))
+    shown = [(line[:right].strip(), line[right:].strip()) for line in lines[first + 1 : last]]
+    return [left for left, _ in shown if left], [reply for _, reply in shown if reply]
+
+
+def lines_of(name):
+    return [line for line in (TOP / "examples" / name).read_text().splitlines() if line]
+
+
+def picture():
+    """The crates of each layer of the picture, from the top down."""
+    layers = []
+    for line in (TOP / "docs/architecture.txt").read_text().splitlines():
+        if line.startswith(" "):
+            layers[-1] += line.partition(":")[0].split()
+        elif line and not line.startswith("#"):
+            layers.append([])
+    return layers
+
+
+def uses_of_crates():
+    """The repository's crates that each crate of crates.txt uses."""
+    lines = [line.partition("#")[0] for line in (TOP / "crates.txt").read_text().splitlines()]
+    uses = {line.partition(":")[0].split()[0]: line.partition(":")[2].split() for line in lines if line.strip()}
+    return {crate: [used for used in names if used in uses] for crate, names in uses.items()}
+
+
+def crates_against_the_order(uses):
+    """Each use of a crate of a higher layer."""
+    height = {crate: -number for number, layer in enumerate(picture()) for crate in layer}
+    return [f"{crate} uses {used}" for crate, names in uses.items() for used in names if height.get(used, 0) > height.get(crate, 0)]
+
+
+def broken_links():
+    for page in PAGES:
+        for target in re.findall(r"\]\(([^)#:]+)(?:#[^)]*)?\)", page.read_text()):
+            if not (page.parent / target).exists():
+                yield f"{page.name}: {target}"
+
+
+def refused():
+    """What is wrong with the mutants that REFUSED lists."""
+    rows = [ROW.match(line) for line in (TOP / "docs/REFUSED.md").read_text().splitlines()]
+    rows = [(f"{row[1]}/{row[2]}", row[3]) for row in rows if row]
+    listed = [name for name, _ in rows]
+    mutants = {f"{edit.parent.name}/{edit.stem}" for edit in TOP.glob("mutants/*/*.edit")}
+    of_gate = set((TOP / "mutants/gate").read_text().split())
+    yield "REFUSED lists each mutant", sorted(mutants - set(listed))
+    yield "each that REFUSED lists is there", sorted(set(listed) - mutants)
+    yield "and is listed once", sorted({name for name in listed if listed.count(name) > 1})
+    yield "what the gate tries is as mutants/gate says", [name for name, by in rows if (by == "the gate") != (name in of_gate)]
+    wanted = {f"There are {len(mutants)}.", f"The gate tries {len(of_gate)}"}
+    yield "its counts are right", [text for text in wanted if text not in (TOP / "docs/REFUSED.md").read_text()]
+    yield "README counts those of the gate", f"tries {len(of_gate)} mutants" not in (TOP / "README.md").read_text()
+
+
+def cases():
+    """The name of each case, and what is wrong with it."""
+    texts, replies = demo()
+    yield "README is short", len((TOP / "README.md").read_text().splitlines()) > LONGEST_README
+    yield "the demo's batches are those of the example", texts != lines_of("lantern.txt") and texts
+    yield "and its replies too", replies != lines_of("lantern.replies") and replies
+    drawn = subprocess.run([sys.executable, TOP / "docs/draw_architecture.py", "--check"], check=False)
+    yield "the picture is that of its text (docs/draw_architecture.py draws it)", drawn.returncode != 0
+    uses = uses_of_crates()
+    product = {crate for crate in uses if crate.startswith("moo")}
+    yield "the picture has each crate", sorted(product - {crate for layer in picture() for crate in layer})
+    yield "a crate uses none of a higher layer", crates_against_the_order(uses)
+    yield "each link leads somewhere", list(broken_links())
+    yield from refused()
