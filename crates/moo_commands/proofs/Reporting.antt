@@ -1,12 +1,13 @@
 -- How a failure is reported.
-use Rattle.std.proofs.Common.{◌≡◌, inl, ℕ, List, Option, sym, subst, subst₂}
-use Rattle.moo_damage.specs.declared.kind.Kind.{Kind}
-use Rattle.moo_damage.specs.declared.kind.Key.{Key}
-use Rattle.moo_commands.specs.Lines.{WritesLine, Reports, damaged_line}
-use Rattle.moo_commands.specs.declared.failure.Failure.{Failure}
-use Rattle.moo_commands.specs.declared.failure.Failure.TheVariants.{Damaged}
+use Rattle.std.proofs.Common.{◌≡◌, ◌⊎◌, inl, inr, ℕ, List, Option, Result, Ok, Err, IfOk, subst}
+use Rattle.std.specs.Prelude.{MatchResult}
+use Rattle.moo_commands.specs.Lines.{WritesLine, word_of, status_of}
+use Rattle.moo_commands.specs.declared.failure.Failure.TheVariants.{NoMemory}
 
-pub reports_damage : (failure : Failure) (kind : Kind) (key : Key) (line : List ℕ) (known : ℕ) (old new : Option (List ℕ)) (status : ℕ)
-    → failure ≡ Damaged kind key → line ≡ damaged_line kind key → known ≡ 3 → WritesLine line known old new status → Reports failure old new status
-reports_damage failure kind key line known old new status is text says writes =
-    subst (λ f. Reports f old new status) (sym is) (inl (subst₂ (λ l k. WritesLine l k old new status) text says writes))
+-- a line that was made is written, or that memory ran out
+pub writes_made : {A E : Type 0} (bytes : A → List ℕ) (made : Result A E) (line : List ℕ) (known : ℕ) (old new : Option (List ℕ)) (status : ℕ)
+    → IfOk made (λ text. bytes text ≡ line)
+    → MatchResult made (λ text. WritesLine (bytes text) known old new status) (λ _. WritesLine (word_of NoMemory) (status_of NoMemory) old new status)
+    → WritesLine line known old new status ⊎ WritesLine (word_of NoMemory) (status_of NoMemory) old new status
+writes_made bytes (Ok text) line known old new status is writes = inl (subst (λ l. WritesLine l known old new status) is writes)
+writes_made bytes (Err e) line known old new status is writes = inr writes

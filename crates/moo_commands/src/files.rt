@@ -128,8 +128,8 @@ fn run_loaded<T: Start, B: BatchFiles, R: Read + Drop, W: Write>(
     output: &mut W,
     status: &mut u8,
 ) -> Ends<T, FileFrom<T>>
-    requires load { is_load task.entry ≡ true }
-    requires word { dump_word task.entry ≡ dump.now }
+    requires load { is_load task ≡ true }
+    requires word { dump_word task ≡ dump.now }
     ensures { RunsFile task.entry (image_at T.Start) result (texts_by (R.remaining input) (B.text files.now)) (W.contents output.old) (W.contents output.new) status.new }
 {
     let rows = match read_world(rt, dump, files, input) {
@@ -159,7 +159,7 @@ fn run_begun<T: Start, B: BatchFiles, R: Read + Drop, W: Write>(
     output: &mut W,
     status: &mut u8,
 ) -> Ends<T, FileFrom<T>>
-    requires load { is_load task.entry ≡ false }
+    requires load { is_load task ≡ false }
     ensures { RunsFile task.entry (image_at T.Start) result (texts_by (R.remaining input) (B.text files.now)) (W.contents output.old) (W.contents output.new) status.new }
 {
     match world_of(rt, file, start, task) {

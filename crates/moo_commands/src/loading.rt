@@ -29,7 +29,7 @@ pub(crate) fn dump_word<'a>(task: Task<'a>) -> Option<&'a str>
 }
 
 /// The rows of the world that a text is the dump of.
-fn rows_of<R: Read>(alloc: Global, mut text: R) -> Result<Flat, Failure>
+fn rows_of<R: Read + Drop>(alloc: Global, mut text: R) -> Result<Flat, Failure>
     ensures good { IfOk result (λ rows. IsGood rows.maps) }
     ensures limit { IfOk result (λ rows. rows.maps.head.seq < 2 ^ 63) }
     ensures dumped { IfOk result (λ rows. IsDumpedAs (R.remaining text) (state_of rows.maps)) }

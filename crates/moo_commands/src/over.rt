@@ -106,8 +106,8 @@ fn run_loaded<B: BatchFiles, R: Read + Drop, W: Write, S: Alter + Drop>(
     status: &mut u8,
 ) -> Connection<S>
     requires outside { conn.in_transaction ≡ false }
-    requires load { is_load task.entry ≡ true }
-    requires word { dump_word task.entry ≡ dump.now }
+    requires load { is_load task ≡ true }
+    requires word { dump_word task ≡ dump.now }
     ensures { FailsToBegin task.entry (W.contents output.old) (W.contents output.new) status.new
         ⊎ ((s : State) × BeginsWith task.entry (texts_by (R.remaining input) (B.text files.now)) s × RunsFrom task.entry s (texts_by (R.remaining input) (B.text files.now)) (W.contents output.old) (W.contents output.new) status.new (HasCleanDisk (state S.Store result)) (CrashLeaves (state S.Store result)) ⊤) }
 {

@@ -27,6 +27,12 @@ returns-in-Dump g c = record {
   stops = λ known s stands. rw c.in-Dump.is (on_err _ _ c.show.result (λ failure it. unchanged g.S.Store known c.args.world.now s _ (c.leaves.ensures known (Works s) stands) (refl, it)) (c.show.ensures.stops known s stands));
 }
 
+pub returns-in-Load : goal.returns-in-Load
+returns-in-Load g c = record {
+  done = λ known s stands. rw c.in-Load.is (on_ok _ _ c.show_loaded.result (λ status it. unchanged g.S.Store known c.args.world.now s _ (c.leaves.ensures known (Works s) stands) (refl, it.0, it.1)) (c.show_loaded.ensures.done known s stands));
+  stops = λ known s stands. rw c.in-Load.is (on_err _ _ c.show_loaded.result (λ failure it. unchanged g.S.Store known c.args.world.now s _ (c.leaves.ensures known (Works s) stands) (refl, it)) (c.show_loaded.ensures.stops known s stands));
+}
+
 pub returns-in-Check : goal.returns-in-Check
 returns-in-Check g c = record {
   done = λ known s stands. rw c.in-Check.is (on_ok _ _ c.check.result (λ status it. stays_at g.S.Store known c.args.world.now c.check.new.world s _ c.check.ensures.crash (c.leaves.ensures known (Works s) stands) (refl, it.1, it.0.0, it.0.1)) (both_ok c.check.result _ _ (c.check.ensures.done known s stands) c.check.ensures.shown));
