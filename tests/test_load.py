@@ -172,7 +172,7 @@ class Load(ProgramTest):
             self.case(f"{name}: in memory", run("load", ":memory:", *words, text=text), wanted)
             self.case(f"{name}: a file stays", [run("load", "world.db", *words, text=text), tables_of("world.db")], [wanted, before])
         complaint = ended("load", "new.db", "no.dump").complaint
-        self.case("the cause is said", complaint, "moo: read fault: no such file, or it can't be opened\n")
+        self.case("the cause is said", complaint, "moo: read fault: no such file of batches or dump, or it can't be opened\n")
 
     def is_refused_or_loaded(self, name, text):
         """A text is refused and makes no file, or it is the dump of what it makes."""

@@ -25,7 +25,7 @@ pub enum Failure {
     NewerVersion,
     /// This line of a text, from 1 on, isn't as a dump has it.
     NotADump(u64),
-    /// There is no such file of batches, or it can't be opened.
+    /// There is no such file of batches or dump, or it can't be opened.
     NoBatches,
     /// The reader failed.
     Read,
@@ -59,7 +59,7 @@ impl Failure {
     }
 
     /// The exit status: 1 for the store, a stream, a text that is too long or a port, 2 for usage, 3 for tables that show no world
-    /// of this version, 4 if memory ran out.
+    /// of this version or a text that isn't a dump, 4 if memory ran out.
     pub fn status(self) -> u8
         ensures { result ≡ status_of self }
     {

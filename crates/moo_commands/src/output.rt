@@ -66,14 +66,14 @@ fn store_cause(error: Error) -> Option<&'static str> {
     }
 }
 
-/// Says on standard error why the store, the batches or the port failed.
+/// Says on standard error why the store, the batches, the dump or the port failed.
 fn explain(rt: &HostRuntime, failure: Failure) {
     let cause = match failure {
         Failure::NoFile => Some("moo: store fault: no such file"),
         Failure::NoBatches => {
-            Some("moo: read fault: no such file of batches, or it can't be opened")
+            Some("moo: read fault: no such file of batches or dump, or it can't be opened")
         }
-        Failure::Read => Some("moo: read fault: the batches can't be read to their end"),
+        Failure::Read => Some("moo: read fault: the batches or the dump can't be read to the end"),
         Failure::Port => Some("moo: cannot listen: is the port in use, or one below 1024?"),
         Failure::Store(error) => store_cause(error),
         _ => return,
@@ -87,7 +87,7 @@ fn explain(rt: &HostRuntime, failure: Failure) {
 
 const LOST: &str =
     "moo: store fault: the store failed in the batch that is answered `fault` (is the disk full?)
-moo: the last `accepted S` stands, and perhaps that batch behind it: `moo check FILE` says the number\n";
+moo: the last `accepted S` is kept, and perhaps the batch after it: `moo check FILE` says the number\n";
 
 /// Says on standard error what to do if the store failed in a batch of a text.
 pub(crate) fn explain_lost(rt: &HostRuntime, tally: Tally) {
@@ -108,8 +108,8 @@ fn put_made_line<W: Write>(line: Result<String, AllocError>, status: u8, output:
     }
 }
 
-/// Writes the line of a failure, and answers its status. If the store, the batches or the port failed, the cause goes to standard
-/// error.
+/// Writes the line of a failure, and answers its status. If the store, the batches, the dump or the port failed, the cause goes to
+/// standard error.
 pub fn report<W: Write>(rt: &HostRuntime, failure: Failure, output: &mut W) -> u8
     ensures { Reports failure (W.contents output.old) (W.contents output.new) result }
 {
