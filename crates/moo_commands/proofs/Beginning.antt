@@ -1,10 +1,17 @@
 -- The world that a task begins with.
-use Rattle.std.proofs.Common.{◌≡◌, ◌⊎◌, inl, inr, ℕ, List, Option, refl, sym, subst, true, false, IsTrue}
+use Rattle.std.proofs.Common.{◌≡◌, ◌⊎◌, inl, inr, ℕ, List, Option, refl, sym, subst, ◌∙◌, true, false, IsTrue}
 use Rattle.std.specs.Bool.{⊤}
 use Rattle.std.proofs.lemmas.Bool.{true≢false}
 use Rattle.moo_rows.specs.Opening.{opening_maps}
 use Rattle.moo_world.specs.Judge.{State, state_of}
+use Rattle.sqlite_disk.specs.declared.Disk.{Ghosts}
+use Rattle.sqlite_wal.specs.Recovery.{Image}
+use Rattle.sqlite.specs.Tree.{Trees}
 use Rattle.moo_store.specs.Stand.{Stand}
+use Rattle.moo_store.specs.States.{LeavesState}
+use Rattle.moo_files.specs.Remains.{KeepsSuch}
+use Rattle.moo_files.specs.declared.remains.Remains.{Remains}
+use Rattle.moo_files.proofs.RemainsLemmas.{keeps_more}
 use Rattle.moo_words.specs.declared.task.Task.{Task}
 use Rattle.moo_words.specs.declared.task.Task.TheVariants.{Init, Apply, Ask, Dump, Load, Check, Serve}
 use Rattle.moo_commands.specs.Run.{Texts, begins_anew, is_load, dump_word, IsDumpedAs, BeginsWith, RunsFrom, RunsUnseen, FailsAtOnce, FailsToBegin, RunsNew}
@@ -56,3 +63,14 @@ pub new_unseen : (task : Task) (texts : Texts) (old new : Option (List ℕ)) (st
     → FailsToBegin task old new status ⊎ ((s : State) × BeginsWith task texts s × RunsFrom task s texts old new status Clean Crash Shown) → RunsNew task texts old new status
 new_unseen task texts old new status Clean Crash Shown (inl fails) = inl fails
 new_unseen task texts old new status Clean Crash Shown (inr (s, begins, it)) = inr (s, begins, unseen task s texts old new status Clean Crash Shown it)
+
+-- what a refused making of that world leaves
+pub unmade_begins : {T D : Type 0} {g : Ghosts D} (task : Task) (texts : Texts) (s : State) → BeginsWith task texts s → (trees : Trees) (image : Image) (remains : Remains T D g)
+    → KeepsSuch (λ found. (found ≡ trees) ⊎ LeavesState found s) image remains → KeepsSuch (λ found. (found ≡ trees) ⊎ ((t : State) × BeginsWith task texts t × LeavesState found t)) image remains
+unmade_begins task texts s begins trees image remains =
+    keeps_more (λ found. (found ≡ trees) ⊎ LeavesState found s) (λ found. (found ≡ trees) ⊎ ((t : State) × BeginsWith task texts t × LeavesState found t))
+    (λ found kept. elim kept [ inl same ↦ inl same | inr leaves ↦ inr (s, begins, leaves) ]) image remains
+
+-- a task that begins with a new world isn't one that takes up its file
+pub never_other : {A : Type 0} (task : Task) → is_load task ≡ true → begins_anew task ≡ false → A
+never_other task yes other = absurd (true≢false (sym (load_begins task yes) ∙ other))

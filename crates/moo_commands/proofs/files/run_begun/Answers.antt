@@ -1,7 +1,8 @@
 use Rattle.std.proofs.Common.{true, false}
+use Rattle.sqlite.specs.WalFiles.{image_at}
 use Rattle.moo_rows.specs.Opening.{opening_maps}
 use Rattle.moo_world.specs.Judge.{state_of}
-use Rattle.moo_commands.proofs.Beginning.{begins_opening, fails_to_begin}
+use Rattle.moo_commands.proofs.Beginning.{begins_opening, fails_to_begin, unmade_begins}
 use Rattle.moo_commands.proofs.Connections.{surely, unseen}
 use Rattle.moo_commands.proofs.Refusals.{fails_at_once, refuses_file, tells_fault}
 use Rattle.moo_commands.proofs.files.run_begun.Goals as goal
@@ -50,7 +51,8 @@ returns-in-Err g c =
       left = c.in-Err.ensures.left;
       trees = λ trees other holds. c.in-Err.ensures.trees other trees holds;
       spared = λ trees anew holds any. c.in-Err.ensures.spared anew trees holds any;
-      unmade = λ trees anew holds. c.in-Err.ensures.unmade anew trees holds;
+      unmade = λ trees anew holds clean.
+          unmade_begins c.args.task _ (state_of opening_maps) (begins_opening c.args.task _ c.args.load) trees (image_at g.T.Start) c.in-Err.remains (c.in-Err.ensures.unmade anew trees holds clean);
       blank = λ other none. c.in-Err.ensures.blank other none;
       told = inl (fault, c.in-Err.ensures.stopped, reports);
     }

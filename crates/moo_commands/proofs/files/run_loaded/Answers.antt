@@ -1,0 +1,61 @@
+use Rattle.std.proofs.Common.{inl, true}
+use Rattle.sqlite.specs.WalFiles.{image_at}
+use Rattle.moo_world.specs.Judge.{state_of}
+use Rattle.moo_commands.specs.Run.{texts_by}
+use Rattle.moo_commands.proofs.Beginning.{begins_dumped, of_other_texts, fails_to_begin, unmade_begins, never_other}
+use Rattle.moo_commands.proofs.Connections.{surely}
+use Rattle.moo_commands.proofs.Refusals.{fails_at_once, tells_fault}
+use Rattle.moo_commands.proofs.files.run_loaded.Goals as goal
+
+pub returns-in-Ok-load_from : goal.returns-in-Ok-load_from
+returns-in-Ok-load_from g c =
+    let texts = texts_by (g.R.Read.remaining c.args.input) (g.B.BatchFiles.text c.args.files.now) in
+    let s = state_of c.in-Ok.rows.maps in
+    let stands = c.in-Ok-load_from.ensures.stands in
+    let ran = c.run_in_files.ensures in
+    record {
+      anew = λ anew. (
+        s,
+        begins_dumped c.args.task texts c.args.dump.now s c.args.load c.args.word c.in-Ok.ensures.dumped,
+        of_other_texts c.args.task c.args.load s _ texts _ _ _ _ _ _ (surely _ _ _ _ _ _ _ _ _ (ran.runs true s stands)),
+      );
+      taken = λ t anew holds clean. c.in-Ok-load_from.ensures.taken t holds (ran.clean true s stands clean);
+      kept = λ s other holds. never_other c.args.task c.args.load other;
+      only = λ tables other holds. never_other c.args.task c.args.load other;
+      nothing = λ other none. never_other c.args.task c.args.load other;
+      other = λ trees other holds others. never_other c.args.task c.args.load other;
+      opened = λ other. never_other c.args.task c.args.load other;
+      left = λ s holds. tt;
+      trees = λ trees other holds. tt;
+      spared = λ trees anew holds any. tt;
+      unmade = λ trees anew holds. tt;
+      blank = λ other none. tt;
+      told = tt;
+    }
+
+pub returns-in-Err-load_from : goal.returns-in-Err-load_from
+returns-in-Err-load_from g c =
+    let fault = c.in-Err-load_from.fault in
+    let image = image_at g.T.Start in
+    let texts = texts_by (g.R.Read.remaining c.args.input) (g.B.BatchFiles.text c.args.files.now) in
+    let s = state_of c.in-Ok.rows.maps in
+    let begins = begins_dumped c.args.task texts c.args.dump.now s c.args.load c.args.word c.in-Ok.ensures.dumped in
+    let old = g.W.Write.contents c.args.output.now in
+    let new = g.W.Write.contents c.report-in-Err-load_from.new.output in
+    let status = c.report-in-Err-load_from.result in
+    let reports = tells_fault fault c.refusal.result old new status (inl c.refusal.ensures) c.report-in-Err-load_from.ensures in
+    record {
+      anew = λ anew. fails_to_begin c.args.task old new status (fails_at_once fault old new status c.in-Err-load_from.ensures.fault reports);
+      taken = λ s anew holds. tt;
+      kept = λ s other holds. never_other c.args.task c.args.load other;
+      only = λ tables other holds. never_other c.args.task c.args.load other;
+      nothing = λ other none. tt;
+      other = λ trees other holds others. tt;
+      opened = λ other. never_other c.args.task c.args.load other;
+      left = c.in-Err-load_from.ensures.refused;
+      trees = λ trees other holds. never_other c.args.task c.args.load other;
+      spared = λ trees anew holds any. c.in-Err-load_from.ensures.kept trees holds any;
+      unmade = λ trees anew holds clean. unmade_begins c.args.task texts s begins trees image c.in-Err-load_from.remains (c.in-Err-load_from.ensures.trees trees holds clean);
+      blank = λ other none. never_other c.args.task c.args.load other;
+      told = inl (fault, c.in-Err-load_from.ensures.stopped, reports);
+    }

@@ -1,0 +1,20 @@
+use Rattle.std.proofs.Common.{inl, inr, true}
+use Rattle.moo_world.specs.Judge.{state_of}
+use Rattle.moo_commands.specs.Run.{texts_by}
+use Rattle.moo_commands.proofs.Beginning.{begins_dumped, of_other_texts}
+use Rattle.moo_commands.proofs.Connections.{of_making, surely}
+use Rattle.moo_commands.proofs.over.run_loaded.Goals as goal
+
+pub returns-in-Ok-load_in : goal.returns-in-Ok-load_in
+returns-in-Ok-load_in g c =
+    let texts = texts_by (g.R.Read.remaining c.args.input) (g.B.BatchFiles.text c.args.files.now) in
+    let s = state_of c.in-Ok.rows.maps in
+    inr (
+      s,
+      begins_dumped c.args.task texts c.args.dump.now s c.args.load c.args.word c.in-Ok.ensures.dumped,
+      of_other_texts c.args.task c.args.load s _ texts _ _ _ _ _ _ (surely _ _ _ _ _ _ _ _ _ (c.run_in.ensures.runs true s c.in-Ok-load_in.ensures.stands)),
+    )
+
+pub returns-in-Err-load_in : goal.returns-in-Err-load_in
+returns-in-Err-load_in g c =
+    inl (c.from.result, inl (of_making c.in-Err-load_in.fault c.from.result c.from.ensures c.in-Err-load_in.ensures.fault), c.report-in-Err-load_in.ensures)
