@@ -51,11 +51,11 @@ module _ {T D : Type 0} {g : Ghosts D} where
 
   -- a task that ran over a file is on a file, and this is its run
   ran_file : (task : Task) (image : Image) (conn : Held (FileStore D g)) (texts : Texts) (old new : Option (List ℕ)) (status : ℕ)
-      → EndsWith task image (variant.Ran conn) texts old new status → RunsFile task image (variant.Ran conn) texts old new status
+      → EndsWith {T = T} task image (variant.Ran conn) texts old new status → RunsFile {T = T} task image (variant.Ran conn) texts old new status
   ran_file task image conn texts old new status it = it.file (false_from_ne_true _ (λ is. ran_on_file conn (it.memory is)))
 
   ran_from : (task : Task) (image : Image) (conn : Held (FileStore D g)) (texts : Texts) (old new : Option (List ℕ)) (status : ℕ) (s : State)
-      → HasCleanDisk (file_state conn) → RunsFile task image (variant.Ran conn) texts old new status → StartsFrom task image s → RanFrom task s conn texts old new status
+      → HasCleanDisk (file_state conn) → RunsFile {T = T} task image (variant.Ran conn) texts old new status → StartsFrom task image s → RanFrom task s conn texts old new status
   ran_from task image conn texts old new status s clean it (inl (other, holds)) = it.kept s other holds clean
   ran_from task image conn texts old new status s clean it (inr (anew, is)) = subst (λ s. RanFrom task s conn texts old new status) (sym is) (it.anew anew)
 
@@ -128,7 +128,7 @@ module _ {T D : Type 0} {g : Ghosts D} where
     (rest, is, copied, closes),
     λ clean.
         let both = closes (subst IsCleanRemains is clean) in
-        let ran = crashes_to words image (variant.Ran conn) texts old new status next Next over goes both.0 in (
+        let ran = crashes_to {T = T} words image (variant.Ran conn) texts old new status next Next over goes both.0 in (
           ran.0,
           ran.1,
           λ s starts.
