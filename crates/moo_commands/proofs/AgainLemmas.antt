@@ -128,7 +128,7 @@ module _ {T D : Type 0} {g : Ghosts D} where
     (rest, is, copied, closes),
     λ clean.
         let both = closes (subst IsCleanRemains is clean) in
-        let ran = crashes_to {T = T} words image (variant.Ran conn) texts old new status next Next over goes both.0 in (
+        let ran = crashes_to words image (variant.Ran conn) texts old new status next Next over goes both.0 in (
           ran.0,
           ran.1,
           λ s starts.
