@@ -55,12 +55,12 @@ module _ {T D : Type 0} {g : Ghosts D} where
 
   -- a task that ran over a file is on a file, and this is its run
   ran_file : (task : Task) (image : Image) (conn : Held (FileStore D g)) (texts : Texts) (old new : Option (List ℕ)) (status : ℕ)
-      → EndsWith task image (variant.Ran conn) texts old new status → RunsFile task image (variant.Ran conn) texts old new status
+      → EndsWith {T = T} task image (variant.Ran conn) texts old new status → RunsFile {T = T} task image (variant.Ran conn) texts old new status
   ran_file task image conn texts old new status it = it.file (false_from_ne_true _ (λ is. ran_on_file conn (it.memory is)))
 
   -- it started from the state that the file held, or from one that it may begin with
   ran_from : (task : Task) (image : Image) (conn : Held (FileStore D g)) (texts : Texts) (old new : Option (List ℕ)) (status : ℕ) (After : State → Type 0)
-      → HasCleanDisk (file_state conn) → RunsFile task image (variant.Ran conn) texts old new status → ((s : State) → RanFrom task s conn texts old new status → After s) → Started task image texts After
+      → HasCleanDisk (file_state conn) → RunsFile {T = T} task image (variant.Ran conn) texts old new status → ((s : State) → RanFrom task s conn texts old new status → After s) → Started task image texts After
   ran_from task image conn texts old new status After clean it after = ((λ other s holds. after s (it.kept s other holds clean)), (λ anew. let begun = it.anew anew in (begun.0, begun.1, after begun.0 begun.2)))
 
   -- words over a file that holds a state take it up

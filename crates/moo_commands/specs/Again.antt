@@ -31,11 +31,12 @@ Started task image texts From =
     (begins_anew task ≡ false → (s : State) → HoldsState image s → From s)
     × (begins_anew task ≡ true → (s : State) × BeginsWith task texts s × From s)
 
-module _ {T D : Type 0} {g : Ghosts D} where
+module _ {D : Type 0} {g : Ghosts D} where
   -- the task ran over its file from s, with what a crash then leaves
   abbrev pub RanFrom : Task → State → Held (FileStore D g) → Texts → Option (List ℕ) → Option (List ℕ) → ℕ → Type 0
   RanFrom task s conn texts old new status = RunsFrom task s texts old new status (HasCleanDisk (file_state conn)) (CrashLeaves (file_state conn)) ⊤
 
+module _ {T D : Type 0} {g : Ghosts D} where
   -- The words name a task, and if it takes up its file, it runs from s. Or the store fails or memory runs out, and no damage is told.
   -- Or the words have a mistake.
   abbrev pub TakesUp : List (List ℕ) → State → Ends T D g → Texts → Option (List ℕ) → Option (List ℕ) → ℕ → Type 0
