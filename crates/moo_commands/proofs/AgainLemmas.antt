@@ -97,12 +97,12 @@ module _ {T D : Type 0} {g : Ghosts D} where
     task,
     named,
     ran_from task image conn texts old new status _ clean (ran_file task image conn texts old new status it)
-    (λ s run. (
-      run,
-      λ left.
-          let lies = held_after (file_state conn) run.end next left.trees (run.crash clean) left.such left.holds in
-          (lies.0, lies.1, lies.2, goes lies.0 lies.2),
-    )),
+        (λ s run. (
+          run,
+          λ left.
+              let lies = held_after (file_state conn) run.end next left.trees (run.crash clean) left.such left.holds in
+              (lies.0, lies.1, lies.2, goes lies.0 lies.2),
+        )),
   )
   crashes_to words image (variant.Ran conn) texts old new status next Next (inr (some, usage, none)) goes = absurd (ran_on_file conn none)
   crashes_to words image (variant.Refused rest) texts old new status next Next over goes = λ clean s holds left.

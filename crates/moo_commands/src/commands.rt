@@ -165,6 +165,22 @@ fn check<W: Write, S: Alter + Drop>(
     }
 }
 
+/// Writes how much was loaded.
+fn put_loaded<W: Write>(
+    alloc: Global,
+    seq: u64,
+    objects: u64,
+    output: &mut W,
+) -> Result<u8, Failure>
+    ensures done { IfOk result (λ status. Appends (W.contents output.old) (W.contents output.new) (loaded_line seq objects) × (status ≡ 0)) }
+    ensures stops { IfErr result (λ failure. StopsIn (loaded_line seq objects) failure (W.contents output.old) (W.contents output.new)) }
+{
+    match loaded_text(alloc, seq, objects) {
+        Ok(line) => put_text(line.as_str(), output),
+        Err(_) => Err(Failure::NoMemory),
+    }
+}
+
 /// Says how much was loaded.
 fn show_loaded<W: Write, S: Alter + Drop>(
     alloc: Global,
@@ -176,10 +192,7 @@ fn show_loaded<W: Write, S: Alter + Drop>(
 {
     let seq = world.seq()?;
     let objects = world.object_count()?;
-    match loaded_text(alloc, seq, objects) {
-        Ok(line) => put_text(line.as_str(), output),
-        Err(_) => Err(Failure::NoMemory),
-    }
+    put_loaded(alloc, seq, objects, output)
 }
 
 /// Serves so many connections on a port of 127.0.0.1.

@@ -108,6 +108,28 @@ fn put_made_line<W: Write>(line: Result<String, AllocError>, status: u8, output:
     }
 }
 
+/// Writes the line of a damage, and answers its status.
+fn put_damage<W: Write>(alloc: Global, kind: Kind, key: Key, output: &mut W) -> u8
+    ensures { Reports (Failure.Damaged kind key) (W.contents output.old) (W.contents output.new) result }
+{
+    put_made_line(
+        damaged_text(alloc, kind, key),
+        Failure::Damaged(kind, key).status(),
+        output,
+    )
+}
+
+/// Writes the line of a text that isn't a dump, and answers its status.
+fn put_not_a_dump<W: Write>(alloc: Global, line: u64, output: &mut W) -> u8
+    ensures { Reports (Failure.NotADump line) (W.contents output.old) (W.contents output.new) result }
+{
+    put_made_line(
+        not_a_dump_text(alloc, line),
+        Failure::NotADump(line).status(),
+        output,
+    )
+}
+
 /// Writes the line of a failure, and answers its status. If the store, the batches, the dump or the port failed, the cause goes to
 /// standard error.
 pub fn report<W: Write>(rt: &HostRuntime, failure: Failure, output: &mut W) -> u8
@@ -115,16 +137,8 @@ pub fn report<W: Write>(rt: &HostRuntime, failure: Failure, output: &mut W) -> u
 {
     explain(rt, failure);
     match failure {
-        Failure::Damaged(kind, key) => {
-            put_made_line(
-                damaged_text(rt.alloc(), kind, key),
-                failure.status(),
-                output,
-            )
-        }
-        Failure::NotADump(line) => {
-            put_made_line(not_a_dump_text(rt.alloc(), line), failure.status(), output)
-        }
+        Failure::Damaged(kind, key) => put_damage(rt.alloc(), kind, key, output),
+        Failure::NotADump(line) => put_not_a_dump(rt.alloc(), line, output),
         _ => put_line(failure.word(), failure.status(), output),
     }
 }

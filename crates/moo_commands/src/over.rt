@@ -71,7 +71,7 @@ pub fn run_in<B: BatchFiles, R: Read + Drop, W: Write, S: Alter + Drop>(
     world.into_connection()
 }
 
-/// Makes a new world in a connection that has no tables, and does what a task says over it.
+/// Makes the opening world in a connection that has no tables, and does what a task says over it.
 fn run_anew<B: BatchFiles, R: Read + Drop, W: Write, S: Alter + Drop>(
     rt: &HostRuntime,
     conn: Connection<S>,
@@ -82,8 +82,9 @@ fn run_anew<B: BatchFiles, R: Read + Drop, W: Write, S: Alter + Drop>(
     status: &mut u8,
 ) -> Connection<S>
     requires outside { conn.in_transaction ≡ false }
-    ensures { FailsAtOnce (W.contents output.old) (W.contents output.new) status.new
-        ⊎ RunsFrom task.entry (state_of opening_maps) (texts_by (R.remaining input) (B.text files.now)) (W.contents output.old) (W.contents output.new) status.new (HasCleanDisk (state S.Store result)) (CrashLeaves (state S.Store result)) ⊤ }
+    requires load { is_load task ≡ false }
+    ensures { FailsToBegin task.entry (W.contents output.old) (W.contents output.new) status.new
+        ⊎ ((s : State) × BeginsWith task.entry (texts_by (R.remaining input) (B.text files.now)) s × RunsFrom task.entry s (texts_by (R.remaining input) (B.text files.now)) (W.contents output.old) (W.contents output.new) status.new (HasCleanDisk (state S.Store result)) (CrashLeaves (state S.Store result)) ⊤) }
 {
     match create_in(rt.alloc(), conn) {
         Ok(world) => run_in(rt, world, task, files, input, output, status),
@@ -181,11 +182,14 @@ pub fn run_over<B: BatchFiles, R: Read + Drop, W: Write, S: Alter + Drop>(
     // Whatever they show, it is refused, or the task runs from a well formed world.
     ensures opened { begins_anew task.entry ≡ false → RunsOpened task.entry (texts_by (R.remaining input) (B.text files.now)) (W.contents output.old) (W.contents output.new) status.new }
 {
-    if let Some(dump) = dump_word(task) {
-        run_loaded(rt, conn, dump, task, files, input, output, status)
-    } else if begins_anew(task) {
-        run_anew(rt, conn, task, files, input, output, status)
-    } else {
-        run_opened(rt, conn, task, files, input, output, status)
+    match dump_word(task) {
+        Some(dump) => run_loaded(rt, conn, dump, task, files, input, output, status),
+        None => {
+            if begins_anew(task) {
+                run_anew(rt, conn, task, files, input, output, status)
+            } else {
+                run_opened(rt, conn, task, files, input, output, status)
+            }
+        }
     }
 }
