@@ -8,7 +8,7 @@ from tests.support.program import MOO, TOP, ended
 from tests.support.service import Service
 from tests.support.worlds import accepted, make, run, text_of
 
-COMMANDS = ["init", "apply", "ask", "dump", "check", "serve"]
+COMMANDS = ["init", "apply", "ask", "dump", "load", "check", "serve"]
 REPLIES = "accepted refused full stale malformed truncated nomemory fault closed".split()
 REASONS = "E_PERM E_INVARG E_INVIND E_PROPNF E_VERBNF E_ARGS E_TYPE E_QUOTA E_RECMOVE E_NACC".split()
 LONGEST_LINE = 109
@@ -44,6 +44,7 @@ class Words(ProgramTest):
         for word in COMMANDS:
             self.says(f"{word} wants its file", 2, "FILE", word)
         self.says("apply wants its batches", 2, "BATCHES", "apply", "world.db")
+        self.says("load wants its dump", 2, "DUMP", "load", "world.db")
         self.says("serve wants its port", 2, "PORT", "serve", "world.db")
         self.says("serve wants its count", 2, "COUNT", "serve", "world.db", "8080")
         for port in ("0", "65536", "x"):
@@ -62,6 +63,8 @@ class Words(ProgramTest):
         self.case("so has ask", run("ask", "world.db", "-", text=empty), (0, accepted(1)))
         self.case("check has one", run("check", "world.db"), (0, "ok seq 1 objects 4\n"))
         self.says("so has dump", 0, "seq 1", "dump", "world.db")
+        dump = run("dump", "world.db")[1]
+        self.case("load has two", run("load", "copy.db", "-", text=dump), (0, "loaded seq 1 objects 4\n"))
         self.case("no word is apply :memory: -", run(text=text_of(["create(#1)"], "#3 at 0")), (0, accepted(1, "#4")))
 
     def test_ports_and_counts(self):
