@@ -135,7 +135,7 @@ module _ {T D : Type 0} {g : Ghosts D} where
         let ran = crashes_to words image (variant.Ran conn) texts old new status next Next over goes both.0 in (
           ran.0,
           ran.1,
-          started_map ran.0 image texts _ _ (λ s run. (run.0, λ found. run.1 (found_left T (file_state conn) rest next both.1 (subst (λ it. IsFoundIn (Some it) next) is found)))) ran.2.1,
+          started_map ran.0 image texts _ _ (λ s run. (run.0, λ found. run.1 (found_left T (file_state conn) rest next both.1 (subst (λ it. IsFoundIn (Some it) next) is found)))) ran.2,
         ),
   )
   closes_by words image (variant.Ran conn) None texts old new status next Next over none goes = absurd none

@@ -18,42 +18,42 @@ use Rattle.moo_commands.specs.Run.{Texts, begins_anew, is_load, dump_word, IsDum
 use Rattle.moo_commands.proofs.Connections.{unseen}
 
 pub begins_opening : (task : Task) (texts : Texts) → is_load task ≡ false → BeginsWith task texts (state_of opening_maps)
-begins_opening (Init file) texts no = refl
-begins_opening (Apply file batches) texts no = refl
-begins_opening (Ask file batches) texts no = refl
-begins_opening (Dump file) texts no = refl
-begins_opening (Load file dump) texts no = absurd (true≢false no)
-begins_opening (Check file) texts no = refl
-begins_opening (Serve file port count) texts no = refl
+begins_opening (Init file) texts other = refl
+begins_opening (Apply file batches) texts other = refl
+begins_opening (Ask file batches) texts other = refl
+begins_opening (Dump file) texts other = refl
+begins_opening (Load file dump) texts other = absurd (true≢false other)
+begins_opening (Check file) texts other = refl
+begins_opening (Serve file port count) texts other = refl
 
 pub begins_dumped : (task : Task) (texts : Texts) (dump : List ℕ) (s : State) → is_load task ≡ true → dump_word task ≡ dump → IsDumpedAs (texts dump) s → BeginsWith task texts s
-begins_dumped (Init file) texts dump s yes is it = absurd (true≢false (sym yes))
-begins_dumped (Apply file batches) texts dump s yes is it = absurd (true≢false (sym yes))
-begins_dumped (Ask file batches) texts dump s yes is it = absurd (true≢false (sym yes))
-begins_dumped (Dump file) texts dump s yes is it = absurd (true≢false (sym yes))
-begins_dumped (Load file word) texts dump s yes is it = subst (λ w. IsDumpedAs (texts w) s) (sym is) it
-begins_dumped (Check file) texts dump s yes is it = absurd (true≢false (sym yes))
-begins_dumped (Serve file port count) texts dump s yes is it = absurd (true≢false (sym yes))
+begins_dumped (Init file) texts dump s loads is it = absurd (true≢false (sym loads))
+begins_dumped (Apply file batches) texts dump s loads is it = absurd (true≢false (sym loads))
+begins_dumped (Ask file batches) texts dump s loads is it = absurd (true≢false (sym loads))
+begins_dumped (Dump file) texts dump s loads is it = absurd (true≢false (sym loads))
+begins_dumped (Load file word) texts dump s loads is it = subst (λ w. IsDumpedAs (texts w) s) (sym is) it
+begins_dumped (Check file) texts dump s loads is it = absurd (true≢false (sym loads))
+begins_dumped (Serve file port count) texts dump s loads is it = absurd (true≢false (sym loads))
 
 pub load_begins : (task : Task) → is_load task ≡ true → begins_anew task ≡ true
-load_begins (Init file) yes = refl
-load_begins (Apply file batches) yes = absurd (true≢false (sym yes))
-load_begins (Ask file batches) yes = absurd (true≢false (sym yes))
-load_begins (Dump file) yes = absurd (true≢false (sym yes))
-load_begins (Load file dump) yes = refl
-load_begins (Check file) yes = absurd (true≢false (sym yes))
-load_begins (Serve file port count) yes = absurd (true≢false (sym yes))
+load_begins (Init file) loads = refl
+load_begins (Apply file batches) loads = absurd (true≢false (sym loads))
+load_begins (Ask file batches) loads = absurd (true≢false (sym loads))
+load_begins (Dump file) loads = absurd (true≢false (sym loads))
+load_begins (Load file dump) loads = refl
+load_begins (Check file) loads = absurd (true≢false (sym loads))
+load_begins (Serve file port count) loads = absurd (true≢false (sym loads))
 
 -- what comes after a load reads no text
 pub of_other_texts : (task : Task) → is_load task ≡ true → (s : State) (texts others : Texts) (old new : Option (List ℕ)) (status : ℕ) (Clean : Type 0) (Crash : Stand → Type 0) (Shown : Type 0)
     → RunsFrom task s texts old new status Clean Crash Shown → RunsFrom task s others old new status Clean Crash Shown
-of_other_texts (Init file) yes s texts others old new status Clean Crash Shown it = absurd (true≢false (sym yes))
-of_other_texts (Apply file batches) yes s texts others old new status Clean Crash Shown it = absurd (true≢false (sym yes))
-of_other_texts (Ask file batches) yes s texts others old new status Clean Crash Shown it = absurd (true≢false (sym yes))
-of_other_texts (Dump file) yes s texts others old new status Clean Crash Shown it = absurd (true≢false (sym yes))
-of_other_texts (Load file dump) yes s texts others old new status Clean Crash Shown it = record { end = it.end; crash = it.crash; writes = it.writes }
-of_other_texts (Check file) yes s texts others old new status Clean Crash Shown it = absurd (true≢false (sym yes))
-of_other_texts (Serve file port count) yes s texts others old new status Clean Crash Shown it = absurd (true≢false (sym yes))
+of_other_texts (Init file) loads s texts others old new status Clean Crash Shown it = absurd (true≢false (sym loads))
+of_other_texts (Apply file batches) loads s texts others old new status Clean Crash Shown it = absurd (true≢false (sym loads))
+of_other_texts (Ask file batches) loads s texts others old new status Clean Crash Shown it = absurd (true≢false (sym loads))
+of_other_texts (Dump file) loads s texts others old new status Clean Crash Shown it = absurd (true≢false (sym loads))
+of_other_texts (Load file dump) loads s texts others old new status Clean Crash Shown it = record { end = it.end; crash = it.crash; writes = it.writes }
+of_other_texts (Check file) loads s texts others old new status Clean Crash Shown it = absurd (true≢false (sym loads))
+of_other_texts (Serve file port count) loads s texts others old new status Clean Crash Shown it = absurd (true≢false (sym loads))
 
 pub fails_to_begin : (task : Task) (old new : Option (List ℕ)) (status : ℕ) → FailsAtOnce old new status → FailsToBegin task old new status
 fails_to_begin task old new status (failure, opening, reports) = (failure, inl opening, reports)
@@ -73,4 +73,4 @@ unmade_begins task texts s begins trees image remains =
 
 -- a task that begins with a new world isn't one that takes up its file
 pub never_other : {A : Type 0} (task : Task) → is_load task ≡ true → begins_anew task ≡ false → A
-never_other task yes other = absurd (true≢false (sym (load_begins task yes) ∙ other))
+never_other task loads other = absurd (true≢false (sym (load_begins task loads) ∙ other))

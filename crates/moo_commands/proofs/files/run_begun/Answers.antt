@@ -1,4 +1,4 @@
-use Rattle.std.proofs.Common.{true, false}
+use Rattle.std.proofs.Common.{inl, true, false}
 use Rattle.sqlite.specs.WalFiles.{image_at}
 use Rattle.moo_rows.specs.Opening.{opening_maps}
 use Rattle.moo_world.specs.Judge.{state_of}
@@ -13,7 +13,7 @@ returns-in-Ok g c =
     let here = state_of world.rows.maps in
     let ran = c.run_in_files.ensures in
     record {
-      anew = λ anew. (state_of opening_maps, begins_opening c.args.task _ c.args.load, surely _ _ _ _ _ _ _ _ _ (ran.runs true (state_of opening_maps) (c.in-Ok.ensures.anew anew)));
+      anew = λ anew. (state_of opening_maps, begins_opening c.args.task _ c.requires.load, surely _ _ _ _ _ _ _ _ _ (ran.runs true (state_of opening_maps) (c.in-Ok.ensures.anew anew)));
       taken = λ s anew holds clean. c.in-Ok.ensures.taken anew s holds (ran.clean true (state_of opening_maps) (c.in-Ok.ensures.anew anew) clean);
       kept = λ s other holds clean.
           let early = ran.clean false here (c.in-Ok.ensures.opened other).1 clean in
@@ -52,7 +52,7 @@ returns-in-Err g c =
       trees = λ trees other holds. c.in-Err.ensures.trees other trees holds;
       spared = λ trees anew holds any. c.in-Err.ensures.spared anew trees holds any;
       unmade = λ trees anew holds clean.
-          unmade_begins c.args.task _ (state_of opening_maps) (begins_opening c.args.task _ c.args.load) trees (image_at g.T.Start) c.in-Err.remains (c.in-Err.ensures.unmade anew trees holds clean);
+          unmade_begins c.args.task _ (state_of opening_maps) (begins_opening c.args.task _ c.requires.load) trees (image_at g.T.Start) c.in-Err.remains (c.in-Err.ensures.unmade anew trees holds clean);
       blank = λ other none. c.in-Err.ensures.blank other none;
       told = inl (fault, c.in-Err.ensures.stopped, reports);
     }

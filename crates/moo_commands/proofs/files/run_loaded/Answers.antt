@@ -16,15 +16,15 @@ returns-in-Ok-load_from g c =
     record {
       anew = λ anew. (
         s,
-        begins_dumped c.args.task texts c.args.dump.now s c.args.load c.args.word c.in-Ok.ensures.dumped,
-        of_other_texts c.args.task c.args.load s _ texts _ _ _ _ _ _ (surely _ _ _ _ _ _ _ _ _ (ran.runs true s stands)),
+        begins_dumped c.args.task texts c.args.dump.now s c.requires.load c.requires.word c.in-Ok.ensures.dumped,
+        of_other_texts c.args.task c.requires.load s _ texts _ _ _ _ _ _ (surely _ _ _ _ _ _ _ _ _ (ran.runs true s stands)),
       );
       taken = λ t anew holds clean. c.in-Ok-load_from.ensures.taken t holds (ran.clean true s stands clean);
-      kept = λ s other holds. never_other c.args.task c.args.load other;
-      only = λ tables other holds. never_other c.args.task c.args.load other;
-      nothing = λ other none. never_other c.args.task c.args.load other;
-      other = λ trees other holds others. never_other c.args.task c.args.load other;
-      opened = λ other. never_other c.args.task c.args.load other;
+      kept = λ s other holds. never_other c.args.task c.requires.load other;
+      only = λ tables other holds. never_other c.args.task c.requires.load other;
+      nothing = λ other none. never_other c.args.task c.requires.load other;
+      other = λ trees other holds others. never_other c.args.task c.requires.load other;
+      opened = λ other. never_other c.args.task c.requires.load other;
       left = λ s holds. tt;
       trees = λ trees other holds. tt;
       spared = λ trees anew holds any. tt;
@@ -39,7 +39,7 @@ returns-in-Err-load_from g c =
     let image = image_at g.T.Start in
     let texts = texts_by (g.R.Read.remaining c.args.input) (g.B.BatchFiles.text c.args.files.now) in
     let s = state_of c.in-Ok.rows.maps in
-    let begins = begins_dumped c.args.task texts c.args.dump.now s c.args.load c.args.word c.in-Ok.ensures.dumped in
+    let begins = begins_dumped c.args.task texts c.args.dump.now s c.requires.load c.requires.word c.in-Ok.ensures.dumped in
     let old = g.W.Write.contents c.args.output.now in
     let new = g.W.Write.contents c.report-in-Err-load_from.new.output in
     let status = c.report-in-Err-load_from.result in
@@ -47,15 +47,15 @@ returns-in-Err-load_from g c =
     record {
       anew = λ anew. fails_to_begin c.args.task old new status (fails_at_once fault old new status c.in-Err-load_from.ensures.fault reports);
       taken = λ s anew holds. tt;
-      kept = λ s other holds. never_other c.args.task c.args.load other;
-      only = λ tables other holds. never_other c.args.task c.args.load other;
+      kept = λ s other holds. never_other c.args.task c.requires.load other;
+      only = λ tables other holds. never_other c.args.task c.requires.load other;
       nothing = λ other none. tt;
       other = λ trees other holds others. tt;
-      opened = λ other. never_other c.args.task c.args.load other;
+      opened = λ other. never_other c.args.task c.requires.load other;
       left = c.in-Err-load_from.ensures.refused;
-      trees = λ trees other holds. never_other c.args.task c.args.load other;
+      trees = λ trees other holds. never_other c.args.task c.requires.load other;
       spared = λ trees anew holds any. c.in-Err-load_from.ensures.kept trees holds any;
       unmade = λ trees anew holds clean. unmade_begins c.args.task texts s begins trees image c.in-Err-load_from.remains (c.in-Err-load_from.ensures.trees trees holds clean);
-      blank = λ other none. never_other c.args.task c.args.load other;
+      blank = λ other none. never_other c.args.task c.requires.load other;
       told = inl (fault, c.in-Err-load_from.ensures.stopped, reports);
     }

@@ -9,7 +9,7 @@ use Rattle.moo_commands.proofs.over.run_anew.Goals as goal
 pub returns-in-Ok : goal.returns-in-Ok
 returns-in-Ok g c =
     let s = state_of opening_maps in
-    inr (s, begins_opening c.args.task (texts_by (g.R.Read.remaining c.args.input) (g.B.BatchFiles.text c.args.files.now)) c.args.load, surely _ _ _ _ _ _ _ _ _ (c.run_in.ensures.runs true s c.in-Ok.ensures.stands))
+    inr (s, begins_opening c.args.task (texts_by (g.R.Read.remaining c.args.input) (g.B.BatchFiles.text c.args.files.now)) c.requires.load, surely _ _ _ _ _ _ _ _ _ (c.run_in.ensures.runs true s c.in-Ok.ensures.stands))
 
 pub returns-in-Err : goal.returns-in-Err
 returns-in-Err g c = inl (c.from.result, inl (of_making c.in-Err.fault c.from.result c.from.ensures c.in-Err.ensures.fault), c.report.ensures)

@@ -11,8 +11,8 @@ returns-in-Ok-load_in g c =
     let s = state_of c.in-Ok.rows.maps in
     inr (
       s,
-      begins_dumped c.args.task texts c.args.dump.now s c.args.load c.args.word c.in-Ok.ensures.dumped,
-      of_other_texts c.args.task c.args.load s _ texts _ _ _ _ _ _ (surely _ _ _ _ _ _ _ _ _ (c.run_in.ensures.runs true s c.in-Ok-load_in.ensures.stands)),
+      begins_dumped c.args.task texts c.args.dump.now s c.requires.load c.requires.word c.in-Ok.ensures.dumped,
+      of_other_texts c.args.task c.requires.load s _ texts _ _ _ _ _ _ (surely _ _ _ _ _ _ _ _ _ (c.run_in.ensures.runs true s c.in-Ok-load_in.ensures.stands)),
     )
 
 pub returns-in-Err-load_in : goal.returns-in-Err-load_in
