@@ -41,7 +41,7 @@ pub fn ask_text<R: Read + Drop, W: Write, S: Alter + Drop, N: Notes>(
     ensures asks { IfOk result (λ tally. (known : Bool) (stand : Stand) → StandsAt S.Store known world.now stand →
         Completes AsksBatch stand stand (R.remaining reader) (W.contents writer.old) (W.contents writer.new) tally.batches tally.lost) }
 
-    // At a fault those of the items that are done, and a front of the next one.
+    // At a fault those of the items that are done are written, and the beginning of the next one.
     ensures stops { IfErr result (λ fault. (known : Bool) (stand : Stand) → StandsAt S.Store known world.now stand →
         Halts AsksBatch stand stand (R.remaining reader) (W.contents writer.old) (W.contents writer.new) fault) }
 {

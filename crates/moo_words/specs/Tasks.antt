@@ -7,7 +7,7 @@ use Rattle.clap.specs.Kinds.{Kinds, HasKind}
 use Rattle.clap.specs.Faults.{fault_of}
 use Rattle.moo_words.specs.Commands.{moo_app}
 use Rattle.moo_words.specs.declared.task.Task.{Task}
-use Rattle.moo_words.specs.declared.task.Task.TheVariants.{Init, Apply, Ask, Dump, Check, Serve}
+use Rattle.moo_words.specs.declared.task.Task.TheVariants.{Init, Apply, Ask, Dump, Load, Check, Serve}
 use Rattle.moo_words.specs.declared.task.Usage.{Usage}
 use Rattle.moo_words.specs.declared.task.Usage.TheVariants.{Refused, Absent}
 
@@ -28,6 +28,8 @@ IsTask (name, rows) (Apply file batches) =
 IsTask (name, rows) (Ask file batches) =
     (name ≡ codes "ask") × HasText rows (codes "FILE") file.now × HasText rows (codes "BATCHES") batches.now
 IsTask (name, rows) (Dump file) = (name ≡ codes "dump") × HasText rows (codes "FILE") file.now
+IsTask (name, rows) (Load file dump) =
+    (name ≡ codes "load") × HasText rows (codes "FILE") file.now × HasText rows (codes "DUMP") dump.now
 IsTask (name, rows) (Check file) = (name ≡ codes "check") × HasText rows (codes "FILE") file.now
 IsTask (name, rows) (Serve file port count) =
     (name ≡ codes "serve") × HasText rows (codes "FILE") file.now
@@ -40,11 +42,12 @@ IsDefault (Init file) = ⊥
 IsDefault (Apply file batches) = (file.now ≡ codes ":memory:") × (batches.now ≡ codes "-")
 IsDefault (Ask file batches) = ⊥
 IsDefault (Dump file) = ⊥
+IsDefault (Load file dump) = ⊥
 IsDefault (Check file) = ⊥
 IsDefault (Serve file port count) = ⊥
 
--- what is wrong with the words, by clap's rules for the program: the kinds of error that they give, help and the version among these;
--- none where they are those of a command
+-- what is wrong with the words, by clap's rules for the program: the kinds of error that they give, help and the version among them;
+-- none if they are those of a command
 unfoldable pub mistakes : List Text → Kinds
 mistakes words = fault_of moo_app words
 
