@@ -37,7 +37,7 @@ pub fn create_files<D: Disk + Drop>(
 }
 
 /// `World::leaves` at the store in files, for a World that works.
-fn leaves_its_state<D: Disk + Drop>(world: &World<FileStore<D>>)
+pub(crate) fn leaves_its_state<D: Disk + Drop>(world: &World<FileStore<D>>)
     ensures { (s : State) → StandsFor over_files true world.now s → HasCleanDisk (store_of over_files world.now) → Left (store_of over_files world.now) s }
 {
     world.leaves();
