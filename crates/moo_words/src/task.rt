@@ -2,7 +2,7 @@
 ghost use Rattle.std.specs.Prelude.{◌≡◌, ◌<◌, Some, map, IfOk, IfErr, IsErr, IfSome, codes, length};
 ghost use Rattle.clap.specs.Walk.{rows_of};
 ghost use Rattle.clap.specs.Matches.{found_of};
-ghost use Rattle.moo_words.specs.Tasks.{HasNumber, HasText, IsRefusal, IsTask, NamesTask};
+ghost use Rattle.moo_words.specs.Tasks.{HasNumber, HasText, IsRefusal, IsTask, NamesTask, NamesAlone};
 
 use crate::commands::moo_command;
 use clap::{ArgMatches, Error};
@@ -52,8 +52,8 @@ pub enum Task<'a> {
 /// Why the words name no task.
 #[derive(Drop)]
 pub enum Usage {
-    /// They aren't those of a command, or they ask for help or the version; the error has the text to show. Out of memory is such
-    /// an error too.
+    /// They aren't those of a command, or they ask for help or the version; the error has the text to show. If memory runs
+    /// out, that is such an error too.
     Refused(Error),
     /// The matches lack an entry that the command asks for.
     Absent,
@@ -123,10 +123,12 @@ fn task_in<'a>(name: &str, matches: &ArgMatches<'a>) -> Option<Task<'a>>
 
 /// The task that the words name, the first of which is the program's own name.
 ///
-/// With no other word it is `apply :memory: -`. Refused if `clap` refuses the words, also because they ask for help or the
-/// version, or if memory runs out; Absent if its matches lack an entry.
+/// With no other word it is `apply :memory: -`. Refused if `clap` refuses the words, as it does if they ask for help or the version,
+/// or if memory runs out. Absent if its matches lack an entry.
 pub fn read_words<'a>(alloc: Global, words: &'a [&'a str]) -> Result<Task<'a>, Usage>
     ensures task { IfOk result (NamesTask (map (λ word. word.now) words.entry.now)) }
+    // No other task is named by these words.
+    ensures alone { IfOk result (NamesAlone (map (λ word. word.now) words.entry.now)) }
     ensures refused { IfErr result (IsRefusal (map (λ word. word.now) words.entry.now)) }
     ensures more { IsErr result → 1 < length words.entry.now }
 {
