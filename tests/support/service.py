@@ -30,8 +30,9 @@ class Service:
         return self.first == f"listening 127.0.0.1:{self.port}\n"
 
     def end(self):
-        """Its status, and what it wrote after its first line."""
-        output, _ = self.process.communicate(timeout=PATIENCE)
+        """Its status, and what it wrote after its first line. `told` is then what it wrote to standard error."""
+        output, told = self.process.communicate(timeout=PATIENCE)
+        self.told = told.decode()
         return self.process.returncode, output.decode()
 
     def kill(self):
