@@ -75,7 +75,7 @@ fn apply<B: BatchFiles, R: Read + Drop, W: Write, S: Alter + Drop>(
     }
 }
 
-/// Says what the batches of a text would come to.
+/// Says what the batches of a text would answer.
 fn ask_batches<R: Read + Drop, W: Write, S: Alter + Drop>(
     alloc: Global,
     world: &World<S>,

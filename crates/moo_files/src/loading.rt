@@ -56,7 +56,7 @@ pub fn load_from<T: Start>(
     requires good { IsGood rows.maps }
     requires limit { rows.maps.head.seq < 2 ^ 63 }
     ensures stands { IfOk result (λ world. StandsFor over_files true world (state_of rows.maps)) }
-    // Files that hold a world are no place for another.
+    // A file that holds a world takes no other.
     ensures taken { (s : State) → HoldsState (image_at T.Start) s → IfOk result (λ world. HasCleanDisk (store_of over_files world) → ⊥) }
     ensures fault { IfErr result (λ e. IsOfStore e.0) }
     // After a refusal files that held any table hold the same database, and so does what a crash leaves. If they held no table, or
