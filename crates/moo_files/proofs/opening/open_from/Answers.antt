@@ -1,5 +1,5 @@
-use Rattle.std.proofs.Common.{inl, inr, ◌≡◌, refl, sym, subst, ◌∙◌}
-use Rattle.sqlite.specs.Files.{over_files, file_state, IsEmpty}
+use Rattle.std.proofs.Common.{inl, ◌≡◌, refl, sym, subst}
+use Rattle.sqlite.specs.Files.{over_files, file_state}
 use Rattle.sqlite.specs.WalFiles.{image_at}
 use Rattle.moo_store.specs.Opening.{Adopts}
 use Rattle.moo_store.specs.States.{LeavesState}
