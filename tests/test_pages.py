@@ -59,7 +59,7 @@ class Pages(ProgramTest):
 
     def test_files_that_hold_something(self):
         Path("text.db").write_text("no database\n" * 500)
-        Path("short.db").write_text("x")
+        Path("short.db").write_text("xy")
         with closing(sqlite3.connect("other.db")) as connection:
             connection.execute("CREATE TABLE t (a)")
             connection.commit()
