@@ -1,14 +1,20 @@
 """The service, over sockets of this machine: what it says, what it answers, and what becomes of peers that don't do their part."""
+import errno
 import re
+import shutil
 import socket
 import threading
 import time
+import unittest
 
 from tests.support.cases import ProgramTest
 from tests.support.program import MOO, edit, ended
+from tests.support.refusing import Fault, build_refuser
 from tests.support.service import Service, answer, free_port, get, heard, post, reset
 from tests.support.worlds import run
 
+# A line to the operator: its time, route and cause.
+TOLD = r"moo: (\w{3}, \d\d \w{3} \d{4} \d\d:\d\d:\d\d GMT): (\S+): (.+)"
 CREATE = '{"as":"#3","calls":["create(#1)"]}'
 ROOT = (
     '{"children":["#0","#2","#3"],"contents":[],"f":1,"location":"#-1","name":"Root Class","owner":"#3","parent":"#-1",'
@@ -94,7 +100,7 @@ class Serve(ProgramTest):
             for byte in post("/batch", CREATE):
                 peer.send(bytes([byte]))
             self.case("a batch, byte by byte", heard(peer), answer("200 OK", '{"answers":["#5"],"seq":3}'))
-        self.case("it ends behind so many connections", service.end(), (0, f"served {len(ANSWERS) + 1} failed 0\n"))
+        self.case("it ends after so many connections", service.end(), (0, f"served {len(ANSWERS) + 1} failed 0\n"))
         self.case("what it acknowledged is there", run("check", "world.db"), (0, "ok seq 3 objects 6\n"))
 
     def test_words(self):
@@ -152,12 +158,53 @@ class Serve(ProgramTest):
         service = Service(MOO, ":memory:", 2)
         silent = service.peer()
         began = time.monotonic()
-        self.case("behind a silent peer the next is served", service.ask(get("/seq")), answer("200 OK", '{"seq":0}'))
+        self.case("after a silent peer the next is served", service.ask(get("/seq")), answer("200 OK", '{"seq":0}'))
         waited = time.monotonic() - began
         self.case("after ten seconds", 9 < waited < 30, True)
         self.case("the silent one is told nothing", heard(silent), b"")
         silent.close()
         self.case("and has failed", service.end(), (0, "served 1 failed 1\n"))
+
+    def test_lines_to_the_operator(self):
+        service = Service(MOO, ":memory:", 24)
+        self.case("an answer has none", service.ask(get("/seq")), answer("200 OK", '{"seq":0}'))
+        self.case("nor has a refusal", service.ask(get("/nothing")), answer("404 Not Found", error("not found")))
+        peer = service.peer()
+        peer.sendall(post("/batch", CREATE)[:-1])
+        reset(peer)
+        for _ in range(20):
+            reset(service.peer())
+        service.ask(get("/seq"))
+        status, line = service.end()
+        failed = int(re.fullmatch(r"served \d+ failed (\d+)\n", line)[1])
+        lines = service.told.splitlines()
+        told = [re.fullmatch(TOLD, line) for line in lines]
+        left_out = [re.fullmatch(r"moo: (\d+) more connections failed or were answered 503", line) for line in lines]
+        self.case("each line has its form", [line for line, first, second in zip(lines, told, left_out) if not first and not second], [])
+        self.case("each that failed has a line or is counted", sum(1 for it in told if it) + sum(int(it[1]) for it in left_out if it), failed)
+        times = [it[1] for it in told if it]
+        self.case("a second has ten lines at most", max(times.count(time) for time in times) <= 10, True)
+
+    @unittest.skipUnless(shutil.which("cc"), "the command cc isn't on this machine")
+    def test_lines_of_a_store_that_fails(self):
+        build_refuser()
+        run("init", "full.db")
+        fault = Fault("file", errno.ENOSPC, True)
+        wanted = [("/batch", "503: the store failed"), ("/object/1", "503: the store failed before, and the world is closed")]
+        number, told = 1, []
+        # The first calls open the file; from some call on the first one that is refused is in the batch.
+        while number < 400 and [it[1:] for it in told] != wanted:
+            run("init", "again.db")
+            shutil.move("again.db", "full.db")
+            service = Service(MOO, "full.db", 2, env=fault.env(number, "refused"))
+            if service.is_listening():
+                service.ask(post("/batch", CREATE))
+                service.ask(get("/object/1"))
+            service.end()
+            told = [re.fullmatch(TOLD, line) for line in service.told.splitlines()]
+            told = [it.groups() for it in told if it]
+            number += 1
+        self.case("each 503 has its line, with its route and cause", [it[1:] for it in told], wanted)
 
     def test_many_at_once(self):
         run("init", "many.db")

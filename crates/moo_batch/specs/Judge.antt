@@ -15,7 +15,7 @@ use Rattle.moo_batch.specs.declared.judging.Verdict.{Verdict}
 use Rattle.moo_batch.specs.declared.judging.Verdict.TheVariants.{Accepted, Refused, Full, Stale, OutOfMemory}
 use Rattle.moo_draft.specs.Changes.{AreChanges}
 
--- what is answered where calls come to this: their answers, with the state that they leave, or the first call that isn't done
+-- what is answered if calls come to this: their answers, with the state that they leave, or the first call that isn't done
 abbrev pub ComeTo : model.Ran → State → Result (List Value) Stop → Type 0
 ComeTo ran after (Ok answers) = ran ≡ model.Through answers after
 ComeTo ran after (Err (refused_at call code)) = ran ≡ model.FailedAt call code
@@ -29,8 +29,8 @@ pub record HaveKept (p : ObjNo) (calls : List Call) (old new : Held) : Type 0 wh
   pub base : new.base ≡ old.base
   pub numbers : CallsLead p calls old.maps new.maps
 
--- what a batch comes to on rows, and where it is accepted the changes that make them into the next ones, which its calls lead to
--- one after another, each keeping numbers. Want of memory is answered only if a call is run
+-- what a batch comes to on rows, and if it is accepted the changes that make them into the next ones, which its calls lead to
+-- one after another, each keeping numbers. A lack of memory is answered only if a call is run
 abbrev pub IsVerdict : Maps → Batch → Verdict → Type 0
 IsVerdict base batch (Accepted answers changes) =
     (next : Maps) × AreChanges base next changes × IsGood next × (model.judge (state_of base) batch ≡ model.Accepted answers (state_of next)) × BatchLeads batch base next

@@ -19,7 +19,7 @@ use std::alloc::Global;
 /// The most batches that are ever accepted.
 pub const LAST_SEQ: u64 = 9223372036854775807;
 
-/// Where and why the calls of a batch stopped; they are numbered from 1.
+/// The call at which a batch stopped, from 1, and why.
 #[derive(Clone, Copy)]
 enum Stop {
     Refused { call: u32, code: Code },
@@ -98,9 +98,9 @@ fn counted(alloc: Global, head: Head) -> Changes
     }
 }
 
-/// What a batch comes to on these rows, which stay as they are: stale where it names another number than the present
-/// one, else full where [`LAST_SEQ`] batches were accepted, else refused or full at the first call that isn't done, else
-/// accepted. Want of memory comes only if a call is run. Where it is accepted, what stays keeps its number, and what is new
+/// The verdict on a batch on these rows, which stay as they are: stale if it names another number than the present
+/// one, else full if [`LAST_SEQ`] batches were accepted, else refused or full at the first call that isn't done, else
+/// accepted. A lack of memory comes only if a call is run. If it is accepted, what stays keeps its number, and what is new
 /// has one that was never given.
 pub fn judge<R: Rows>(alloc: Global, rows: &R, batch: &Batch) -> Verdict
     requires good { IsGood (R.held rows.now).maps }

@@ -1,4 +1,4 @@
-//! Batches: what a batch comes to.
+//! Batches: the verdict on a batch.
 #![tactic(auto)]
 
 mod judging;

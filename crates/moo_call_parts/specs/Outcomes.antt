@@ -1,4 +1,4 @@
--- What a call comes to on rows.
+-- What the outcome of a call is on rows.
 use Rattle.std.specs.Prelude.{◌≡◌, Result, Ok, Err, ⊤}
 use Rattle.moo_value.specs.declared.code.Code.{Code}
 use Rattle.moo_value.specs.declared.value.Value.{Value}
@@ -12,8 +12,8 @@ use Rattle.moo_call_parts.specs.declared.fault.Fault.TheVariants.{Moo, Full as N
 abbrev pub world_in : Held → World
 world_in held = world_of held.maps
 
--- what a call answers where it comes to an outcome: the answer, with the rows of the next world, or the error, with the rows
--- as they were. Want of memory may leave anything
+-- what a call answers if this is its outcome: the answer, with the rows of the next world, or the error, with the rows
+-- as they were. Out of memory may leave anything
 abbrev pub ComesTo : Outcome → Held → Held → Result Value Fault → Type 0
 ComesTo outcome old new (Ok v) = outcome ≡ Done v (world_in new)
 ComesTo outcome old new (Err (Moo code)) = (outcome ≡ Failed code) × (new ≡ old)
@@ -24,7 +24,7 @@ ComesTo outcome old new (Err OutOfMemory) = ⊤
 abbrev pub Answers : Outcome → Held → Result Value Fault → Type 0
 Answers outcome rows result = ComesTo outcome rows rows result
 
--- what is read from what a call is given, or its error; or no memory
+-- what is read from what a call is given, or its error; or out of memory
 abbrev pub GivenOrNot : {A : Type 0} → Result A Code → Result A Fault → Type 0
 GivenOrNot read (Ok a) = read ≡ Ok a
 GivenOrNot read (Err (Moo code)) = read ≡ Err code

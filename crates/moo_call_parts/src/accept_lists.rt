@@ -11,7 +11,7 @@ use moo_rows::ObjList;
 use moo_value::{Code, ObjNo, Value};
 use std::alloc::{AllocError, Global};
 
-/// The objects of a list that has only objects. The only error is want of memory.
+/// The objects of a list that has only objects. The only error is out of memory.
 fn objects_among(alloc: Global, values: &[Value]) -> Result<Option<ObjList>, AllocError>
     ensures { IfOk result (λ found. found ≡ objects_among values.now) }
 {
@@ -26,7 +26,7 @@ fn objects_among(alloc: Global, values: &[Value]) -> Result<Option<ObjList>, All
 }
 
 /// What `set_accept` takes: an object, and a list of objects, or 0 for no list. E_ARGS for another number of arguments, and
-/// then E_TYPE for anything else. OutOfMemory is want of memory alone.
+/// then E_TYPE for anything else. OutOfMemory means out of memory and nothing else.
 pub fn object_and_accept(alloc: Global, args: &[Value]) -> Result<(ObjNo, Option<ObjList>), Fault>
     ensures { GivenOrNot (object_and_accept args.now) result }
 {
@@ -47,7 +47,7 @@ pub fn object_and_accept(alloc: Global, args: &[Value]) -> Result<(ObjNo, Option
     }
 }
 
-/// An accept list, as `accept_list` answers it: the list of its objects, or 0 where there is none. The only error is want of
+/// An accept list, as `accept_list` answers it: the list of its objects, or 0 if there is none. The only error is out of
 /// memory.
 pub fn accept_value(alloc: Global, list: &Option<ObjList>) -> Result<Value, AllocError>
     ensures { IfOk result (λ v. v ≡ accept_value list.now) }

@@ -20,7 +20,7 @@ fn takes<R: Rows>(rows: &R, list: &[ObjNo], thing: ObjNo) -> bool
 }
 
 /// The accept list that counts for the destination: that of the nearest object that holds one, from the destination up its
-/// ancestors. An empty one counts too. None where none of them holds one.
+/// ancestors. An empty one counts too. None if none of them holds one.
 fn list_that_counts<R: Rows>(rows: &R, to: ObjNo) -> Option<&ObjList>
     requires { IsTree (world_in (R.held rows.now)) }
     ensures { let w = world_in (R.held rows.now) in option_map (λ list. list.now) result ≡ accept_along w (chain w to) }

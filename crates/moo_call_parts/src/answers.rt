@@ -23,7 +23,7 @@ pub fn list_of(values: Vec<Value>) -> Value
     Value::List(ValueList::from_vec(values))
 }
 
-/// A list of objects. The only error is want of memory.
+/// A list of objects. The only error is out of memory.
 pub fn object_list(alloc: Global, objects: &[ObjNo]) -> Result<Value, AllocError>
     ensures { IfOk result (λ v. v ≡ object_list objects.now) }
 {
@@ -34,7 +34,7 @@ pub fn object_list(alloc: Global, objects: &[ObjNo]) -> Result<Value, AllocError
     Ok(list_of(values))
 }
 
-/// A list of texts. The only error is want of memory.
+/// A list of texts. The only error is out of memory.
 pub fn text_list(alloc: Global, texts: Vec<MooStr>) -> Result<Value, AllocError>
     ensures { IfOk result (λ v. v ≡ text_list texts.items) }
 {

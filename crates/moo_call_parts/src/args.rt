@@ -63,7 +63,7 @@ pub fn object_and_value(args: &[Value]) -> Result<(ObjNo, &Value), Code>
     }
 }
 
-/// An object, a name and a value, which fits where all the arguments do.
+/// An object, a name and a value, which fits if all the arguments do.
 pub fn object_text_and_value(args: &[Value]) -> Result<(ObjNo, &MooStr, &Value), Code>
     requires { list_all fits args.now ≡ true }
     ensures ok { IfOk result (λ p. object_text_and_value args.now ≡ Ok (p.0, p.1.now, p.2.now)) }
@@ -77,7 +77,7 @@ pub fn object_text_and_value(args: &[Value]) -> Result<(ObjNo, &MooStr, &Value),
     }
 }
 
-/// A parent and an owner, who is the programmer where none is given.
+/// A parent and an owner, who is the programmer if none is given.
 pub fn parent_and_owner(args: &[Value], programmer: ObjNo) -> Result<(ObjNo, ObjNo), Code>
     ensures { result ≡ parent_and_owner programmer args.now }
 {

@@ -12,9 +12,9 @@ use moo_value::ObjNo;
 use moo_world::Change;
 use std::alloc::{AllocError, Global};
 
-/// Changes one field of an object, and nothing else. The only error is want of memory.
+/// Changes one field of an object, and nothing else. The only error is out of memory.
 ///
-/// A new location has to be `#-1`, or an object that isn't x and doesn't lie in it; an accept list has 1,000 entries at most. Names,
+/// A new location has to be `#-1`, or an object that isn't x and isn't in it; an accept list has 1,000 entries at most. Names,
 /// and the numbers of owners and of what a list names, keep the limits of their types.
 pub fn change_row<R: Rows>(
     rows: &mut R,

@@ -1,16 +1,16 @@
-//! Why a call comes to nothing.
+//! Why a call fails.
 
 use moo_value::Code;
 use std::alloc::AllocError;
 
-/// Why a call comes to nothing.
+/// Why a call fails.
 #[derive(Clone, Copy, Debug, PartialEq, Eq)]
 pub enum Fault {
     /// The call's error. The rows are as they were, but for those of a `grant`, which may be half changed.
     Moo(Code),
     /// No number is left for what the call makes. The rows are as they were, but for those of a `grant`.
     Full,
-    /// Want of memory; the rows may be half changed.
+    /// Out of memory; the rows may be half changed.
     OutOfMemory,
 }
 

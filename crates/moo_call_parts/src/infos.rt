@@ -36,7 +36,7 @@ pub struct NewProperty<'a> {
     pub info: Info<'a>,
 }
 
-/// What `add_property` takes; the value fits where all the arguments do.
+/// What `add_property` takes; the value fits if all the arguments do.
 pub fn new_property(args: &[Value]) -> Result<NewProperty<'_>, Code>
     requires { list_all fits args.now ≡ true }
     ensures ok { IfOk result (λ p. new_property args.now ≡ Ok (p.object, (p.name.now, p.value.now, (p.info.owner, p.info.perms.now)))) }

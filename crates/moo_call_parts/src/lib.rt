@@ -1,4 +1,4 @@
-//! What a call is given, who may do what, and why a call comes to nothing.
+//! What a call is given, who may do what, and why a call fails.
 #![tactic(auto, unfolding(moo_world::specs::Rows::world_shown, moo_world::specs::Objects::same_object))]
 
 mod accept_lists;

@@ -53,7 +53,7 @@ pub fn may_be_parent<R: Rows>(rows: &R, programmer: ObjNo, parent: ObjNo) -> boo
     }
 }
 
-/// Whether the programmer may give what it makes, or a verb that it changes, to this owner: itself, or anybody where the
+/// Whether the programmer may give what it makes, or a verb that it changes, to this owner: itself, or anybody if the
 /// programmer is a wizard.
 pub fn may_own<R: Rows>(rows: &R, programmer: ObjNo, owner: ObjNo) -> bool
     ensures { result ≡ may_own (world_in (R.held rows.now)) programmer owner }
@@ -61,7 +61,7 @@ pub fn may_own<R: Rows>(rows: &R, programmer: ObjNo, owner: ObjNo) -> bool
     owner == programmer || is_wizard(rows, programmer)
 }
 
-/// Whether the programmer may name the object: one that it controls, and a player only where it is a wizard.
+/// Whether the programmer may name the object: one that it controls, and a player only if it is a wizard.
 pub fn may_name<R: Rows>(rows: &R, programmer: ObjNo, x: ObjNo) -> bool
     ensures { result ≡ may_name (world_in (R.held rows.now)) programmer x }
 {
@@ -71,14 +71,14 @@ pub fn may_name<R: Rows>(rows: &R, programmer: ObjNo, x: ObjNo) -> bool
     }
 }
 
-/// Whether the programmer may list what the object defines: its owner, a wizard, or anybody where its r bit is set.
+/// Whether the programmer may list what the object defines: its owner, a wizard, or anybody if its r bit is set.
 pub fn may_read_object<R: Rows>(rows: &R, programmer: ObjNo, x: ObjNo) -> bool
     ensures { result ≡ may_read_object (world_in (R.held rows.now)) programmer x }
 {
     controls(rows, programmer, x) || is_readable(rows, x)
 }
 
-/// Whether the programmer may add to the object and take from it: its owner, a wizard, or anybody where its w bit is set.
+/// Whether the programmer may add to the object and take from it: its owner, a wizard, or anybody if its w bit is set.
 pub fn may_write_object<R: Rows>(rows: &R, programmer: ObjNo, x: ObjNo) -> bool
     ensures { result ≡ may_write_object (world_in (R.held rows.now)) programmer x }
 {
@@ -105,7 +105,7 @@ fn is_writable<R: Rows>(rows: &R, x: ObjNo) -> bool
     }
 }
 
-/// Whether the programmer may read a property: the owner of its slot on the very object, a wizard, or anybody where the slot's
+/// Whether the programmer may read a property: the owner of its slot on the very object, a wizard, or anybody if the slot's
 /// r bit is set. The definer doesn't count.
 pub fn may_read_slot<R: Rows>(rows: &R, programmer: ObjNo, slot: &SlotRow) -> bool
     ensures { (definer : ObjNo) → result ≡ may_read_slot (world_in (R.held rows.now)) programmer (slot_seen definer slot.now) }
@@ -120,7 +120,7 @@ pub fn may_write_slot<R: Rows>(rows: &R, programmer: ObjNo, slot: &SlotRow) -> b
     is_wizard(rows, programmer) || programmer == slot.owner || slot.bits.w
 }
 
-/// Whether the programmer may read a verb: its owner, a wizard, or anybody where its r bit is set.
+/// Whether the programmer may read a verb: its owner, a wizard, or anybody if its r bit is set.
 pub fn may_read_verb<R: Rows>(rows: &R, programmer: ObjNo, verb: &VerbRow) -> bool
     ensures { result ≡ may_read_verb (world_in (R.held rows.now)) programmer verb.now }
 {

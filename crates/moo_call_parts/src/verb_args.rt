@@ -12,7 +12,7 @@ use moo_value::{Code, MooStr, ObjNo, Value};
 use moo_world::Desc;
 use std::alloc::{AllocError, Global};
 
-/// The descriptor that a value is: a number or a word. The only error is want of memory.
+/// The descriptor that a value is: a number or a word. The only error is out of memory.
 fn desc_of(alloc: Global, value: &Value) -> Result<Option<Desc>, AllocError>
     ensures { IfOk result (λ desc. desc ≡ desc_of value.now) }
 {

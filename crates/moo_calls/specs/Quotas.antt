@@ -1,4 +1,4 @@
--- The quota that is asked where an object is made.
+-- The quota that is asked when an object is made.
 use Rattle.std.specs.Prelude.{ℤ, pos, int_lt, Bool, true, Option, None, unwrap_or, if◌then◌else◌}
 use Rattle.std.specs.Option.{option_map}
 use Rattle.moo_value.specs.declared.value.ObjNo.{ObjNo}
@@ -6,7 +6,7 @@ use Rattle.moo_world.specs.Objects.{nothing, same_object}
 use Rattle.moo_world.specs.Quota.{quota_of}
 use Rattle.moo_world.specs.World.{World}
 
--- the quota of the owner given; none where #-1 was given
+-- the quota of the owner given; none if #-1 was given
 abbrev pub quota_given : World → ObjNo → Option ℤ
 quota_given w owner = if same_object nothing owner then None else quota_of w owner
 

@@ -16,7 +16,7 @@ use moo_world::Change;
 use std::alloc::Global;
 
 /// `set_player_flag(object, value)`: makes a player of an object, or no player, by the truth of the value, and answers 0.
-/// E_INVARG where there is no such object; E_PERM where the programmer is no wizard.
+/// E_INVARG if there is no such object; E_PERM if the programmer isn't a wizard.
 ///
 /// LambdaMOO Programmer's Manual, 'Operations on Player Objects'.
 pub fn set_player_flag<R: Rows>(
@@ -50,9 +50,9 @@ fn is_short(list: &Option<ObjList>) -> bool
     }
 }
 
-/// `set_accept(object, list)`: sets the list of what the object takes in, or takes the list away where there is none, and
-/// answers 0. E_INVARG where there is no such object; E_PERM where the programmer neither owns it nor is a wizard; E_INVARG
-/// where the list has more than 1,000 entries.
+/// `set_accept(object, list)`: sets the list of what the object takes in, or takes the list away if none is given, and
+/// answers 0. E_INVARG if there is no such object; E_PERM if the programmer neither owns it nor is a wizard; E_INVARG
+/// if the list has more than 1,000 entries.
 ///
 /// The list stands for the verb `accept` of the LambdaMOO Programmer's Manual, 'Object Movement'.
 pub fn set_accept<R: Rows>(

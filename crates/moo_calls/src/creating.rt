@@ -17,7 +17,7 @@ use moo_tree::is_nothing;
 use moo_value::{Code, ObjNo, Value};
 use std::alloc::{AllocError, Global};
 
-/// The number of the next object, where one is left.
+/// The number of the next object, if one is left.
 fn next_object<R: Rows>(rows: &R) -> Option<ObjNo>
     ensures { result ≡ next_object (world_in (R.held rows.now)) }
 {
@@ -29,14 +29,14 @@ fn next_object<R: Rows>(rows: &R) -> Option<ObjNo>
     }
 }
 
-/// The object itself, where the owner is `#-1`.
+/// The object itself, if the owner is `#-1`.
 fn owner_or_self(x: ObjNo, owner: ObjNo) -> ObjNo
     ensures { result ≡ owner_or_self x owner }
 {
     if is_nothing(owner) { x } else { owner }
 }
 
-/// The quota of the owner given; none where `#-1` was given.
+/// The quota of the owner given; none if `#-1` was given.
 fn quota_given<R: Rows>(rows: &R, owner: ObjNo) -> Option<i64>
     requires { IsGood (R.held rows.now).maps }
     ensures quota { result ≡ quota_given (world_in (R.held rows.now)) owner }
@@ -59,7 +59,7 @@ fn has_one_left(quota: Option<i64>) -> bool
     }
 }
 
-/// Takes one object from the owner's quota, where there is one.
+/// Takes one object from the owner's quota, if there is one.
 fn charge<R: Rows>(rows: &mut R, owner: ObjNo, quota: Option<i64>) -> Result<(), AllocError>
     requires good { IsGood (R.held rows.old).maps }
     requires quota { quota ≡ quota_given (world_in (R.held rows.old)) owner }
@@ -75,9 +75,9 @@ fn charge<R: Rows>(rows: &mut R, owner: ObjNo, quota: Option<i64>) -> Result<(),
 }
 
 /// `create(parent, owner)`: makes an object under a parent, takes one from the owner's quota, and answers the new object.
-/// The owner is the programmer where none is given, and the object itself where it is `#-1`. E_PERM where the programmer
-/// may not use the parent, and then where it may not make an object for the owner; E_INVARG where the owner is neither an
-/// object nor `#-1`; E_QUOTA where the owner's quota is used up. Full where every number has been given.
+/// The owner is the programmer if none is given, and the object itself if it is `#-1`. E_PERM if the programmer
+/// may not use the parent, and then if it may not make an object for the owner; E_INVARG if the owner is neither an
+/// object nor `#-1`; E_QUOTA if the owner's quota is used up. Full if every number has been given.
 /// LambdaMOO Programmer's Manual, 'Fundamental Operations on Objects'.
 pub fn create<R: Rows>(
     rows: &mut R,

@@ -14,7 +14,7 @@ use moo_world::BuiltIn;
 use std::alloc::Global;
 
 /// What a built-in property of an object reads as: the text, the object or the list of objects, and 1 or 0 for a bit.
-/// The only error is want of memory.
+/// The only error is out of memory.
 /// LambdaMOO Programmer's Manual, 'Properties on Objects' in the chapter on the database.
 pub fn field_of<R: Rows>(rows: &R, alloc: Global, x: ObjNo, field: BuiltIn) -> Result<Value, Fault>
     requires good { IsGood (R.held rows.now).maps }

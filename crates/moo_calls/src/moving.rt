@@ -13,10 +13,10 @@ use moo_value::{Code, ObjNo, Value};
 use moo_world::Change;
 use std::alloc::Global;
 
-/// `move(object, destination)`: puts an object into another one, or nowhere where the destination is `#-1`, and answers 0.
-/// E_INVARG where there is no such object, and then where the destination is neither an object nor `#-1`; E_PERM where the
-/// programmer neither owns the object nor is a wizard; E_NACC where the destination doesn't accept it and the programmer is
-/// no wizard; E_RECMOVE where the destination is the object itself or lies in it, at any depth.
+/// `move(object, destination)`: puts an object into another one, or nowhere if the destination is `#-1`, and answers 0.
+/// E_INVARG if there is no such object, and then if the destination is neither an object nor `#-1`; E_PERM if the
+/// programmer neither owns the object nor is a wizard; E_NACC if the destination doesn't accept it and the programmer
+/// isn't a wizard; E_RECMOVE if the destination is the object itself or is in it, at any depth.
 ///
 /// LambdaMOO Programmer's Manual, 'Object Movement'.
 pub fn move_into<R: Rows>(

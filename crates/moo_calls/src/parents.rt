@@ -15,9 +15,9 @@ use std::alloc::Global;
 
 /// `chparent(object, new-parent)`: puts an object under another parent, `#-1` for none, and answers 0. The object and its
 /// descendants lose the properties of ancestors that they have no more, and get those of the ancestors that are new. E_INVARG
-/// where the object is none, and where the new parent is neither an object nor `#-1`; E_PERM where the programmer neither owns
-/// the object nor is a wizard, and then where it may not use the parent; E_RECMOVE where the parent is the object or a
-/// descendant of it; E_INVARG where the object or a descendant defines a property of a name that the parent has.
+/// if there is no such object, and if the new parent is neither an object nor `#-1`; E_PERM if the programmer neither owns
+/// the object nor is a wizard, and then if it may not use the parent; E_RECMOVE if the parent is the object or a
+/// descendant of it; E_INVARG if the object or a descendant defines a property of a name that the parent has.
 /// LambdaMOO Programmer's Manual, 'Fundamental Operations on Objects'.
 pub fn chparent<R: Rows>(
     rows: &mut R,
@@ -45,7 +45,7 @@ pub fn chparent<R: Rows>(
     if is_under(rows, new, x) {
         return Err(Fault::Moo(Code::RecursiveMove));
     }
-    if meets(alloc, rows, x, new)? {
+    if meets(rows, x, new) {
         return Err(Fault::Moo(Code::InvalidArgument));
     }
     reparent(alloc, rows, x, new)?;

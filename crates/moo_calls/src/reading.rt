@@ -26,7 +26,7 @@ fn object<R: Rows>(rows: &R, x: ObjNo) -> Result<&ObjRow, Fault>
     }
 }
 
-/// `valid(object)`: 1 where the number is that of an object, and 0 where it isn't. It has no error.
+/// `valid(object)`: 1 if the number is that of an object, and 0 if it isn't. It has no error.
 /// LambdaMOO Programmer's Manual, 'Fundamental Operations on Objects'.
 pub fn valid<R: Rows>(rows: &R, x: ObjNo) -> Result<Value, Fault>
     ensures { Answers (valid (world_in (R.held rows.now)) x) (R.held rows.now) result }
@@ -34,7 +34,7 @@ pub fn valid<R: Rows>(rows: &R, x: ObjNo) -> Result<Value, Fault>
     Ok(flag(moo_tree::valid(rows, x)))
 }
 
-/// `parent(object)`: the parent, `#-1` for none. E_INVARG where there is no such object.
+/// `parent(object)`: the parent, `#-1` for none. E_INVARG if there is no such object.
 /// LambdaMOO Programmer's Manual, 'Fundamental Operations on Objects'.
 pub fn parent<R: Rows>(rows: &R, x: ObjNo) -> Result<Value, Fault>
     ensures { Answers (parent (world_in (R.held rows.now)) x) (R.held rows.now) result }
@@ -42,7 +42,7 @@ pub fn parent<R: Rows>(rows: &R, x: ObjNo) -> Result<Value, Fault>
     Ok(Value::Obj(object(rows, x)?.parent))
 }
 
-/// `children(object)`: the list of its children, ascending. E_INVARG where there is no such object.
+/// `children(object)`: the list of its children, ascending. E_INVARG if there is no such object.
 /// LambdaMOO Programmer's Manual, 'Fundamental Operations on Objects'.
 pub fn children<R: Rows>(rows: &R, alloc: Global, x: ObjNo) -> Result<Value, Fault>
     requires { IsGood (R.held rows.now).maps }
@@ -55,7 +55,7 @@ pub fn children<R: Rows>(rows: &R, alloc: Global, x: ObjNo) -> Result<Value, Fau
     Ok(object_list(alloc, found.as_slice())?)
 }
 
-/// `is_player(object)`: 1 where the object's player flag is set, else 0. E_INVARG where there is no such object.
+/// `is_player(object)`: 1 if the object's player flag is set, else 0. E_INVARG if there is no such object.
 /// LambdaMOO Programmer's Manual, 'Operations on Player Objects'.
 pub fn is_player<R: Rows>(rows: &R, x: ObjNo) -> Result<Value, Fault>
     ensures { Answers (is_player (world_in (R.held rows.now)) x) (R.held rows.now) result }
@@ -73,7 +73,7 @@ pub fn players<R: Rows>(rows: &R, alloc: Global) -> Result<Value, Fault>
     Ok(object_list(alloc, found.as_slice())?)
 }
 
-/// `max_object()`: the greatest number that was ever given to an object, also where that object is gone; `#-1` where
+/// `max_object()`: the greatest number that was ever given to an object, even if that object is gone; `#-1` if
 /// none was given. It has no error.
 /// LambdaMOO Programmer's Manual, 'Fundamental Operations on Objects'.
 pub fn max_object<R: Rows>(rows: &R) -> Result<Value, Fault>
@@ -82,8 +82,8 @@ pub fn max_object<R: Rows>(rows: &R) -> Result<Value, Fault>
     Ok(Value::Obj(ObjNo(rows.head().top)))
 }
 
-/// `accept_list(object)`: the list of objects that the object itself accepts with their descendants, or 0 where it holds
-/// none. E_INVARG where there is no such object. This server's own.
+/// `accept_list(object)`: the list of objects that the object itself accepts with their descendants, or 0 if it holds
+/// none. E_INVARG if there is no such object. This server's own.
 pub fn accept_list<R: Rows>(rows: &R, alloc: Global, x: ObjNo) -> Result<Value, Fault>
     ensures { Answers (accept_list (world_in (R.held rows.now)) x) (R.held rows.now) result }
 {

@@ -13,8 +13,8 @@ use moo_value::{Code, ObjNo, Value};
 use std::alloc::Global;
 
 /// `recycle(object)`: removes an object with its properties and verbs, gives one back to the quota of its former owner, and
-/// answers 0. Its children go to its parent, and what lies in it to `#-1`. The quota is read when the object is gone, and one
-/// at the greatest integer stays. E_INVARG where there is no such object, and then E_PERM where the programmer neither owns it
+/// answers 0. Its children go to its parent, and what is in it to `#-1`. The quota is read when the object is gone, and one
+/// at the greatest integer stays. E_INVARG if there is no such object, and then E_PERM if the programmer neither owns it
 /// nor is a wizard.
 /// LambdaMOO Programmer's Manual, 'Fundamental Operations on Objects'.
 pub fn recycle<R: Rows>(

@@ -16,8 +16,8 @@ use moo_world::{BuiltIn, Change};
 use std::alloc::Global;
 
 /// The change that a value is for a built-in property. E_PERM for `location` and `contents`, which `set` doesn't write;
-/// E_TYPE for a `name` that is no string and for an `owner` that is no object. Any value is one for the others, by its truth.
-/// OutOfMemory is want of memory alone.
+/// E_TYPE for a `name` that isn't a string and for an `owner` that isn't an object. Any value is one for the others, by its truth.
+/// OutOfMemory means out of memory and nothing else.
 fn change_of(alloc: Global, field: BuiltIn, value: &Value) -> Result<Change, Fault>
     ensures { GivenOrNot (change_of field value.now) result }
 {
@@ -34,8 +34,8 @@ fn change_of(alloc: Global, field: BuiltIn, value: &Value) -> Result<Change, Fau
     }
 }
 
-/// Whether the programmer may set a built-in property of the object: `name` where it may name the object, `r`, `w` and `f`
-/// where it controls it, and the others where it is a wizard.
+/// Whether the programmer may set a built-in property of the object: `name` if it may name the object, `r`, `w` and `f`
+/// if it controls it, and the others if it is a wizard.
 fn may_set<R: Rows>(rows: &R, programmer: ObjNo, x: ObjNo, field: BuiltIn) -> bool
     ensures { result ≡ may_set (world_in (R.held rows.now)) programmer x field }
 {
@@ -57,8 +57,8 @@ fn names_object<R: Rows>(rows: &R, change: &Change) -> bool
 }
 
 /// Sets a built-in property of an object, and answers 0. E_PERM for `location` and `contents`; E_TYPE for a `name` that is
-/// no string and an `owner` that is no object; E_PERM where the programmer may not set it: a wizard may, and the object's
-/// owner may set `r`, `w`, `f` and, unless the object is a player, `name`; E_INVARG where the new owner isn't there.
+/// not a string and an `owner` that isn't an object; E_PERM if the programmer may not set it: a wizard may, and the object's
+/// owner may set `r`, `w`, `f` and, unless the object is a player, `name`; E_INVARG if the new owner isn't there.
 ///
 /// LambdaMOO Programmer's Manual, 'Properties on Objects' in the chapter on the database.
 pub fn set_built_in<R: Rows>(

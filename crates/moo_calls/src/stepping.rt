@@ -16,7 +16,7 @@ use moo_value::{Code, ObjNo, Value};
 use moo_world::{Call, CallName};
 use std::alloc::Global;
 
-/// A call by its name, by a programmer who is an object. Petitions are no part of the world, and their calls none of these.
+/// A call by its name, by a programmer who is an object. Petitions aren't part of the world, and their calls aren't among these.
 fn named_call<R: Rows>(
     rows: &mut R,
     alloc: Global,
@@ -67,8 +67,8 @@ fn named_call<R: Rows>(
     }
 }
 
-/// One call on the world, of the programmer's. E_PERM where the programmer is no object; then E_ARGS and E_TYPE; then the errors of the
-/// call. At an error, and where a number is wanted and none is left (Full), the rows are as they were. After want of memory they may be
+/// One call on the world, of the programmer's. E_PERM if the programmer isn't an object; then E_ARGS and E_TYPE; then the errors of the
+/// call. At an error, and if a number is wanted and none is left (Full), the rows are as they were. Out of memory, they may be
 /// half changed, and the caller drops them.
 #[tactic(auto, unfolding(moo_world::specs::Calls::step))]
 pub fn step<R: Rows>(
@@ -84,7 +84,7 @@ pub fn step<R: Rows>(
     step_named(rows, alloc, programmer, call.name, call.args.items())
 }
 
-/// The same of a call whose name and arguments stand apart.
+/// The same of a call whose name and arguments are apart.
 #[tactic(auto, unfolding(moo_world::specs::Calls::step))]
 pub fn step_named<R: Rows>(
     rows: &mut R,

@@ -17,8 +17,8 @@ use moo_value::{Code, MooStr, ObjNo, Value};
 use moo_world::BuiltIn;
 use std::alloc::Global;
 
-/// `get(object, name)`: the value of a property, a built-in one or another. E_INVIND where the object is none; E_PROPNF where
-/// it has no property of the name; E_PERM where the programmer may not read it, which everybody may of a built-in one.
+/// `get(object, name)`: the value of a property, a built-in one or another. E_INVIND if there is no such object; E_PROPNF if
+/// it has no property of the name; E_PERM if the programmer may not read it, which everybody may of a built-in one.
 /// LambdaMOO Programmer's Manual, 'Getting and Setting the Values of Properties'.
 pub fn get<R: Rows>(
     rows: &R,
@@ -39,8 +39,8 @@ pub fn get<R: Rows>(
     }
 }
 
-/// `set(object, name, value)`: gives a property a value, a built-in one or another, and answers 0. E_INVIND where the object is
-/// none, and then the errors of `set_built_in`, or of `set_property` where the name isn't built in.
+/// `set(object, name, value)`: gives a property a value, a built-in one or another, and answers 0. E_INVIND if there is no
+/// such object, and then the errors of `set_built_in`, or of `set_property` if the name isn't built in.
 /// LambdaMOO Programmer's Manual, 'Getting and Setting the Values of Properties'.
 pub fn set<R: Rows>(
     rows: &mut R,

@@ -5,7 +5,7 @@ use Rattle.sqlite.specs.declared.types.Value.TheVariants.{Text}
 use Rattle.moo_rows.specs.declared.row.ArgSpec.{ArgSpec}
 use Rattle.moo_world.specs.Prepositions.{prep_text, place_text}
 
--- these arguments stand in their columns
+-- these arguments are in their columns
 pub record HasArgs (cells : Row) (args : ArgSpec) : Type 0 where
   pub dobj : column cells 5 ≡ Text (place_text args.dobj)
   pub prep : column cells 6 ≡ Text (prep_text args.prep)

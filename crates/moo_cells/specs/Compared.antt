@@ -1,4 +1,4 @@
--- Tables beside rows that were known before.
+-- Tables compared with rows that were known before.
 use Rattle.moo_rows.specs.Maps.{Maps}
 use Rattle.moo_world.specs.Rows.{IsGood}
 use Rattle.moo_damage.specs.declared.kind.Key.{Key}

@@ -1,4 +1,4 @@
--- Rows of a table beside the entries of a map.
+-- Rows of a table compared with the entries of a map.
 use Rattle.std.specs.Prelude.{List, [], ◌∷◌, ⊤}
 use Rattle.sqlite.specs.Order.{Row}
 

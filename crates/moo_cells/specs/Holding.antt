@@ -67,7 +67,7 @@ pub record TakesRow {K X : Type 0} {cmp : K → K → Ordering} (reads : K → R
   pub is_read : reads key cells row
   pub put : new ≡ insert old key row
 
--- the first row that can't be read is told, or want of memory
+-- the first row that can't be read is told, or that memory ran out
 abbrev pub SaysUnread : {J K X : Type 0} → (J → Row → Bool) → (K → Row → X → Type 0) → (J → J → Type 0) → (J → Key) → List Row → CellFault → Type 0
 SaysUnread {J} has reads below key_of cells (Damaged kind key) = (j : J) × (kind ≡ BadCell) × (key ≡ key_of j) × FirstUnread reads below (λ k. find (has k) cells) j
 SaysUnread has reads below key_of cells NewerVersion = ⊥

@@ -18,7 +18,7 @@ ShowsAccept text (Some objects) = Spells (object_list objects) text
 abbrev pub ShowsObject : ObjNo → Row → ObjRow → Type 0
 ShowsObject n cells row = (accept : List ℕ) × ShowsAccept accept row.accept × (cells ≡ object_row_cells n row accept)
 
--- these flags stand in their columns
+-- these flags are in their columns
 pub record HasFlags (cells : Row) (flags : Flags) : Type 0 where
   pub player : column cells 5 ≡ flag_cell flags.player
   pub programmer : column cells 6 ≡ flag_cell flags.programmer

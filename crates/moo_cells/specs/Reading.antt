@@ -19,7 +19,7 @@ use Rattle.moo_world.specs.World.{row_fits, is_property_name, state_fits, verb_f
 use Rattle.moo_tables.specs.declared.version.Version.{Version}
 use Rattle.moo_cells.specs.Shows.{ShowsObject, ShowsProp, ShowsSlot, ShowsVerb, ShowsPetition}
 
--- a number that a property, a verb or a petition may have: it lies below the greatest counter
+-- a number that a property, a verb or a petition may have: it is below the greatest counter
 abbrev pub IsId : ℕ → Type 0
 IsId n = (0 < n) × (n < 4294967295)
 

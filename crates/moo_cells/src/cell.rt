@@ -27,7 +27,7 @@ use sqlite::Row;
 use sqlite::types::ValueRef;
 use std::alloc::Global;
 
-/// The greatest number of a property, a verb or a petition: one below the greatest counter.
+/// The greatest number of a property, a verb or a petition: one less than the greatest counter.
 const MAX_ID: u32 = u32::MAX - 1;
 
 /// The whole number in a column.
@@ -110,7 +110,7 @@ pub(crate) fn string_at(alloc: Global, cells: &Row, at: usize) -> Result<MooStr,
     Ok(MooStr::from_bytes(alloc, text_at(cells, at)?)?)
 }
 
-/// The rights on a property whose letters stand in a column.
+/// The rights on a property whose letters are in a column.
 fn lettered_bits_at(cells: &Row, at: usize) -> Result<Bits, RowFault>
     ensures ok { IfOk result (λ bits. ShowsBits Version.First (column cells.now at) bits) }
     ensures err { IfErr result (λ _. (bits : Bits) → ¬ (ShowsBits Version.First (column cells.now at) bits)) }
@@ -121,7 +121,7 @@ fn lettered_bits_at(cells: &Row, at: usize) -> Result<Bits, RowFault>
     }
 }
 
-/// The rights on a property whose number stands in a column.
+/// The rights on a property whose number is in a column.
 fn numbered_bits_at(cells: &Row, at: usize) -> Result<Bits, RowFault>
     ensures ok { IfOk result (λ bits. ShowsBits Version.Second (column cells.now at) bits) }
     ensures err { IfErr result (λ _. (bits : Bits) → ¬ (ShowsBits Version.Second (column cells.now at) bits)) }
@@ -143,7 +143,7 @@ pub(crate) fn bits_at(version: Version, cells: &Row, at: usize) -> Result<Bits, 
     }
 }
 
-/// The rights on a verb whose letters stand in a column.
+/// The rights on a verb whose letters are in a column.
 pub(crate) fn verb_bits_at(cells: &Row, at: usize) -> Result<VerbBits, RowFault>
     ensures ok { IfOk result (λ bits. (text : List ℕ) × (verb_bits_of text ≡ Some bits) × (column cells.now at ≡ Text text)) }
     ensures err { IfErr result (λ _. (text : List ℕ) (bits : VerbBits) → verb_bits_of text ≡ Some bits → column cells.now at ≢ Text text) }

@@ -16,10 +16,10 @@ use moo_flat::Flat;
 use moo_tables::CellLists as Cells;
 use std::alloc::Global;
 
-/// The rows that the tables show, where they are those of a world.
+/// The rows that the tables show, if they are those of a world.
 ///
-/// Errors: `Damaged` with the first kind of damage that is met and the least key at which it is; `NewerVersion` where the
-/// head is that of a later version, and then nothing else is asked; `OutOfMemory`.
+/// Errors: `Damaged` with the first kind of damage that is met and the least key at which it is; `NewerVersion` if the
+/// head is that of a later version, and then nothing else is tested; `OutOfMemory`.
 pub fn read_cells(alloc: Global, lists: &Cells) -> Result<Flat, CellFault>
     requires { AreListed lists.now }
     ensures rows { IfOk result (λ rows. ShowsRows (tables_of lists.now) rows.maps) }

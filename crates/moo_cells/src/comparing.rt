@@ -1,4 +1,4 @@
-//! The tables, beside rows that were known before.
+//! The tables, compared with rows that were known before.
 
 ghost use Rattle.std.specs.Prelude.{◌≡◌, true, find, IfOk, IfErr, IfSome, IfNone};
 ghost use Rattle.sqlite.specs.Tree.{has_rowid};
@@ -35,7 +35,7 @@ fn shows_head(version: Version, rows: &[Row], counters: &[Row], head: Head) -> b
     }
 }
 
-/// Whether the tables are seen to show these rows, by a look at each row of a table and its own beside it. An `Err` is want of memory.
+/// Whether the tables are seen to show these rows, by comparing each row of a table with its own. An `Err` means that memory ran out.
 fn show_rows(alloc: Global, lists: &Cells, rows: &Flat) -> Result<bool, AllocError>
     requires { AreListed lists.now }
     ensures { IfOk result (λ show. show ≡ true → ShowsRows (tables_of lists.now) rows.now.maps) }
@@ -63,10 +63,10 @@ fn show_rows(alloc: Global, lists: &Cells, rows: &Flat) -> Result<bool, AllocErr
     show_each(alloc, lists.version, &lists.petition, each_petition(rows))
 }
 
-/// The first row in which the tables differ from the rows of a world, in the order of `first_difference`, or none where they show these.
+/// The first row in which the tables differ from the rows of a world, in the order of `first_difference`, or none if they show these.
 ///
-/// Errors: those of `read_cells`, where the tables show no world. Rows that are shown are compared where they stand, and only
-/// where one differs are all read anew.
+/// Errors: those of `read_cells`, if the tables show no world. Rows that are shown are compared in place, and only
+/// if one differs are all read again.
 pub fn compare_cells(alloc: Global, lists: &Cells, own: &Flat) -> Result<Option<Key>, CellFault>
     requires listed { AreListed lists.now }
     requires good { IsGood own.now.maps }

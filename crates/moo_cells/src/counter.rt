@@ -46,7 +46,7 @@ fn counter_of(cells: &Row) -> Option<u32>
 }
 
 /// The number of the next petition, from the rows of its table; in tables of the first version, which have no petition, that
-/// of the first. None where the table isn't one row of id 1 with a counter.
+/// of the first. None if the table isn't one row of id 1 with a counter.
 pub(crate) fn read_counter(version: Version, rows: &[Row]) -> Option<u32>
     requires { AreKeyed rows.now }
     ensures some { IfSome result (λ next. ReadsCounter version (λ n. find (has_rowid n) rows.now) next) }

@@ -16,7 +16,7 @@ pub enum RowFault {
     /// They show no row within its limits.
     #[error("the cells show no row")]
     Unreadable,
-    /// There is no memory for the row.
+    /// Memory ran out.
     #[error("out of memory")]
     OutOfMemory,
 }
@@ -49,7 +49,7 @@ pub enum CellFault {
     /// The tables are of a version later than the greatest that is known.
     #[error("the tables are of a newer version")]
     NewerVersion,
-    /// There is no memory for the rows.
+    /// Memory ran out.
     #[error("out of memory")]
     OutOfMemory,
 }

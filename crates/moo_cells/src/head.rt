@@ -84,7 +84,7 @@ fn top_in(number: i64) -> Option<i32>
     }
 }
 
-/// The head of these numbers, where they are within its limits. The number of the next petition, which isn't among them, is
+/// The head of these numbers, if they are within its limits. The number of the next petition, which isn't among them, is
 /// that of the first.
 fn head_within(numbers: HeadCells) -> Option<Head>
     requires { AreWords numbers }
@@ -145,9 +145,9 @@ fn head_in(version: Version, rows: &[Row]) -> Result<Head, CellFault>
 /// The head of tables of this version, from the rows of its table, with the number of the next petition from the rows of
 /// `petition_head`: in the first version, which has no such table, it is 1.
 ///
-/// Errors: `Damaged(BadHead, Head)` where the table of the head isn't one row of id 1 with the number of the version and with
+/// Errors: `Damaged(BadHead, Head)` if the table of the head isn't one row of id 1 with the number of the version and with
 /// counters within their limits, or in the second version `petition_head` isn't one row of id 1 with a counter within its
-/// limits; `NewerVersion` where the table of the head is one row of id 1 with whole numbers, the version above 2.
+/// limits; `NewerVersion` if the table of the head is one row of id 1 with whole numbers, the version above 2.
 pub fn read_head(version: Version, rows: &[Row], counters: &[Row]) -> Result<Head, CellFault>
     requires head { AreKeyed rows.now }
     requires counter { AreKeyed counters.now }

@@ -15,7 +15,7 @@ pub fn one_set_of_rows()
     ensures { (t : Tables) (m n : Maps) → ShowsRows t m → AreWithin m → ShowsRows t n → AreWithin n → m ≡ n }
 {}
 
-/// Tables that show the rows of a world are of no newer version, and no kind of damage is met in them.
+/// Tables that show the rows of a world aren't of a newer version, and no kind of damage is met in them.
 pub fn shown_without_damage()
     ensures newer { (t : Tables) (m : Maps) → ShowsRows t m → IsGood m → ¬ (IsNewer t) }
     ensures damage { (t : Tables) (m : Maps) → ShowsRows t m → IsGood m → (kind : Kind) (key : Key) → ¬ (IsMet t kind key) }

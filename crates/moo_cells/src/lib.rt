@@ -1,7 +1,7 @@
 //! The cells of the tables, read as rows.
 //!
-//! A row is read where its cells show it exactly, whatever spelling a literal or a text of rights has, and where it is
-//! within its limits. Nothing here knows of trees: whether the rows are those of a world is asked of them afterwards.
+//! A row is read if its cells show it exactly, whatever spelling a literal or a text of rights has, and if it is
+//! within its limits. Nothing here knows of trees: whether the rows are those of a world is tested afterwards.
 #![tactic(auto)]
 
 mod cell;

@@ -45,7 +45,7 @@ fn flags_of(cells: &Row) -> Result<Flags, RowFault>
 
 /// The object that these cells show.
 ///
-/// Errors: `Unreadable` where they show no row within its limits, and `OutOfMemory`.
+/// Errors: `Unreadable` if they show no row within its limits, and `OutOfMemory`.
 pub fn read_object(alloc: Global, cells: &Row) -> Result<(ObjNo, ObjRow), RowFault>
     ensures ok { IfOk result (λ r. ReadsObject r.0 cells.now r.1) }
     ensures err { IfErr result (λ fault. fault ≡ Unreadable → ¬ (IsRead ReadsObject cells.now)) }

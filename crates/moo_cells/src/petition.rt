@@ -16,7 +16,7 @@ const COLUMNS: usize = 3;
 
 /// The petition that these cells show.
 ///
-/// Errors: `Unreadable` where they show no row within its limits, and `OutOfMemory`.
+/// Errors: `Unreadable` if they show no row within its limits, and `OutOfMemory`.
 pub fn read_petition(alloc: Global, cells: &Row) -> Result<(PetitionId, PetitionRow), RowFault>
     ensures ok { IfOk result (λ r. ReadsPetition r.0 cells.now r.1) }
     ensures err { IfErr result (λ fault. fault ≡ Unreadable → ¬ (IsRead ReadsPetition cells.now)) }

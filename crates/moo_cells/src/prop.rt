@@ -29,7 +29,7 @@ fn is_property_name(name: &MooStr) -> bool
 
 /// The property that these cells show.
 ///
-/// Errors: `Unreadable` where they show no row within its limits, and `OutOfMemory`.
+/// Errors: `Unreadable` if they show no row within its limits, and `OutOfMemory`.
 pub fn read_prop(alloc: Global, cells: &Row) -> Result<(PropId, PropRow), RowFault>
     ensures ok { IfOk result (λ r. ReadsProp r.0 cells.now r.1) }
     ensures err { IfErr result (λ fault. fault ≡ Unreadable → ¬ (IsRead ReadsProp cells.now)) }

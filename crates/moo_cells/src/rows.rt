@@ -25,7 +25,7 @@ fn under(alloc: Global, head: Head) -> Flat
     rows
 }
 
-/// The rows that the tables show, within their limits; whether they are those of a world isn't asked.
+/// The rows that the tables show, within their limits; whether they are those of a world isn't tested.
 ///
 /// Errors: `Damaged` with `BadHead` or `BadCell`, the first of the two that is met, and its least key; `NewerVersion`;
 /// `OutOfMemory`.

@@ -1,4 +1,4 @@
-//! The rows of a table, beside rows that were known before.
+//! The rows of a table, compared with rows that were known before.
 
 ghost use Rattle.std.specs.Prelude.{◌≡◌, true, List, Option, IfOk};
 ghost use Rattle.std.specs.Iterator.{YieldsFirstBy, IsFinite};
@@ -11,7 +11,7 @@ use moo_tables::Version;
 use sqlite::Row;
 use std::alloc::{AllocError, Global};
 
-/// Whether these cells show this row. An `Err` is want of memory.
+/// Whether these cells show this row. An `Err` means that memory ran out.
 fn shows<R: TableRow>(
     alloc: Global,
     version: Version,
@@ -28,7 +28,7 @@ fn shows<R: TableRow>(
     }
 }
 
-/// Whether the rows of a table of this version show the entries that are left, one for one. An `Err` is want of memory.
+/// Whether the rows of a table of this version show the entries that are left, one for one. An `Err` means that memory ran out.
 pub(crate) fn show_each<'a, R: TableRow + 'a, I: Iterator<Item = (R::Key, &'a R)> + Drop>(
     alloc: Global,
     version: Version,

@@ -19,7 +19,7 @@ const COLUMNS: usize = 5;
 /// The slot that these cells of a table of slots show. Its rights are letters in tables of the first version, and a number
 /// from 0 to 7 in those of the second.
 ///
-/// Errors: `Unreadable` where they show no row within its limits, and `OutOfMemory`.
+/// Errors: `Unreadable` if they show no row within its limits, and `OutOfMemory`.
 pub fn read_slot(
     alloc: Global,
     version: Version,

@@ -31,7 +31,7 @@ fn args_of(cells: &Row) -> Result<ArgSpec, RowFault>
 
 /// The verb that these cells show.
 ///
-/// Errors: `Unreadable` where they show no row within its limits, and `OutOfMemory`.
+/// Errors: `Unreadable` if they show no row within its limits, and `OutOfMemory`.
 pub fn read_verb(alloc: Global, cells: &Row) -> Result<((ObjNo, VerbId), VerbRow), RowFault>
     ensures ok { IfOk result (λ r. ReadsVerb r.0 cells.now r.1) }
     ensures err { IfErr result (λ fault. fault ≡ Unreadable → ¬ (IsRead ReadsVerb cells.now)) }

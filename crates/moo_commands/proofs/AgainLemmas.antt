@@ -1,22 +1,30 @@
 -- From what a crash left of a run to the next run.
-use Rattle.std.proofs.Common.{◌≡◌, inl, inr, ℕ, false, List, Option, codes, sym, subst}
+use Rattle.std.proofs.Common.{◌≡◌, inl, inr, ℕ, false, List, Option, Some, None, codes, sym, subst}
 use Rattle.std.specs.Bool.{⊤}
 use Rattle.std.proofs.lemmas.Bool.{true≢false, false_from_ne_true}
 use Rattle.std.specs.Str.{bytes_eq}
 use Rattle.sqlite_disk.specs.declared.Disk.{Ghosts}
 use Rattle.sqlite_store.specs.declared.store.FileStore.{FileStore}
 use Rattle.sqlite_wal.specs.Recovery.{Image}
-use Rattle.sqlite.specs.State.{HasCleanDisk}
+use Rattle.sqlite.specs.State.{State as Database, HasCleanDisk}
 use Rattle.sqlite.specs.Held.{Held}
 use Rattle.sqlite.specs.Files.{file_state}
 use Rattle.moo_world.specs.Judge.{State}
-use Rattle.moo_files.specs.Contents.{HoldsState}
+use Rattle.sqlite.specs.Tree.{Trees}
+use Rattle.sqlite.specs.declared.file.Leftover.{Leftover}
+use Rattle.sqlite.specs.declared.file.Leftover.TheVariants as left
+use Rattle.moo_store.specs.States.{LeavesState}
+use Rattle.moo_files.specs.Contents.{HoldsSuch, HoldsState, IsLeftBy}
+use Rattle.moo_files.specs.Remains.{IsCleanRemains, LeftoverKeeps, KeepsSuch, StillHolds}
+use Rattle.moo_files.specs.Closing.{IsLeftOf, IsClosedFrom}
+use Rattle.moo_files.specs.declared.remains.Remains.{Remains}
+use Rattle.moo_files.specs.declared.remains.Remains.TheVariants as remains
 use Rattle.moo_files.proofs.AgainLemmas.{held_after}
 use Rattle.moo_words.specs.declared.task.Task.{Task}
 use Rattle.moo_words.specs.declared.task.Task.TheVariants.{Init, Apply, Ask, Dump, Check, Serve}
-use Rattle.moo_commands.specs.Run.{begins_anew, file_of}
-use Rattle.moo_commands.specs.Ends.{MatchFile, RunsFile, EndsWith, RunsOver}
-use Rattle.moo_commands.specs.Again.{StartsFrom, RanFrom, TakesUp, CrashesTo}
+use Rattle.moo_commands.specs.Run.{Texts, begins_anew, file_of}
+use Rattle.moo_commands.specs.Ends.{MatchFile, RunsFile, EndsWith, RunsOver, IsClosedEnd, RunsClosed}
+use Rattle.moo_commands.specs.Again.{StartsFrom, RanFrom, TakesUp, IsLeftAfter, CrashesTo, IsFoundIn, ClosesTo}
 use Rattle.moo_commands.specs.declared.ends.Ends.{Ends}
 use Rattle.moo_commands.specs.declared.ends.Ends.TheVariants as variant
 
@@ -30,38 +38,118 @@ on_file (Check file) other = other
 on_file (Serve file port count) other = other
 
 module _ {D : Type 0} {g : Ghosts D} where
-  ran_on_file : (conn : Held (FileStore D g)) → ◌≡◌ {A = Ends D g} (variant.Ran conn) variant.NoFile → ⊥
-  ran_on_file conn is = subst (λ (ends : Ends D g). MatchFile ends (λ conn. ⊤) (λ remains. ⊤)) is tt
+  -- what is found after a connection was closed is what a crash might have left before
+  found_left : (T : Type 0) (store : Database) (left_over : Leftover D g) (next : Image) → IsLeftOf store left_over → IsFoundIn {T = T} (Some (remains.Leftover left_over)) next → IsLeftBy store next
+  found_left T store (left.Files now) next of (inl is) = subst (IsLeftBy store) (sym is) of.0
+  found_left T store (left.Files now) next of (inr out) = of.1 next out
+  found_left T store (left.Unopened now) next of found = absurd of
+  found_left T store (left.Store now) next of found = record { trees = found.trees; holds = found.holds; such = of found.trees found.such }
+
+module _ {T D : Type 0} {g : Ghosts D} where
+  ran_on_file : (conn : Held (FileStore D g)) → ◌≡◌ {A = Ends T D g} (variant.Ran conn) variant.NoFile → ⊥
+  ran_on_file conn is = subst (λ (ends : Ends T D g). MatchFile ends (λ conn. ⊤) (λ remains. ⊤)) is tt
 
   -- a task that ran over a file is on a file, and this is its run
-  ran_file : (task : Task) (image : Image) (conn : Held (FileStore D g)) (input old new : Option (List ℕ)) (status : ℕ)
-      → EndsWith task image (variant.Ran conn) input old new status → RunsFile task image (variant.Ran conn) input old new status
-  ran_file task image conn input old new status it = it.file (false_from_ne_true _ (λ is. ran_on_file conn (it.memory is)))
+  ran_file : (task : Task) (image : Image) (conn : Held (FileStore D g)) (texts : Texts) (old new : Option (List ℕ)) (status : ℕ)
+      → EndsWith {T = T} task image (variant.Ran conn) texts old new status → RunsFile {T = T} task image (variant.Ran conn) texts old new status
+  ran_file task image conn texts old new status it = it.file (false_from_ne_true _ (λ is. ran_on_file conn (it.memory is)))
 
-  ran_from : (task : Task) (image : Image) (conn : Held (FileStore D g)) (input old new : Option (List ℕ)) (status : ℕ) (s : State)
-      → HasCleanDisk (file_state conn) → RunsFile task image (variant.Ran conn) input old new status → StartsFrom task image s → RanFrom task s conn input old new status
-  ran_from task image conn input old new status s clean it (inl (other, holds)) = it.kept s other holds clean
-  ran_from task image conn input old new status s clean it (inr (anew, is)) = subst (λ s. RanFrom task s conn input old new status) (sym is) (it.anew anew)
+  ran_from : (task : Task) (image : Image) (conn : Held (FileStore D g)) (texts : Texts) (old new : Option (List ℕ)) (status : ℕ) (s : State)
+      → HasCleanDisk (file_state conn) → RunsFile {T = T} task image (variant.Ran conn) texts old new status → StartsFrom task image s → RanFrom task s conn texts old new status
+  ran_from task image conn texts old new status s clean it (inl (other, holds)) = it.kept s other holds clean
+  ran_from task image conn texts old new status s clean it (inr (anew, is)) = subst (λ s. RanFrom task s conn texts old new status) (sym is) (it.anew anew)
 
   -- words over a file that holds a state take it up
-  pub takes_up : (words : List (List ℕ)) (image : Image) (ends : Ends D g) (input old new : Option (List ℕ)) (status : ℕ)
-      → RunsOver words image ends input old new status → (s : State) → HoldsState image s → TakesUp words s ends input old new status
-  takes_up words image ends input old new status (inl (task, named, runs, it)) s holds = inl (task, named, λ other. (it.file (on_file task other)).kept s other holds)
-  takes_up words image ends input old new status (inr mistake) s holds = inr mistake
+  pub takes_up : (words : List (List ℕ)) (image : Image) (ends : Ends T D g) (texts : Texts) (old new : Option (List ℕ)) (status : ℕ)
+      → RunsOver words image ends texts old new status → (s : State) → HoldsState image s → TakesUp words s ends texts old new status
+  takes_up words image ends texts old new status (inl (task, named, alone, runs, it)) s holds = inl (task, named, λ other. (it.file (on_file task other)).kept s other holds)
+  takes_up words image ends texts old new status (inr mistake) s holds = inr mistake
 
-  pub crashes_to : (words : List (List ℕ)) (image : Image) (ends : Ends D g) (input old new : Option (List ℕ)) (status : ℕ) (next : Image) (Next : State → Type 0)
-      → RunsOver words image ends input old new status → ((t : State) → HoldsState next t → Next t) → CrashesTo words image ends input old new status next Next
-  crashes_to words image (variant.Ran conn) input old new status next Next (inl (task, named, runs, it)) goes = λ clean. (
+  -- what a crash left of files that kept such a database holds such a one
+  still_such : (P : Trees → Type 0) (image : Image) (rest : Remains T D g) (next : Image) → KeepsSuch P image rest → HoldsSuch P image → IsLeftAfter image rest next → HoldsSuch P next
+  still_such P image (remains.Untouched start) next keeps holds is = subst (HoldsSuch P) (sym is) holds
+  still_such P image (remains.NotOpened seal) next keeps holds is = subst (HoldsSuch P) (sym is) holds
+  still_such P image (remains.Leftover (left.Files now)) next keeps holds left = keeps next left
+  still_such P image (remains.Leftover (left.Unopened now)) next keeps holds left = (keeps next left.0).1 left.1
+  still_such P image (remains.Leftover (left.Store now)) next keeps holds left = record { trees = left.trees; holds = left.holds; such = keeps left.trees left.such }
+  still_such P image (remains.Connection conn) next keeps holds left = record { trees = left.trees; holds = left.holds; such = keeps left.trees left.such }
+
+  refused_on_file : (rest : Remains T D g) → ◌≡◌ {A = Ends T D g} (variant.Refused rest) variant.NoFile → ⊥
+  refused_on_file rest is = subst (λ (ends : Ends T D g). MatchFile ends (λ conn. ⊤) (λ remains. ⊤)) is tt
+
+  refused_file : (task : Task) (image : Image) (rest : Remains T D g) (texts : Texts) (old new : Option (List ℕ)) (status : ℕ)
+      → EndsWith task image (variant.Refused rest) texts old new status → RunsFile task image (variant.Refused rest) texts old new status
+  refused_file task image rest texts old new status it = it.file (false_from_ne_true _ (λ is. refused_on_file rest (it.memory is)))
+
+  -- files whose words were refused keep their state
+  refused_left : (words : List (List ℕ)) (image : Image) (rest : Remains T D g) (texts : Texts) (old new : Option (List ℕ)) (status : ℕ)
+      → RunsOver words image (variant.Refused rest) texts old new status → (s : State) → HoldsState image s → IsCleanRemains rest → StillHolds image rest s
+  refused_left words image rest texts old new status (inl (task, named, alone, runs, it)) s holds clean = (refused_file task image rest texts old new status it).left s holds clean
+  refused_left words image rest texts old new status (inr (some, usage, none)) s holds clean = absurd (refused_on_file rest none)
+
+  pub crashes_to : (words : List (List ℕ)) (image : Image) (ends : Ends T D g) (texts : Texts) (old new : Option (List ℕ)) (status : ℕ) (next : Image) (Next : State → Type 0)
+      → RunsOver words image ends texts old new status → ((t : State) → HoldsState next t → Next t) → CrashesTo words image ends texts old new status next Next
+  crashes_to words image (variant.Ran conn) texts old new status next Next (inl (task, named, alone, runs, it)) goes = λ clean. (
     task,
     named,
     λ s starts.
-        let run = ran_from task image conn input old new status s clean (ran_file task image conn input old new status it) starts in (
+        let run = ran_from task image conn texts old new status s clean (ran_file task image conn texts old new status it) starts in (
           run,
           λ left.
-              let lies = held_after (file_state conn) run.end next left.trees (run.crash clean) left.left left.holds in
+              let lies = held_after (file_state conn) run.end next left.trees (run.crash clean) left.such left.holds in
               (lies.0, lies.1, lies.2, goes lies.0 lies.2),
         ),
   )
-  crashes_to words image (variant.Ran conn) input old new status next Next (inr (some, usage, none)) goes = absurd (ran_on_file conn none)
-  crashes_to words image (variant.Refused remains) input old new status next Next over goes = tt
-  crashes_to words image variant.NoFile input old new status next Next over goes = tt
+  crashes_to words image (variant.Ran conn) texts old new status next Next (inr (some, usage, none)) goes = absurd (ran_on_file conn none)
+  crashes_to words image (variant.Refused rest) texts old new status next Next over goes = λ clean s holds left.
+      let still = still_such (λ trees. LeavesState trees s) image rest next (refused_left words image rest texts old new status over s holds clean) holds left in
+      (still, goes s still)
+  crashes_to words image variant.NoFile texts old new status next Next over goes = tt
+
+  -- what is closed keeps what it kept
+  kept_closed : (P : Trees → Type 0) (image : Image) (was now : Remains T D g) → IsClosedFrom was now → IsCleanRemains now → (IsCleanRemains was → KeepsSuch P image was) → KeepsSuch P image now
+  kept_closed P image (remains.Untouched start) now is clean keeps = subst (KeepsSuch P image) (sym is) (keeps tt)
+  kept_closed P image (remains.NotOpened seal) now is clean keeps = subst (KeepsSuch P image) (sym is) (keeps tt)
+  kept_closed P image (remains.Leftover rest) now is clean keeps = subst (KeepsSuch P image) (sym is) (keeps (subst IsCleanRemains is clean))
+  kept_closed P image (remains.Connection conn) now (rest, is, copied, closes) clean keeps =
+      let both = closes (subst IsCleanRemains is clean) in
+      subst (KeepsSuch P image) (sym is) (kept_left rest both.1 (keeps both.0))
+    where
+      kept_left : (rest : Leftover D g) → IsLeftOf (file_state conn) rest → ((trees : Trees) → (file_state conn).may_leave trees → P trees) → LeftoverKeeps P image rest
+      kept_left (left.Files files) of all = λ found out. let it = of.1 found out in record { trees = it.trees; holds = it.holds; such = all it.trees it.such }
+      kept_left (left.Unopened files) of all = absurd of
+      kept_left (left.Store store) of all = λ trees recovers. all trees (of trees recovers)
+
+  closes_by : (words : List (List ℕ)) (image : Image) (ends : Ends T D g) (closed : Option (Remains T D g)) (texts : Texts) (old new : Option (List ℕ)) (status : ℕ) (next : Image) (Next : State → Type 0)
+      → RunsOver words image ends texts old new status → IsClosedEnd ends closed → ((t : State) → HoldsState next t → Next t) → ClosesTo words image closed texts old new status next Next
+  closes_by words image (variant.Ran conn) (Some now) texts old new status next Next over (rest, is, copied, closes) goes = (
+    variant.Ran conn,
+    over,
+    (rest, is, copied, closes),
+    λ clean.
+        let both = closes (subst IsCleanRemains is clean) in
+        let ran = crashes_to words image (variant.Ran conn) texts old new status next Next over goes both.0 in (
+          ran.0,
+          ran.1,
+          λ s starts.
+              let run = ran.2 s starts in
+              (run.0, λ found. run.1 (found_left T (file_state conn) rest next both.1 (subst (λ it. IsFoundIn (Some it) next) is found))),
+        ),
+  )
+  closes_by words image (variant.Ran conn) None texts old new status next Next over none goes = absurd none
+  closes_by words image (variant.Refused was) (Some now) texts old new status next Next over from goes = (
+    variant.Refused was,
+    over,
+    from,
+    λ clean s holds found.
+        let kept = kept_closed (λ trees. LeavesState trees s) image was now from clean (λ early. refused_left words image was texts old new status over s holds early) in
+        let still = still_such (λ trees. LeavesState trees s) image now next kept holds found in
+        (still, goes s still),
+  )
+  closes_by words image (variant.Refused was) None texts old new status next Next over none goes = absurd none
+  closes_by words image variant.NoFile (Some now) texts old new status next Next over none goes = absurd none
+  closes_by words image variant.NoFile None texts old new status next Next over from goes = (variant.NoFile, over, tt, tt)
+
+  pub closes_to : (words : List (List ℕ)) (image : Image) (closed : Option (Remains T D g)) (texts : Texts) (old new : Option (List ℕ)) (status : ℕ) (next : Image) (Next : State → Type 0)
+      → RunsClosed words image closed texts old new status → ((t : State) → HoldsState next t → Next t) → ClosesTo words image closed texts old new status next Next
+  closes_to words image closed texts old new status next Next it goes = closes_by words image it.0 closed texts old new status next Next it.1 it.2 goes

@@ -6,7 +6,7 @@ use Rattle.moo_store.specs.Opening.{IsOfStore}
 use Rattle.moo_store.specs.declared.fault.StoreFault.{StoreFault}
 use Rattle.moo_words.specs.declared.task.Task.{Task}
 use Rattle.moo_commands.specs.Lines.{Reports, Tells, store_failure}
-use Rattle.moo_commands.specs.Run.{RunsTask, FailsAtOnce, RefusesFile}
+use Rattle.moo_commands.specs.Run.{Texts, RunsTask, FailsAtOnce, RefusesFile}
 use Rattle.moo_commands.specs.Ends.{RunsFile}
 use Rattle.moo_commands.specs.declared.ends.Ends.{Ends}
 use Rattle.moo_commands.specs.declared.ends.Ends.TheVariants as variant
@@ -26,9 +26,9 @@ module _ (fault : StoreFault) where
   pub refuses_file : (old new : Option (List ℕ)) (status : ℕ) → Reports (store_failure fault) old new status → RefusesFile old new status
   refuses_file old new status reports = (store_failure fault, of_refusal fault (store_failure fault) refl, reports)
 
-module _ {D : Type 0} {g : Ghosts D} (task : Task) (image : Image) where
+module _ {T D : Type 0} {g : Ghosts D} (task : Task) (image : Image) where
   -- what a run over a file writes, whatever the file holds
-  pub runs_task : (end : Ends D g) (input old new : Option (List ℕ)) (status : ℕ) → RunsFile task image end input old new status → RunsTask task input old new status
-  runs_task (variant.Ran conn) input old new status it = record { anew = λ anew. inr (unseen _ _ _ _ _ _ _ _ (it.anew anew)); opened = λ other. inr (it.opened other) }
-  runs_task (variant.Refused remains) input old new status it = record { anew = λ anew. inl (it.anew anew); opened = λ other. inl (it.opened other) }
-  runs_task variant.NoFile input old new status it = record { anew = λ anew. absurd (it.anew anew); opened = λ other. absurd (it.opened other) }
+  pub runs_task : (end : Ends T D g) (texts : Texts) (old new : Option (List ℕ)) (status : ℕ) → RunsFile task image end texts old new status → RunsTask task texts old new status
+  runs_task (variant.Ran conn) texts old new status it = record { anew = λ anew. inr (unseen _ _ _ _ _ _ _ _ _ (it.anew anew)); opened = λ other. inr (it.opened other) }
+  runs_task (variant.Refused remains) texts old new status it = record { anew = λ anew. inl (it.anew anew); opened = λ other. inl (it.opened other) }
+  runs_task variant.NoFile texts old new status it = record { anew = λ anew. absurd (it.anew anew); opened = λ other. absurd (it.opened other) }

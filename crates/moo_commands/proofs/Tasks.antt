@@ -1,5 +1,5 @@
 -- From what was done to a World to how a task ends.
-use Rattle.std.proofs.Common.{◌≡◌, inl, inr, ℕ, ◌≤◌, Bool, true, false, List, Option, None, Result, Ok, Err, IfOk, IfErr, sym, ap, subst, arith, IsTrue}
+use Rattle.std.proofs.Common.{◌≡◌, inl, inr, ℕ, ◌≤◌, Bool, true, false, List, Option, Result, Ok, Err, IfOk, IfErr, OnOk, sym, ap, subst, arith, IsTrue}
 use Rattle.std.specs.Prelude.{if◌then◌else◌, codes}
 use Rattle.std.specs.Str.{bytes_eq}
 use Rattle.sqlite.specs.State.{State as Database, HasCleanDisk, Survives}
@@ -12,14 +12,14 @@ use Rattle.moo_store.specs.Turns.{Halts}
 use Rattle.moo_store.specs.Text.{Applies, StopsRun}
 use Rattle.moo_store.specs.World.{store_of, CrashLeaves}
 use Rattle.moo_commands.specs.Lines.{text_failure}
-use Rattle.moo_commands.specs.Run.{known_text, lost_status, RunsText, StopsText, EndsTask}
+use Rattle.moo_commands.specs.Run.{Texts, texts_by, lost_status, RunsText, StopsText, EndsTask}
 use Rattle.moo_commands.specs.declared.failure.Failure.{Failure}
 
-pub given_input : (batches : List ℕ) (input : Option (List ℕ)) → bytes_eq batches (codes "-") ≡ true → known_text batches input ≡ input
-given_input batches input e = ap (λ (b : Bool). if b then input else None) e
+pub given_input : (batches : List ℕ) (input : Option (List ℕ)) (files : Texts) → bytes_eq batches (codes "-") ≡ true → texts_by input files batches ≡ input
+given_input batches input files e = ap (λ (b : Bool). if b then input else files batches) e
 
-pub given_none : (batches : List ℕ) (input : Option (List ℕ)) → bytes_eq batches (codes "-") ≡ false → known_text batches input ≡ None
-given_none batches input e = ap (λ (b : Bool). if b then input else None) e
+pub given_file : (batches : List ℕ) (input : Option (List ℕ)) (files : Texts) → bytes_eq batches (codes "-") ≡ false → texts_by input files batches ≡ files batches
+given_file batches input files e = ap (λ (b : Bool). if b then input else files batches) e
 
 none_below : (n m : ℕ) → n ≤ m → m ≡ 0 → n ≡ 0
 none_below n m le e = omega (arith, le, e)
@@ -66,6 +66,10 @@ unchanged g known world s P leaves p = record { end = Works s; clean = λ clean.
 pub on_ok : {A E : Type 0} (P Q : A → Type 0) (r : Result A E) → ((a : A) → P a → Q a) → IfOk r P → IfOk r Q
 on_ok P Q (Ok a) f p = f a p
 on_ok P Q (Err e) f p = tt
+
+pub both_ok : {A E : Type 0} (r : Result A E) (P : A → Type 0) (Q : Type 0) → IfOk r P → OnOk r Q → IfOk r (λ a. P a × Q)
+both_ok (Ok a) P Q p q = (p, q)
+both_ok (Err e) P Q p q = tt
 
 pub on_err : {A E : Type 0} (P Q : E → Type 0) (r : Result A E) → ((e : E) → P e → Q e) → IfErr r P → IfErr r Q
 on_err P Q (Ok a) f p = tt

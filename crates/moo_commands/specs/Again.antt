@@ -1,21 +1,27 @@
 -- What words come to over a file, and the next words over what a crash left of it.
-use Rattle.std.specs.Prelude.{◌≡◌, ◌<◌, ◌⊎◌, ℕ, true, false, List, Option, length, ⊤}
+use Rattle.std.specs.Prelude.{◌≡◌, ◌<◌, ◌⊎◌, ℕ, true, false, List, Option, Some, None, length, ⊤}
 use Rattle.sqlite_disk.specs.declared.Disk.{Ghosts}
 use Rattle.sqlite_store.specs.declared.store.FileStore.{FileStore}
+use Rattle.sqlite_store.specs.FileStore.{recovers}
+use Rattle.sqlite_store.specs.Unopened.{state_of as unopened_state}
+use Rattle.sqlite_wal.specs.Files.{outcomes}
 use Rattle.sqlite_wal.specs.Recovery.{Image}
 use Rattle.sqlite.specs.State.{HasCleanDisk}
 use Rattle.sqlite.specs.Held.{Held}
-use Rattle.sqlite.specs.Files.{file_state}
+use Rattle.sqlite.specs.Files.{file_state, image_of}
+use Rattle.sqlite.specs.declared.file.Leftover.TheVariants as left
 use Rattle.moo_rows.specs.Opening.{opening_maps}
 use Rattle.moo_world.specs.Judge.{State, state_of}
 use Rattle.moo_store.specs.Stand.{MayLeave}
 use Rattle.moo_store.specs.World.{CrashLeaves}
-use Rattle.moo_files.specs.Contents.{HoldsState, IsLeftBy}
+use Rattle.moo_files.specs.Contents.{HoldsSuch, HoldsState, HasNoSums, IsLeftBy}
 use Rattle.moo_files.specs.Remains.{IsCleanRemains}
+use Rattle.moo_files.specs.declared.remains.Remains.{Remains}
+use Rattle.moo_files.specs.declared.remains.Remains.TheVariants as remains
 use Rattle.moo_words.specs.declared.task.Task.{Task}
 use Rattle.moo_words.specs.Tasks.{NamesTask, mistakes}
-use Rattle.moo_commands.specs.Run.{begins_anew, RunsFrom, FailsAtOnce, EndsUsage}
-use Rattle.moo_commands.specs.Ends.{MatchFile}
+use Rattle.moo_commands.specs.Run.{Texts, begins_anew, RunsFrom, FailsAtOnce, EndsUsage}
+use Rattle.moo_commands.specs.Ends.{MatchFile, RunsOver, IsClosedEnd}
 use Rattle.moo_commands.specs.declared.ends.Ends.{Ends}
 use Rattle.moo_commands.specs.declared.ends.Ends.TheVariants as variant
 
@@ -24,29 +30,64 @@ abbrev pub StartsFrom : Task → Image → State → Type 0
 StartsFrom task image s = ((begins_anew task ≡ false) × HoldsState image s) ⊎ ((begins_anew task ≡ true) × (s ≡ state_of opening_maps))
 
 module _ {D : Type 0} {g : Ghosts D} where
-  -- the task ran over its file from s on, with what a crash then leaves
-  abbrev pub RanFrom : Task → State → Held (FileStore D g) → Option (List ℕ) → Option (List ℕ) → Option (List ℕ) → ℕ → Type 0
-  RanFrom task s conn input old new status = RunsFrom task s input old new status (HasCleanDisk (file_state conn)) (CrashLeaves (file_state conn))
+  -- the task ran over its file from s, with what a crash then leaves
+  abbrev pub RanFrom : Task → State → Held (FileStore D g) → Texts → Option (List ℕ) → Option (List ℕ) → ℕ → Type 0
+  RanFrom task s conn texts old new status = RunsFrom task s texts old new status (HasCleanDisk (file_state conn)) (CrashLeaves (file_state conn)) ⊤
 
-  -- The words name a task, and if it takes up its file, it runs from s on. Or the store fails or memory runs out, and no damage is
-  -- told. Or the words have a mistake.
-  abbrev pub TakesUp : List (List ℕ) → State → Ends D g → Option (List ℕ) → Option (List ℕ) → Option (List ℕ) → ℕ → Type 0
-  TakesUp words s ends input old new status =
+module _ {T D : Type 0} {g : Ghosts D} where
+  -- The words name a task, and if it takes up its file, it runs from s. Or the store fails or memory runs out, and no damage is told.
+  -- Or the words have a mistake.
+  abbrev pub TakesUp : List (List ℕ) → State → Ends T D g → Texts → Option (List ℕ) → Option (List ℕ) → ℕ → Type 0
+  TakesUp words s ends texts old new status =
       ((task : Task) × NamesTask words task × (begins_anew task ≡ false → MatchFile ends
-      (λ conn. HasCleanDisk (file_state conn) → RanFrom task s conn input old new status)
+      (λ conn. HasCleanDisk (file_state conn) → RanFrom task s conn texts old new status)
       (λ remains. IsCleanRemains remains → FailsAtOnce old new status)))
       ⊎ ((1 < length words) × EndsUsage (mistakes words) old new status × (ends ≡ variant.NoFile))
 
-  -- this holds of the connection, if a task ran over a file
-  abbrev pub IfRan : Ends D g → (Held (FileStore D g) → Type 0) → Type 0
-  IfRan (variant.Ran conn) P = P conn
-  IfRan (variant.Refused remains) P = ⊤
-  IfRan variant.NoFile P = ⊤
+  -- if there is a file, this is true of it
+  abbrev pub IfFile : Ends T D g → (Held (FileStore D g) → Type 0) → (Remains T D g → Type 0) → Type 0
+  IfFile (variant.Ran conn) Ran Refused = Ran conn
+  IfFile (variant.Refused remains) Ran Refused = Refused remains
+  IfFile variant.NoFile Ran Refused = ⊤
 
-  -- The words ran a task over the file that held this image, from a state on to an end. If the disk is clean and the next image is
-  -- what a crash left, that holds a state which the end may leave, and `Next` is true of it.
-  abbrev pub CrashesTo : List (List ℕ) → Image → Ends D g → Option (List ℕ) → Option (List ℕ) → Option (List ℕ) → ℕ → Image → (State → Type 0) → Type 0
-  CrashesTo words image ends input old new status next Next = IfRan ends (λ conn. HasCleanDisk (file_state conn) →
-      (task : Task) × NamesTask words task × ((s : State) → StartsFrom task image s →
-      (run : RanFrom task s conn input old new status)
-      × (IsLeftBy (file_state conn) next → (t : State) × MayLeave run.end t × HoldsState next t × Next t)))
+  -- What a crash leaves of files that held this image, if no world was opened or made. Files that weren't opened are as they were. (Those
+  -- that `sqlite` failed to open are taken as such: it says nothing of them. Files with sums on their pages, as no file of this program
+  -- has, may have been resealed, and are left out.)
+  abbrev pub IsLeftAfter : Image → Remains T D g → Image → Type 0
+  IsLeftAfter image (remains.Untouched start) next = next ≡ image
+  IsLeftAfter image (remains.NotOpened seal) next = next ≡ image
+  IsLeftAfter image (remains.Leftover (left.Files now)) next = outcomes g now.log now.db next
+  IsLeftAfter image (remains.Leftover (left.Unopened now)) next = (unopened_state now).may_leave next × HasNoSums image
+  IsLeftAfter image (remains.Leftover (left.Store now)) next = HoldsSuch (recovers now) next
+  IsLeftAfter image (remains.Connection conn) next = IsLeftBy (file_state conn) next
+
+  -- The words were run over the file that held this image. If the disk is clean and the next image is what a crash left, that holds a
+  -- state of which `Next` is true: if a task ran, from a state to an end, one that this end may leave; if no world was opened or made,
+  -- the state that the file held.
+  abbrev pub CrashesTo : List (List ℕ) → Image → Ends T D g → Texts → Option (List ℕ) → Option (List ℕ) → ℕ → Image → (State → Type 0) → Type 0
+  CrashesTo words image ends texts old new status next Next = IfFile ends
+      (λ conn. HasCleanDisk (file_state conn) → (task : Task) × NamesTask words task × ((s : State) → StartsFrom task image s →
+      (run : RanFrom task s conn texts old new status) × (IsLeftBy (file_state conn) next → (t : State) × MayLeave run.end t × HoldsState next t × Next t)))
+      (λ remains. IsCleanRemains remains → (s : State) → HoldsState image s → IsLeftAfter image remains next → HoldsState next s × Next s)
+
+  -- the disk returned what was written, until the files were closed
+  abbrev pub IsCleanEnd : Option (Remains T D g) → Type 0
+  IsCleanEnd (Some remains) = IsCleanRemains remains
+  IsCleanEnd None = ⊤
+
+  -- the image is what the files hold once their connection is closed, or what a crash leaves of them, or of their log if closing failed
+  abbrev pub IsFoundIn : Option (Remains T D g) → Image → Type 0
+  IsFoundIn (Some (remains.Leftover (left.Files now))) next = (next ≡ image_of g now) ⊎ outcomes g now.log now.db next
+  IsFoundIn (Some (remains.Leftover (left.Store now))) next = HoldsSuch (recovers now) next
+  IsFoundIn closed next = ⊥
+
+  abbrev pub IsFoundAfter : Image → Option (Remains T D g) → Image → Type 0
+  IsFoundAfter image (Some remains) next = IsLeftAfter image remains next
+  IsFoundAfter image None next = ⊥
+
+  -- the same, if the file was closed before the next run, with a crash or without one
+  abbrev pub ClosesTo : List (List ℕ) → Image → Option (Remains T D g) → Texts → Option (List ℕ) → Option (List ℕ) → ℕ → Image → (State → Type 0) → Type 0
+  ClosesTo words image closed texts old new status next Next = (ends : Ends T D g) × RunsOver words image ends texts old new status × IsClosedEnd ends closed × IfFile ends
+      (λ conn. IsCleanEnd closed → (task : Task) × NamesTask words task × ((s : State) → StartsFrom task image s →
+      (run : RanFrom task s conn texts old new status) × (IsFoundIn closed next → (t : State) × MayLeave run.end t × HoldsState next t × Next t)))
+      (λ remains. IsCleanEnd closed → (s : State) → HoldsState image s → IsFoundAfter image closed next → HoldsState next s × Next s)

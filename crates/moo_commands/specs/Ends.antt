@@ -1,12 +1,13 @@
 -- What a run over a file comes to, by what the file holds.
-use Rattle.std.specs.Prelude.{◌≡◌, ◌<◌, ◌⊎◌, ℕ, true, false, List, Option, length, codes, ⊤}
+use Rattle.std.specs.Prelude.{◌≡◌, ◌<◌, ◌⊎◌, ℕ, true, false, List, Option, Some, None, length, codes, ⊤}
 use Rattle.std.specs.Str.{bytes_eq}
 use Rattle.sqlite_disk.specs.declared.Disk.{Ghosts}
 use Rattle.sqlite_store.specs.declared.store.FileStore.{FileStore}
 use Rattle.sqlite_wal.specs.Recovery.{Image}
+use Rattle.sqlite.specs.Tree.{Trees}
 use Rattle.sqlite.specs.State.{HasCleanDisk}
 use Rattle.sqlite.specs.Held.{Held}
-use Rattle.sqlite.specs.Files.{file_state}
+use Rattle.sqlite.specs.Files.{IsNothing, file_state}
 use Rattle.moo_rows.specs.Maps.{Maps}
 use Rattle.moo_rows.specs.Opening.{opening_maps}
 use Rattle.moo_world.specs.Rows.{IsGood}
@@ -14,55 +15,82 @@ use Rattle.moo_world.specs.Judge.{State, state_of}
 use Rattle.moo_tables.specs.Tables.{Tables}
 use Rattle.moo_cells.specs.Shows.{ShowsRows}
 use Rattle.moo_store.specs.Opening.{Says}
+use Rattle.moo_store.specs.States.{LeavesState}
 use Rattle.moo_store.specs.World.{CrashLeaves}
 use Rattle.moo_store.specs.declared.fault.StoreFault.{StoreFault}
-use Rattle.moo_files.specs.Contents.{HoldsTables, HoldsState}
-use Rattle.moo_files.specs.Remains.{IsCleanRemains, StillHolds}
+use Rattle.moo_files.specs.Contents.{HoldsTrees, HoldsTables, HoldsState, HasOtherTables, HasAnyTable}
+use Rattle.moo_files.specs.Remains.{IsCleanRemains, MayStopAs, KeepsSuch, KeepsNothingBut, StillHolds, StillHoldsTrees}
+use Rattle.moo_files.specs.Closing.{IsClosedFrom}
 use Rattle.moo_files.specs.declared.remains.Remains.{Remains}
+use Rattle.moo_files.specs.declared.remains.Remains.TheVariants as remains
 use Rattle.moo_words.specs.declared.task.Task.{Task}
-use Rattle.moo_words.specs.Tasks.{NamesTask, mistakes}
+use Rattle.moo_words.specs.Tasks.{NamesTask, NamesAlone, mistakes}
 use Rattle.moo_commands.specs.Lines.{Reports, store_failure}
-use Rattle.moo_commands.specs.Run.{file_of, begins_anew, RunsFrom, RunsUnseen, RunsTask, FailsAtOnce, RefusesFile, EndsUsage}
+use Rattle.moo_commands.specs.Run.{Texts, file_of, begins_anew, RunsFrom, RunsUnseen, RunsTask, FailsAtOnce, RefusesFile, EndsUsage}
 use Rattle.moo_commands.specs.declared.ends.Ends.{Ends}
 use Rattle.moo_commands.specs.declared.ends.Ends.TheVariants as variant
 
-module _ {D : Type 0} {g : Ghosts D} where
+module _ {T D : Type 0} {g : Ghosts D} where
   -- there is a file: the task ran over its world, or no world was opened or made
-  abbrev pub MatchFile : Ends D g → (Held (FileStore D g) → Type 0) → (Remains D g → Type 0) → Type 0
+  abbrev pub MatchFile : Ends T D g → (Held (FileStore D g) → Type 0) → (Remains T D g → Type 0) → Type 0
   MatchFile (variant.Ran conn) Ran Refused = Ran conn
   MatchFile (variant.Refused remains) Ran Refused = Refused remains
   MatchFile variant.NoFile Ran Refused = ⊥
 
   -- A task over the file that held this image, on a disk that returns what was written.
-  pub record RunsFile (task : Task) (image : Image) (ends : Ends D g) (input old new : Option (List ℕ)) (status : ℕ) : Type 0 where
-    -- a task that begins with a new world runs from the opening world on, or none can be made
+  pub record RunsFile (task : Task) (image : Image) (ends : Ends T D g) (texts : Texts) (old new : Option (List ℕ)) (status : ℕ) : Type 0 where
+    -- a task that begins with a new world runs from the opening world, or none can be made
     pub anew : begins_anew task ≡ true → MatchFile ends
-        (λ conn. RunsFrom task (state_of opening_maps) input old new status (HasCleanDisk (file_state conn)) (CrashLeaves (file_state conn)))
+        (λ conn. RunsFrom task (state_of opening_maps) texts old new status (HasCleanDisk (file_state conn)) (CrashLeaves (file_state conn)) ⊤)
         (λ remains. FailsAtOnce old new status)
     -- and never over another world
     pub taken : (s : State) → begins_anew task ≡ true → HoldsState image s → MatchFile ends (λ conn. HasCleanDisk (file_state conn) → ⊥) (λ remains. ⊤)
-    -- Any other runs from the state on that the file holds. Or the store fails or memory runs out, and no damage is told.
+    -- Any other runs from the state that the file holds. Or the store fails or memory runs out, and no damage is told.
     pub kept : (s : State) → begins_anew task ≡ false → HoldsState image s → MatchFile ends
-        (λ conn. HasCleanDisk (file_state conn) → RunsFrom task s input old new status (HasCleanDisk (file_state conn)) (CrashLeaves (file_state conn)))
+        (λ conn. HasCleanDisk (file_state conn) → RunsFrom task s texts old new status (HasCleanDisk (file_state conn)) (CrashLeaves (file_state conn)) ⊤)
         (λ remains. IsCleanRemains remains → FailsAtOnce old new status)
-    -- Of tables it runs from the world on that they show. Or the line tells a fault that is theirs.
+    -- If the file holds tables, it runs from the world that they show, and the `ok` of a check has the number and the objects of just
+    -- that world. Or the line tells a fault of these tables.
     pub only : (tables : Tables) → begins_anew task ≡ false → HoldsTables image tables → MatchFile ends
-        (λ conn. HasCleanDisk (file_state conn) → (rows : Maps) × IsGood rows × ShowsRows tables rows × RunsUnseen task (state_of rows) input old new status)
+        (λ conn. HasCleanDisk (file_state conn) → (rows : Maps) × IsGood rows × ShowsRows tables rows × RunsUnseen task (state_of rows) texts old new status)
         (λ remains. IsCleanRemains remains → (fault : StoreFault) × Says tables fault × Reports (store_failure fault) old new status)
-    -- whatever the file holds, it is refused, or the task runs from a well formed world on
+    -- it never runs over nothing, or over other tables than ours
+    pub nothing : begins_anew task ≡ false → IsNothing image → MatchFile ends (λ conn. HasCleanDisk (file_state conn) → ⊥) (λ remains. ⊤)
+    pub other : (trees : Trees) → begins_anew task ≡ false → HoldsTrees image trees → HasOtherTables trees → MatchFile ends (λ conn. HasCleanDisk (file_state conn) → ⊥) (λ remains. ⊤)
+    -- whatever the file holds, it is refused, or the task runs from a well formed world
     pub opened : begins_anew task ≡ false → MatchFile ends
-        (λ conn. (rows : Maps) × IsGood rows × RunsUnseen task (state_of rows) input old new status)
+        (λ conn. (rows : Maps) × IsGood rows × RunsUnseen task (state_of rows) texts old new status)
         (λ remains. RefusesFile old new status)
     -- a file that is refused holds its state still, and so does what a crash leaves of it
     pub left : (s : State) → HoldsState image s → MatchFile ends (λ conn. ⊤) (λ remains. IsCleanRemains remains → StillHolds image remains s)
+    -- And if it held no state: the database is kept, damaged or of other tables as it is, or migrated. No new world is put in its place,
+    -- but into a database without tables, and there one that is whole or none.
+    pub trees : (trees : Trees) → begins_anew task ≡ false → HoldsTrees image trees → MatchFile ends (λ conn. ⊤) (λ remains. IsCleanRemains remains → StillHoldsTrees image remains trees)
+    pub spared : (trees : Trees) → begins_anew task ≡ true → HoldsTrees image trees → HasAnyTable trees → MatchFile ends (λ conn. ⊤) (λ remains. IsCleanRemains remains → KeepsSuch (λ found. found ≡ trees) image remains)
+    pub unmade : (trees : Trees) → begins_anew task ≡ true → HoldsTrees image trees → MatchFile ends (λ conn. ⊤)
+        (λ remains. IsCleanRemains remains → KeepsSuch (λ found. (found ≡ trees) ⊎ LeavesState found (state_of opening_maps)) image remains)
+    pub blank : begins_anew task ≡ false → IsNothing image → MatchFile ends (λ conn. ⊤) (λ remains. IsCleanRemains remains → KeepsNothingBut (λ _. ⊥) image remains)
+    -- if no file was opened, the line tells why
+    pub told : MatchFile ends (λ conn. ⊤) (λ remains. (fault : StoreFault) × MayStopAs fault remains × Reports (store_failure fault) old new status)
 
   -- a task on a file runs over it, and one on `:memory:` over none
-  pub record EndsWith (task : Task) (image : Image) (ends : Ends D g) (input old new : Option (List ℕ)) (status : ℕ) : Type 0 where
-    pub file : bytes_eq (file_of task) (codes ":memory:") ≡ false → RunsFile task image ends input old new status
+  pub record EndsWith (task : Task) (image : Image) (ends : Ends T D g) (texts : Texts) (old new : Option (List ℕ)) (status : ℕ) : Type 0 where
+    pub file : bytes_eq (file_of task) (codes ":memory:") ≡ false → RunsFile task image ends texts old new status
     pub memory : bytes_eq (file_of task) (codes ":memory:") ≡ true → ends ≡ variant.NoFile
 
   -- what the words come to if their file held this image
-  abbrev pub RunsOver : List (List ℕ) → Image → Ends D g → Option (List ℕ) → Option (List ℕ) → Option (List ℕ) → ℕ → Type 0
-  RunsOver words image ends input old new status =
-      ((task : Task) × NamesTask words task × RunsTask task input old new status × EndsWith task image ends input old new status)
+  abbrev pub RunsOver : List (List ℕ) → Image → Ends T D g → Texts → Option (List ℕ) → Option (List ℕ) → ℕ → Type 0
+  RunsOver words image ends texts old new status =
+      ((task : Task) × NamesTask words task × NamesAlone words task × RunsTask task texts old new status × EndsWith task image ends texts old new status)
       ⊎ ((1 < length words) × EndsUsage (mistakes words) old new status × (ends ≡ variant.NoFile))
+
+  -- the file of a run was closed: what it then holds, and what a crash leaves of it, is what a crash might have left before
+  abbrev pub IsClosedEnd : Ends T D g → Option (Remains T D g) → Type 0
+  IsClosedEnd (variant.Ran conn) (Some now) = IsClosedFrom (remains.Connection conn) now
+  IsClosedEnd (variant.Refused was) (Some now) = IsClosedFrom was now
+  IsClosedEnd variant.NoFile None = ⊤
+  IsClosedEnd ends closed = ⊥
+
+  -- the words were run so, and then the file was closed
+  abbrev pub RunsClosed : List (List ℕ) → Image → Option (Remains T D g) → Texts → Option (List ℕ) → Option (List ℕ) → ℕ → Type 0
+  RunsClosed words image closed texts old new status = (ends : Ends T D g) × RunsOver words image ends texts old new status × IsClosedEnd ends closed

@@ -20,7 +20,7 @@ use Rattle.moo_commands.specs.declared.failure.Failure.TheVariants.{Usage, NoFil
 
 -- ---- failures
 
--- the line of a failure, without the kind and the place of a damage; of a failure of the writer there is none
+-- the line of a failure, without the kind and the place of a damage; a failure of the writer has no line
 abbrev pub word_of : Failure → List ℕ
 word_of Usage = codes "moo: usage\n"
 word_of NoFile = codes "moo: store fault\n"
@@ -64,7 +64,7 @@ store_failure store_fault.NewerVersion = NewerVersion
 store_failure store_fault.OutOfMemory = NoMemory
 store_failure store_fault.Closed = Store (SqliteFailure code.Closed)
 
--- The failure tells of this fault of opening. That there is no such file is told apart, for what is said on standard error.
+-- The failure tells of this fault of opening. A missing file is told apart, for what is said on standard error.
 abbrev pub Tells : StoreFault → Failure → Type 0
 Tells fault failure =
     (failure ≡ store_failure fault) ⊎ ((store_failure fault ≡ Store (SqliteFailure code.CannotOpen)) × (failure ≡ NoFile))
@@ -86,7 +86,7 @@ WritesLine line known old new status =
     (Appends old new line × (status ≡ known))
     ⊎ ((count : ℕ) × Appends old new (take count line) × (status ≡ status_of Write))
 
--- The line of a failure is written with its status. Where memory for the line of a damage is refused, that is said in its place.
+-- The line of a failure is written with its status. If memory for the line of a damage is refused, that is said in its place.
 abbrev pub Reports : Failure → Option (List ℕ) → Option (List ℕ) → ℕ → Type 0
 Reports (Damaged kind key) old new status =
     WritesLine (damaged_line kind key) 3 old new status ⊎ WritesLine (word_of NoMemory) (status_of NoMemory) old new status

@@ -1,5 +1,5 @@
 -- What a run of the program writes, the status that it ends with, and what a crash then leaves.
-use Rattle.std.specs.Prelude.{◌≡◌, ◌<◌, ◌⊎◌, ◌==◌, ℕ, Bool, true, List, [], take, length, Option, None, codes, if◌then◌else◌, ⊤, IsTrue, false}
+use Rattle.std.specs.Prelude.{◌≡◌, ◌<◌, ◌⊎◌, ◌==◌, ℕ, Bool, true, List, [], take, length, Option, codes, if◌then◌else◌, ⊤, IsTrue, false}
 use Rattle.std.specs.Str.{bytes_eq}
 use Rattle.std.specs.Io.KnownBytes.{Appends}
 use Rattle.clap.specs.Kinds.{Kinds, IsAmong}
@@ -14,13 +14,16 @@ use Rattle.moo_rows.specs.Opening.{opening_maps}
 use Rattle.moo_world.specs.Rows.{IsGood}
 use Rattle.moo_world.specs.Judge.{State, state_of}
 use Rattle.moo_world.specs.ObjectLists.{objects_of}
+use Rattle.moo_tables.specs.Tables.{Tables}
+use Rattle.moo_tables.specs.Inside.{Rests}
+use Rattle.moo_cells.specs.Shows.{ShowsRows}
 use Rattle.moo_text.specs.declared.fault.TextFault.{TextFault}
 use Rattle.moo_text.specs.declared.reply.Answer.{Answer}
 use Rattle.moo_dump.specs.Dump.{dump}
 use Rattle.moo_store.specs.declared.fault.StoreFault.{StoreFault}
 use Rattle.moo_store.specs.Stand.{Stand, Works, RunsBatch, AsksBatch}
 use Rattle.moo_store.specs.Turns.{Completes, Halts}
-use Rattle.moo_store.specs.Opening.{IsOfStore}
+use Rattle.moo_store.specs.Opening.{Says, IsOfStore}
 use Rattle.moo_store.specs.States.{LeavesState}
 use Rattle.moo_store.specs.Kept.{World}
 use Rattle.moo_store.specs.World.{store_of, CrashLeaves}
@@ -28,7 +31,7 @@ use Rattle.moo_words.specs.declared.task.Task.{Task}
 use Rattle.moo_http.specs.Lines.{listening_line}
 use Rattle.moo_http.specs.Connections.{ServesAll}
 use Rattle.moo_words.specs.declared.task.Task.TheVariants.{Init, Apply, Ask, Dump, Check, Serve}
-use Rattle.moo_words.specs.Tasks.{NamesTask, mistakes}
+use Rattle.moo_words.specs.Tasks.{NamesTask, NamesAlone, mistakes}
 use Rattle.moo_commands.specs.Lines.{Reports, WritesLine, text_failure, store_failure, created_line, checked_line}
 use Rattle.moo_commands.specs.declared.failure.Failure.{Failure}
 use Rattle.moo_commands.specs.declared.failure.Failure.TheVariants.{Usage, NoFile, Store, Damaged, NewerVersion, NoBatches, Write, Port, NoMemory}
@@ -53,11 +56,15 @@ begins_anew (Dump file) = bytes_eq file.now (codes ":memory:")
 begins_anew (Check file) = bytes_eq file.now (codes ":memory:")
 begins_anew (Serve file port count) = bytes_eq file.now (codes ":memory:")
 
--- what is known of the text that is given as the batches: that of the input for `-`, and nothing of a file's
-abbrev pub known_text : List ℕ → Option (List ℕ) → Option (List ℕ)
-known_text batches input = if bytes_eq batches (codes "-") then input else None
+-- the text of each word for batches, if it is known
+abbrev pub Texts : Type 0
+Texts = List ℕ → Option (List ℕ)
 
--- 1 where an answer is `fault` or `closed`
+-- `-` names the input, and any other word the file of that path
+abbrev pub texts_by : Option (List ℕ) → Texts → Texts
+texts_by input files batches = if bytes_eq batches (codes "-") then input else files batches
+
+-- 1 if an answer is `fault` or `closed`
 abbrev pub lost_status : ℕ → ℕ
 lost_status lost = if lost == 0 then 0 else 1
 
@@ -78,69 +85,74 @@ StopsText step s end failure text old new =
 abbrev pub Serving : ℕ → ℕ → State → Stand → Option (List ℕ) → Option (List ℕ) → ℕ → Type 0
 Serving port count s end old new status = (text : List ℕ) × ServesAll port count (Works s) end text × Appends old new text × (status ≡ 0)
 
--- the task is done
-abbrev pub Done : Task → State → Stand → Option (List ℕ) → Option (List ℕ) → Option (List ℕ) → ℕ → Type 0
-Done (Init file) s end input old new status = (end ≡ Works s) × Appends old new created_line × (status ≡ 0)
-Done (Apply file batches) s end input old new status = RunsText RunsBatch s end (known_text batches.now input) old new status
-Done (Ask file batches) s end input old new status = (end ≡ Works s) × RunsText AsksBatch s (Works s) (known_text batches.now input) old new status
-Done (Dump file) s end input old new status = (end ≡ Works s) × Appends old new (dump s) × (status ≡ 0)
-Done (Check file) s end input old new status =
-    (end ≡ Works s) × Appends old new (checked_line s.seq (length (objects_of s.world))) × (status ≡ 0)
-Done (Serve file port count) s end input old new status = Serving port count s end old new status
+-- The task is done. A check found the tables as `Shown` says.
+abbrev pub Done : Task → State → Stand → Type 0 → Texts → Option (List ℕ) → Option (List ℕ) → ℕ → Type 0
+Done (Init file) s end Shown texts old new status = (end ≡ Works s) × Appends old new created_line × (status ≡ 0)
+Done (Apply file batches) s end Shown texts old new status = RunsText RunsBatch s end (texts batches.now) old new status
+Done (Ask file batches) s end Shown texts old new status = (end ≡ Works s) × RunsText AsksBatch s (Works s) (texts batches.now) old new status
+Done (Dump file) s end Shown texts old new status = (end ≡ Works s) × Appends old new (dump s) × (status ≡ 0)
+Done (Check file) s end Shown texts old new status =
+    (end ≡ Works s) × Shown × Appends old new (checked_line s.seq (length (objects_of s.world))) × (status ≡ 0)
+Done (Serve file port count) s end Shown texts old new status = Serving port count s end old new status
 
 -- a front of a text is written, since the writer failed or memory ran out
 abbrev pub StopsIn : List ℕ → Failure → Option (List ℕ) → Option (List ℕ) → Type 0
 StopsIn text failure old new = ((failure ≡ Write) ⊎ (failure ≡ NoMemory)) × (count : ℕ) × Appends old new (take count text)
 
 -- The port can't be listened on, and nothing is done. Or what is said of the service stops in its first line, before any connection;
--- or behind the last one.
+-- or after the last one.
 abbrev pub StopsServing : ℕ → ℕ → State → Stand → Failure → Option (List ℕ) → Option (List ℕ) → Type 0
 StopsServing port count s end failure old new =
     ((failure ≡ Port) × (end ≡ Works s) × (new ≡ old))
     ⊎ ((end ≡ Works s) × StopsIn (listening_line port) failure old new)
     ⊎ ((text : List ℕ) × ServesAll port count (Works s) end text × StopsIn text failure old new)
 
--- It stops with this failure, and so much is written. On a clean disk no check of a world that stands finds a damage.
-abbrev pub StopsTask : Task → State → Stand → Failure → Type 0 → Option (List ℕ) → Option (List ℕ) → Option (List ℕ) → Type 0
-StopsTask (Init file) s end failure Clean input old new = (end ≡ Works s) × StopsIn created_line failure old new
-StopsTask (Apply file batches) s end failure Clean input old new = StopsText RunsBatch s end failure (known_text batches.now input) old new
-StopsTask (Ask file batches) s end failure Clean input old new = (end ≡ Works s) × StopsText AsksBatch s (Works s) failure (known_text batches.now input) old new
-StopsTask (Dump file) s end failure Clean input old new = (end ≡ Works s) × StopsIn (dump s) failure old new
-StopsTask (Check file) s end failure Clean input old new =
+-- It stops with this failure, and so much is written. On a clean disk no check of a World that stands for a state finds a damage.
+abbrev pub StopsTask : Task → State → Stand → Failure → Type 0 → Texts → Option (List ℕ) → Option (List ℕ) → Type 0
+StopsTask (Init file) s end failure Clean texts old new = (end ≡ Works s) × StopsIn created_line failure old new
+StopsTask (Apply file batches) s end failure Clean texts old new = StopsText RunsBatch s end failure (texts batches.now) old new
+StopsTask (Ask file batches) s end failure Clean texts old new = (end ≡ Works s) × StopsText AsksBatch s (Works s) failure (texts batches.now) old new
+StopsTask (Dump file) s end failure Clean texts old new = (end ≡ Works s) × StopsIn (dump s) failure old new
+StopsTask (Check file) s end failure Clean texts old new =
     (end ≡ Works s)
     × (((fault : StoreFault) × (failure ≡ store_failure fault) × (Clean → IsOfStore fault) × (new ≡ old))
     ⊎ StopsIn (checked_line s.seq (length (objects_of s.world))) failure old new)
-StopsTask (Serve file port count) s end failure Clean input old new = StopsServing port count s end failure old new
+StopsTask (Serve file port count) s end failure Clean texts old new = StopsServing port count s end failure old new
 
--- What was done to a World leaves it so: a disk that returns what was written did so before, and what a crash leaves then is known.
+-- What was done to a World leaves it so: if the disk returns what was written, it did so before, and what a crash leaves is known.
 pub record EndsTask {S : Type 0} (g : Ghosts S) (known : Bool) (was world : World S) (End : Stand → Type 0) : Type 0 where
   pub end : Stand
   pub clean : HasCleanDisk (store_of g world) → HasCleanDisk (store_of g was)
   pub crash : IsTrue known → HasCleanDisk (store_of g world) → CrashLeaves (store_of g world) end
   pub ends : End end
 
+-- If the disk returned what was written, any tables that were at rest in the store of this World show its rows.
+abbrev pub ShowsTables : {S : Type 0} → Ghosts S → World S → Database → Type 0
+ShowsTables g world after = HasCleanDisk after → (tables : Tables) → Rests (store_of g world) tables → ShowsRows tables world.rows.maps
+
 -- ---- a task over a connection
 
--- A task runs from a world of this state on: it is done, or stops and the failure is reported. Where the disk is clean a crash then
--- leaves what its end tells: the state behind the last acknowledged batch, or where the store failed in a batch that or the one behind it.
-pub record RunsFrom (task : Task) (s : State) (input old new : Option (List ℕ)) (status : ℕ) (Clean : Type 0) (Crash : Stand → Type 0) : Type 0 where
+-- A task runs from a world of this state: it is done, or stops and the failure is reported. If the disk is clean, a crash then
+-- leaves what its end tells: the state after the last acknowledged batch, or if the store failed in a batch, that or the one after it.
+-- If it is a check that is done, it found the tables as `Shown` says.
+pub record RunsFrom (task : Task) (s : State) (texts : Texts) (old new : Option (List ℕ)) (status : ℕ) (Clean : Type 0) (Crash : Stand → Type 0) (Shown : Type 0) : Type 0 where
   pub end : Stand
   pub crash : Clean → Crash end
   pub writes :
-      Done task s end input old new status
-      ⊎ ((failure : Failure) × (between : Option (List ℕ)) × StopsTask task s end failure Clean input old between × Reports failure between new status)
+      Done task s end Shown texts old new status
+      ⊎ ((failure : Failure) × (between : Option (List ℕ)) × StopsTask task s end failure Clean texts old between × Reports failure between new status)
 
--- the same, where nothing is known of the disk
-abbrev pub RunsUnseen : Task → State → Option (List ℕ) → Option (List ℕ) → Option (List ℕ) → ℕ → Type 0
-RunsUnseen task s input old new status = RunsFrom task s input old new status ⊥ (λ _. ⊥)
+-- the same, if nothing is known of the disk and the tables
+abbrev pub RunsUnseen : Task → State → Texts → Option (List ℕ) → Option (List ℕ) → ℕ → Type 0
+RunsUnseen task s texts old new status = RunsFrom task s texts old new status ⊥ (λ _. ⊥) ⊤
 
--- a failure of the store, or want of memory
+-- a failure of the store, or memory ran out
 abbrev pub IsOpening : Failure → Type 0
 IsOpening (Store error) = ⊤
 IsOpening NoMemory = ⊤
 IsOpening failure = ⊥
 
--- why a file isn't opened, whatever it holds: there is none, it is damaged or of a later version, or one of these two
+-- why a file isn't opened, whatever it holds: it is missing, damaged or of a later version, or one of these two
 abbrev pub MayRefuse : Failure → Type 0
 MayRefuse NoFile = ⊤
 MayRefuse (Damaged kind key) = ⊤
@@ -158,7 +170,7 @@ FailsAtOnce old new status = (failure : Failure) × IsOpening failure × Reports
 abbrev pub LeavesAsBefore : State → Database → Database → Type 0
 LeavesAsBefore s old new = (trees : Trees) → new.may_leave trees → old.may_leave trees ⊎ LeavesState trees s
 
--- the status of a mistake in the words: asking for help or the version is none
+-- the status of a mistake in the words; asking for help or the version is 0
 abbrev pub mistake_status : ErrorKind → ℕ
 mistake_status DisplayHelp = 0
 mistake_status DisplayVersion = 0
@@ -172,18 +184,25 @@ EndsUsage found old new status =
     ⊎ Reports NoMemory old new status
     ⊎ ((found ≡ []) × Reports Usage old new status)
 
--- a file is refused, or the task runs from a well formed world on
-abbrev pub RunsOpened : Task → Option (List ℕ) → Option (List ℕ) → Option (List ℕ) → ℕ → Type 0
-RunsOpened task input old new status = RefusesFile old new status ⊎ ((rows : Maps) × IsGood rows × RunsUnseen task (state_of rows) input old new status)
+-- a file is refused, or the task runs from a well formed world
+abbrev pub RunsOpened : Task → Texts → Option (List ℕ) → Option (List ℕ) → ℕ → Type 0
+RunsOpened task texts old new status = RefusesFile old new status ⊎ ((rows : Maps) × IsGood rows × RunsUnseen task (state_of rows) texts old new status)
 
--- What the words come to, whatever their file holds. A task that begins with a new world runs from the opening world on, or that world
--- can't be made. Any other runs from the world on that was found in its file, or the file is refused. (That it is the world which the
--- file's tables show, `RunsFile` says.)
-pub record RunsTask (task : Task) (input old new : Option (List ℕ)) (status : ℕ) : Type 0 where
-  pub anew : begins_anew task ≡ true → FailsAtOnce old new status ⊎ RunsUnseen task (state_of opening_maps) input old new status
-  pub opened : begins_anew task ≡ false → RunsOpened task input old new status
+-- the task runs from the world that these tables show, or the line tells a fault of theirs
+abbrev pub RunsShown : Task → Tables → Texts → Option (List ℕ) → Option (List ℕ) → ℕ → Type 0
+RunsShown task tables texts old new status =
+    ((fault : StoreFault) × Says tables fault × Reports (store_failure fault) old new status)
+    ⊎ ((rows : Maps) × IsGood rows × ShowsRows tables rows × RunsUnseen task (state_of rows) texts old new status)
 
-abbrev pub RunsWords : List (List ℕ) → Option (List ℕ) → Option (List ℕ) → Option (List ℕ) → ℕ → Type 0
-RunsWords words input old new status =
-    ((task : Task) × NamesTask words task × RunsTask task input old new status)
+-- What a task comes to, whatever its file holds. If it begins with a new world, it runs from the opening world, or that world can't be
+-- made. Any other runs from the world that was found in its file, or the file is refused. (That it is the world which the file's tables
+-- show, `RunsFile` says.)
+pub record RunsTask (task : Task) (texts : Texts) (old new : Option (List ℕ)) (status : ℕ) : Type 0 where
+  pub anew : begins_anew task ≡ true → FailsAtOnce old new status ⊎ RunsUnseen task (state_of opening_maps) texts old new status
+  pub opened : begins_anew task ≡ false → RunsOpened task texts old new status
+
+-- the same of the task that the words name; or they have a mistake
+abbrev pub RunsWords : List (List ℕ) → Texts → Option (List ℕ) → Option (List ℕ) → ℕ → Type 0
+RunsWords words texts old new status =
+    ((task : Task) × NamesTask words task × NamesAlone words task × RunsTask task texts old new status)
     ⊎ ((1 < length words) × EndsUsage (mistakes words) old new status)

@@ -2,46 +2,108 @@
 
 ghost use Rattle.std.specs.Prelude.{map};
 ghost use Rattle.sqlite.specs.WalFiles.{image_at};
-ghost use Rattle.moo_commands.specs.Ends.{RunsOver};
-ghost use Rattle.moo_commands.specs.Again.{TakesUp, CrashesTo};
+ghost use Rattle.moo_commands.specs.Run.{texts_by};
+ghost use Rattle.moo_commands.specs.Ends.{RunsOver, RunsClosed};
+ghost use Rattle.moo_commands.specs.Again.{TakesUp, CrashesTo, ClosesTo};
 
+use crate::batches::BatchFiles;
 use crate::ends::Ends;
-use crate::run::run_words;
+use crate::run::{run_to_end, run_words};
+use moo_files::Remains;
 use sqlite::{FileFrom, Start};
 use std::io::{Read, Write};
 
 /// Runs words over a file, and then words over what a crash left of it.
 ///
-/// Nothing calls it: its contract is the law of the program over a stop. `T` stands for what the file held at first, `U` for what it
-/// held after the crash, which comes when the task is at its end and its file isn't closed yet.
-pub fn run_crash_run<T: Start, R: Read + Drop, W: Write, U: Start, Q: Read + Drop, V: Write>(
+/// Nothing calls it: its contract is the law of the program over a stop. `T` is what the file held at first, `U` what it held after the
+/// crash, which comes when the task is at its end and its file isn't closed yet.
+pub fn run_crash_run<
+    T: Start,
+    B: BatchFiles,
+    R: Read + Drop,
+    W: Write,
+    U: Start,
+    C: BatchFiles,
+    Q: Read + Drop,
+    V: Write,
+>(
     rt: &HostRuntime,
     words: &[&str],
     start: T,
+    files: &B,
     input: R,
     output: &mut W,
     status: &mut u8,
     next_words: &[&str],
     next_start: U,
+    next_files: &C,
     next_input: Q,
     next_output: &mut V,
     next_status: &mut u8,
-) -> (Ends<FileFrom<T>>, Ends<FileFrom<U>>)
+) -> (Ends<T, FileFrom<T>>, Ends<U, FileFrom<U>>)
     // Each run is one over what its file held.
-    ensures first { RunsOver (map (λ word. word.now) words.now) (image_at T.Start) result.0 (R.remaining input) (W.contents output.old) (W.contents output.new) status.new }
-    ensures next { RunsOver (map (λ word. word.now) next_words.now) (image_at U.Start) result.1 (Q.remaining next_input) (V.contents next_output.old) (V.contents next_output.new) next_status.new }
-    // What a crash left of the first is a state that its end may leave, and the next run takes up that one.
-    ensures reopened { CrashesTo (map (λ word. word.now) words.now) (image_at T.Start) result.0 (R.remaining input) (W.contents output.old) (W.contents output.new) status.new (image_at U.Start)
-        (λ t. TakesUp (map (λ word. word.now) next_words.now) t result.1 (Q.remaining next_input) (V.contents next_output.old) (V.contents next_output.new) next_status.new) }
+    ensures first { RunsOver (map (λ word. word.now) words.now) (image_at T.Start) result.0 (texts_by (R.remaining input) (B.text files.now)) (W.contents output.old) (W.contents output.new) status.new }
+    ensures next { RunsOver (map (λ word. word.now) next_words.now) (image_at U.Start) result.1 (texts_by (Q.remaining next_input) (C.text next_files.now)) (V.contents next_output.old) (V.contents next_output.new) next_status.new }
+    // What a crash left of the first holds a state that its end may leave, or that the file held if it was refused. The next run takes
+    // up that state.
+    ensures reopened { CrashesTo (map (λ word. word.now) words.now) (image_at T.Start) result.0 (texts_by (R.remaining input) (B.text files.now)) (W.contents output.old) (W.contents output.new) status.new (image_at U.Start)
+        (λ t. TakesUp (map (λ word. word.now) next_words.now) t result.1 (texts_by (Q.remaining next_input) (C.text next_files.now)) (V.contents next_output.old) (V.contents next_output.new) next_status.new) }
 {
-    let ends = run_words(rt, words, start, input, output, status);
+    let ends = run_words(rt, words, start, files, input, output, status);
     let next_ends = run_words(
         rt,
         next_words,
         next_start,
+        next_files,
         next_input,
         next_output,
         next_status,
     );
     (ends, next_ends)
+}
+
+/// Runs words over a file and closes it, and then words over what it holds or a crash left of it.
+///
+/// As `run_crash_run`, for a file that was closed. The program's own calls are `run_to_end`, so this is a run of it, and the next one.
+pub fn run_close_run<
+    T: Start,
+    B: BatchFiles,
+    R: Read + Drop,
+    W: Write,
+    U: Start,
+    C: BatchFiles,
+    Q: Read + Drop,
+    V: Write,
+>(
+    rt: &HostRuntime,
+    words: &[&str],
+    start: T,
+    files: &B,
+    input: R,
+    output: &mut W,
+    status: &mut u8,
+    next_words: &[&str],
+    next_start: U,
+    next_files: &C,
+    next_input: Q,
+    next_output: &mut V,
+    next_status: &mut u8,
+) -> (Option<Remains<T, FileFrom<T>>>, Ends<U, FileFrom<U>>)
+    ensures first { RunsClosed (map (λ word. word.now) words.now) (image_at T.Start) result.0 (texts_by (R.remaining input) (B.text files.now)) (W.contents output.old) (W.contents output.new) status.new }
+    ensures next { RunsOver (map (λ word. word.now) next_words.now) (image_at U.Start) result.1 (texts_by (Q.remaining next_input) (C.text next_files.now)) (V.contents next_output.old) (V.contents next_output.new) next_status.new }
+    // What the closed file holds, and what a crash leaves of it, is such a state too, and the next run takes up that state.
+    ensures reopened { ClosesTo (map (λ word. word.now) words.now) (image_at T.Start) result.0 (texts_by (R.remaining input) (B.text files.now)) (W.contents output.old) (W.contents output.new) status.new (image_at U.Start)
+        (λ t. TakesUp (map (λ word. word.now) next_words.now) t result.1 (texts_by (Q.remaining next_input) (C.text next_files.now)) (V.contents next_output.old) (V.contents next_output.new) next_status.new) }
+{
+    let closed = run_to_end(rt, words, start, files, input, output, status);
+    let next_ends = run_words(
+        rt,
+        next_words,
+        next_start,
+        next_files,
+        next_input,
+        next_output,
+        next_status,
+    );
+    (closed, next_ends)
 }

@@ -1,6 +1,6 @@
 //! What each command does over a world.
 
-ghost use Rattle.std.specs.Prelude.{◌≡◌, ◌⊎◌, length, IfOk, IfErr, Bool, IsTrue};
+ghost use Rattle.std.specs.Prelude.{◌≡◌, ◌⊎◌, length, IfOk, IfErr, OnOk, Bool, IsTrue};
 ghost use Rattle.sqlite.specs.State.{HasCleanDisk, Survives};
 ghost use Rattle.std.specs.Io.KnownBytes.{Appends};
 ghost use Rattle.moo_world.specs.Judge.{State};
@@ -13,8 +13,9 @@ ghost use Rattle.moo_store.specs.Stand.{Works, RunsBatch, AsksBatch};
 ghost use Rattle.moo_store.specs.Turns.{Halts};
 ghost use Rattle.moo_store.specs.World.{store_of, StandsFor};
 ghost use Rattle.moo_commands.specs.Lines.{text_failure, store_failure, checked_line};
-ghost use Rattle.moo_commands.specs.Run.{known_text, lost_status, RunsText, StopsText, StopsIn, Serving, StopsServing, Done, StopsTask, EndsTask};
+ghost use Rattle.moo_commands.specs.Run.{texts_by, lost_status, RunsText, StopsText, StopsIn, Serving, StopsServing, ShowsTables, Done, StopsTask, EndsTask};
 
+use crate::batches::BatchFiles;
 use crate::failure::Failure;
 use crate::output::{checked_text, explain_lost};
 use moo_dump::put_all;
@@ -23,7 +24,6 @@ use moo_store::{Tally, World, apply_text, ask_text};
 use moo_words::Task;
 use sqlite::Alter;
 use std::alloc::Global;
-use std::fs::File;
 use std::io::{Read, Write};
 
 /// The status of a text with this tally.
@@ -33,7 +33,7 @@ fn status_after(tally: Tally) -> u8
     if tally.lost == 0 { 0 } else { 1 }
 }
 
-/// Runs the batches of a text. Where the store failed in one, standard error says what to do.
+/// Runs the batches of a text. If the store failed in one, standard error says what to do.
 fn run_text<R: Read + Drop, W: Write, S: Alter + Drop>(
     rt: &HostRuntime,
     world: &mut World<S>,
@@ -54,27 +54,28 @@ fn run_text<R: Read + Drop, W: Write, S: Alter + Drop>(
 }
 
 /// Runs the batches of a file, or of the input for `-`.
-fn apply<R: Read + Drop, W: Write, S: Alter + Drop>(
+fn apply<B: BatchFiles, R: Read + Drop, W: Write, S: Alter + Drop>(
     rt: &HostRuntime,
     world: &mut World<S>,
     batches: &str,
+    files: &B,
     input: R,
     output: &mut W,
 ) -> Result<u8, Failure>
-    ensures done { (known : Bool) (s : State) → StandsFor S.Store known world.old s → IfOk result (λ status. EndsTask S.Store known world.old world.new (λ end. RunsText RunsBatch s end (known_text batches.now (R.remaining input)) (W.contents output.old) (W.contents output.new) status)) }
-    ensures stops { (known : Bool) (s : State) → StandsFor S.Store known world.old s → IfErr result (λ failure. EndsTask S.Store known world.old world.new (λ end. StopsText RunsBatch s end failure (known_text batches.now (R.remaining input)) (W.contents output.old) (W.contents output.new))) }
+    ensures done { (known : Bool) (s : State) → StandsFor S.Store known world.old s → IfOk result (λ status. EndsTask S.Store known world.old world.new (λ end. RunsText RunsBatch s end (texts_by (R.remaining input) (B.text files.now) batches.now) (W.contents output.old) (W.contents output.new) status)) }
+    ensures stops { (known : Bool) (s : State) → StandsFor S.Store known world.old s → IfErr result (λ failure. EndsTask S.Store known world.old world.new (λ end. StopsText RunsBatch s end failure (texts_by (R.remaining input) (B.text files.now) batches.now) (W.contents output.old) (W.contents output.new))) }
 {
     world.leaves();
     if batches == "-" {
         return run_text(rt, world, input, output);
     }
-    match File::open(rt, batches) {
+    match files.open(rt, batches) {
         Ok(file) => run_text(rt, world, file, output),
         Err(_) => Err(Failure::NoBatches),
     }
 }
 
-/// Says what the batches of a text would come to.
+/// Says what the batches of a text would answer.
 fn ask_batches<R: Read + Drop, W: Write, S: Alter + Drop>(
     alloc: Global,
     world: &World<S>,
@@ -92,20 +93,21 @@ fn ask_batches<R: Read + Drop, W: Write, S: Alter + Drop>(
 }
 
 /// Says what the batches of a file, or of the input for `-`, would come to.
-fn ask<R: Read + Drop, W: Write, S: Alter + Drop>(
+fn ask<B: BatchFiles, R: Read + Drop, W: Write, S: Alter + Drop>(
     rt: &HostRuntime,
     world: &World<S>,
     batches: &str,
+    files: &B,
     input: R,
     output: &mut W,
 ) -> Result<u8, Failure>
-    ensures done { (known : Bool) (s : State) → StandsFor S.Store known world.now s → IfOk result (RunsText AsksBatch s (Works s) (known_text batches.now (R.remaining input)) (W.contents output.old) (W.contents output.new)) }
-    ensures stops { (known : Bool) (s : State) → StandsFor S.Store known world.now s → IfErr result (λ failure. StopsText AsksBatch s (Works s) failure (known_text batches.now (R.remaining input)) (W.contents output.old) (W.contents output.new)) }
+    ensures done { (known : Bool) (s : State) → StandsFor S.Store known world.now s → IfOk result (RunsText AsksBatch s (Works s) (texts_by (R.remaining input) (B.text files.now) batches.now) (W.contents output.old) (W.contents output.new)) }
+    ensures stops { (known : Bool) (s : State) → StandsFor S.Store known world.now s → IfErr result (λ failure. StopsText AsksBatch s (Works s) failure (texts_by (R.remaining input) (B.text files.now) batches.now) (W.contents output.old) (W.contents output.new)) }
 {
     if batches == "-" {
         return ask_batches(rt.alloc(), world, input, output);
     }
-    match File::open(rt, batches) {
+    match files.open(rt, batches) {
         Ok(file) => ask_batches(rt.alloc(), world, file, output),
         Err(_) => Err(Failure::NoBatches),
     }
@@ -141,6 +143,8 @@ fn check<W: Write, S: Alter + Drop>(
     ensures stops { (known : Bool) (s : State) → StandsFor S.Store known world.old s → IfErr result (λ failure.
         ((fault : StoreFault) × (failure ≡ store_failure fault) × (IsTrue known × HasCleanDisk (store_of S.Store world.new) → IsOfStore fault) × (W.contents output.new ≡ W.contents output.old))
         ⊎ StopsIn (checked_line s.seq (length (objects_of s.world))) failure (W.contents output.old) (W.contents output.new)) }
+    // It is done only if the tables show the rows of the World.
+    ensures shown { OnOk result (ShowsTables S.Store world.old (store_of S.Store world.new)) }
     ensures crash { Survives (store_of S.Store world.old) (store_of S.Store world.new) (λ _. ⊥) }
 {
     let seq = world.seq()?;
@@ -169,29 +173,26 @@ fn serve<W: Write, S: Alter + Drop>(
 }
 
 /// Does what a task says over its world.
-pub(crate) fn do_task<R: Read + Drop, W: Write, S: Alter + Drop>(
+pub(crate) fn do_task<B: BatchFiles, R: Read + Drop, W: Write, S: Alter + Drop>(
     rt: &HostRuntime,
     world: &mut World<S>,
     task: Task<'_>,
+    files: &B,
     input: R,
     output: &mut W,
 ) -> Result<u8, Failure>
     ensures done { (known : Bool) (s : State) → StandsFor S.Store known world.old s → IfOk result (λ status. EndsTask S.Store known world.old world.new (λ end.
-        Done task.entry s end (R.remaining input) (W.contents output.old) (W.contents output.new) status)) }
+        Done task.entry s end (ShowsTables S.Store world.old (store_of S.Store world.new)) (texts_by (R.remaining input) (B.text files.now)) (W.contents output.old) (W.contents output.new) status)) }
     ensures stops { (known : Bool) (s : State) → StandsFor S.Store known world.old s → IfErr result (λ failure. EndsTask S.Store known world.old world.new (λ end.
-        StopsTask task.entry s end failure (IsTrue known × HasCleanDisk (store_of S.Store world.new)) (R.remaining input) (W.contents output.old) (W.contents output.new))) }
+        StopsTask task.entry s end failure (IsTrue known × HasCleanDisk (store_of S.Store world.new)) (texts_by (R.remaining input) (B.text files.now)) (W.contents output.old) (W.contents output.new))) }
 {
     world.leaves();
     match task {
-        Task::Init { file: _ } => put_text("created\n", output),
-        Task::Apply { file: _, batches } => apply(rt, world, batches, input, output),
-        Task::Ask { file: _, batches } => ask(rt, world, batches, input, output),
-        Task::Dump { file: _ } => show(world, output),
-        Task::Check { file: _ } => check(rt.alloc(), world, output),
-        Task::Serve {
-            file: _,
-            port,
-            count,
-        } => serve(rt, world, port, count, output),
+        Task::Init { .. } => put_text("created\n", output),
+        Task::Apply { batches, .. } => apply(rt, world, batches, files, input, output),
+        Task::Ask { batches, .. } => ask(rt, world, batches, files, input, output),
+        Task::Dump { .. } => show(world, output),
+        Task::Check { .. } => check(rt.alloc(), world, output),
+        Task::Serve { port, count, .. } => serve(rt, world, port, count, output),
     }
 }

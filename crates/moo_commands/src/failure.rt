@@ -12,7 +12,7 @@ use sqlite::{Error, ErrorCode};
 /// How a run of the program fails.
 #[derive(Clone, Copy, Debug, PartialEq, Eq)]
 pub enum Failure {
-    /// The words are none that the program knows.
+    /// The words aren't those of a command, or can't be read.
     Usage,
     /// There is no such file.
     NoFile,
@@ -37,7 +37,7 @@ pub enum Failure {
 }
 
 impl Failure {
-    /// The line that says so, without the kind and the place of a damage; of a failure of the writer there is none.
+    /// The line that says so, without the kind and the place of a damage. A failure of the writer has no line.
     pub fn word(self) -> &'static str
         ensures { result.now ≡ word_of self }
     {
@@ -55,7 +55,7 @@ impl Failure {
     }
 
     /// The exit status: 1 for the store, a stream, a text that is too long or a port, 2 for usage, 3 for tables that show no world
-    /// of this version, 4 for want of memory.
+    /// of this version, 4 if memory ran out.
     pub fn status(self) -> u8
         ensures { result ≡ status_of self }
     {

@@ -1,8 +1,9 @@
 //! The file of a task.
 
-ghost use Rattle.std.specs.Prelude.{◌≡◌, Bool, IsTrue, true, false, IfOk, IfErr};
+ghost use Rattle.std.specs.Prelude.{◌≡◌, Bool, IsTrue, ◌⊎◌, true, false, IfOk, IfErr};
 ghost use Rattle.sqlite.specs.State.{HasCleanDisk};
-ghost use Rattle.sqlite.specs.Files.{over_files, file_state};
+ghost use Rattle.sqlite.specs.Tree.{Trees};
+ghost use Rattle.sqlite.specs.Files.{over_files, file_state, IsNothing};
 ghost use Rattle.sqlite.specs.WalFiles.{image_at};
 ghost use Rattle.moo_rows.specs.Opening.{opening_maps};
 ghost use Rattle.moo_world.specs.Rows.{IsGood};
@@ -10,13 +11,15 @@ ghost use Rattle.moo_world.specs.Judge.{State, state_of};
 ghost use Rattle.moo_tables.specs.Tables.{Tables};
 ghost use Rattle.moo_cells.specs.Shows.{ShowsRows};
 ghost use Rattle.moo_store.specs.Opening.{Says, IsOfStore};
+ghost use Rattle.moo_store.specs.States.{LeavesState};
 ghost use Rattle.moo_store.specs.World.{store_of, CrashLeaves, StandsFor};
-ghost use Rattle.moo_files.specs.Contents.{HoldsTables, HoldsState};
-ghost use Rattle.moo_files.specs.Remains.{IsCleanRemains, StillHolds};
+ghost use Rattle.moo_files.specs.Contents.{HoldsTrees, HoldsTables, HoldsState, HasOtherTables, HasAnyTable};
+ghost use Rattle.moo_files.specs.Remains.{IsCleanRemains, MayStopAs, KeepsSuch, KeepsNothingBut, StillHolds, StillHoldsTrees};
 ghost use Rattle.moo_commands.specs.Lines.{Tells, store_failure};
-ghost use Rattle.moo_commands.specs.Run.{begins_anew, file_of, RunsFrom, RunsTask};
+ghost use Rattle.moo_commands.specs.Run.{begins_anew, file_of, texts_by, RunsFrom, RunsTask, ShowsTables};
 ghost use Rattle.moo_commands.specs.Ends.{RunsFile, EndsWith};
 
+use crate::batches::BatchFiles;
 use crate::ends::Ends;
 use crate::failure::Failure;
 use crate::output::report;
@@ -36,33 +39,30 @@ fn file_of<'a>(task: Task<'a>) -> &'a str
     ensures { result.now ≡ file_of task.entry }
 {
     match task {
-        Task::Init { file } => file,
-        Task::Apply { file, batches: _ } => file,
-        Task::Ask { file, batches: _ } => file,
-        Task::Dump { file } => file,
-        Task::Check { file } => file,
-        Task::Serve {
-            file,
-            port: _,
-            count: _,
-        } => file,
+        Task::Init { file }
+        | Task::Apply { file, .. }
+        | Task::Ask { file, .. }
+        | Task::Dump { file }
+        | Task::Check { file }
+        | Task::Serve { file, .. } => file,
     }
 }
 
-/// `run_in` at the store in files. What is known of that store weighs on each function that calls a generic one at it, so
-/// that the one such call stands here, over any disk.
-fn run_in_files<R: Read + Drop, W: Write, D: Disk + Drop>(
+/// `run_in` at the store in files, over any disk. What is known of that store weighs on each function that calls a generic one at it,
+/// so this call has a function of its own.
+fn run_in_files<B: BatchFiles, R: Read + Drop, W: Write, D: Disk + Drop>(
     rt: &HostRuntime,
     world: World<FileStore<D>>,
     task: Task<'_>,
+    files: &B,
     input: R,
     output: &mut W,
     status: &mut u8,
 ) -> Connection<FileStore<D>>
-    ensures runs { (known : Bool) (s : State) → StandsFor over_files known world s → RunsFrom task.entry s (R.remaining input) (W.contents output.old) (W.contents output.new) status.new (IsTrue known × HasCleanDisk (file_state result)) (CrashLeaves (file_state result)) }
+    ensures runs { (known : Bool) (s : State) → StandsFor over_files known world s → RunsFrom task.entry s (texts_by (R.remaining input) (B.text files.now)) (W.contents output.old) (W.contents output.new) status.new (IsTrue known × HasCleanDisk (file_state result)) (CrashLeaves (file_state result)) (ShowsTables over_files world (file_state result)) }
     ensures clean { (known : Bool) (s : State) → StandsFor over_files known world s → HasCleanDisk (file_state result) → HasCleanDisk (store_of over_files world) }
 {
-    run_in(rt, world, task, input, output, status)
+    run_in(rt, world, task, files, input, output, status)
 }
 
 /// Each fault of opening refuses the file.
@@ -72,7 +72,7 @@ fn refusal(fault: StoreFault) -> Failure
     Failure::from(fault)
 }
 
-/// Why a file isn't opened. That there is none is told apart, for what is said of it on standard error.
+/// Why a file isn't opened. A missing file is told apart, for what is said of it on standard error.
 fn refusal_of(rt: &HostRuntime, file: &str, task: Task<'_>, fault: StoreFault) -> Failure
     ensures { Tells fault result }
 {
@@ -89,15 +89,22 @@ fn world_of<T: Start>(
     file: &str,
     start: T,
     task: Task<'_>,
-) -> Result<World<FileStore<FileFrom<T>>>, (StoreFault, Remains<FileFrom<T>>)>
+) -> Result<World<FileStore<FileFrom<T>>>, (StoreFault, Remains<T, FileFrom<T>>)>
     ensures anew { begins_anew task.entry ≡ true → IfOk result (λ world. StandsFor over_files true world (state_of opening_maps)) }
     ensures made { begins_anew task.entry ≡ true → IfErr result (λ e. IsOfStore e.0) }
     ensures taken { begins_anew task.entry ≡ true → (s : State) → HoldsState (image_at T.Start) s → IfOk result (λ world. HasCleanDisk (store_of over_files world) → ⊥) }
     ensures opened { begins_anew task.entry ≡ false → IfOk result (λ world. IsGood world.rows.maps × StandsFor over_files false world (state_of world.rows.maps)) }
     ensures kept { begins_anew task.entry ≡ false → (s : State) → HoldsState (image_at T.Start) s → IfOk result (λ world. HasCleanDisk (store_of over_files world) → StandsFor over_files true world s) }
     ensures only { begins_anew task.entry ≡ false → (tables : Tables) → HoldsTables (image_at T.Start) tables → IfOk result (λ world. HasCleanDisk (store_of over_files world) → ShowsRows tables world.rows.maps) }
+    ensures nothing { begins_anew task.entry ≡ false → IsNothing (image_at T.Start) → IfOk result (λ world. HasCleanDisk (store_of over_files world) → ⊥) }
+    ensures other { begins_anew task.entry ≡ false → (trees : Trees) → HoldsTrees (image_at T.Start) trees → HasOtherTables trees → IfOk result (λ world. HasCleanDisk (store_of over_files world) → ⊥) }
     ensures whole { begins_anew task.entry ≡ false → (s : State) → HoldsState (image_at T.Start) s → IfErr result (λ e. IsCleanRemains e.1 → IsOfStore e.0) }
     ensures fault { begins_anew task.entry ≡ false → (tables : Tables) → HoldsTables (image_at T.Start) tables → IfErr result (λ e. IsCleanRemains e.1 → Says tables e.0) }
+    ensures trees { begins_anew task.entry ≡ false → (trees : Trees) → HoldsTrees (image_at T.Start) trees → IfErr result (λ e. IsCleanRemains e.1 → StillHoldsTrees (image_at T.Start) e.1 trees) }
+    ensures spared { begins_anew task.entry ≡ true → (trees : Trees) → HoldsTrees (image_at T.Start) trees → HasAnyTable trees → IfErr result (λ e. IsCleanRemains e.1 → KeepsSuch (λ found. found ≡ trees) (image_at T.Start) e.1) }
+    ensures unmade { begins_anew task.entry ≡ true → (trees : Trees) → HoldsTrees (image_at T.Start) trees → IfErr result (λ e. IsCleanRemains e.1 → KeepsSuch (λ found. (found ≡ trees) ⊎ LeavesState found (state_of opening_maps)) (image_at T.Start) e.1) }
+    ensures blank { begins_anew task.entry ≡ false → IsNothing (image_at T.Start) → IfErr result (λ e. IsCleanRemains e.1 → KeepsNothingBut (λ _. ⊥) (image_at T.Start) e.1) }
+    ensures stopped { IfErr result (λ e. MayStopAs e.0 e.1) }
     ensures left { (s : State) → HoldsState (image_at T.Start) s → IfErr result (λ e. IsCleanRemains e.1 → StillHolds (image_at T.Start) e.1 s) }
 {
     if begins_anew(task) {
@@ -110,21 +117,22 @@ fn world_of<T: Start>(
 /// Does what a task says over its file, writes the line of a failure, and hands back what is left of the file. The status is that
 /// of `run_words`.
 ///
-/// `T` stands for what the files hold: it is proved for all contents, and no code reads them. The program calls it for files that
-/// nobody has read.
-pub fn run_from<T: Start, R: Read + Drop, W: Write>(
+/// `T` is what the file of the words holds, and `B` the files of batches: it is proved for all contents, and no code reads them. The
+/// program calls it for files that nobody has read.
+pub fn run_from<T: Start, B: BatchFiles, R: Read + Drop, W: Write>(
     rt: &HostRuntime,
     file: &str,
     start: T,
     task: Task<'_>,
+    files: &B,
     input: R,
     output: &mut W,
     status: &mut u8,
-) -> Ends<FileFrom<T>>
-    ensures { RunsFile task.entry (image_at T.Start) result (R.remaining input) (W.contents output.old) (W.contents output.new) status.new }
+) -> Ends<T, FileFrom<T>>
+    ensures { RunsFile task.entry (image_at T.Start) result (texts_by (R.remaining input) (B.text files.now)) (W.contents output.old) (W.contents output.new) status.new }
 {
     match world_of(rt, file, start, task) {
-        Ok(world) => Ends::Ran(run_in_files(rt, world, task, input, output, status)),
+        Ok(world) => Ends::Ran(run_in_files(rt, world, task, files, input, output, status)),
         Err((fault, remains)) => {
             *status = report(rt, refusal_of(rt, file, task, fault), output);
             Ends::Refused(remains)
@@ -133,39 +141,41 @@ pub fn run_from<T: Start, R: Read + Drop, W: Write>(
 }
 
 /// Does what a task says over a new world in memory.
-fn run_in_memory<R: Read + Drop, W: Write>(
+fn run_in_memory<B: BatchFiles, R: Read + Drop, W: Write>(
     rt: &HostRuntime,
     task: Task<'_>,
+    files: &B,
     input: R,
     output: &mut W,
 ) -> u8
-    ensures { RunsTask task.entry (R.remaining input) (W.contents output.old) (W.contents output.new) result }
+    ensures { RunsTask task.entry (texts_by (R.remaining input) (B.text files.now)) (W.contents output.old) (W.contents output.new) result }
 {
     let Ok(conn) = Connection::open_in_memory(rt.alloc()) else {
         return report(rt, Failure::NoMemory, output);
     };
     let mut status = 0;
-    let _conn = run_over(rt, conn, task, input, output, &mut status);
+    let _conn = run_over(rt, conn, task, files, input, output, &mut status);
     status
 }
 
 /// Does what a task says, and hands back what is left of its file. The status is that of `run_words`.
-pub(crate) fn run_task<T: Start, R: Read + Drop, W: Write>(
+pub(crate) fn run_task<T: Start, B: BatchFiles, R: Read + Drop, W: Write>(
     rt: &HostRuntime,
     task: Task<'_>,
     start: T,
+    files: &B,
     input: R,
     output: &mut W,
     status: &mut u8,
-) -> Ends<FileFrom<T>>
-    ensures runs { RunsTask task.entry (R.remaining input) (W.contents output.old) (W.contents output.new) status.new }
-    ensures ends { EndsWith task.entry (image_at T.Start) result (R.remaining input) (W.contents output.old) (W.contents output.new) status.new }
+) -> Ends<T, FileFrom<T>>
+    ensures runs { RunsTask task.entry (texts_by (R.remaining input) (B.text files.now)) (W.contents output.old) (W.contents output.new) status.new }
+    ensures ends { EndsWith task.entry (image_at T.Start) result (texts_by (R.remaining input) (B.text files.now)) (W.contents output.old) (W.contents output.new) status.new }
 {
     let file = file_of(task);
     if file == ":memory:" {
-        *status = run_in_memory(rt, task, input, output);
+        *status = run_in_memory(rt, task, files, input, output);
         Ends::NoFile
     } else {
-        run_from(rt, file, start, task, input, output, status)
+        run_from(rt, file, start, task, files, input, output, status)
     }
 }

@@ -2,6 +2,7 @@
 #![tactic(auto)]
 
 mod again;
+mod batches;
 mod commands;
 mod ends;
 mod failure;
@@ -11,11 +12,12 @@ mod over;
 mod run;
 mod standard;
 
-pub use again::run_crash_run;
+pub use again::{run_close_run, run_crash_run};
+pub use batches::{BatchFiles, SystemFiles};
 pub use ends::Ends;
 pub use failure::Failure;
 pub use files::run_from;
 pub use output::report;
-pub use over::run_over;
-pub use run::run_words;
-pub use standard::run_command;
+pub use over::{run_in, run_over};
+pub use run::{run_to_end, run_words};
+pub use standard::{run_command, run_given};

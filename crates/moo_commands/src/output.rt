@@ -75,15 +75,15 @@ const LOST: &str =
     "moo: store fault: the store failed in the batch that is answered `fault` (is the disk full?)
 moo: the last `accepted S` stands, and perhaps that batch behind it: `moo check FILE` says the number\n";
 
-/// Says on standard error what to do where the store failed in a batch of a text.
+/// Says on standard error what to do if the store failed in a batch of a text.
 pub(crate) fn explain_lost(rt: &HostRuntime, tally: Tally) {
     if tally.lost > 0 {
         let _said = eprint!(rt; "{LOST}");
     }
 }
 
-/// Writes the line of a failure, and answers its status. The cause goes to standard error where the store, the batches or the
-/// port failed.
+/// Writes the line of a failure, and answers its status. If the store, the batches or the port failed, the cause goes to standard
+/// error.
 pub fn report<W: Write>(rt: &HostRuntime, failure: Failure, output: &mut W) -> u8
     ensures { Reports failure (W.contents output.old) (W.contents output.new) result }
 {

@@ -1,15 +1,18 @@
 //! A task over a connection.
 
-ghost use Rattle.std.specs.Prelude.{◌≡◌, ◌⊎◌, true, false, MatchResult, Bool, IsTrue};
+ghost use Rattle.std.specs.Prelude.{◌≡◌, ◌⊎◌, true, false, MatchResult, Bool, IsTrue, ⊤};
 ghost use Rattle.sqlite.specs.State.{HasCleanDisk};
 ghost use Rattle.sqlite.specs.Held.{state};
 ghost use Rattle.moo_rows.specs.Opening.{opening_maps};
 ghost use Rattle.moo_world.specs.Judge.{State, state_of};
+ghost use Rattle.moo_tables.specs.Tables.{Tables};
+ghost use Rattle.moo_tables.specs.Inside.{Rests};
 ghost use Rattle.moo_store.specs.States.{ShowsState};
 ghost use Rattle.moo_store.specs.World.{store_of, CrashLeaves, StandsFor};
 ghost use Rattle.moo_commands.specs.Lines.{Reports};
-ghost use Rattle.moo_commands.specs.Run.{begins_anew, RunsFrom, RunsOpened, FailsAtOnce, LeavesAsBefore};
+ghost use Rattle.moo_commands.specs.Run.{begins_anew, texts_by, ShowsTables, RunsFrom, RunsOpened, RunsShown, FailsAtOnce, LeavesAsBefore};
 
+use crate::batches::BatchFiles;
 use crate::commands::do_task;
 use crate::failure::Failure;
 use crate::output::report;
@@ -23,16 +26,12 @@ pub(crate) fn begins_anew(task: Task<'_>) -> bool
     ensures { result ≡ begins_anew task.entry }
 {
     match task {
-        Task::Init { file: _ } => true,
-        Task::Apply { file, batches: _ } => file == ":memory:",
-        Task::Ask { file, batches: _ } => file == ":memory:",
-        Task::Dump { file } => file == ":memory:",
-        Task::Check { file } => file == ":memory:",
-        Task::Serve {
-            file,
-            port: _,
-            count: _,
-        } => file == ":memory:",
+        Task::Init { .. } => true,
+        Task::Apply { file, .. }
+        | Task::Ask { file, .. }
+        | Task::Dump { file }
+        | Task::Check { file }
+        | Task::Serve { file, .. } => file == ":memory:",
     }
 }
 
@@ -46,38 +45,44 @@ fn ended<W: Write>(rt: &HostRuntime, done: Result<u8, Failure>, output: &mut W) 
     }
 }
 
-/// Does what a task says over a World, writes the line of a failure, and hands the connection back.
-pub(crate) fn run_in<R: Read + Drop, W: Write, S: Alter + Drop>(
+/// Does what a task says over a World, writes the line of a failure, and hands the connection back. The status is that of
+/// `run_words`.
+///
+/// The World may be any: one whose tables are known to show its rows, or one of which only the rows are known.
+pub fn run_in<B: BatchFiles, R: Read + Drop, W: Write, S: Alter + Drop>(
     rt: &HostRuntime,
     mut world: World<S>,
     task: Task<'_>,
+    files: &B,
     input: R,
     output: &mut W,
     status: &mut u8,
 ) -> Connection<S>
-    ensures runs { (known : Bool) (s : State) → StandsFor S.Store known world s → RunsFrom task.entry s (R.remaining input) (W.contents output.old) (W.contents output.new) status.new (IsTrue known × HasCleanDisk (state S.Store result)) (CrashLeaves (state S.Store result)) }
+    // The task runs from the state that the World stands for. A check that is done found that the tables show the World's rows.
+    ensures runs { (known : Bool) (s : State) → StandsFor S.Store known world s → RunsFrom task.entry s (texts_by (R.remaining input) (B.text files.now)) (W.contents output.old) (W.contents output.new) status.new (IsTrue known × HasCleanDisk (state S.Store result)) (CrashLeaves (state S.Store result)) (ShowsTables S.Store world (state S.Store result)) }
     ensures clean { (known : Bool) (s : State) → StandsFor S.Store known world s → HasCleanDisk (state S.Store result) → HasCleanDisk (store_of S.Store world) }
 {
-    let done = do_task(rt, &mut world, task, input, output);
+    let done = do_task(rt, &mut world, task, files, input, output);
     *status = ended(rt, done, output);
     world.into_connection()
 }
 
 /// Makes a new world in a connection that has no tables, and does what a task says over it.
-fn run_anew<R: Read + Drop, W: Write, S: Alter + Drop>(
+fn run_anew<B: BatchFiles, R: Read + Drop, W: Write, S: Alter + Drop>(
     rt: &HostRuntime,
     conn: Connection<S>,
     task: Task<'_>,
+    files: &B,
     input: R,
     output: &mut W,
     status: &mut u8,
 ) -> Connection<S>
     requires outside { conn.in_transaction ≡ false }
     ensures { FailsAtOnce (W.contents output.old) (W.contents output.new) status.new
-        ⊎ RunsFrom task.entry (state_of opening_maps) (R.remaining input) (W.contents output.old) (W.contents output.new) status.new (HasCleanDisk (state S.Store result)) (CrashLeaves (state S.Store result)) }
+        ⊎ RunsFrom task.entry (state_of opening_maps) (texts_by (R.remaining input) (B.text files.now)) (W.contents output.old) (W.contents output.new) status.new (HasCleanDisk (state S.Store result)) (CrashLeaves (state S.Store result)) ⊤ }
 {
     match create_in(rt.alloc(), conn) {
-        Ok(world) => run_in(rt, world, task, input, output, status),
+        Ok(world) => run_in(rt, world, task, files, input, output, status),
         Err((fault, conn)) => {
             *status = report(rt, Failure::from(fault), output);
             conn
@@ -86,10 +91,11 @@ fn run_anew<R: Read + Drop, W: Write, S: Alter + Drop>(
 }
 
 /// Opens the world that the tables of a connection show, and does what a task says over it.
-fn run_opened<R: Read + Drop, W: Write, S: Alter + Drop>(
+fn run_opened<B: BatchFiles, R: Read + Drop, W: Write, S: Alter + Drop>(
     rt: &HostRuntime,
     conn: Connection<S>,
     task: Task<'_>,
+    files: &B,
     input: R,
     output: &mut W,
     status: &mut u8,
@@ -97,11 +103,12 @@ fn run_opened<R: Read + Drop, W: Write, S: Alter + Drop>(
     requires outside { conn.in_transaction ≡ false }
     ensures kept { (s : State) → ShowsState (state S.Store conn) s → HasCleanDisk (state S.Store result) →
         (FailsAtOnce (W.contents output.old) (W.contents output.new) status.new × LeavesAsBefore s (state S.Store conn) (state S.Store result))
-        ⊎ RunsFrom task.entry s (R.remaining input) (W.contents output.old) (W.contents output.new) status.new (HasCleanDisk (state S.Store result)) (CrashLeaves (state S.Store result)) }
-    ensures opened { RunsOpened task.entry (R.remaining input) (W.contents output.old) (W.contents output.new) status.new }
+        ⊎ RunsFrom task.entry s (texts_by (R.remaining input) (B.text files.now)) (W.contents output.old) (W.contents output.new) status.new (HasCleanDisk (state S.Store result)) (CrashLeaves (state S.Store result)) ⊤ }
+    ensures only { (tables : Tables) → Rests (state S.Store conn) tables → HasCleanDisk (state S.Store result) → RunsShown task.entry tables (texts_by (R.remaining input) (B.text files.now)) (W.contents output.old) (W.contents output.new) status.new }
+    ensures opened { RunsOpened task.entry (texts_by (R.remaining input) (B.text files.now)) (W.contents output.old) (W.contents output.new) status.new }
 {
     match adopt(rt.alloc(), conn) {
-        Ok(world) => run_in(rt, world, task, input, output, status),
+        Ok(world) => run_in(rt, world, task, files, input, output, status),
         Err((fault, conn)) => {
             *status = report(rt, Failure::from(fault), output);
             conn
@@ -112,30 +119,34 @@ fn run_opened<R: Read + Drop, W: Write, S: Alter + Drop>(
 /// Does what a task says over a connection to any store, writes the line of a failure, and hands the connection back. The status
 /// is that of `run_words`.
 ///
-/// A new world is made in a connection that has no tables where the task begins with one; otherwise the one that its tables
+/// If the task begins with a new world, that is made in the connection, which must have no tables. Otherwise the world that its tables
 /// show is opened.
-pub fn run_over<R: Read + Drop, W: Write, S: Alter + Drop>(
+pub fn run_over<B: BatchFiles, R: Read + Drop, W: Write, S: Alter + Drop>(
     rt: &HostRuntime,
     conn: Connection<S>,
     task: Task<'_>,
+    files: &B,
     input: R,
     output: &mut W,
     status: &mut u8,
 ) -> Connection<S>
     requires outside { conn.in_transaction ≡ false }
-    // A task that begins with a new world runs from the opening world on.
+    // A task that begins with a new world runs from the opening world.
     ensures anew { begins_anew task.entry ≡ true → FailsAtOnce (W.contents output.old) (W.contents output.new) status.new
-        ⊎ RunsFrom task.entry (state_of opening_maps) (R.remaining input) (W.contents output.old) (W.contents output.new) status.new (HasCleanDisk (state S.Store result)) (CrashLeaves (state S.Store result)) }
-    // Any other runs from the state on that the tables of the connection show, of either version, on a disk that returns what was written.
+        ⊎ RunsFrom task.entry (state_of opening_maps) (texts_by (R.remaining input) (B.text files.now)) (W.contents output.old) (W.contents output.new) status.new (HasCleanDisk (state S.Store result)) (CrashLeaves (state S.Store result)) ⊤ }
+    // Any other runs from the state that the tables of the connection show, of either version, on a disk that returns what was written.
     ensures kept { (s : State) → begins_anew task.entry ≡ false → ShowsState (state S.Store conn) s → HasCleanDisk (state S.Store result) →
         (FailsAtOnce (W.contents output.old) (W.contents output.new) status.new × LeavesAsBefore s (state S.Store conn) (state S.Store result))
-        ⊎ RunsFrom task.entry s (R.remaining input) (W.contents output.old) (W.contents output.new) status.new (HasCleanDisk (state S.Store result)) (CrashLeaves (state S.Store result)) }
-    // Whatever they show, it is refused, or the task runs from a well formed world on.
-    ensures opened { begins_anew task.entry ≡ false → RunsOpened task.entry (R.remaining input) (W.contents output.old) (W.contents output.new) status.new }
+        ⊎ RunsFrom task.entry s (texts_by (R.remaining input) (B.text files.now)) (W.contents output.old) (W.contents output.new) status.new (HasCleanDisk (state S.Store result)) (CrashLeaves (state S.Store result)) ⊤ }
+    // If there are tables, it runs from the world that they show, or the line tells a fault of these tables.
+    ensures only { (tables : Tables) → begins_anew task.entry ≡ false → Rests (state S.Store conn) tables → HasCleanDisk (state S.Store result) →
+        RunsShown task.entry tables (texts_by (R.remaining input) (B.text files.now)) (W.contents output.old) (W.contents output.new) status.new }
+    // Whatever they show, it is refused, or the task runs from a well formed world.
+    ensures opened { begins_anew task.entry ≡ false → RunsOpened task.entry (texts_by (R.remaining input) (B.text files.now)) (W.contents output.old) (W.contents output.new) status.new }
 {
     if begins_anew(task) {
-        run_anew(rt, conn, task, input, output, status)
+        run_anew(rt, conn, task, files, input, output, status)
     } else {
-        run_opened(rt, conn, task, input, output, status)
+        run_opened(rt, conn, task, files, input, output, status)
     }
 }

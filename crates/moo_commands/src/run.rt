@@ -4,14 +4,16 @@ ghost use Rattle.std.specs.Prelude.{◌≡◌, ℕ, List, map};
 ghost use Rattle.clap.specs.Kinds.{Kinds, HasKind};
 ghost use Rattle.moo_words.specs.Tasks.{IsRefusal, mistakes};
 ghost use Rattle.sqlite.specs.WalFiles.{image_at};
-ghost use Rattle.moo_commands.specs.Run.{mistake_status, EndsUsage, RunsWords};
-ghost use Rattle.moo_commands.specs.Ends.{RunsOver};
+ghost use Rattle.moo_commands.specs.Run.{mistake_status, texts_by, EndsUsage, RunsWords};
+ghost use Rattle.moo_commands.specs.Ends.{RunsOver, RunsClosed};
 
+use crate::batches::BatchFiles;
 use crate::ends::Ends;
 use crate::failure::Failure;
 use crate::files::run_task;
 use crate::output::{put_line, report};
 use clap::error::ErrorKind;
+use moo_files::Remains;
 use moo_words::{Usage, read_words};
 use sqlite::{FileFrom, Start};
 use std::io::{Read, Write};
@@ -51,37 +53,54 @@ fn report_usage<W: Write>(rt: &HostRuntime, usage: &Usage, output: &mut W) -> u8
 }
 
 /// Does what the words say, which begin with `moo`, and sets the exit status: `init`, `apply`, `ask`, `dump`, `check` or
-/// `serve` on a file, or on a new world in memory for `:memory:`; with no other word `apply :memory: -`.
+/// `serve` on a file, or on a new world in memory for `:memory:`. With no other word it is `apply :memory: -`.
 ///
-/// What the command writes goes to the output, and so does the line of a failure behind it: 1 where the store, the reader or
-/// the writer failed, the text is too long, the port can't be listened on, or an answer is `fault` or `closed`; 3 where the file
-/// is damaged or of a newer version; 4 where memory ran out. Words that name no task give the text of their reader: 2, or 0 for
-/// help and the version. The cause goes to standard error where the store, the batches or the port failed, and so does a hint
-/// where a batch met a fault of the store. A connection that fails is no failure of `serve`.
+/// What the command writes goes to the output, and after it the line of a failure. The status is 1 if the store, the reader or
+/// the writer failed, the text is too long, the port can't be listened on, or an answer is `fault` or `closed`; 3 if the file
+/// is damaged or of a newer version; 4 if memory ran out. Words that name no task give the text of their reader: 2, or 0 for
+/// help and the version. If the store, the batches or the port failed, the cause goes to standard error, and so does a hint
+/// if a batch met a fault of the store. A connection that fails isn't a failure of `serve`.
 ///
-/// At the end of a run the file is closed: it then holds all that was committed, and its log FILE-wal beside it is short. Where
-/// closing fails, and after a kill, the log holds a part of what was committed; the next open reads it, and the status is the same.
-///
-/// `T` stands for what the file of the words holds: it is proved for all contents, and no code reads them. What is left of the file
-/// is handed back, to be closed.
-pub fn run_words<T: Start, R: Read + Drop, W: Write>(
+/// `T` is what the file of the words holds, and `B` the files of batches: it is proved for all contents, and no code reads them. What is left of the file is handed back, to be closed.
+pub fn run_words<T: Start, B: BatchFiles, R: Read + Drop, W: Write>(
     rt: &HostRuntime,
     words: &[&str],
     start: T,
+    files: &B,
     input: R,
     output: &mut W,
     status: &mut u8,
-) -> Ends<FileFrom<T>>
+) -> Ends<T, FileFrom<T>>
     // What is written, whatever the file holds.
-    ensures words { RunsWords (map (λ word. word.now) words.now) (R.remaining input) (W.contents output.old) (W.contents output.new) status.new }
+    ensures words { RunsWords (map (λ word. word.now) words.now) (texts_by (R.remaining input) (B.text files.now)) (W.contents output.old) (W.contents output.new) status.new }
     // And by what it holds: the run is one over the world that it shows.
-    ensures over { RunsOver (map (λ word. word.now) words.now) (image_at T.Start) result (R.remaining input) (W.contents output.old) (W.contents output.new) status.new }
+    ensures over { RunsOver (map (λ word. word.now) words.now) (image_at T.Start) result (texts_by (R.remaining input) (B.text files.now)) (W.contents output.old) (W.contents output.new) status.new }
 {
     match read_words(rt.alloc(), words) {
-        Ok(task) => run_task(rt, task, start, input, output, status),
+        Ok(task) => run_task(rt, task, start, files, input, output, status),
         Err(usage) => {
             *status = report_usage(rt, &usage, output);
             Ends::NoFile
         }
     }
+}
+
+/// `run_words`, and then the file is closed. It holds all that was committed, and its log FILE-wal beside it is short. If closing fails,
+/// and after a kill, a part of what was committed is in the log alone; the next open reads it, and the status is the same.
+///
+/// What is left of the file is handed back, to be dropped.
+pub fn run_to_end<T: Start, B: BatchFiles, R: Read + Drop, W: Write>(
+    rt: &HostRuntime,
+    words: &[&str],
+    start: T,
+    files: &B,
+    input: R,
+    output: &mut W,
+    status: &mut u8,
+) -> Option<Remains<T, FileFrom<T>>>
+    ensures words { RunsWords (map (λ word. word.now) words.now) (texts_by (R.remaining input) (B.text files.now)) (W.contents output.old) (W.contents output.new) status.new }
+    // The file is closed after a run over what it held.
+    ensures closed { RunsClosed (map (λ word. word.now) words.now) (image_at T.Start) result (texts_by (R.remaining input) (B.text files.now)) (W.contents output.old) (W.contents output.new) status.new }
+{
+    run_words(rt, words, start, files, input, output, status).close()
 }

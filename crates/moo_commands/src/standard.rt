@@ -1,52 +1,107 @@
 //! The program over the words of the command line and the standard streams.
 
+ghost use Rattle.std.specs.Prelude.{◌≡◌, ◌≢◌, ◌⊎◌, ◌∷◌, codes, map, drop, string_bytes, IfOk, IfErr};
+ghost use Rattle.std.specs.IoError.{error_kind};
+ghost use Rattle.moo_commands.specs.Lines.{Reports};
+ghost use Rattle.sqlite.specs.WalFiles.{image_at};
+ghost use Rattle.moo_commands.specs.Run.{texts_by};
+ghost use Rattle.moo_commands.specs.Ends.{RunsClosed};
+
+use crate::batches::{BatchFiles, SystemFiles};
 use crate::failure::Failure;
 use crate::output::report;
-use crate::run::run_words;
-use sqlite::Unknown;
-use std::{env, io};
+use crate::run::run_to_end;
+use moo_files::Remains;
+use sqlite::{FileFrom, Start, Unknown};
+use std::alloc::{AllocError, Global};
+use std::env::args;
+use std::io;
+use std::io::{ErrorKind, Read, Write};
 
-/// The words of the command line, and `moo` in the place of the program's path.
-fn command_words(rt: &HostRuntime) -> io::Result<Vec<String>> {
-    let mut words = Vec::new(rt.alloc());
-    words.push(String::from_str(rt.alloc(), "moo")?)?;
-    for word in env::args(rt)?.skip(1) {
-        words.push(word)?;
+/// The words of a command line, with `moo` in place of the program's path.
+fn named_words(alloc: Global, mut words: Vec<String>) -> io::Result<Vec<String>>
+    ensures { IfOk result (λ named. map string_bytes named.items ≡ codes "moo" ∷ map string_bytes (drop 1 words.items)) }
+{
+    let name = String::from_str(alloc, "moo")?;
+    if words.is_empty() {
+        words.push(name)?;
+    } else {
+        words[0] = name;
     }
     Ok(words)
 }
 
-/// Does what the words of the command line say. An error where they can't be read.
-fn run_standard(rt: &HostRuntime) -> io::Result<u8> {
-    let words = command_words(rt)?;
-    let words: Vec<&str> = words.iter().map(|word| word.as_str()).collect(rt.alloc())?;
-    let mut status = 0;
-    run_words(
-        rt,
-        &words,
-        Unknown,
-        rt.stdin(),
-        &mut rt.stdout(),
-        &mut status,
-    )
-    .close();
-    Ok(status)
+/// The same words, borrowed.
+fn borrowed<'a>(alloc: Global, words: &'a [String]) -> Result<Vec<&'a str>, AllocError>
+    ensures { IfOk result (λ found. map (λ word. word.now) found.items ≡ map string_bytes words.now) }
+{
+    let mut found = Vec::with_capacity(alloc, words.len())?;
+    for word in words {
+        found.push(word.as_str())?;
+    }
+    Ok(found)
 }
 
 /// Why the words can't be read: memory ran out, or one of them isn't UTF-8.
-fn words_failure(error: io::Error) -> Failure {
-    if error.kind() == io::ErrorKind::OutOfMemory {
-        Failure::NoMemory
-    } else {
-        Failure::Usage
+fn words_failure(error: &io::Error) -> Failure
+    ensures memory { error_kind error.now ≡ ErrorKind.OutOfMemory → result ≡ Failure.NoMemory }
+    ensures other { error_kind error.now ≢ ErrorKind.OutOfMemory → result ≡ Failure.Usage }
+{
+    match error.kind() {
+        ErrorKind::OutOfMemory => Failure::NoMemory,
+        _ => Failure::Usage,
     }
 }
 
-/// The whole program: `run_words` over the words of the command line, standard input and standard output. It has no type
-/// parameter, so that the check of `main` hasn't to know what streams are.
+/// Does what the words say and closes their file, or says why the words can't be read. What is left of the file is handed back, to be
+/// dropped.
+pub fn run_given<T: Start, B: BatchFiles, R: Read + Drop, W: Write>(
+    rt: &HostRuntime,
+    words: io::Result<Vec<String>>,
+    start: T,
+    files: &B,
+    input: R,
+    output: &mut W,
+    status: &mut u8,
+) -> Option<Remains<T, FileFrom<T>>>
+    // What the words come to, as `run_to_end` says it; or memory runs out before that.
+    ensures read { IfOk words (λ words. Reports Failure.NoMemory (W.contents output.old) (W.contents output.new) status.new
+        ⊎ RunsClosed (map string_bytes words.items) (image_at T.Start) result (texts_by (R.remaining input) (B.text files.now)) (W.contents output.old) (W.contents output.new) status.new) }
+    // If they can't be read, the line says whether memory ran out.
+    ensures memory { IfErr words (λ error. error_kind error ≡ ErrorKind.OutOfMemory → Reports Failure.NoMemory (W.contents output.old) (W.contents output.new) status.new) }
+    ensures unread { IfErr words (λ error. error_kind error ≢ ErrorKind.OutOfMemory → Reports Failure.Usage (W.contents output.old) (W.contents output.new) status.new) }
+{
+    let words = match words {
+        Ok(words) => words,
+        Err(error) => {
+            *status = report(rt, words_failure(&error), output);
+            return None;
+        }
+    };
+    let Ok(words) = borrowed(rt.alloc(), &words) else {
+        *status = report(rt, Failure::NoMemory, output);
+        return None;
+    };
+    run_to_end(rt, &words, start, files, input, output, status)
+}
+
+/// The words of the command line.
+fn command_words(rt: &HostRuntime) -> io::Result<Vec<String>> {
+    named_words(rt.alloc(), args(rt)?.collect(rt.alloc())?)
+}
+
+/// The whole program: `run_given` over the words of the command line, the files of the system and the standard streams. It has no type
+/// parameter, so that the check of `main` needn't know what streams are.
 pub fn run_command(rt: &HostRuntime) -> u8 {
-    match run_standard(rt) {
-        Ok(status) => status,
-        Err(error) => report(rt, words_failure(error), &mut rt.stdout()),
-    }
+    let mut status = 0;
+    let _closed = run_given(
+        rt,
+        command_words(rt),
+        Unknown,
+        &SystemFiles,
+        rt.stdin(),
+        &mut rt.stdout(),
+        &mut status,
+    );
+    status
 }

@@ -10,7 +10,7 @@ use Rattle.moo_rows.specs.Links.{may_have, is_candidate, row_has}
 use Rattle.moo_rows.specs.Maps.{object_cmp}
 use Rattle.moo_draft.specs.declared.own.OwnLinks.{OwnLinks}
 
--- the new row of a key, where it is changed and not removed
+-- the new row of a key, if it is changed and not removed
 abbrev pub of_changes : {K X : Type 0} {cmp : K → K → Ordering} → FinMap cmp (Option X) → K → Option X
 of_changes changes key = unwrap_or (get changes key) None
 

@@ -12,7 +12,7 @@ ChangesAreUnique = (base new : Maps) (a b : Changes) → AreChanges base new a �
 abbrev pub ChangesGiveTheRows : Type 0
 ChangesGiveTheRows = (base new other : Maps) (changes : Changes) → AreChanges base new changes → AreChanges base other changes → new ≡ other
 
--- where every row is as it was, only the head is among the changes
+-- if every row is as it was, only the head is among the changes
 abbrev pub UndoneIsNoChange : Type 0
 UndoneIsNoChange = (base new : Maps) (changes : Changes) → new ≡ record base { head = new.head } → AreChanges base new changes
     → changes ≡ record { head = new.head; objects = []; props = []; slots = []; verbs = []; petitions = [] }

@@ -18,7 +18,7 @@ use std::alloc::{AllocError, Global};
 use std::collections::BTreeMap;
 use std::marker::Model;
 
-/// Keys, each with its new row, or none where the row was removed. `Draft::into_changes` gives them ascending, each once.
+/// Keys, each with its new row, or none if the row was removed. `Draft::into_changes` gives them ascending, each once.
 #[derive(Drop)]
 pub struct ChangeList<K, V> {
     items: Vec<(K, Option<V>)>,
@@ -33,7 +33,7 @@ impl<K, V> Model for ChangeList<K, V> {
 }
 
 impl<K, V> ChangeList<K, V> {
-    /// The list of these changes, as they stand.
+    /// The list of these changes, in this order.
     pub fn from_vec(items: Vec<(K, Option<V>)>) -> ChangeList<K, V>
         ensures { result ≡ items.items }
     {
@@ -66,7 +66,7 @@ pub struct Changes {
     pub petitions: ChangeList<PetitionId, PetitionRow>,
 }
 
-/// Whether a key has the row, or none where that is none.
+/// Whether a key has this row, or has none if there is none.
 fn has_row<V: Row>(held: Option<&V>, row: &Option<V>) -> bool
     ensures { IsTrue result ↔ (option_map (λ held. held.now) held.entry ≡ row.now) }
 {
@@ -77,7 +77,7 @@ fn has_row<V: Row>(held: Option<&V>, row: &Option<V>) -> bool
     }
 }
 
-/// The keys of these changes whose rows differ from the base, with their new rows. The only error is want of memory.
+/// The keys of these changes whose rows differ from the base, with their new rows. The only error is that memory runs out.
 fn differing_rows<'a, K: Key, V: Row + 'a, B: Base<'a, K, V>>(
     alloc: Global,
     base: B,
@@ -94,7 +94,7 @@ fn differing_rows<'a, K: Key, V: Row + 'a, B: Base<'a, K, V>>(
     Ok(ChangeList::from_vec(changed))
 }
 
-/// The keys whose rows differ from the base, with their new rows. The only error is want of memory. Most drafts change rows of one
+/// The keys whose rows differ from the base, with their new rows. The only error is that memory runs out. Most drafts change rows of one
 /// map or two, so that a map without changes isn't gone over.
 pub(crate) fn changed_rows<'a, K: Key, V: Row + 'a, B: Base<'a, K, V>>(
     alloc: Global,
@@ -184,8 +184,8 @@ fn apply_petitions<R: Rows>(
     Ok(())
 }
 
-/// Makes the changes in the rows that they are changes of. The only error is want of memory, and then some are made and
-/// some are not.
+/// Makes the changes in the rows that they are changes of. The only error is that memory runs out, and then some are made
+/// and some are not.
 pub fn apply_changes(rows: &mut Flat, changes: Changes) -> Result<(), AllocError>
     ensures { OnOk result ((new : Maps) → AreChanges rows.old.maps new changes → rows.new.maps ≡ new) }
 {

@@ -20,9 +20,9 @@ use std::alloc::{AllocError, Global};
 use std::collections::BTreeMap;
 use std::marker::Model;
 
-/// Changes over rows that stay as they are: a new row or none for each changed key.
+/// Changes over rows that stay as they are: for each changed key a new row, or none if it is removed.
 ///
-/// The links and definers are those of changed rows; what a later change has taken away may be among them still.
+/// The links and definers are those of changed rows; those that a later change removed may still be among them.
 #[derive(Drop)]
 pub struct Draft<'a, R: Rows> {
     alloc: Global,
@@ -91,8 +91,8 @@ impl<'a, R: Rows> Draft<'a, R> {
         }
     }
 
-    /// The changes that make the base into the draft: a row put back is none, nor is the removal of a row that the base
-    /// lacks. The only error is want of memory.
+    /// The changes that make the base into the draft: a row that is put back isn't a change, nor is the removal of a row
+    /// that the base doesn't have. The only error is that memory runs out.
     pub fn into_changes(self) -> Result<Changes, AllocError>
         ensures { IfOk result (λ changes. AreChanges self.entry.base self.entry.maps changes) }
     {

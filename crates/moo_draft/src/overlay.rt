@@ -73,7 +73,7 @@ pub fn next<'a, K: Key, V, B: Base<'a, K, V>>(
     }
 }
 
-/// Whether the changes take the row of a key away.
+/// Whether the changes remove the row of a key.
 fn is_removed<K: Key, V>(changes: &BTreeMap<K, Option<V>>, key: K) -> bool
     ensures { IsTrue result ↔ (map.get (contents K.cmp changes.now) key ≡ Some None) }
 {

@@ -15,7 +15,7 @@ use std::alloc::{AllocError, Global};
 use std::cmp::Ordering;
 use std::collections::BTreeMap;
 
-/// Which changed objects may have a link. The first one that was changed may have each, and nothing is kept for it: most drafts
+/// Which changed objects may have a link. The first one that was changed may have any, and nothing is kept for it: most drafts
 /// change one object.
 #[derive(Drop)]
 pub(crate) struct OwnLinks {
@@ -43,7 +43,7 @@ impl OwnLinks {
         }
     }
 
-    /// From now on the object may have the links that go with these ties, but for those that it has in the base.
+    /// From now on the object may have the links that go with these ties, except those that it has in the base.
     pub(crate) fn add<R: Rows>(
         &mut self,
         base: &R,

@@ -6,7 +6,7 @@ use Rattle.moo_dump.specs.declared.seen.Look.{Look}
 use Rattle.moo_world.specs.ObjectLists.{children_of, contents_of}
 use Rattle.moo_world.specs.World.{World, Record}
 
--- the fields of an object's record, its children and what lies in it
+-- the fields of an object's record, its children and what is in it
 abbrev pub look_at : World → ObjNo → Record → Look
 look_at w x r = record {
   name = r.row.name;
@@ -23,6 +23,6 @@ look_at w x r = record {
   contents = contents_of w x;
 }
 
--- none where x is no object
+-- none if x isn't an object
 abbrev pub look_of : World → ObjNo → Option Look
 look_of w x = option_map (look_at w x) (w.object x)

@@ -74,9 +74,9 @@ fn put_petitions<R: Rows, W: Write>(
 /// number that an object was given, and then for each object, ascending, the lines `object`, `property` for each name that
 /// it defines, `slot` for each property that it has, by definers from the object up its chain, and `verb` for each of its
 /// verbs; then for each petition, ascending, the line `petition`, with its number, who asks and the calls; then `end`.
-/// Behind `object`, `property`, `slot`, `verb` and `petition` stands a literal list.
+/// After `object`, `property`, `slot`, `verb` and `petition` comes a literal list.
 ///
-/// Write where the writer fails or takes no bytes, OutOfMemory where memory runs out; a front of the text is written then.
+/// Write if the writer fails or takes no bytes, OutOfMemory if memory runs out; a front of the text is written then.
 ///
 /// All properties are gone over once, and then each object takes as many look-ups as it has lines and as its chain is long.
 pub fn dump<R: Rows, W: Write>(alloc: Global, rows: &R, output: &mut W) -> Result<(), DumpFault>

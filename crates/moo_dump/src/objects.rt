@@ -32,7 +32,7 @@ fn put_properties<R: Rows>(
     Ok(())
 }
 
-/// Appends the line of the slot of a property on x, where it has one.
+/// Appends the line of the slot of a property on x, if it has one.
 fn put_slot<R: Rows>(
     alloc: Global,
     rows: &R,

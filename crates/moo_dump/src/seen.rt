@@ -3,7 +3,7 @@
 use moo_rows::ObjList;
 use moo_value::{MooStr, ObjNo};
 
-/// An object, with its children and with what lies in it.
+/// An object, with its children and with what is in it.
 #[derive(Drop)]
 pub struct Look {
     pub name: MooStr,
@@ -23,6 +23,6 @@ pub struct Look {
     pub f: bool,
     /// The objects whose parent it is, ascending.
     pub children: ObjList,
-    /// The objects that lie in it itself, ascending.
+    /// The objects that are in it itself, ascending.
     pub contents: ObjList,
 }

@@ -1,6 +1,8 @@
 -- From what the files hold to what a connection to them keeps.
 use Rattle.std.proofs.Common.{◌≡◌, ◌≢◌, ◌⊎◌, inl, inr, ℕ, zero, suc, ◌≤◌, Result, Ok, Err, IfErr, [], ap, arith, sym, subst, subst₂, ◌∙◌}
-use Rattle.std.specs.Prelude.{length}
+use Rattle.std.specs.Prelude.{length, IsTrue}
+use Rattle.std.proofs.Math.Logic.{∥∥₁_elim}
+use Rattle.sqlite_trees.specs.Props.{Trees-set}
 use Rattle.sqlite.specs.Recovery.{Image}
 use Rattle.sqlite.specs.Schema.{Schema}
 use Rattle.sqlite.specs.Tree.{Trees}
@@ -8,7 +10,7 @@ use Rattle.sqlite.specs.State.{State as Database, HasCleanDisk, Survives, Opens,
 use Rattle.sqlite.specs.Start.{FindsIn}
 use Rattle.sqlite.specs.Held.{Held}
 use Rattle.sqlite.specs.Effect.{Database as Content, IsDatabase}
-use Rattle.sqlite.specs.Files.{HoldsDatabase, AreFoundIn, file_state}
+use Rattle.sqlite.specs.Files.{IsEmpty, IsNothing, file_state}
 use Rattle.sqlite.proofs.ListingLemmas.{empty_is_sound}
 use Rattle.sqlite_disk.specs.declared.Disk.{Ghosts}
 use Rattle.sqlite_store.specs.declared.store.FileStore.{FileStore}
@@ -19,17 +21,24 @@ use Rattle.sqlite.specs.declared.error.Error.{Error}
 use Rattle.moo_world.specs.Judge.{State}
 use Rattle.moo_tables.specs.declared.version.Version.{Version}
 use Rattle.moo_tables.specs.declared.version.Version.TheVariants.{First, Second}
-use Rattle.moo_tables.specs.Tables.{Tables, schema_of, no_schema}
+use Rattle.moo_tables.specs.Tables.{Tables, schema_of, first_schema, no_schema}
 use Rattle.moo_tables.specs.Inside.{Rests, Leaves}
 use Rattle.moo_tables.proofs.ReopenLemmas.{opened}
-use Rattle.moo_store.specs.States.{ShowsState}
+use Rattle.moo_store.specs.States.{ShowsState, LeavesState}
 use Rattle.moo_store.specs.World.{Left}
-use Rattle.moo_store.specs.Opening.{IsOfStore}
+use Rattle.moo_store.specs.Opening.{IsOfStore, Adopts}
 use Rattle.moo_store.specs.declared.fault.StoreFault.{StoreFault}
 use Rattle.moo_store.specs.declared.fault.StoreFault.TheVariants.{Store, OutOfMemory}
-use Rattle.moo_files.specs.Contents.{HoldsTables, HoldsState, HasOtherTables}
+use Rattle.moo_files.specs.Blank.{IsBlank}
+use Rattle.moo_files.proofs.BlankLemmas.{holds_none}
+use Rattle.moo_files.specs.Contents.{HoldsTrees, HoldsTables, HoldsState, HasOtherTables, HasAnyTable, IsMigrated, IsKept}
+use Rattle.moo_files.proofs.RemainsLemmas.{found_empty}
 
-none_below : (n m : ℕ) → n ≤ m → m ≡ 0 → n ≡ 0
+-- while it is open a crash leaves its last commit alone
+abbrev pub OnlyLeaves : Database → Type 0
+OnlyLeaves store = IsTrue store.is_open → (trees : Trees) → store.may_leave trees → trees ≡ store.committed.trees
+
+pub none_below : (n m : ℕ) → n ≤ m → m ≡ 0 → n ≡ 0
 none_below n m le e = omega (arith, le, e)
 
 -- a disk that returns what was written did so before
@@ -40,34 +49,52 @@ pub clean_either : {D : Type 0} {g : Ghosts D} (old new : Held (FileStore D g)) 
 clean_either old new Commits (inl same) clean = subst (λ h. HasCleanDisk (file_state h)) same clean
 clean_either old new Commits (inr it) clean = was_clean (file_state old) (file_state new) Commits it clean
 
+-- a connection to files that hold a database has that one
+pub has_held : (image : Image) (store : Database) (trees : Trees) → FindsIn image store → HoldsTrees image trees → store.committed.trees ≡ trees
+has_held image store trees found holds = ∥∥₁_elim holds (Trees-set _ _) (found.holds trees)
+
+shows_trees : (image : Image) (store : Database) (trees : Trees) → Opens store → FindsIn image store → HoldsTrees image trees → store.now.trees ≡ trees
+shows_trees image store trees opens found holds = ap (λ db. db.trees) opens.clean ∙ has_held image store trees found holds
+
+-- what a refused call leaves is what it could leave before, or what it may commit
+pub or_committed : {D : Type 0} {g : Ghosts D} (old new : Held (FileStore D g)) (Commits P : Trees → Type 0) → (new ≡ old) ⊎ Survives (file_state old) (file_state new) Commits → HasCleanDisk (file_state new)
+    → ((trees : Trees) → (file_state old).may_leave trees → P trees) → (trees : Trees) → (file_state new).may_leave trees → P trees ⊎ Commits trees
+or_committed old new Commits P (inl same) clean was trees lies = inl (was trees (subst (λ h. (file_state h).may_leave trees) same lies))
+or_committed old new Commits P (inr it) clean was trees lies = elim (it.crash clean trees lies) [ inl old ↦ inl (was trees old) | inr made ↦ inr made ]
+
 -- tables that the files hold rest in a connection to them
 pub rests_held : (image : Image) (store : Database) (tables : Tables) → Opens store → IsLive store → FindsIn image store → HoldsTables image tables → Rests store tables
 rests_held image store tables opens live found it =
-    opened store tables opens (live opens.is_open).0 (subst (λ trees. Leaves trees tables) (sym (ap (λ db. db.trees) opens.clean ∙ found.holds it.trees it.holds)) it.leaves)
+    opened store tables opens (live opens.is_open).0 (subst (λ trees. Leaves trees tables) (sym (shows_trees image store it.trees opens found it.holds)) it.such)
 
 pub shows_held : (image : Image) (store : Database) (s : State) → Opens store → IsLive store → FindsIn image store → HoldsState image s → ShowsState store s
 shows_held image store s opens live found it =
-    let leaves = it.shows.leaves in
+    let leaves = it.such.leaves in
     record {
       tables = leaves.tables;
-      rests = rests_held image store leaves.tables opens live found (record { trees = it.trees; holds = it.holds; leaves = leaves.leaves });
-      rows = it.shows.rows;
+      rests = rests_held image store leaves.tables opens live found (record { trees = it.trees; holds = it.holds; such = leaves.leaves });
+      rows = it.such.rows;
       shows = leaves.shows;
-      good = it.shows.good;
-      state = it.shows.state;
+      good = it.such.good;
+      state = it.such.state;
     }
 
 -- and a crash leaves it
-pub left_held : (image : Image) (store : Database) (s : State) → Opens store → IsLive store → FindsIn image store → ((tables : Tables) → Rests store tables → (trees : Trees) → store.may_leave trees → Leaves trees tables)
-    → HoldsState image s → Left store s
-left_held image store s opens live found leaves it trees lies =
-    let shown = shows_held image store s opens live found it in
-    record {
-      rows = shown.rows;
-      good = shown.good;
-      state = shown.state;
-      leaves = record { tables = shown.tables; leaves = leaves shown.tables shown.rests trees lies; shows = shown.shows };
-    }
+pub left_only : (image : Image) (store : Database) (trees : Trees) → Opens store → FindsIn image store → OnlyLeaves store → HoldsTrees image trees → (left : Trees) → store.may_leave left → left ≡ trees
+left_only image store trees opens found only holds left lies = only opens.is_open left lies ∙ has_held image store trees found holds
+
+pub left_held : (image : Image) (store : Database) (s : State) → Opens store → FindsIn image store → OnlyLeaves store → HoldsState image s → Left store s
+left_held image store s opens found only it left lies = subst (λ trees. LeavesState trees s) (sym (left_only image store it.trees opens found only it.holds left lies)) it.such
+
+-- ---- files that held no database, so that a blank one was made, or what `sqlite` found
+
+abbrev pub NewOrFound : Image → Database → Type 0
+NewOrFound image store = (IsBlank image × IsEmpty store.committed.trees) ⊎ FindsIn image store
+
+-- files that hold a database aren't new
+pub finds_held : (image : Image) (store : Database) (trees : Trees) → NewOrFound image store → HoldsTrees image trees → FindsIn image store
+finds_held image store trees (inl made) holds = absurd (∥∥₁_elim holds (λ x y. absurd x) (λ held. holds_none image trees made.0 held))
+finds_held image store trees (inr found) holds = found
 
 -- each version has tables
 some_tables : (version : Version) → schema_of version ≢ no_schema
@@ -76,21 +103,53 @@ some_tables Second none = let odd : suc 7 ≡ zero = ap (λ (schema : Schema). l
 
 -- ---- what is no database of ours
 
--- an empty file, whatever its log holds, has no list of tables
-none_listed : (image : Image) (db : Trees) → image.db ≡ [] → AreFoundIn image db → db catalog_tree ≡ []
-none_listed image db none (inl it) = let some = it.3.found.present in let len : length image.db ≡ 0 = ap length none in absurd (omega (arith, some, len))
-none_listed image db none (inr it) = it.1.1
+-- a connection to files that hold nothing has no tables
+pub none_found : (image : Image) (store : Database) → FindsIn image store → IsNothing image → IsEmpty store.committed.trees
+none_found image store found none = found_empty image store.committed.trees none found.reads
 
-pub empty_other : (image : Image) (store : Database) → Opens store → IsLive store → FindsIn image store → image.db ≡ [] → (version : Version) → store.now.schema ≢ schema_of version
+pub left_none : (image : Image) (store : Database) → Opens store → FindsIn image store → OnlyLeaves store → IsNothing image → (left : Trees) → store.may_leave left → IsEmpty left
+left_none image store opens found only none left lies = subst IsEmpty (sym (only opens.is_open left lies)) (none_found image store found none)
+
+pub left_new : (image : Image) (store : Database) → Opens store → NewOrFound image store → OnlyLeaves store → IsNothing image → (left : Trees) → store.may_leave left → IsEmpty left
+left_new image store opens (inl made) only none left lies = subst IsEmpty (sym (only opens.is_open left lies)) made.1
+left_new image store opens (inr found) only none left lies = left_none image store opens found only none left lies
+
+pub empty_other : (image : Image) (store : Database) → Opens store → IsLive store → FindsIn image store → IsNothing image → (version : Version) → store.now.schema ≢ schema_of version
 empty_other image store opens live found none version is =
     let trees = store.now.trees in
-    let unlisted : trees catalog_tree ≡ [] = ap (λ (db : Content). db.trees catalog_tree) opens.clean ∙ none_listed image store.committed.trees none found.reads in
+    let unlisted : trees catalog_tree ≡ [] = ap (λ (db : Content). db.trees catalog_tree) opens.clean ∙ (none_found image store found none).1 in
     some_tables version (sym (one_schema version trees no_schema (subst (λ schema. IsSound schema trees) is (live opens.is_open).0) (empty_is_sound trees unlisted)))
 
-pub foreign_other : (image : Image) (store : Database) (trees : Trees) → Opens store → IsLive store → FindsIn image store → HoldsDatabase image trees → HasOtherTables trees → (version : Version) → store.now.schema ≢ schema_of version
-foreign_other image store trees opens live found holds others version is =
-    let same : store.now.trees ≡ trees = ap (λ (db : Content). db.trees) opens.clean ∙ found.holds trees holds in
-    others version (subst₂ (λ schema db. IsDatabase (record { schema = schema; trees = db })) is same (live opens.is_open).0)
+is_database : (image : Image) (store : Database) (trees : Trees) (schema : Schema) → Opens store → IsLive store → FindsIn image store → HoldsTrees image trees → store.now.schema ≡ schema
+    → IsDatabase (record { schema = schema; trees = trees })
+is_database image store trees schema opens live found holds is =
+    subst₂ (λ schema db. IsDatabase (record { schema = schema; trees = db })) is (shows_trees image store trees opens found holds) (live opens.is_open).0
+
+pub foreign_other : (image : Image) (store : Database) (trees : Trees) → Opens store → IsLive store → FindsIn image store → HoldsTrees image trees → HasOtherTables trees → (version : Version) → store.now.schema ≢ schema_of version
+foreign_other image store trees opens live found holds others version is = others version (is_database image store trees (schema_of version) opens live found holds is)
+
+pub any_table : (image : Image) (store : Database) (trees : Trees) → Opens store → IsLive store → FindsIn image store → HoldsTrees image trees → HasAnyTable trees → store.now.schema ≢ no_schema
+any_table image store trees opens live found holds any is = any (is_database image store trees no_schema opens live found holds is)
+
+-- what opening may commit in place of the database that the files held
+pub migrated : (image : Image) (store : Database) (trees left : Trees) → Opens store → IsLive store → FindsIn image store → HoldsTrees image trees → Adopts store left → IsMigrated trees left
+migrated image store trees left opens live found holds it = record {
+  first = is_database image store trees first_schema opens live found holds it.0;
+  state = λ s leaves. it.1 s (shows_held image store s opens live found (record { trees = trees; holds = holds; such = leaves }));
+  sound = λ tables leaves. it.2 tables (rests_held image store tables opens live found (record { trees = trees; holds = holds; such = leaves }));
+}
+
+-- so what a crash leaves of it after that is the database, or what it was migrated to
+pub kept_or_migrated : (image : Image) (old new : Database) (trees : Trees) → Opens old → IsLive old → FindsIn image old → OnlyLeaves old → HoldsTrees image trees → HasCleanDisk new → Survives old new (Adopts old)
+    → (left : Trees) → new.may_leave left → IsKept trees left
+kept_or_migrated image old new trees opens live found only holds clean it left lies = elim (it.crash clean left lies) [
+  | inl was ↦ inl (left_only image old trees opens found only holds left was)
+  | inr adopts ↦ inr (migrated image old trees left opens live found holds adopts)
+]
+
+pub kept_state : (s : State) (trees left : Trees) → LeavesState trees s → IsKept trees left → LeavesState left s
+kept_state s trees left it (inl same) = subst (λ trees. LeavesState trees s) (sym same) it
+kept_state s trees left it (inr migrated) = migrated.state s it
 
 -- what shows a state has tables
 pub has_tables : (store : Database) (s : State) → ShowsState store s → store.now.schema ≢ no_schema

@@ -1,3 +1,4 @@
 pub mod AgainLemmas
+mod BlankLemmas
 mod ContentsLemmas
-mod RemainsLemmas
+pub mod RemainsLemmas

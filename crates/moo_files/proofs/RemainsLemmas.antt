@@ -1,23 +1,45 @@
 -- What is left of files that held an image.
-use Rattle.std.proofs.Common.{◌≡◌, inl, inr, ℕ, Bool, cond, List, [], ◌∷◌, Option, None, Some, IfSome, MatchOption, sym, subst, subst₂}
+use Rattle.std.proofs.Common.{◌≡◌, ◌≢◌, ◌⊎◌, inl, inr, ℕ, ◌≤◌, Bool, true, false, cond, IsTrue, List, [], ◌∷◌, length, take, slice_index, unwrap_or, get_or-take, length-take, ◌<◌, refl, Option, None, Some, IfSome, MatchOption, arith, sym, ap, subst, subst₂, ◌∙◌}
+use Rattle.std.proofs.Math.Logic.{∥∥₁_elim, ∥∥₁_map}
+use Rattle.std.proofs.lemmas.Bool.{cases_eq, cases_Bool}
 use Rattle.sqlite_disk.specs.declared.Disk.{Ghosts}
 use Rattle.sqlite_disk.specs.declared.Files.{Files}
 use Rattle.sqlite_disk.specs.Events.{Event, replay, settled}
 use Rattle.sqlite_disk.specs.History.{MayLeave}
-use Rattle.sqlite_wal.specs.Recovery.{Image}
+use Rattle.sqlite_wal.specs.Recovery as raw
+use Rattle.sqlite_wal.specs.Recovery.{Image, Pages, IsIgnored}
 use Rattle.sqlite_wal.specs.Files.{outcomes}
-use Rattle.sqlite_pool.specs.Stored.{StandsAs}
+use Rattle.sqlite_pool.specs.Stored.{stored_size, reserved, is_summed, StandsAs}
+use Rattle.sqlite_pool.specs.Stored.{Adopts, used_size, sealed}
+use Rattle.sqlite_pool.specs.StoredLaws.{trimmed_some}
+use Rattle.sqlite_pool.specs.Header.{first_page}
+use Rattle.sqlite_pool.specs.File.{header_in, IsSoundFile}
+use Rattle.sqlite_pool.proofs.ProbeLemmas.{size_by_log, size_by_file, reserved_word, first_byte}
+use Rattle.sqlite_wal.proofs.AppendLemmas.{some_value}
+use Rattle.sqlite_wal.proofs.CreateLemmas.{begun_is_not_blank}
 use Rattle.sqlite_store.specs.Unopened.{state_of}
-use Rattle.sqlite.specs.Files.{IsNothing, HoldsDatabase, IsCleanLeft, LeavesFiles, image_of}
+use Rattle.sqlite_trees.specs.Props.{Trees-set}
+use Rattle.sqlite.specs.Tree.{Trees}
+use Rattle.sqlite.specs.State.{State as Database}
+use Rattle.sqlite.specs.Files.{IsNothing, IsEmpty, HoldsDatabase, NamesSize, SaysSums, LeavesFiles, AreFoundIn, image_of, file_state}
 use Rattle.sqlite.specs.declared.file.Leftover.{Leftover}
 use Rattle.sqlite.specs.declared.file.Leftover.TheVariants as left
 use Rattle.sqlite.proofs.FileLemmas.{is_something}
-use Rattle.moo_world.specs.Judge.{State}
-use Rattle.moo_store.specs.States.{LeavesState}
-use Rattle.moo_files.specs.Contents.{HoldsState}
+use Rattle.sqlite.specs.declared.error.Error.{Error}
+use Rattle.sqlite.specs.declared.error.Error.TheVariants.{SqliteFailure}
+use Rattle.sqlite.specs.declared.error.ErrorCode.TheVariants as code
+use Rattle.moo_store.specs.declared.fault.StoreFault.{StoreFault}
+use Rattle.moo_store.specs.declared.fault.StoreFault.TheVariants.{Store, OutOfMemory}
+use Rattle.moo_files.specs.Blank.{IsBlank, LeavesBlank, SparesFiles}
+use Rattle.moo_files.proofs.BlankLemmas.{holds_none}
+use Rattle.moo_files.specs.Contents.{HoldsTrees, HoldsSuch, HoldsNothingBut}
+use Rattle.moo_files.specs.declared.remains.NotOpened.{NotOpened}
 use Rattle.moo_files.specs.declared.remains.Remains.{Remains}
 use Rattle.moo_files.specs.declared.remains.Remains.TheVariants as remains
-use Rattle.moo_files.specs.Remains.{IsCleanRemains, LeftoverHolds, StillHolds}
+use Rattle.moo_files.specs.Closing.{IsLeftOf, IsClosedFrom}
+use Rattle.moo_files.specs.Remains.{cannot_open, busy, IsCleanRemains, MayStopAs, LeftoverKeeps, LeftoverBlank, KeepsSuch, KeepsNothingBut}
+
+-- ---- the two files, as they were settled
 
 -- a file that was settled, and no more, is left as it is
 left_settled : (mixes : Bool) (file : List ℕ) (key : ℕ) (c : List ℕ) → (let m = replay file (settled key ∷ []) in MayLeave mixes m.seen m.synced m.steps c) → c ≡ file
@@ -29,25 +51,225 @@ pub left_fresh : (mixes : Bool) (log db : List ℕ) (which is_log : Bool) (histo
 left_fresh mixes log db which is_log history key c same fresh it =
     left_settled mixes (cond is_log log db) key c (subst₂ (λ b h. let m = replay (cond b log db) h in MayLeave mixes m.seen m.synced m.steps c) same fresh it)
 
-module _ {D : Type 0} {g : Ghosts D} where
-  -- what `sqlite` leaves of files that hold a state holds it
-  pub still_holds : (image : Image) (files : Files D) (rest : Leftover D g) (s : State) → image_of g files ≡ image → ((now : Image) → outcomes g files.log files.db now → now ≡ image)
-      → LeavesFiles files rest → HoldsState image s → LeftoverHolds image rest s
-  still_holds image files (left.Files now) s same only leaves it = λ found lies. subst (λ i. HoldsState i s) (sym (only found (leaves found lies))) it
-  still_holds image files (left.Unopened now) s same only (inl nothing) it = absurd (is_something image it.trees it.holds (subst IsNothing same nothing.0))
-  still_holds image files (left.Unopened now) s same only (inr left) it = λ found lies.
-      elim (left.4 found lies).same [
-        | inl was ↦ inl (subst (λ i. HoldsState i s) (sym (only found was)) it)
-        | inr stands ↦ inr (subst (λ i. StandsAs (state_of now).page_size i found) same stands)
-      ]
-  still_holds image files (left.Store now) s same only leaves it = λ trees lies.
-      subst (λ db. LeavesState db s) (sym ((leaves trees lies).1 it.trees (subst (λ i. HoldsDatabase i it.trees) (sym same) it.holds))) it.shows
+-- ---- the page size of a database without sums
 
-  pub refused_left : (image : Image) (s : State) (rest : Option (Leftover D g)) (r : Remains D g) → MatchOption rest (r ≡ remains.Untouched) (λ it. r ≡ remains.Leftover it) → IfSome rest (λ it. IsCleanLeft it → LeftoverHolds image it s)
-      → IsCleanRemains r → StillHolds image r s
-  refused_left image s None r is told = subst (λ x. IsCleanRemains x → StillHolds image x s) (sym is) (λ _. tt)
-  refused_left image s (Some it) r is told = subst (λ x. IsCleanRemains x → StillHolds image x s) (sym is) told
+plain_size : (size : ℕ) → is_summed size ≡ false → stored_size size ≡ size
+plain_size size plain = elim (cases_eq (reserved size) 0) [
+  | inl none ↦ omega (arith, none)
+  | inr some ↦ absurd (grind arith)
+]
+
+large_of : (size : ℕ) → 512 ≤ stored_size size → 504 ≤ size
+large_of size valid = let few : reserved size ≤ 8 = grind arith in omega (arith, valid)
+
+-- the size that the files name is that of the database
+named_size : (image : Image) (trees : Trees) (held : HoldsDatabase image trees) (size : ℕ) → NamesSize image (stored_size size) → stored_size held.0 ≡ stored_size size
+named_size image trees held size names = elim (cases_eq (stored_size held.0) (stored_size size)) [
+  | inl same ↦ same
+  | inr other ↦
+      let large = large_of held.0 held.1.0 in
+      let seen = λ (read : ¬ IsIgnored image.log). other (sym (names.0 read ∙ size_by_log held.0 image held.2.pages held.2.found read)) in
+      absurd (seen (λ ignored. other (sym (names.1 ignored ∙ size_by_file held.0 image held.2.pages held.2.found large held.2.ours.file.sound ignored))))
+]
+
+-- the first page of a database without sums doesn't say that there are any
+says_none : (image : Image) (trees : Trees) (held : HoldsDatabase image trees) (size : ℕ) → stored_size held.0 ≡ stored_size size → is_summed held.0 ≡ false → ¬ SaysSums (stored_size size) image
+says_none image trees held size same plain says =
+    let word = reserved_word held.0 image held.2.pages held.2.found (large_of held.0 held.1.0) held.2.ours.file.sound in
+    let found = subst (λ s. raw.Recovers s image held.2.found.stored) same held.2.found.found in
+    let said = says held.2.found.stored word.0 found word.1 (word.2 ∙ same) in
+    let none : reserved held.0 ≡ 0 = omega (arith, plain_size held.0 plain) in
+    omega (arith, said, word.3, none)
+
+same_size : (image : Image) (trees : Trees) (held : HoldsDatabase image trees) (size : ℕ) → NamesSize image (stored_size size) → (IsTrue (is_summed size) → SaysSums (stored_size size) image)
+    → is_summed held.0 ≡ false → held.0 ≡ size
+same_size image trees held size names says plain =
+    let same = named_size image trees held size names in
+    elim (cases_Bool (is_summed size)) [
+      | inl summed ↦ absurd (says_none image trees held size same plain (says summed))
+      | inr none ↦ sym (plain_size held.0 plain) ∙ same ∙ plain_size size none
+    ]
+
+-- what stands for the files of a database holds that database
+stands_for : (image found : Image) (trees : Trees) (held : HoldsDatabase image trees) (size : ℕ) → held.0 ≡ size → StandsAs size image found → HoldsDatabase found trees
+stands_for image found trees held size same stands =
+    let it = held.2 in
+    let now = subst (λ s. StandsAs s image found) (sym same) stands in
+    (held.0, held.1, record { pages = it.pages; wanted = it.wanted; schema = it.schema; found = now.1 it.pages it.found; ours = it.ours; reads = it.reads; sound = it.sound })
+
+-- ---- what `sqlite` leaves
+
+long_size : (size : ℕ) (page : List ℕ) → length (take 16 (take 100 (take size page))) ≡ 16 → 16 ≤ size
+long_size size page len = omega (arith, len, length-take 16 (take 100 (take size page)), length-take 100 (take size page), length-take size page)
+
+-- a sound file isn't nothing, whatever its page size
+something : (size : ℕ) (image : Image) (pages : Pages) → Adopts size image pages → IsSoundFile size pages → ¬ IsNothing image
+something size image pages found sound nothing =
+    let (page, is) = some_value (found.stored 1) found.whole.first in
+    let used : pages 1 ≡ Some (take size page) = ap (λ (p : Pages). p 1) (sym found.shows) ∙ trimmed_some size _ 1 page is in
+    let head : header_in pages ≡ take 100 (take size page) = ap (λ (o : Option (List ℕ)). take 100 (unwrap_or o [])) used in
+    let magic = ap (take 16) (sym head) ∙ sound.header.0.magic in
+    let long : 16 ≤ size = long_size size page (ap length magic) in
+    let byte = sym (get_or-take size page 0 0 (omega (arith, long))) ∙ sym (get_or-take 100 (take size page) 0 0 (omega arith)) ∙ sym (get_or-take 16 (take 100 (take size page)) 0 0 (omega arith))
+    ∙ ap (λ (b : List ℕ). slice_index b 0) magic in
+    let never = λ (other : ℕ) (some : 0 < other). let gate = first_byte other some in
+    begun_is_not_blank (sealed (first_page other)) page (stored_size size) image found.stored found.found is (found.whole.sized 1 page is) (omega (arith, long)) (byte ∙ sym gate) (λ none. let never = sym gate ∙ none in omega arith) in
+    elim nothing [ inl plain ↦ never (used_size 4096 false) (omega arith) plain | inr summed ↦ never (used_size 4096 true) (omega arith) summed ]
+
+-- files that hold nothing read as nothing
+pub found_empty : (image : Image) (db : Trees) → IsNothing image → AreFoundIn image db → IsEmpty db
+found_empty image db nothing (inl it) = absurd (∥∥₁_elim it.4 (λ x y. absurd x) (λ ours. something it.0 image it.1 it.3 ours.file.sound nothing))
+found_empty image db nothing (inr it) = it.1
+
+module _ {D : Type 0} {g : Ghosts D} (image : Image) (files : Files D) (same : image_of g files ≡ image) (only : (now : Image) → outcomes g files.log files.db now → now ≡ image) where
+  -- of files that held a database
+  pub leftover_keeps : (rest : Leftover D g) (trees : Trees) → LeavesFiles files rest → HoldsTrees image trees → LeftoverKeeps (λ found. found ≡ trees) image rest
+  leftover_keeps (left.Files now) trees leaves holds = λ found lies. record { trees = trees; holds = subst (λ i. HoldsTrees i trees) (sym (only found (leaves found lies))) holds; such = refl }
+  leftover_keeps (left.Unopened now) trees (inl nothing) holds = absurd (∥∥₁_elim holds (λ x y. absurd x) (λ held. is_something image trees held (subst IsNothing same nothing.0)))
+  leftover_keeps (left.Unopened now) trees (inr leaves) holds = λ found lies.
+      let size = (state_of now).page_size in
+      let names = subst (λ i. NamesSize i (stored_size size)) same leaves.1 in
+      let says = subst (λ i. IsTrue (is_summed size) → SaysSums (stored_size size) i) same leaves.3 in
+      elim (leaves.4 found lies).same [
+        | inl was ↦
+            let it : HoldsSuch (λ found. found ≡ trees) found = record { trees = trees; holds = subst (λ i. HoldsTrees i trees) (sym (only found was)) holds; such = refl } in
+            (inl it, λ _. it)
+        | inr stands ↦
+            let now_stands = subst (λ i. StandsAs size i found) same stands in (
+              inr (names, now_stands),
+              λ plain. record {
+                trees = trees;
+                holds = ∥∥₁_map holds (λ held. stands_for image found trees held size (same_size image trees held size names says (plain trees held)) now_stands);
+                such = refl;
+              },
+            )
+      ]
+  leftover_keeps (left.Store now) trees leaves holds = λ found lies.
+      ∥∥₁_elim holds (Trees-set _ _) (λ held. (leaves found lies).1 trees (subst (λ i. HoldsDatabase i trees) (sym same) held))
+
+  -- of files that held nothing
+  pub leftover_blank : (rest : Leftover D g) → LeavesFiles files rest → IsNothing image → LeftoverBlank (λ _. ⊥) rest
+  leftover_blank (left.Files now) leaves nothing = λ found lies. inl (subst IsNothing (sym (only found (leaves found lies))) nothing)
+  leftover_blank (left.Unopened now) (inl leaves) nothing = λ found lies.
+      elim (leaves.1 found lies) [
+        | inl was ↦ inl (subst IsNothing (sym (only found was)) nothing)
+        | inr later ↦ elim later [
+          | inl still ↦ inl still
+          | inr made ↦ inr (inr (∥∥₁_map made (λ it. record { trees = it.0; holds = ∣ it.1 ∣₁; such = inl it.2 })))
+        ]
+      ]
+  leftover_blank (left.Unopened now) (inr leaves) nothing = absurd (leaves.0 (subst IsNothing (sym same) nothing))
+  leftover_blank (left.Store now) leaves nothing = λ found lies. inl (found_empty image found nothing (subst (λ i. AreFoundIn i found) same (leaves found lies).0))
+
+  -- of files that a blank database was to be made in, or that `sqlite` took up
+  pub spared_keeps : (rest : Leftover D g) (trees : Trees) → SparesFiles files rest → HoldsTrees image trees → LeftoverKeeps (λ found. found ≡ trees) image rest
+  spared_keeps rest trees (inl blank) holds = absurd (∥∥₁_elim holds (λ x y. absurd x) (λ held. holds_none image trees (subst IsBlank same blank.0) held))
+  spared_keeps rest trees (inr leaves) holds = leftover_keeps rest trees leaves holds
+
+  made_blank : (rest : Leftover D g) → LeavesBlank files rest → IsNothing image ⊎ IsBlank image → LeftoverBlank (λ _. ⊥) rest
+  made_blank (left.Files now) leaves nothing = λ found lies. elim nothing [
+    | inl none ↦ inl (subst IsNothing (sym (only found (leaves found lies))) none)
+    | inr none ↦ inr (inl (subst IsBlank (sym (only found (leaves found lies))) none))
+  ]
+  made_blank (left.Unopened now) leaves nothing = λ found lies.
+      elim (leaves found lies) [
+        | inl was ↦ elim nothing [ inl none ↦ inl (subst IsNothing (sym (only found was)) none) | inr none ↦ inr (inl (subst IsBlank (sym (only found was)) none)) ]
+        | inr later ↦ elim later [
+          | inl still ↦ inr (inl still)
+          | inr made ↦ inr (inr (∥∥₁_map made (λ it. record { trees = it.0; holds = ∣ it.1 ∣₁; such = inl it.2 })))
+        ]
+      ]
+  made_blank (left.Store now) leaves nothing = λ found lies. inl (leaves found lies)
+
+  pub spared_blank : (rest : Leftover D g) → SparesFiles files rest → IsNothing image → LeftoverBlank (λ _. ⊥) rest
+  spared_blank rest (inl blank) nothing = made_blank rest blank.1 (inl nothing)
+  spared_blank rest (inr leaves) nothing = leftover_blank rest leaves nothing
+
+-- ---- from what `sqlite` leaves to the remains
+
+such_more : (P Q : Trees → Type 0) → ((trees : Trees) → P trees → Q trees) → (image : Image) → HoldsSuch P image → HoldsSuch Q image
+such_more P Q goes image it = record { trees = it.trees; holds = it.holds; such = goes it.trees it.such }
+
+empty_or : (P Q : Trees → Type 0) → ((trees : Trees) → P trees → Q trees) → (trees : Trees) → IsEmpty trees ⊎ P trees → IsEmpty trees ⊎ Q trees
+empty_or P Q goes trees (inl empty) = inl empty
+empty_or P Q goes trees (inr it) = inr (goes trees it)
+
+nothing_more : (P Q : Trees → Type 0) → ((trees : Trees) → P trees → Q trees) → (image : Image) → HoldsNothingBut P image → HoldsNothingBut Q image
+nothing_more P Q goes image (inl nothing) = inl nothing
+nothing_more P Q goes image (inr (inl blank)) = inr (inl blank)
+nothing_more P Q goes image (inr (inr it)) = inr (inr (∥∥₁_map it (such_more _ _ (empty_or P Q goes) image)))
+
+module _ {T D : Type 0} {g : Ghosts D} where
+  pub of_leftover : (Goal : Remains T D g → Type 0) → ((seal : NotOpened) → Goal (remains.NotOpened seal)) → (rest : Option (Leftover D g)) (r : Remains T D g)
+      → MatchOption rest ((seal : NotOpened) × (r ≡ remains.NotOpened seal)) (λ it. r ≡ remains.Leftover it) → IfSome rest (λ it. Goal (remains.Leftover it)) → Goal r
+  of_leftover Goal none None r is told = subst Goal (sym is.1) (none is.0)
+  of_leftover Goal none (Some it) r is told = subst Goal (sym is) told
+
+  -- what is true of each database that is kept
+  pub keeps_more : (P Q : Trees → Type 0) → ((trees : Trees) → P trees → Q trees) → (image : Image) (r : Remains T D g) → KeepsSuch P image r → KeepsSuch Q image r
+  keeps_more P Q goes image (remains.Untouched start) it = such_more P Q goes image it
+  keeps_more P Q goes image (remains.NotOpened seal) it = tt
+  keeps_more P Q goes image (remains.Leftover (left.Files now)) it = λ found lies. such_more P Q goes found (it found lies)
+  keeps_more P Q goes image (remains.Leftover (left.Unopened now)) it = λ found lies.
+      let was = it found lies in (
+        elim was.0 [ inl held ↦ inl (such_more P Q goes found held) | inr sealed ↦ inr sealed ],
+        λ plain. such_more P Q goes found (was.1 plain),
+      )
+  keeps_more P Q goes image (remains.Leftover (left.Store now)) it = λ trees lies. goes trees (it trees lies)
+  keeps_more P Q goes image (remains.Connection conn) it = λ trees lies. goes trees (it trees lies)
+
+  pub blank_more : (P Q : Trees → Type 0) → ((trees : Trees) → P trees → Q trees) → (image : Image) (r : Remains T D g) → KeepsNothingBut P image r → KeepsNothingBut Q image r
+  blank_more P Q goes image (remains.Untouched start) it = nothing_more P Q goes image it
+  blank_more P Q goes image (remains.NotOpened seal) it = tt
+  blank_more P Q goes image (remains.Leftover (left.Files now)) it = λ found lies. nothing_more P Q goes found (it found lies)
+  blank_more P Q goes image (remains.Leftover (left.Unopened now)) it = λ found lies. nothing_more P Q goes found (it found lies)
+  blank_more P Q goes image (remains.Leftover (left.Store now)) it = λ trees lies. empty_or P Q goes trees (it trees lies)
+  blank_more P Q goes image (remains.Connection conn) it = λ trees lies. empty_or P Q goes trees (it trees lies)
 
 pub each_some : {A : Type 0} {P Q : A → Type 0} (o : Option A) → IfSome o P → ((a : A) → P a → Q a) → IfSome o Q
 each_some None it f = tt
 each_some (Some a) it f = f a it
+
+-- why nothing was opened, as a fault
+pub stops : {T D : Type 0} {g : Ghosts D} (fault : StoreFault) (rest : Option (Leftover D g)) (r : Remains T D g) → MatchOption rest ((seal : NotOpened) × (r ≡ remains.NotOpened seal)) (λ it. r ≡ remains.Leftover it)
+    → (rest ≡ None → (fault ≡ cannot_open) ⊎ ((fault ≡ OutOfMemory) ⊎ (fault ≡ busy))) → MayStopAs fault r
+stops fault None r is named = subst (MayStopAs fault) (sym is.1) (named refl)
+stops fault (Some it) r is named = subst (MayStopAs fault) (sym is) tt
+
+-- the error of an open that found no file, as a fault
+pub stop_fault : (error : Error) (fault : StoreFault) → (error ≡ SqliteFailure code.OutOfMemory → fault ≡ OutOfMemory) → (error ≢ SqliteFailure code.OutOfMemory → fault ≡ Store error)
+    → (error ≡ SqliteFailure code.CannotOpen) ⊎ ((error ≡ SqliteFailure code.OutOfMemory) ⊎ (error ≡ SqliteFailure code.DatabaseBusy)) → (fault ≡ cannot_open) ⊎ ((fault ≡ OutOfMemory) ⊎ (fault ≡ busy))
+stop_fault error fault memory other (inl is) = inl (other (λ out. let e = sym is ∙ out in cc) ∙ ap Store is)
+stop_fault error fault memory other (inr (inl is)) = inr (inl (memory is))
+stop_fault error fault memory other (inr (inr is)) = inr (inr (other (λ out. let e = sym is ∙ out in cc) ∙ ap Store is))
+
+-- ---- closing
+
+module _ {D : Type 0} {g : Ghosts D} (P : Trees → Type 0) (store : Database) where
+  closed_keeps : (image : Image) (left : Leftover D g) → IsLeftOf store left → ((trees : Trees) → store.may_leave trees → P trees) → LeftoverKeeps P image left
+  closed_keeps image (left.Files now) it keeps = λ found lies. such_more store.may_leave P keeps found (it.1 found lies)
+  closed_keeps image (left.Unopened now) it keeps = absurd it
+  closed_keeps image (left.Store now) it keeps = λ trees lies. keeps trees (it trees lies)
+
+  closed_blank : (left : Leftover D g) → IsLeftOf store left → ((trees : Trees) → store.may_leave trees → IsEmpty trees ⊎ P trees) → LeftoverBlank P left
+  closed_blank (left.Files now) it keeps = λ found lies. inr (inr ∣ such_more store.may_leave (λ trees. IsEmpty trees ⊎ P trees) keeps found (it.1 found lies) ∣₁)
+  closed_blank (left.Unopened now) it keeps = absurd it
+  closed_blank (left.Store now) it keeps = λ trees lies. keeps trees (it trees lies)
+
+module _ {T D : Type 0} {g : Ghosts D} (P : Trees → Type 0) (image : Image) where
+  -- what is true of the remains is true of them once they are closed
+  pub keeps_closed : (was now : Remains T D g) → IsClosedFrom was now → (IsCleanRemains was → KeepsSuch P image was) → IsCleanRemains now → KeepsSuch P image now
+  keeps_closed (remains.Untouched start) now is keeps = subst (λ (r : Remains T D g). IsCleanRemains r → KeepsSuch P image r) (sym is) keeps
+  keeps_closed (remains.NotOpened seal) now is keeps = subst (λ (r : Remains T D g). IsCleanRemains r → KeepsSuch P image r) (sym is) keeps
+  keeps_closed (remains.Leftover left) now is keeps = subst (λ (r : Remains T D g). IsCleanRemains r → KeepsSuch P image r) (sym is) keeps
+  keeps_closed (remains.Connection conn) now it keeps =
+      let done : IsCleanRemains {T = T} (remains.Leftover it.0) → KeepsSuch {T = T} P image (remains.Leftover it.0) = (λ clean. let leaves = it.3 clean in closed_keeps P (file_state conn) image it.0 leaves.1 (keeps leaves.0)) in
+      subst (λ (r : Remains T D g). IsCleanRemains r → KeepsSuch P image r) (sym it.1) done
+
+  pub blank_closed : (was now : Remains T D g) → IsClosedFrom was now → (IsCleanRemains was → KeepsNothingBut P image was) → IsCleanRemains now → KeepsNothingBut P image now
+  blank_closed (remains.Untouched start) now is keeps = subst (λ (r : Remains T D g). IsCleanRemains r → KeepsNothingBut P image r) (sym is) keeps
+  blank_closed (remains.NotOpened seal) now is keeps = subst (λ (r : Remains T D g). IsCleanRemains r → KeepsNothingBut P image r) (sym is) keeps
+  blank_closed (remains.Leftover left) now is keeps = subst (λ (r : Remains T D g). IsCleanRemains r → KeepsNothingBut P image r) (sym is) keeps
+  blank_closed (remains.Connection conn) now it keeps =
+      let done : IsCleanRemains {T = T} (remains.Leftover it.0) → KeepsNothingBut {T = T} P image (remains.Leftover it.0) = (λ clean. let leaves = it.3 clean in closed_blank P (file_state conn) it.0 leaves.1 (keeps leaves.0)) in
+      subst (λ (r : Remains T D g). IsCleanRemains r → KeepsNothingBut P image r) (sym it.1) done

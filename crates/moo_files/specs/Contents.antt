@@ -1,33 +1,65 @@
 -- What the files of a database hold.
-use Rattle.sqlite.specs.Recovery.{Image}
+use Rattle.std.specs.Prelude.{◌≡◌, ◌⊎◌, false}
+use Rattle.sqlite_wal.specs.Recovery.{Image}
+use Rattle.sqlite_pool.specs.Stored.{is_summed}
 use Rattle.sqlite.specs.Tree.{Trees}
 use Rattle.sqlite.specs.State.{State as Database}
-use Rattle.sqlite.specs.Files.{HoldsDatabase}
+use Rattle.sqlite.specs.Files.{HoldsDatabase, IsNothing, IsEmpty}
 use Rattle.sqlite.specs.Effect.{IsDatabase}
+use Rattle.moo_rows.specs.Maps.{Maps}
 use Rattle.moo_world.specs.Judge.{State}
+use Rattle.moo_world.specs.Rows.{IsGood}
 use Rattle.moo_tables.specs.declared.version.Version.{Version}
-use Rattle.moo_tables.specs.Tables.{Tables, schema_of}
+use Rattle.moo_tables.specs.Tables.{Tables, schema_of, first_schema, no_schema}
 use Rattle.moo_tables.specs.Inside.{Leaves}
-use Rattle.moo_store.specs.States.{LeavesState}
+use Rattle.moo_cells.specs.Shows.{ShowsRows}
+use Rattle.moo_store.specs.States.{LeavesRows, LeavesState}
+use Rattle.moo_files.specs.Blank.{IsBlank}
+
+-- a log and its file hold this database
+abbrev pub HoldsTrees : Image → Trees → Type 0
+HoldsTrees image trees = ∥ HoldsDatabase image trees ∥₁
+
+-- a log and its file hold a database of which this is true
+pub record HoldsSuch (P : Trees → Type 0) (image : Image) : Type 0 where
+  pub trees : Trees
+  pub holds : HoldsTrees image trees
+  pub such : P trees
 
 -- a log and its file hold a database with these tables
-pub record HoldsTables (image : Image) (tables : Tables) : Type 0 where
-  pub trees : Trees
-  pub holds : HoldsDatabase image trees
-  pub leaves : Leaves trees tables
+abbrev pub HoldsTables : Image → Tables → Type 0
+HoldsTables image tables = HoldsSuch (λ trees. Leaves trees tables) image
 
 -- a log and its file hold a database whose tables show good rows of this state
-pub record HoldsState (image : Image) (s : State) : Type 0 where
-  pub trees : Trees
-  pub holds : HoldsDatabase image trees
-  pub shows : LeavesState trees s
+abbrev pub HoldsState : Image → State → Type 0
+HoldsState image s = HoldsSuch (λ trees. LeavesState trees s) image
+
+-- a log and its file hold a database that a crash of this store may leave
+abbrev pub IsLeftBy : Database → Image → Type 0
+IsLeftBy store image = HoldsSuch store.may_leave image
+
+-- a log and its file hold nothing, be it a half-made page of either size, or a database without rows, or such a database
+abbrev pub HoldsNothingBut : (Trees → Type 0) → Image → Type 0
+HoldsNothingBut P image = IsNothing image ⊎ (IsBlank image ⊎ ∥ HoldsSuch (λ trees. IsEmpty trees ⊎ P trees) image ∥₁)
+
+-- the pages of the database don't end in sums, as those of a file that this program made don't
+abbrev pub HasNoSums : Image → Type 0
+HasNoSums image = (trees : Trees) (held : HoldsDatabase image trees) → is_summed held.0 ≡ false
 
 -- the tables of no version of ours
 abbrev pub HasOtherTables : Trees → Type 0
 HasOtherTables trees = (version : Version) → ¬ IsDatabase (record { schema = schema_of version; trees = trees })
 
--- a log and its file hold a database that a crash of this store may leave
-pub record IsLeftBy (store : Database) (image : Image) : Type 0 where
-  pub trees : Trees
-  pub left : store.may_leave trees
-  pub holds : HoldsDatabase image trees
+-- any table, index or view
+abbrev pub HasAnyTable : Trees → Type 0
+HasAnyTable trees = ¬ IsDatabase (record { schema = no_schema; trees = trees })
+
+-- Tables of the first version have become others that show the same world. If they show none they don't become others.
+pub record IsMigrated (old new : Trees) : Type 0 where
+  pub first : IsDatabase (record { schema = first_schema; trees = old })
+  pub state : (s : State) → LeavesState old s → LeavesState new s
+  pub sound : (tables : Tables) → Leaves old tables → (rows : Maps) × IsGood rows × ShowsRows tables rows × LeavesRows new rows
+
+-- the database is this one, or it was migrated
+abbrev pub IsKept : Trees → Trees → Type 0
+IsKept old new = (new ≡ old) ⊎ IsMigrated old new

@@ -1,39 +1,88 @@
 -- What a refusal leaves of the files.
-use Rattle.std.specs.Prelude.{◌⊎◌, ⊤}
+use Rattle.std.specs.Prelude.{◌≡◌, ◌⊎◌, ⊤}
 use Rattle.sqlite_disk.specs.declared.Disk.{Ghosts}
 use Rattle.sqlite_wal.specs.Recovery.{Image}
 use Rattle.sqlite_wal.specs.Files.{outcomes}
-use Rattle.sqlite_pool.specs.Stored.{StandsAs}
+use Rattle.sqlite_pool.specs.Stored.{stored_size, StandsAs}
 use Rattle.sqlite_store.specs.FileStore.{recovers}
 use Rattle.sqlite_store.specs.Unopened.{state_of}
+use Rattle.sqlite_store.specs.declared.store.open.Unopened.{Unopened}
 use Rattle.sqlite.specs.Tree.{Trees}
 use Rattle.sqlite.specs.State.{HasCleanDisk}
-use Rattle.sqlite.specs.Files.{IsCleanLeft, file_state}
+use Rattle.sqlite.specs.Files.{IsCleanLeft, IsEmpty, NamesSize, file_state}
 use Rattle.sqlite.specs.declared.file.Leftover.{Leftover}
 use Rattle.sqlite.specs.declared.file.Leftover.TheVariants as left
+use Rattle.sqlite.specs.declared.error.Error.TheVariants.{SqliteFailure}
+use Rattle.sqlite.specs.declared.error.ErrorCode.TheVariants.{CannotOpen, DatabaseBusy}
 use Rattle.moo_world.specs.Judge.{State}
 use Rattle.moo_store.specs.States.{LeavesState}
-use Rattle.moo_store.specs.World.{Left}
-use Rattle.moo_files.specs.Contents.{HoldsState}
+use Rattle.moo_store.specs.Opening.{not_ours}
+use Rattle.moo_store.specs.declared.fault.StoreFault.{StoreFault}
+use Rattle.moo_store.specs.declared.fault.StoreFault.TheVariants.{Store, OutOfMemory}
+use Rattle.moo_files.specs.Contents.{HoldsSuch, HoldsNothingBut, HasNoSums, IsKept}
 use Rattle.moo_files.specs.declared.remains.Remains.{Remains}
 use Rattle.moo_files.specs.declared.remains.Remains.TheVariants as remains
 
-module _ {D : Type 0} {g : Ghosts D} where
+abbrev pub cannot_open : StoreFault
+cannot_open = Store (SqliteFailure CannotOpen)
+
+abbrev pub busy : StoreFault
+busy = Store (SqliteFailure DatabaseBusy)
+
+module _ {T D : Type 0} {g : Ghosts D} where
   -- the disk returned what was written, as long as the files were open
-  abbrev pub IsCleanRemains : Remains D g → Type 0
-  IsCleanRemains remains.Untouched = ⊤
+  abbrev pub IsCleanRemains : Remains T D g → Type 0
+  IsCleanRemains (remains.Untouched start) = ⊤
+  IsCleanRemains (remains.NotOpened seal) = ⊤
   IsCleanRemains (remains.Leftover left) = IsCleanLeft left
   IsCleanRemains (remains.Connection conn) = HasCleanDisk (file_state conn)
 
-  -- Whatever a crash leaves of files that held this image shows s. If they were left while `sqlite` took them up, they may also stand
-  -- for the same pages, with the sums that these lacked.
-  abbrev pub LeftoverHolds : Image → Leftover D g → State → Type 0
-  LeftoverHolds image (left.Files now) s = (found : Image) → outcomes g now.log now.db found → HoldsState found s
-  LeftoverHolds image (left.Unopened now) s = (found : Image) → (state_of now).may_leave found → HoldsState found s ⊎ StandsAs (state_of now).page_size image found
-  LeftoverHolds image (left.Store now) s = (trees : Trees) → recovers now trees → LeavesState trees s
+  -- If no file was opened, the fault is one of these: before `sqlite` was asked, that the file is missing or empty; from `sqlite`, that
+  -- the files can't be opened, are open elsewhere, or memory ran out.
+  abbrev pub MayStopAs : StoreFault → Remains T D g → Type 0
+  MayStopAs fault (remains.Untouched start) = (fault ≡ cannot_open) ⊎ (fault ≡ not_ours)
+  MayStopAs fault (remains.NotOpened seal) = (fault ≡ cannot_open) ⊎ ((fault ≡ OutOfMemory) ⊎ (fault ≡ busy))
+  MayStopAs fault (remains.Leftover left) = ⊤
+  MayStopAs fault (remains.Connection conn) = ⊤
 
-  -- files that held this image, and with it s, hold s still
-  abbrev pub StillHolds : Image → Remains D g → State → Type 0
-  StillHolds image remains.Untouched s = ⊤
-  StillHolds image (remains.Leftover left) s = LeftoverHolds image left s
-  StillHolds image (remains.Connection conn) s = Left (file_state conn) s
+module _ {D : Type 0} {g : Ghosts D} where
+  -- the pages that this image has, of the size that it names, with the sums that they lacked
+  abbrev pub IsResealed : Unopened D g → Image → Image → Type 0
+  IsResealed now image found = NamesSize image (stored_size (state_of now).page_size) × StandsAs (state_of now).page_size image found
+
+  -- Whatever a crash leaves of files that held this image is such a database. If they were left while `sqlite` took them up and their
+  -- pages end in sums, they may also be resealed.
+  abbrev pub LeftoverKeeps : (Trees → Type 0) → Image → Leftover D g → Type 0
+  LeftoverKeeps P image (left.Files now) = (found : Image) → outcomes g now.log now.db found → HoldsSuch P found
+  LeftoverKeeps P image (left.Unopened now) = (found : Image) → (state_of now).may_leave found → (HoldsSuch P found ⊎ IsResealed now image found) × (HasNoSums image → HoldsSuch P found)
+  LeftoverKeeps P image (left.Store now) = (trees : Trees) → recovers now trees → P trees
+
+  -- whatever a crash leaves of files that held nothing is nothing, a database without rows, or such a database
+  abbrev pub LeftoverBlank : (Trees → Type 0) → Leftover D g → Type 0
+  LeftoverBlank P (left.Files now) = (found : Image) → outcomes g now.log now.db found → HoldsNothingBut P found
+  LeftoverBlank P (left.Unopened now) = (found : Image) → (state_of now).may_leave found → HoldsNothingBut P found
+  LeftoverBlank P (left.Store now) = (trees : Trees) → recovers now trees → IsEmpty trees ⊎ P trees
+
+module _ {T D : Type 0} {g : Ghosts D} where
+  -- Files that held this image hold such a database, and so does what a crash leaves of them. Of files that weren't opened it is what
+  -- they held; of those that `sqlite` couldn't open nothing is said.
+  abbrev pub KeepsSuch : (Trees → Type 0) → Image → Remains T D g → Type 0
+  KeepsSuch P image (remains.Untouched start) = HoldsSuch P image
+  KeepsSuch P image (remains.NotOpened seal) = ⊤
+  KeepsSuch P image (remains.Leftover left) = LeftoverKeeps P image left
+  KeepsSuch P image (remains.Connection conn) = (trees : Trees) → (file_state conn).may_leave trees → P trees
+
+  -- files that held this database hold it still, or what it was migrated to
+  abbrev pub StillHoldsTrees : Image → Remains T D g → Trees → Type 0
+  StillHoldsTrees image remains trees = KeepsSuch (IsKept trees) image remains
+
+  -- files that held this state hold it still
+  abbrev pub StillHolds : Image → Remains T D g → State → Type 0
+  StillHolds image remains s = KeepsSuch (λ trees. LeavesState trees s) image remains
+
+  -- files that held nothing hold nothing still, a database without rows, or such a database
+  abbrev pub KeepsNothingBut : (Trees → Type 0) → Image → Remains T D g → Type 0
+  KeepsNothingBut P image (remains.Untouched start) = HoldsNothingBut P image
+  KeepsNothingBut P image (remains.NotOpened seal) = ⊤
+  KeepsNothingBut P image (remains.Leftover left) = LeftoverBlank P left
+  KeepsNothingBut P image (remains.Connection conn) = (trees : Trees) → (file_state conn).may_leave trees → IsEmpty trees ⊎ P trees

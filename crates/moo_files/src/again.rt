@@ -3,7 +3,7 @@
 ghost use Rattle.std.specs.Prelude.{◌≡◌, IfOk, IfErr, true};
 ghost use Rattle.sqlite.specs.Tree.{Trees};
 ghost use Rattle.sqlite.specs.State.{HasCleanDisk};
-ghost use Rattle.sqlite.specs.Files.{over_files, HoldsDatabase};
+ghost use Rattle.sqlite.specs.Files.{over_files};
 ghost use Rattle.sqlite.specs.WalFiles.{image_at};
 ghost use Rattle.moo_world.specs.Judge.{State};
 ghost use Rattle.moo_store.specs.Stand.{Stand, MayLeave};
@@ -25,7 +25,7 @@ pub fn open_again<T: Start, U: Start>(
     path: &str,
     crashed: &World<FileStore<FileFrom<T>>>,
     start: U,
-) -> Result<World<FileStore<FileFrom<U>>>, (StoreFault, Remains<FileFrom<U>>)>
+) -> Result<World<FileStore<FileFrom<U>>>, (StoreFault, Remains<U, FileFrom<U>>)>
     // What is found is a state that the crashed World's stand may leave, and it is never called damaged.
     ensures found { (stand : Stand) → CrashLeaves (store_of over_files crashed.now) stand → IsLeftBy (store_of over_files crashed.now) (image_at U.Start) →
         (s : State) × MayLeave stand s × IfOk result (λ world. HasCleanDisk (store_of over_files world) → StandsFor over_files true world s) }

@@ -2,11 +2,17 @@
 #![tactic(auto)]
 
 mod again;
+mod blank;
+mod closing;
+mod loading;
 mod making;
 mod opening;
 mod remains;
 
 pub use again::open_again;
+pub use blank::open_or_make;
+pub use closing::close_connection;
+pub use loading::load_from;
 pub use making::{create_at, create_from};
 pub use opening::{open_at, open_from};
-pub use remains::Remains;
+pub use remains::{NotOpened, Remains};

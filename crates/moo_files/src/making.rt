@@ -2,7 +2,8 @@
 
 ghost use Rattle.std.specs.Prelude.{◌≡◌, ◌≢◌, ◌⊎◌, IfOk, IfErr, IsErrAnd, false, true};
 ghost use Rattle.sqlite.specs.State.{HasCleanDisk, Survives};
-ghost use Rattle.sqlite.specs.Files.{over_files, file_state};
+ghost use Rattle.sqlite.specs.Tree.{Trees};
+ghost use Rattle.sqlite.specs.Files.{over_files, file_state, IsNothing};
 ghost use Rattle.sqlite.specs.WalFiles.{image_at};
 ghost use Rattle.moo_rows.specs.Opening.{opening_maps};
 ghost use Rattle.moo_world.specs.Judge.{State, state_of};
@@ -10,11 +11,10 @@ ghost use Rattle.moo_tables.specs.Tables.{no_schema};
 ghost use Rattle.moo_store.specs.States.{LeavesState};
 ghost use Rattle.moo_store.specs.Opening.{IsOfStore};
 ghost use Rattle.moo_store.specs.World.{store_of, StandsFor, Left};
-ghost use Rattle.moo_files.specs.Contents.{HoldsState};
-ghost use Rattle.moo_files.specs.Remains.{IsCleanRemains, StillHolds};
+ghost use Rattle.moo_files.specs.Contents.{HoldsTrees, HoldsState, HasAnyTable};
+ghost use Rattle.moo_files.specs.Remains.{IsCleanRemains, MayStopAs, KeepsSuch, StillHolds, KeepsNothingBut};
 
-use crate::opening::open_connection;
-use crate::remains::Remains;
+use crate::remains::{Remains, open_new};
 use moo_store::{StoreFault, World, create_in};
 use sqlite::{Connection, Error, ErrorCode, File, FileFrom, FileStore, Start, Unknown};
 use sqlite_disk::Disk;
@@ -37,28 +37,35 @@ pub fn create_files<D: Disk + Drop>(
 }
 
 /// `World::leaves` at the store in files, for a World that works.
-fn leaves_its_state<D: Disk + Drop>(world: &World<FileStore<D>>)
+pub(crate) fn leaves_its_state<D: Disk + Drop>(world: &World<FileStore<D>>)
     ensures { (s : State) → StandsFor over_files true world.now s → HasCleanDisk (store_of over_files world.now) → Left (store_of over_files world.now) s }
 {
     world.leaves();
 }
 
-/// `create_at`, where `T` stands for what the files hold: it is proved for all contents, and no code reads them.
+/// As `create_at`, for any contents: `T` stands for what the files hold, and no code reads it.
 pub fn create_from<T: Start>(
     rt: &HostRuntime,
     path: &str,
     start: T,
-) -> Result<World<FileStore<FileFrom<T>>>, (StoreFault, Remains<FileFrom<T>>)>
+) -> Result<World<FileStore<FileFrom<T>>>, (StoreFault, Remains<T, FileFrom<T>>)>
     ensures stands { IfOk result (λ world. StandsFor over_files true world (state_of opening_maps)) }
-    // Files that hold a world are no place for another.
+    // A file that holds a world takes no other.
     ensures taken { (s : State) → HoldsState (image_at T.Start) s → IfOk result (λ world. HasCleanDisk (store_of over_files world) → ⊥) }
     ensures fault { IfErr result (λ e. IsOfStore e.0) }
-    // After a refusal they hold it still, and so does what a crash leaves.
+    // After a refusal files that held any table hold the same database, and so does what a crash leaves. Of those that held none, or
+    // nothing, a crash leaves nothing else than the opening world.
+    ensures kept { (trees : Trees) → HoldsTrees (image_at T.Start) trees → HasAnyTable trees → IfErr result (λ e. IsCleanRemains e.1 → KeepsSuch (λ found. found ≡ trees) (image_at T.Start) e.1) }
+    ensures trees { (trees : Trees) → HoldsTrees (image_at T.Start) trees → IfErr result (λ e. IsCleanRemains e.1 → KeepsSuch (λ found. (found ≡ trees) ⊎ LeavesState found (state_of opening_maps)) (image_at T.Start) e.1) }
+    ensures blank { IsNothing (image_at T.Start) → IfErr result (λ e. IsCleanRemains e.1 → KeepsNothingBut (λ found. LeavesState found (state_of opening_maps)) (image_at T.Start) e.1) }
+    // A file that wasn't opened is refused for one of few reasons.
+    ensures stopped { IfErr result (λ e. MayStopAs e.0 e.1) }
+    // So a state that they held is there still.
     ensures refused { (s : State) → HoldsState (image_at T.Start) s → IfErr result (λ e. IsCleanRemains e.1 → StillHolds (image_at T.Start) e.1 s) }
     // A crash of a new World leaves it as it was made.
     ensures crash { IfOk result (λ world. HasCleanDisk (store_of over_files world) → Left (store_of over_files world) (state_of opening_maps)) }
 {
-    let conn = match open_connection(rt, path, start) {
+    let conn = match open_new(rt, path, start) {
         Ok(conn) => conn,
         Err((fault, remains)) => return Err((fault, remains)),
     };
@@ -71,10 +78,11 @@ pub fn create_from<T: Start>(
     }
 }
 
-/// Makes a new world in a file that holds no table, or makes the file.
+/// Makes a new world in a file that holds no table, or makes the file. A file that it makes, or that held no database, has pages of
+/// 1,024 bytes.
 ///
 /// Store with `ErrorCode::NameTaken`: it has a table, an index or a view already, and stays as it is. Store with any other code:
-/// the file can't be made or opened, is no database, is open elsewhere, or the disk failed. OutOfMemory: memory was refused. At
+/// the file can't be made or opened, isn't a database, is open elsewhere, or the disk failed. OutOfMemory: memory was refused. At
 /// each refusal the file is closed.
 pub fn create_at(rt: &HostRuntime, path: &str) -> Result<World<FileStore<File>>, StoreFault>
     ensures stands { IfOk result (λ world. StandsFor over_files true world (state_of opening_maps)) }
@@ -83,7 +91,7 @@ pub fn create_at(rt: &HostRuntime, path: &str) -> Result<World<FileStore<File>>,
     match create_from(rt, path, Unknown) {
         Ok(world) => Ok(world),
         Err((fault, remains)) => {
-            remains.close();
+            let _closed = remains.close();
             Err(fault)
         }
     }

@@ -1,93 +1,47 @@
 //! Opening the world that a file holds.
 
-ghost use Rattle.std.specs.Prelude.{◌≡◌, ◌≢◌, ◌⊎◌, [], IfOk, IfErr, IsErrAnd, IfSome, MatchOption, IsTrue, false, true};
+ghost use Rattle.std.specs.Prelude.{◌≡◌, ◌≢◌, ◌⊎◌, IfOk, IfErr, IsErr, IsErrAnd, Some, None, IfSome, IsTrue, false, true};
+ghost use Rattle.std.specs.Fs.{file_type, metadata_len, IsFile};
 ghost use Rattle.sqlite.specs.State.{HasCleanDisk, Survives};
-ghost use Rattle.sqlite.specs.Files.{over_files, file_state, IsOpened, HoldsDatabase};
-ghost use Rattle.sqlite.specs.Start.{FindsIn};
+ghost use Rattle.sqlite.specs.Files.{over_files, file_state, IsNothing};
 ghost use Rattle.sqlite.specs.WalFiles.{image_at};
 ghost use Rattle.moo_world.specs.Rows.{IsGood};
 ghost use Rattle.moo_world.specs.Judge.{State, state_of};
 ghost use Rattle.moo_tables.specs.Tables.{Tables, schema_of};
 ghost use Rattle.moo_tables.specs.declared.version.Version.{Version};
 ghost use Rattle.sqlite.specs.Tree.{Trees};
-ghost use Rattle.moo_tables.specs.Inside.{Rests, RestsAt, Leaves};
+ghost use Rattle.moo_tables.specs.Inside.{Rests, RestsAt};
 ghost use Rattle.moo_cells.specs.Shows.{ShowsRows};
 ghost use Rattle.moo_store.specs.States.{ShowsState};
-ghost use Rattle.moo_store.specs.Opening.{Says, IsOfStore, Adopts};
+ghost use Rattle.moo_store.specs.Opening.{Says, IsOfStore, Adopts, not_ours};
 ghost use Rattle.moo_store.specs.World.{store_of, StandsFor, Left};
-ghost use Rattle.moo_files.specs.Contents.{HoldsTables, HoldsState, HasOtherTables};
-ghost use Rattle.moo_files.specs.Remains.{IsCleanRemains, StillHolds};
+ghost use Rattle.moo_files.specs.Contents.{HoldsTrees, HoldsTables, HoldsState, HasOtherTables};
+ghost use Rattle.moo_files.specs.Remains.{cannot_open, IsCleanRemains, MayStopAs, StillHolds, StillHoldsTrees, KeepsNothingBut};
 
-use crate::remains::Remains;
+use crate::remains::{Remains, open_connection};
 use moo_store::{StoreFault, World, adopt};
-use moo_tables::left_is_committed;
-use sqlite::{Connection, Error, ErrorCode, File, FileFrom, FileStore, Leftover, Start, Unknown};
+use sqlite::{Connection, Error, ErrorCode, File, FileFrom, FileStore, Start, Unknown};
 use sqlite_disk::Disk;
 use std::alloc::Global;
-use std::fs;
+use std::fs::{self, Metadata};
+use std::io;
 
 const CANNOT_OPEN: StoreFault = StoreFault::Store(Error::SqliteFailure(ErrorCode::CannotOpen));
 
 const NO_DATABASE: StoreFault = StoreFault::Store(Error::SqliteFailure(ErrorCode::NotADatabase));
 
-/// Why a file is refused before it is opened: there is none, or it holds no byte. An empty file would be made a blank database
-/// by opening it. A log beside an empty file counts for nothing.
-fn unfit(rt: &HostRuntime, path: &str) -> Option<StoreFault>
-    ensures { IfSome result IsOfStore }
+/// Why a file with this metadata is refused before it is opened: there is none, or it holds no byte. An empty file would be made a
+/// blank database by opening it. A log beside an empty file counts for nothing.
+fn unfit(found: io::Result<Metadata>) -> Option<StoreFault>
+    ensures missing { IsErr found → result ≡ Some cannot_open }
+    ensures empty { IfOk found (λ meta. IsFile (file_type meta) → metadata_len meta ≡ 0 → result ≡ Some not_ours) }
+    ensures fit { IfOk found (λ meta. (IsFile (file_type meta) → metadata_len meta ≢ 0) → result ≡ None) }
+    ensures fault { IfSome result (λ fault. (fault ≡ cannot_open) ⊎ (fault ≡ not_ours)) }
 {
-    match fs::metadata(rt, path) {
+    match found {
         Ok(data) if data.is_file() && data.len() == 0 => Some(NO_DATABASE),
-        Ok(_) => None,
-        Err(_) => Some(CANNOT_OPEN),
-    }
-}
-
-/// Why a database can't be opened, as a fault.
-pub(crate) fn open_fault(error: Error) -> StoreFault
-    ensures { IsOfStore result }
-{
-    match error {
-        Error::SqliteFailure(ErrorCode::OutOfMemory) => StoreFault::OutOfMemory,
-        error => StoreFault::Store(error),
-    }
-}
-
-/// `left_is_committed` at the store in files.
-fn leave_their_tables<D: Disk + Drop>(conn: &Connection<FileStore<D>>)
-    ensures { (tables : Tables) → Rests (file_state conn.now) tables → (trees : Trees) → (file_state conn.now).may_leave trees → Leaves trees tables }
-{
-    left_is_committed(conn);
-}
-
-/// What is left of the files where no connection to them was opened.
-fn remains_of<D: Disk>(left: Option<Leftover<D>>) -> Remains<D>
-    ensures { MatchOption left (result ≡ Remains.Untouched) (λ it. result ≡ Remains.Leftover it) }
-{
-    match left {
-        None => Remains::Untouched,
-        Some(left) => Remains::Leftover(left),
-    }
-}
-
-/// A connection to the files, or the fault and what is left of them.
-pub(crate) fn open_connection<T: Start>(
-    rt: &HostRuntime,
-    path: &str,
-    start: T,
-) -> Result<Connection<FileStore<FileFrom<T>>>, (StoreFault, Remains<FileFrom<T>>)>
-    ensures opened { IfOk result (λ conn. HasCleanDisk (file_state conn) → IsOpened conn) }
-    ensures found { IfOk result (λ conn. HasCleanDisk (file_state conn) → FindsIn (image_at T.Start) (file_state conn)) }
-    ensures outside { IfOk result (λ conn. conn.in_transaction ≡ false) }
-    ensures left { IfOk result (λ conn. (tables : Tables) → Rests (file_state conn) tables → (trees : Trees) → (file_state conn).may_leave trees → Leaves trees tables) }
-    ensures fault { IfErr result (λ e. IsOfStore e.0) }
-    ensures refused { (s : State) → HoldsState (image_at T.Start) s → IfErr result (λ e. IsCleanRemains e.1 → StillHolds (image_at T.Start) e.1 s) }
-{
-    match Connection::open_from(rt, path, false, start) {
-        Ok(conn) => {
-            leave_their_tables(&conn);
-            Ok(conn)
-        }
-        Err((error, left)) => Err((open_fault(error), remains_of(left))),
+        Ok(_data) => None,
+        Err(_error) => Some(CANNOT_OPEN),
     }
 }
 
@@ -109,7 +63,7 @@ pub fn adopt_files<D: Disk + Drop>(
     // Whatever is opened, its rows are good, and what is said of rows alone is said of them.
     ensures rows { IfOk result (λ world. IsGood world.rows.maps × StandsFor over_files false world (state_of world.rows.maps)) }
     ensures works { IfOk result (λ world. world.failed ≡ false) }
-    // A crash leaves what it could leave before, or of tables of the first version those that they were taken over to; and a refusal leaves
+    // A crash leaves what it could leave before, or of tables of the first version those that they were migrated to; and a refusal leaves
     // the database as it was.
     ensures crash { IfOk result (λ world. Survives (file_state conn) (store_of over_files world) (Adopts (file_state conn))) }
     ensures crash_refused { IfErr result (λ e. Survives (file_state conn) (file_state e.1) (Adopts (file_state conn))) }
@@ -120,31 +74,37 @@ pub fn adopt_files<D: Disk + Drop>(
     adopt(alloc, conn)
 }
 
-/// `open_at`, where `T` stands for what the files hold: it is proved for all contents, and no code reads them.
+/// As `open_at`, for any contents: `T` stands for what the files hold, and no code reads it.
 pub fn open_from<T: Start>(
     rt: &HostRuntime,
     path: &str,
     start: T,
-) -> Result<World<FileStore<FileFrom<T>>>, (StoreFault, Remains<FileFrom<T>>)>
-    // Where they hold a state, a World that is opened stands for it, on a disk that returns what was written.
+) -> Result<World<FileStore<FileFrom<T>>>, (StoreFault, Remains<T, FileFrom<T>>)>
+    // If they hold a state, a World that is opened stands for it, on a disk that returns what was written.
     ensures kept { (s : State) → HoldsState (image_at T.Start) s → IfOk result (λ world. HasCleanDisk (store_of over_files world) → StandsFor over_files true world s) }
-    // Where they hold tables that show no world, none is opened: the rows are those that the tables show.
+    // If they hold tables that show no world, none is opened: the rows are those that the tables show.
     ensures only { (tables : Tables) → HoldsTables (image_at T.Start) tables → IfOk result (λ world. HasCleanDisk (store_of over_files world) → ShowsRows tables world.rows.maps) }
-    // Where they hold nothing, or other tables than ours, none is opened.
-    ensures nothing { (image_at T.Start).db ≡ [] → IfOk result (λ world. HasCleanDisk (store_of over_files world) → ⊥) }
-    ensures other { (trees : Trees) → HoldsDatabase (image_at T.Start) trees → HasOtherTables trees → IfOk result (λ world. HasCleanDisk (store_of over_files world) → ⊥) }
+    // If they hold nothing, or other tables than ours, none is opened.
+    ensures nothing { IsNothing (image_at T.Start) → IfOk result (λ world. HasCleanDisk (store_of over_files world) → ⊥) }
+    ensures other { (trees : Trees) → HoldsTrees (image_at T.Start) trees → HasOtherTables trees → IfOk result (λ world. HasCleanDisk (store_of over_files world) → ⊥) }
     // Whatever they hold, its rows are good, and what is said of rows alone is said of them.
     ensures rows { IfOk result (λ world. IsGood world.rows.maps × StandsFor over_files false world (state_of world.rows.maps)) }
     ensures works { IfOk result (λ world. world.failed ≡ false) }
-    // Where they hold a state, no refusal tells of damage. Where they hold tables, a damage that is told is theirs.
+    // If they hold a state, no refusal tells of damage. If they hold tables, a damage that is told is theirs.
     ensures whole { (s : State) → HoldsState (image_at T.Start) s → IfErr result (λ e. IsCleanRemains e.1 → IsOfStore e.0) }
     ensures fault { (tables : Tables) → HoldsTables (image_at T.Start) tables → IfErr result (λ e. IsCleanRemains e.1 → Says tables e.0) }
-    // After a refusal they hold the state still, and so does what a crash leaves, then and of a World that was opened.
+    // After a refusal they hold the database that they held, whatever its tables are, or what these were migrated to, and so does
+    // what a crash leaves. Files that held nothing hold nothing, or a database without rows.
+    ensures trees { (trees : Trees) → HoldsTrees (image_at T.Start) trees → IfErr result (λ e. IsCleanRemains e.1 → StillHoldsTrees (image_at T.Start) e.1 trees) }
+    ensures blank { IsNothing (image_at T.Start) → IfErr result (λ e. IsCleanRemains e.1 → KeepsNothingBut (λ _. ⊥) (image_at T.Start) e.1) }
+    // A file that wasn't opened is refused for one of few reasons.
+    ensures stopped { IfErr result (λ e. MayStopAs e.0 e.1) }
+    // So a state that they held is there after a refusal, and so it is after a crash, then and of a World that was opened.
     ensures refused { (s : State) → HoldsState (image_at T.Start) s → IfErr result (λ e. IsCleanRemains e.1 → StillHolds (image_at T.Start) e.1 s) }
     ensures crash { (s : State) → HoldsState (image_at T.Start) s → IfOk result (λ world. HasCleanDisk (store_of over_files world) → Left (store_of over_files world) s) }
 {
-    if let Some(fault) = unfit(rt, path) {
-        return Err((fault, Remains::Untouched));
+    if let Some(fault) = unfit(fs::metadata(rt, path)) {
+        return Err((fault, Remains::Untouched(start)));
     }
     let conn = match open_connection(rt, path, start) {
         Ok(conn) => conn,
@@ -156,12 +116,12 @@ pub fn open_from<T: Start>(
     }
 }
 
-/// Opens the world that a file holds. It never makes the file. One of the first version is taken over to the second, in one
+/// Opens the world that a file holds. It never makes the file. One of the first version is migrated to the second, in one
 /// transaction, once the whole world was read and found sound; nothing else is written.
 ///
-/// Store with `ErrorCode::CannotOpen`: there is no file of this name, it is none, or it can't be opened. Store with
-/// `ErrorCode::DatabaseBusy`: another handle has it open. Store with `ErrorCode::NotADatabase`: it is no database, or has other
-/// tables than ours. Any other Store: the disk failed, or what it holds is no whole database. Damaged and NewerVersion: its
+/// Store with `ErrorCode::CannotOpen`: there is no file of this name, it isn't a file, or it can't be opened. Store with
+/// `ErrorCode::DatabaseBusy`: another handle has it open. Store with `ErrorCode::NotADatabase`: it isn't a database, or has
+/// other tables than ours. Any other Store: the disk failed, or what it holds isn't a whole database. Damaged and NewerVersion: its
 /// tables show no world, and say where, or are those of a later version. OutOfMemory: memory was refused. At each refusal the
 /// file is closed; a log that an earlier run left is copied into it first.
 pub fn open_at(rt: &HostRuntime, path: &str) -> Result<World<FileStore<File>>, StoreFault>
@@ -172,7 +132,7 @@ pub fn open_at(rt: &HostRuntime, path: &str) -> Result<World<FileStore<File>>, S
     match open_from(rt, path, Unknown) {
         Ok(world) => Ok(world),
         Err((fault, remains)) => {
-            remains.close();
+            let _closed = remains.close();
             Err(fault)
         }
     }

@@ -1,34 +1,188 @@
-//! What is left of the files after a refusal.
+//! A connection to the files of a world, or what is left of them after a refusal.
 
-use sqlite::{Connection, FileStore, Leftover};
+ghost use Rattle.std.specs.Prelude.{◌≡◌, ◌≢◌, ◌⊎◌, true, false, IfOk, IfErr, IsTrue, MatchOption};
+ghost use Rattle.sqlite.specs.Tree.{Trees};
+ghost use Rattle.sqlite.specs.State.{HasCleanDisk};
+ghost use Rattle.sqlite_std_file.specs.File.{file_is_usable, IsFresh};
+ghost use Rattle.sqlite.specs.Files.{file_state, IsOpened, IsNothing, IsEmpty};
+ghost use Rattle.moo_files.specs.Blank.{IsBlank};
+ghost use Rattle.sqlite.specs.Start.{FindsIn};
+ghost use Rattle.sqlite.specs.WalFiles.{image_at};
+ghost use Rattle.sqlite_wal.specs.Recovery.{Image};
+ghost use Rattle.moo_store.specs.Opening.{IsOfStore};
+ghost use Rattle.moo_files.specs.Contents.{HoldsTrees};
+ghost use Rattle.moo_files.specs.Remains.{cannot_open, busy, IsCleanRemains, MayStopAs, KeepsSuch, StillHolds, StillHoldsTrees, KeepsNothingBut};
+ghost use Rattle.moo_world.specs.Judge.{State};
+ghost use Rattle.moo_files.specs.Closing.{IsClosedFrom};
+
+use crate::blank::open_or_make;
+use crate::closing::{close_connection, leave_commit};
+use moo_store::StoreFault;
+use sqlite::{Connection, Error, ErrorCode, FileFrom, FileStore, Files, Leftover, Options, Start};
 use sqlite_disk::Disk;
+use sqlite_std_file::OpenError as PathError;
+use std::hash::{BuildHasher, RandomState};
+use std::io::ErrorKind;
 
-/// What is left of the files if no world was opened or made.
-pub enum Remains<D: Disk> {
-    /// Nothing was opened: there is no such file, it can't be opened, or it holds no byte.
-    Untouched,
-    /// What `sqlite` left of files that are no database, or couldn't be read as one.
+/// `sqlite` couldn't open the files, and handed nothing back. Only this module can say so.
+#[derive(Drop)]
+pub struct NotOpened(());
+
+/// What is left of the files if no world was opened or made. `T` is the start that is spent on opening them.
+pub enum Remains<T, D: Disk> {
+    /// `sqlite` wasn't asked, since there is no such file or it holds no byte. The start is unspent.
+    Untouched(T),
+    /// `sqlite` couldn't open the files, and handed nothing back.
+    NotOpened(NotOpened),
+    /// What `sqlite` left of files that aren't a database, or that it couldn't read as one.
     Leftover(Leftover<D>),
     /// The connection, outside a transaction.
     Connection(Connection<FileStore<D>>),
 }
 
 // It is written out, so that a caller doesn't prove again how each part is dropped.
-impl<D: Disk + Drop> Drop for Remains<D> {
+impl<T: Drop, D: Disk + Drop> Drop for Remains<T, D> {
     fn drop(self) {
         match self {
-            Remains::Untouched => {}
+            Remains::Untouched(_start) => {}
+            Remains::NotOpened(_seal) => {}
             Remains::Leftover(_left) => {}
             Remains::Connection(_conn) => {}
         }
     }
 }
 
-impl<D: Disk + Drop> Remains<D> {
-    /// Closes the files. The log of a connection is copied into its file first.
-    pub fn close(self) {
-        if let Remains::Connection(conn) = self {
-            let _closed = conn.close();
+impl<T: Drop, D: Disk + Drop> Remains<T, D> {
+    /// Closes a connection, as `close_connection` does; anything else comes back as it is.
+    pub fn close(self) -> Remains<T, D>
+        ensures closed { IsClosedFrom self result }
+        // So they hold once they are closed what they held before, and so does what a crash leaves of them.
+        ensures state { (image : Image) (s : State) → (IsCleanRemains self → StillHolds image self s) → IsCleanRemains result → StillHolds image result s }
+        ensures trees { (image : Image) (trees : Trees) → (IsCleanRemains self → StillHoldsTrees image self trees) → IsCleanRemains result → StillHoldsTrees image result trees }
+        ensures blank { (image : Image) → (IsCleanRemains self → KeepsNothingBut (λ _. ⊥) image self) → IsCleanRemains result → KeepsNothingBut (λ _. ⊥) image result }
+    {
+        match self {
+            Remains::Connection(conn) => Remains::Leftover(close_connection(conn)),
+            other => other,
         }
+    }
+}
+
+/// Why a database can't be opened, as a fault.
+fn open_fault(error: Error) -> StoreFault
+    ensures store { IsOfStore result }
+    ensures memory { error ≡ Error.SqliteFailure ErrorCode.OutOfMemory → result ≡ StoreFault.OutOfMemory }
+    ensures other { error ≢ Error.SqliteFailure ErrorCode.OutOfMemory → result ≡ StoreFault.Store error }
+{
+    match error {
+        Error::SqliteFailure(ErrorCode::OutOfMemory) => StoreFault::OutOfMemory,
+        error => StoreFault::Store(error),
+    }
+}
+
+/// What is left of the files if no connection to them was opened.
+fn remains_of<T, D: Disk>(left: Option<Leftover<D>>) -> Remains<T, D>
+    ensures { MatchOption left ((seal : _) × (result ≡ Remains.NotOpened seal)) (λ it. result ≡ Remains.Leftover it) }
+{
+    match left {
+        None => Remains::NotOpened(NotOpened(())),
+        Some(left) => Remains::Leftover(left),
+    }
+}
+
+const CANNOT_OPEN: StoreFault = StoreFault::Store(Error::SqliteFailure(ErrorCode::CannotOpen));
+
+const BUSY: StoreFault = StoreFault::Store(Error::SqliteFailure(ErrorCode::DatabaseBusy));
+
+/// Why the two files at a path can't be opened, as a fault.
+fn path_fault(error: PathError) -> StoreFault
+    ensures { (result ≡ cannot_open) ⊎ ((result ≡ StoreFault.OutOfMemory) ⊎ (result ≡ busy)) }
+{
+    match error {
+        PathError::OutOfMemory => StoreFault::OutOfMemory,
+        PathError::Busy => BUSY,
+        PathError::Io(error) if error.kind() == ErrorKind::OutOfMemory => StoreFault::OutOfMemory,
+        _ => CANNOT_OPEN,
+    }
+}
+
+/// The two files at a path, as `sqlite` opens them. `:memory:` and a URI aren't paths.
+fn open_pair<T: Start>(
+    rt: &HostRuntime,
+    path: &str,
+    start: T,
+) -> Result<Files<FileFrom<T>>, StoreFault>
+    ensures usable { IfOk result (λ files. IsTrue (file_is_usable T.Start files.log) × IsTrue (file_is_usable T.Start files.db)) }
+    ensures fresh { IfOk result (λ files. IsFresh true files.log × IsFresh false files.db) }
+    ensures fault { IfErr result (λ fault. (fault ≡ cannot_open) ⊎ ((fault ≡ StoreFault.OutOfMemory) ⊎ (fault ≡ busy))) }
+{
+    if path == ":memory:" || path.starts_with("file:") {
+        return Err(CANNOT_OPEN);
+    }
+    match sqlite_std_file::open(rt, path, start) {
+        Ok(files) => Ok(files),
+        Err(error) => Err(path_fault(error)),
+    }
+}
+
+/// How `sqlite` opens files, with a random seed for the log's salts. None if there is none.
+fn options(rt: &HostRuntime) -> Option<Options> {
+    let state = RandomState::new(rt).ok()?;
+    Some(Options::new(state.hash_one(&0u8)))
+}
+
+/// A connection to files in which a world is to be made, or the fault and what is left of them. In files that hold no database a
+/// blank one is made first, as `open_or_make` does.
+pub(crate) fn open_new<T: Start>(
+    rt: &HostRuntime,
+    path: &str,
+    start: T,
+) -> Result<Connection<FileStore<FileFrom<T>>>, (StoreFault, Remains<T, FileFrom<T>>)>
+    ensures opened { IfOk result (λ conn. HasCleanDisk (file_state conn) → IsOpened conn) }
+    ensures found { IfOk result (λ conn. HasCleanDisk (file_state conn) → (IsBlank (image_at T.Start) × IsEmpty (file_state conn).committed.trees) ⊎ FindsIn (image_at T.Start) (file_state conn)) }
+    ensures outside { IfOk result (λ conn. conn.in_transaction ≡ false) }
+    ensures left { IfOk result (λ conn. IsTrue (file_state conn).is_open → (trees : Trees) → (file_state conn).may_leave trees → trees ≡ (file_state conn).committed.trees) }
+    ensures fault { IfErr result (λ e. IsOfStore e.0) }
+    ensures stopped { IfErr result (λ e. MayStopAs e.0 e.1) }
+    ensures kept { (trees : Trees) → HoldsTrees (image_at T.Start) trees → IfErr result (λ e. IsCleanRemains e.1 → KeepsSuch (λ found. found ≡ trees) (image_at T.Start) e.1) }
+    ensures blank { IsNothing (image_at T.Start) → IfErr result (λ e. IsCleanRemains e.1 → KeepsNothingBut (λ _. ⊥) (image_at T.Start) e.1) }
+{
+    let Some(options) = options(rt) else {
+        return Err((CANNOT_OPEN, remains_of(None)));
+    };
+    let files = match open_pair(rt, path, start) {
+        Ok(files) => files,
+        Err(fault) => return Err((fault, remains_of(None))),
+    };
+    match open_or_make(rt.alloc(), files, options) {
+        Ok(made) => {
+            leave_commit(&made);
+            Ok(made)
+        }
+        Err((error, left)) => Err((open_fault(error), Remains::Leftover(left))),
+    }
+}
+
+/// A connection to the files, or the fault and what is left of them.
+pub(crate) fn open_connection<T: Start>(
+    rt: &HostRuntime,
+    path: &str,
+    start: T,
+) -> Result<Connection<FileStore<FileFrom<T>>>, (StoreFault, Remains<T, FileFrom<T>>)>
+    ensures opened { IfOk result (λ conn. HasCleanDisk (file_state conn) → IsOpened conn) }
+    ensures found { IfOk result (λ conn. HasCleanDisk (file_state conn) → FindsIn (image_at T.Start) (file_state conn)) }
+    ensures outside { IfOk result (λ conn. conn.in_transaction ≡ false) }
+    ensures left { IfOk result (λ conn. IsTrue (file_state conn).is_open → (trees : Trees) → (file_state conn).may_leave trees → trees ≡ (file_state conn).committed.trees) }
+    ensures fault { IfErr result (λ e. IsOfStore e.0) }
+    ensures stopped { IfErr result (λ e. MayStopAs e.0 e.1) }
+    ensures kept { (trees : Trees) → HoldsTrees (image_at T.Start) trees → IfErr result (λ e. IsCleanRemains e.1 → KeepsSuch (λ found. found ≡ trees) (image_at T.Start) e.1) }
+    ensures blank { IsNothing (image_at T.Start) → IfErr result (λ e. IsCleanRemains e.1 → KeepsNothingBut (λ _. ⊥) (image_at T.Start) e.1) }
+{
+    match Connection::open_from(rt, path, false, start) {
+        Ok(conn) => {
+            leave_commit(&conn);
+            Ok(conn)
+        }
+        Err((error, left)) => Err((open_fault(error), remains_of(left))),
     }
 }

@@ -81,7 +81,7 @@ impl Flat {
         }
     }
 
-    /// Equal rows, with a count of writes of their own. An `Err` is want of memory.
+    /// Equal rows, with a count of writes of their own. An `Err` is a lack of memory.
     pub fn copy(&self, _alloc: Global) -> Result<Flat, AllocError>
         ensures { IfOk result (λ copy. copy.maps ≡ self.now.maps) }
     {

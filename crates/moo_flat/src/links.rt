@@ -151,7 +151,7 @@ impl Links {
         }
     }
 
-    /// The same. An `Err` is want of memory.
+    /// The same. An `Err` is a lack of memory.
     pub fn copy(&self) -> Result<Links, AllocError>
         ensures { IfOk result (λ copy. copy ≡ self.now) }
     {
@@ -173,7 +173,7 @@ impl Links {
         }
     }
 
-    /// The next object that is to be looked at for the link: of all that are held where it is to `#-1`, else of those that are kept
+    /// The next object that is to be looked at for the link: of all that are held if it is to `#-1`, else of those that are kept
     /// for it. Takes no memory.
     pub fn next<V>(&self, held: &BTreeMap<ObjNo, V>, link: Link, after: ObjNo) -> Option<ObjNo>
         ensures { IsFirst object_cmp (is_candidate self.now (contents object_cmp held.now) link) after result }

@@ -13,8 +13,8 @@ const ROOT: ObjNo = ObjNo(1);
 
 const WIZARD: ObjNo = ObjNo(3);
 
-/// Puts the rows that a new world begins with where none are: the system object, the root class, the first room and the
-/// wizard. An `Err` is want of memory, and some of them may stand then.
+/// Puts the rows that a new world begins with if there are none: the system object, the root class, the first room and the
+/// wizard. An `Err` is a lack of memory, and some of them may be there then.
 pub fn put_opening<R: Rows>(rows: &mut R, alloc: Global) -> Result<(), AllocError>
     ensures maps { OnOk result ((R.held rows.old).maps ≡ no_maps → (R.held rows.new).maps ≡ opening_maps) }
     ensures base { OnOk result ((R.held rows.new).base ≡ (R.held rows.old).base) }
@@ -39,7 +39,7 @@ pub fn put_opening<R: Rows>(rows: &mut R, alloc: Global) -> Result<(), AllocErro
     Ok(())
 }
 
-/// The rows that a new world begins with. An `Err` is want of memory.
+/// The rows that a new world begins with. An `Err` is a lack of memory.
 pub fn opening_world(alloc: Global) -> Result<Flat, AllocError>
     ensures { IfOk result (λ rows. rows.maps ≡ opening_maps) }
 {

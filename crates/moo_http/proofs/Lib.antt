@@ -1,4 +1,6 @@
 pub mod Consulting
 pub mod Serving
 pub mod Connections
+pub mod Turns
+pub mod Draining
 pub mod Defined

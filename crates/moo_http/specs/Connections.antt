@@ -15,7 +15,7 @@ use Rattle.moo_http.specs.Answers.{MayAnswer}
 use Rattle.moo_http.specs.Serves.{Served}
 use Rattle.moo_http.specs.Lines.{listening_line, served_line}
 
--- One connection leaves the World where it stood, or where what was asked leaves it.
+-- One connection leaves the World where it stood, or where what it asked leaves it.
 abbrev pub Moves : Stand → Stand → Type 0
 Moves old new = (new ≡ old) ⊎ ((asked : Asked) × (o : Outcome) × MayAnswer old asked o new)
 
@@ -40,15 +40,23 @@ pub record StandsAtEnd {S : Type 0} (g : Ghosts S) (known : Bool) (world : World
 abbrev pub WritesFront : List ℕ → Option (List ℕ) → Option (List ℕ) → Type 0
 WritesFront text before behind = (sent : ℕ) × Appends before behind (take sent text)
 
+-- This text says how many of so many connections were answered and how many failed, and this holds of the two numbers.
+abbrev pub SaysAll : (ℕ → ℕ → Type 0) → ℕ → ℕ → List ℕ → Type 0
+SaysAll Holds port count text =
+    (answered failed : ℕ) × (answered + failed ≡ count) × Holds answered failed × (text ≡ listening_line port ++ served_line answered failed)
+
+-- What comes of the service, by its result. If the output fails or memory runs out, no connection is taken yet, or each is.
+abbrev pub SaysByResult : (ℕ → ℕ → Type 0) → Type 0 → Result (Unit {0}) ServiceFault → ℕ → ℕ → Option (List ℕ) → Option (List ℕ) → Type 0
+SaysByResult Holds Stays (Ok done) port count before after = (text : List ℕ) × SaysAll Holds port count text × Appends before after text
+SaysByResult Holds Stays (Err Port) port count before after = Stays × (after ≡ before)
+SaysByResult Holds Stays (Err fault) port count before after =
+    (Stays × WritesFront (listening_line port) before after)
+    ⊎ ((text : List ℕ) × SaysAll Holds port count text × WritesFront text before after)
+
 -- So many connections are taken on a port, and this text says how many of them were answered and how many failed.
 abbrev pub ServesAll : ℕ → ℕ → Stand → Stand → List ℕ → Type 0
-ServesAll port count old new text =
-    (answered failed : ℕ) × (answered + failed ≡ count) × AfterConnections count old new × (text ≡ listening_line port ++ served_line answered failed)
+ServesAll port count old new text = SaysAll (λ answered failed. AfterConnections count old new) port count text
 
--- What comes of the service, by its result. Where the output fails or memory runs out, no connection is taken yet, or each is.
+-- What comes of the service on a port, by its result.
 abbrev pub ServesPort : Result (Unit {0}) ServiceFault → ℕ → ℕ → Stand → Stand → Option (List ℕ) → Option (List ℕ) → Type 0
-ServesPort (Ok done) port count old new before behind = (text : List ℕ) × ServesAll port count old new text × Appends before behind text
-ServesPort (Err Port) port count old new before behind = (new ≡ old) × (behind ≡ before)
-ServesPort (Err fault) port count old new before behind =
-    ((new ≡ old) × WritesFront (listening_line port) before behind)
-    ⊎ ((text : List ℕ) × ServesAll port count old new text × WritesFront text before behind)
+ServesPort result port count old new before after = SaysByResult (λ answered failed. AfterConnections count old new) (new ≡ old) result port count before after

@@ -1,4 +1,4 @@
--- The fault of a connection whose request was not read.
+-- The fault of a connection whose request wasn't read.
 use Rattle.moo_request.specs.declared.fault.ReadFault.{ReadFault}
 use Rattle.moo_request.specs.declared.fault.ReadFault.TheVariants as read
 use Rattle.moo_http.specs.declared.fault.ServeFault.{ServeFault}

@@ -4,3 +4,5 @@ pub mod Settled
 pub mod Serves
 pub mod Lines
 pub mod Connections
+pub mod Turns
+pub mod Linger

@@ -15,7 +15,7 @@ use Rattle.moo_responses.specs.declared.outcome.Outcome.{Outcome}
 use Rattle.moo_http.specs.Answers.{MayAnswer}
 use Rattle.moo_responses.specs.Responses.{response_of, response_text}
 
--- the answer to what is received: nothing where nothing came
+-- the answer to what is received: nothing if nothing came
 abbrev pub Gets : Stand → Received → List ℕ → Stand → Type 0
 Gets old Nothing output new = (output ≡ []) × (new ≡ old)
 Gets old (Request is_head asked) output new = (o : Outcome) × MayAnswer old asked o new × (output ≡ response_text is_head (response_of o))
@@ -35,15 +35,15 @@ pub record StandsStill {S : Type 0} (g : Ghosts S) (known : Bool) (old : Stand) 
   pub same : world ≡ was
   pub crash : IsTrue known → HasCleanDisk (store_of g world) → CrashLeaves (store_of g world) old
 
--- what is written of an output, by the result: all of it, or where the writer failed a front of it, or nothing
+-- what is written of an output, by the result: all of it; or a front of it, if the writer failed; or nothing
 abbrev pub Written : Result (Unit {0}) ServeFault → Option (List ℕ) → Option (List ℕ) → List ℕ → Type 0
 Written (Ok done) before behind output = Appends before behind output
 Written (Err Write) before behind output = (sent : ℕ) × Appends before behind (take sent output)
 Written (Err Read) before behind output = behind ≡ before
 Written (Err OutOfMemory) before behind output = behind ≡ before
 
--- What came of a connection, by the result: its request is served, and the answer written; or a front of the answer; or, where the
--- reader failed, nothing; or memory was refused, before the World was asked or behind it, and nothing is written.
+-- What came of a connection, by the result: its request is served, and the answer written; or a front of the answer; or, if the reader
+-- failed, nothing; or memory was refused, before the World was asked or after that, and nothing is written.
 abbrev pub Served : {S : Type 0} (g : Ghosts S) → Bool → Result (Unit {0}) ServeFault → Stand → World S → World S → Option (List ℕ) → Option (List ℕ) → Option (List ℕ) → Option (List ℕ) → Type 0
 Served g known (Ok done) old was world left rest before behind = (output : List ℕ) × Serves g known old left rest world output × Appends before behind output
 Served g known (Err Write) old was world left rest before behind = (output : List ℕ) × Serves g known old left rest world output × (sent : ℕ) × Appends before behind (take sent output)

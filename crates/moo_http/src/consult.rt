@@ -78,7 +78,7 @@ fn ask_seq<S: Alter + Drop>(world: &World<S>) -> Outcome
     }
 }
 
-/// What comes of a look, which shows nothing where there is no object.
+/// What comes of a look. It shows nothing if there isn't such an object.
 fn show(look: Option<Look>) -> Outcome
     ensures { result ≡ looked look }
 {

@@ -1,4 +1,4 @@
-//! Why a connection was not served.
+//! Why a connection wasn't served.
 
 ghost use Rattle.std.specs.Prelude.{◌≡◌};
 ghost use Rattle.moo_http.specs.declared.fault.ServeFault.TheVariants.{OutOfMemory};
@@ -8,7 +8,7 @@ use moo_request::ReadFault;
 use std::alloc::AllocError;
 use thiserror::Error;
 
-/// Why a connection was not served.
+/// Why a connection wasn't served.
 #[derive(Clone, Copy, Debug, PartialEq, Eq, Drop, Error)]
 pub enum ServeFault {
     /// The reader failed; nothing is written, and nothing changed.
@@ -18,7 +18,7 @@ pub enum ServeFault {
     #[error("the answer can't be written")]
     Write,
     /// Memory ran out; nothing is written, and what was asked may be done.
-    #[error("no memory")]
+    #[error("out of memory")]
     OutOfMemory,
 }
 

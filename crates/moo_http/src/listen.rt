@@ -4,31 +4,25 @@ ghost use Rattle.std.specs.Prelude.{◌≡◌, ◌+◌, Bool, true, false, IsTru
 ghost use Rattle.sqlite.specs.State.{HasCleanDisk};
 ghost use Rattle.moo_store.specs.Stand.{Stand};
 ghost use Rattle.moo_store.specs.World.{store_of, StandsAt};
-ghost use Rattle.moo_http.specs.Connections.{Moves, Connected, AfterConnections, StandsAtEnd};
+ghost use Rattle.moo_http.specs.Connections.{Connected, StandsAtEnd};
+ghost use Rattle.moo_http.specs.Turns.{Visited, Visit, Attended};
 
+use crate::arrivals::{Arrivals, Connection};
+use crate::log::Log;
+use crate::note::{Note, Trouble};
 use crate::serve::serve_one;
 use moo_request::Routes;
 use moo_store::World;
 use sqlite::Alter;
 use std::alloc::Global;
-use std::io::{Read, Write};
-use std::net::{TcpListener, TcpStream};
-use std::time::Duration;
-
-/// How long one read or write of a connection may wait, in seconds.
-const PATIENCE: u64 = 10;
+use std::io::{Eprint, Read, Write};
+use std::time::Clock;
 
 /// How many connections were answered, and how many failed.
 #[derive(Clone, Copy, Debug, PartialEq, Eq, Drop)]
 pub struct Served {
     pub answered: u32,
     pub failed: u32,
-}
-
-/// Has a silent peer's reads and writes fail after a while; whether the connection took that.
-fn limit_waits(stream: &TcpStream) -> bool {
-    let patience = Some(Duration::from_secs(PATIENCE));
-    stream.set_read_timeout(patience).is_ok() && stream.set_write_timeout(patience).is_ok()
 }
 
 /// Serves a connection, of which these are the reader and the writer; whether it was answered. If its waits aren't limited, nothing is
@@ -40,52 +34,83 @@ pub fn serve_connection<S: Alter + Drop, R: Read, W: Write>(
     reader: &mut R,
     writer: &mut W,
     world: &mut World<S>,
+    note: &mut Note,
 ) -> bool
     // It is answered, and then all of its answer is written; or it met a fault of `serve_one`, and what was written of the answer is
     // by the fault.
     ensures served { IsTrue is_limited → (known : Bool) (stand : Stand) → StandsAt S.Store known world.old stand →
         Connected S.Store known result stand world.old world.new (R.remaining reader.old) (R.remaining reader.new) (W.contents writer.old) (W.contents writer.new) }
     ensures unlimited { is_limited ≡ false → (result ≡ false) × (world.new ≡ world.old) × (reader.new ≡ reader.old) × (writer.new ≡ writer.old) }
-    ensures moves { (known : Bool) (stand : Stand) → StandsAt S.Store known world.old stand → StandsAtEnd S.Store known world.new (λ end. Moves stand end) }
+    // The same, from where the World stood to where it stands.
+    ensures visited { (known : Bool) (stand : Stand) → StandsAt S.Store known world.old stand → StandsAtEnd S.Store known world.new (λ end.
+        Visited result stand end (R.remaining reader.old) (R.remaining reader.new) (W.contents writer.old) (W.contents writer.new)) }
     ensures clean { HasCleanDisk (store_of S.Store world.new) → HasCleanDisk (store_of S.Store world.old) }
 {
     world.leaves();
     if !is_limited {
+        note.fails(Trouble::NotLimited);
         return false;
     }
-    serve_one(alloc, routes, reader, writer, world).is_ok()
+    let served = serve_one(alloc, routes, reader, writer, world, note);
+    note.ends(served)
 }
 
-/// Takes the next connection, and serves it; whether it was answered. The connection is closed at the end.
-fn serve_next<S: Alter + Drop>(
+/// Takes the next connection of a source, serves it, and gives it back to be closed; whether it was answered. If none can be taken that is
+/// noted, and nothing is done.
+pub fn serve_next<S: Alter + Drop, A: Arrivals>(
     alloc: Global,
     routes: &Routes,
-    listener: &TcpListener,
+    arrivals: &mut A,
     world: &mut World<S>,
+    note: &mut Note,
 ) -> bool
-    ensures moves { (known : Bool) (stand : Stand) → StandsAt S.Store known world.old stand → StandsAtEnd S.Store known world.new (λ end. Moves stand end) }
+    ensures turn { (known : Bool) (stand : Stand) → StandsAt S.Store known world.old stand → StandsAtEnd S.Store known world.new (λ end.
+        Visit A.hands_out A.takes_back A.Reader.remaining A.Writer.contents result arrivals.old stand arrivals.new end) }
     ensures clean { HasCleanDisk (store_of S.Store world.new) → HasCleanDisk (store_of S.Store world.old) }
 {
     world.leaves();
-    let Ok((stream, _)) = listener.accept() else {
+    let Some(connection) = arrivals.accept() else {
+        note.fails(Trouble::NotTaken);
         return false;
     };
-    let is_limited = limit_waits(&stream);
-    serve_connection(alloc, routes, is_limited, &mut &stream, &mut &stream, world)
+    let Connection {
+        mut reader,
+        mut writer,
+        is_limited,
+    } = connection;
+    let is_answered = serve_connection(
+        alloc,
+        routes,
+        is_limited,
+        &mut reader,
+        &mut writer,
+        world,
+        note,
+    );
+    let served = Connection {
+        reader,
+        writer,
+        is_limited,
+    };
+    arrivals.close(served, note.closing);
+    is_answered
 }
 
-/// Serves this many connections, one after another: how many were answered, and how many failed, since they couldn't be taken, or
-/// `serve_one` met a fault. One that failed doesn't stop the next.
-pub fn serve_on<S: Alter + Drop>(
+/// Serves this many connections of a source, one after another: how many were answered, and how many failed, since they couldn't be
+/// taken, or `serve_one` met a fault. One that failed doesn't stop the next. The log is told of each.
+pub fn serve_on<'a, S: Alter + Drop, A: Arrivals, C: Clock + Eprint>(
     alloc: Global,
     routes: &Routes,
-    listener: &TcpListener,
+    arrivals: &mut A,
+    log: &mut Log<'a, C>,
     world: &mut World<S>,
     count: u32,
 ) -> Served
     ensures count { result.answered + result.failed ≡ count }
-    // Each may have asked one thing of the World, which stands where the last one left it.
-    ensures serves { (known : Bool) (stand : Stand) → StandsAt S.Store known world.old stand → StandsAtEnd S.Store known world.new (λ end. AfterConnections count stand end) }
+    // The World moved by what the connections asked that the source handed out, in their order, each of which got its answer or failed,
+    // and by nothing else. So many of them were answered, and so many failed.
+    ensures serves { (known : Bool) (stand : Stand) → StandsAt S.Store known world.old stand → StandsAtEnd S.Store known world.new (λ end.
+        Attended A.hands_out A.takes_back A.Reader.remaining A.Writer.contents result.answered result.failed arrivals.old stand arrivals.new end) }
     ensures clean { HasCleanDisk (store_of S.Store world.new) → HasCleanDisk (store_of S.Store world.old) }
 {
     world.leaves();
@@ -94,11 +119,13 @@ pub fn serve_on<S: Alter + Drop>(
         failed: 0,
     };
     for _ in 0..count {
-        if serve_next(alloc, routes, listener, world) {
+        let mut note = Note::new();
+        if serve_next(alloc, routes, arrivals, world, &mut note) {
             served.answered += 1;
         } else {
             served.failed += 1;
         }
+        log.tell(note);
     }
     served
 }

@@ -11,6 +11,7 @@ ghost use Rattle.moo_http.specs.Serves.{Written, Served};
 
 use crate::consult::consult;
 use crate::fault::ServeFault;
+use crate::note::Note;
 use crate::write::write_out;
 use moo_request::{Asked, Received, Routes, read_request};
 use moo_responses::answer_text;
@@ -26,6 +27,7 @@ fn serve_asked<S: Alter + Drop, W: Write>(
     is_head: bool,
     writer: &mut W,
     world: &mut World<S>,
+    note: &mut Note,
 ) -> Result<(), ServeFault>
     ensures answered { (known : Bool) (stand : Stand) → StandsAt S.Store known world.old stand → (o : Outcome) × Consulted S.Store known stand world.new asked.now o
         × Written result (W.contents writer.old) (W.contents writer.new) (response_text is_head (response_of o)) }
@@ -33,23 +35,25 @@ fn serve_asked<S: Alter + Drop, W: Write>(
     ensures fault { IfErr result (λ fault. fault ≢ ServeFault.Read) }
     ensures clean { HasCleanDisk (store_of S.Store world.new) → HasCleanDisk (store_of S.Store world.old) }
 {
+    note.asks(asked);
     let outcome = consult(alloc, world, asked);
+    note.comes_to(&outcome);
     let text = answer_text(alloc, &outcome, is_head)?;
     write_out(writer, text.as_bytes())
 }
 
-/// Reads the one request of a connection, does what it asks, and writes the answer. Nothing is written where no byte comes, and that is
-/// no fault.
+/// Reads the one request of a connection, does what it asks, and writes the answer. If no byte comes nothing is written, and that isn't a
+/// fault. What is asked, and whether it is answered 503, is noted.
 ///
-/// The faults: Read where the reader fails, and the World is as it was; Write where the writer fails or takes no bytes, and what was
-/// asked is done; OutOfMemory where memory runs out before the World is asked or behind it. An answer 200 to a batch is written behind
-/// its commit.
+/// The faults: Read if the reader fails, and the World is as it was; Write if the writer fails or takes no bytes, and what was asked is
+/// done; OutOfMemory if memory runs out before the World is asked or after that. An answer 200 to a batch is written after its commit.
 pub fn serve_one<S: Alter + Drop, R: Read, W: Write>(
     alloc: Global,
     routes: &Routes,
     reader: &mut R,
     writer: &mut W,
     world: &mut World<S>,
+    note: &mut Note,
 ) -> Result<(), ServeFault>
     // Wherever the World stood, the answer to the bytes that the reader gave is written, and nothing else, and the World stands where
     // it leaves it; by the result.
@@ -63,6 +67,8 @@ pub fn serve_one<S: Alter + Drop, R: Read, W: Write>(
     world.leaves();
     match read_request(alloc, routes, reader)? {
         Received::Nothing => Ok(()),
-        Received::Request { is_head, asked } => serve_asked(alloc, &asked, is_head, writer, world),
+        Received::Request { is_head, asked } => {
+            serve_asked(alloc, &asked, is_head, writer, world, note)
+        }
     }
 }

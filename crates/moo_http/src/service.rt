@@ -8,8 +8,12 @@ ghost use Rattle.moo_http.specs.declared.service.ServiceFault.TheVariants.{OutOf
 ghost use Rattle.std.specs.Io.KnownBytes.{Appends};
 ghost use Rattle.moo_http.specs.Lines.{listening_line, served_line};
 ghost use Rattle.moo_http.specs.Connections.{StandsAtEnd, ServesPort, WritesFront};
+ghost use Rattle.moo_http.specs.Turns.{ServesFrom};
 
+use crate::arrivals::Arrivals;
 use crate::listen::{Served, serve_on};
+use crate::log::Log;
+use crate::sockets::Sockets;
 use moo_dump::put_all;
 use moo_request::Routes;
 use moo_store::World;
@@ -23,9 +27,9 @@ use std::net::{Ipv4Addr, TcpListener};
 pub enum ServiceFault {
     /// The port can't be bound; nothing is written.
     Port,
-    /// The output failed, before the first connection or behind the last.
+    /// The output failed, before the first connection or after the last.
     Write,
-    /// Memory ran out, before the first connection or behind the last.
+    /// Memory ran out, before the first connection or after the last.
     OutOfMemory,
 }
 
@@ -49,7 +53,7 @@ fn served_text(alloc: Global, answered: u32, failed: u32) -> Result<String, Allo
     format!(in alloc; "served {answered} failed {failed}\n")
 }
 
-/// Writes a text, and has it seen at once.
+/// Writes a text, and flushes it so that it is seen at once.
 fn say<W: Write>(output: &mut W, text: &str) -> Result<(), ServiceFault>
     ensures ok { OnOk result (Appends (W.contents output.old) (W.contents output.new) text.now) }
     ensures err { OnErr result (WritesFront text.now (W.contents output.old) (W.contents output.new)) }
@@ -82,10 +86,39 @@ fn say_served<W: Write>(alloc: Global, output: &mut W, served: Served) -> Result
     say(output, line.as_str())
 }
 
-/// Binds a port of 127.0.0.1, and no other address; says so, serves so many connections, and says how many were answered.
+/// Says that it listens on this port, serves so many connections of a source, and says how many were answered and how many failed.
 ///
-/// The faults: Port where the port can't be bound, and nothing is written; Write where the output fails, and OutOfMemory, with a front
-/// of the two lines written: then no connection was taken, or all of them were. A connection that fails is no fault.
+/// The faults: Write if the output fails, and OutOfMemory, with a front of the two lines written: then no connection was taken, or all of
+/// them were. A connection that fails isn't a fault.
+pub fn serve_from<S: Alter + Drop, A: Arrivals, W: Write>(
+    rt: &HostRuntime,
+    arrivals: &mut A,
+    world: &mut World<S>,
+    port: u16,
+    count: u32,
+    output: &mut W,
+) -> Result<(), ServiceFault>
+    ensures serves { (known : Bool) (stand : Stand) → StandsAt S.Store known world.old stand → StandsAtEnd S.Store known world.new (λ end.
+        ServesFrom A.hands_out A.takes_back A.Reader.remaining A.Writer.contents result port count arrivals.old stand arrivals.new end (W.contents output.old) (W.contents output.new)) }
+    // The same of the World alone, whatever the source tells.
+    ensures moves { (known : Bool) (stand : Stand) → StandsAt S.Store known world.old stand →
+        StandsAtEnd S.Store known world.new (λ end. ServesPort result port count stand end (W.contents output.old) (W.contents output.new)) }
+    ensures clean { HasCleanDisk (store_of S.Store world.new) → HasCleanDisk (store_of S.Store world.old) }
+{
+    world.leaves();
+    let alloc = rt.alloc();
+    let routes = Routes::new(alloc)?;
+    say_listening(alloc, output, port)?;
+    let mut log = Log::new(rt);
+    let served = serve_on(alloc, &routes, arrivals, &mut log, world, count);
+    log.finish();
+    say_served(alloc, output, served)
+}
+
+/// Binds a port of 127.0.0.1, and no other address; says so, serves so many connections, and says how many were answered and how many
+/// failed. Standard error has a line for each that failed and each answer of 503, at most ten in a second.
+///
+/// The faults: Port if the port can't be bound, and nothing is written; else those of `serve_from`.
 pub fn serve_port<S: Alter + Drop, W: Write>(
     rt: &HostRuntime,
     world: &mut World<S>,
@@ -99,12 +132,12 @@ pub fn serve_port<S: Alter + Drop, W: Write>(
     ensures clean { HasCleanDisk (store_of S.Store world.new) → HasCleanDisk (store_of S.Store world.old) }
 {
     world.leaves();
-    let alloc = rt.alloc();
-    let routes = Routes::new(alloc)?;
     let Ok(listener) = TcpListener::bind(rt, (Ipv4Addr::LOCALHOST, port)) else {
         return Err(ServiceFault::Port);
     };
-    say_listening(alloc, output, port)?;
-    let served = serve_on(alloc, &routes, &listener, world, count);
-    say_served(alloc, output, served)
+    let mut sockets = Sockets {
+        clock: rt,
+        listener,
+    };
+    serve_from(rt, &mut sockets, world, port, count, output)
 }

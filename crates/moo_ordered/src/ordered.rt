@@ -30,14 +30,14 @@ impl<A: Key, B: Key> Key for (A, B) {
     ghost exact = { exact_pairs A.cmp B.cmp A.exact B.exact };
 }
 
-/// The row of a key, or none where the map doesn't hold it. Takes no memory.
+/// The row of a key, or none if the map doesn't hold it. Takes no memory.
 pub fn get<K: Key, V>(rows: &BTreeMap<K, V>, key: K) -> Option<&V>
     ensures { option_map (λ row. row.now) result ≡ map.get (contents K.cmp rows.now) key }
 {
     rows.get(&key)
 }
 
-/// The least held key past `from`, or the least of all where no `from` is given; none where there is no such key. Takes no memory.
+/// The least held key past `from`, or the least of all if no `from` is given; none if there is no such key. Takes no memory.
 pub fn next<K: Key, V>(rows: &BTreeMap<K, V>, from: Option<K>) -> Option<K>
     ensures { IsNext (contents K.cmp rows.now) from result }
 {
@@ -46,7 +46,7 @@ pub fn next<K: Key, V>(rows: &BTreeMap<K, V>, from: Option<K>) -> Option<K>
     Some(*key)
 }
 
-/// Sets the row of a key, and answers the one that it had. After an `Err`, want of memory, the map is as it was, and the key has no row.
+/// Sets the row of a key, and answers the one that it had. After an `Err`, a lack of memory, the map is as it was, and the key has no row.
 pub fn replace<K: Key, V: Drop>(
     rows: &mut BTreeMap<K, V>,
     key: K,
@@ -61,7 +61,7 @@ pub fn replace<K: Key, V: Drop>(
     Ok(old)
 }
 
-/// Sets the row of a key. After an `Err`, want of memory, the map is as it was.
+/// Sets the row of a key. After an `Err`, a lack of memory, the map is as it was.
 pub fn put<K: Key, V: Drop>(rows: &mut BTreeMap<K, V>, key: K, row: V) -> Result<(), AllocError>
     ensures ok { OnOk result (contents K.cmp rows.new ≡ map.insert (contents K.cmp rows.old) key row) }
     ensures err { OnErr result (contents K.cmp rows.new ≡ contents K.cmp rows.old) }
@@ -70,7 +70,7 @@ pub fn put<K: Key, V: Drop>(rows: &mut BTreeMap<K, V>, key: K, row: V) -> Result
     Ok(())
 }
 
-/// Gives a key the row back that it had before another one was set, or none where it had none. Takes no memory.
+/// Gives a key the row back that it had before another one was set, or none if it had none. Takes no memory.
 pub fn put_back<K: Key, V: Drop>(rows: &mut BTreeMap<K, V>, key: K, old: Option<V>)
     ensures { (before : FinMap K.cmp V) (row : V) → contents K.cmp rows.old ≡ map.insert before key row → old ≡ map.get before key → contents K.cmp rows.new ≡ before }
 {

@@ -1,29 +1,32 @@
--- The checks that several calls share, and what such a call comes to by them: the error of the first check that fails,
+-- The checks that several calls share, and the outcome of such a call by them: the error of the first check that fails,
 -- else what the call goes on to with what the checks found.
 use Rattle.moo_value.specs.declared.value.ObjNo.{ObjNo}
-use Rattle.moo_value.specs.declared.code.Code.TheVariants.{Permission, PropertyNotFound, InvalidArgument}
 use Rattle.moo_rows.specs.Bits.{bits_of}
 use Rattle.moo_rows.specs.declared.row.Bits.{Bits}
 use Rattle.moo_world.specs.Objects.{Name, folded}
 use Rattle.moo_world.specs.World.{World, Slot, is_object, slot_of}
 use Rattle.moo_world.specs.Arguments.{Info}
-use Rattle.moo_world.specs.Outcomes.{Outcome, Failed, check, found_or}
+use Rattle.moo_world.specs.Codes.{E_PERM, E_PROPNF, E_INVARG}
+use Rattle.moo_world.specs.Outcomes.{Outcome, require◌else◌, ◌>>◌, ◌or_else◌, ◌>>=◌}
 use Rattle.moo_world.specs.Rights.{may_read_slot, may_write_slot}
 
 -- x has a property of the name, and the programmer may read it by its slot on x
 abbrev pub reading_slot : World → ObjNo → ObjNo → Name → (Slot → Outcome) → Outcome
-reading_slot w p x n then =
-    found_or (slot_of w x (folded n)) PropertyNotFound (λ s.
-    check (may_read_slot w p s) (Failed Permission) (then s))
+reading_slot w p x n then = do
+  s ← slot_of w x (folded n) or_else E_PROPNF
+  require may_read_slot w p s else E_PERM
+  then s
 
 -- x has a property of the name, and the programmer may write it by its slot on x
 abbrev pub writing_slot : World → ObjNo → ObjNo → Name → (Slot → Outcome) → Outcome
-writing_slot w p x n then =
-    found_or (slot_of w x (folded n)) PropertyNotFound (λ s.
-    check (may_write_slot w p s) (Failed Permission) (then s))
+writing_slot w p x n then = do
+  s ← slot_of w x (folded n) or_else E_PROPNF
+  require may_write_slot w p s else E_PERM
+  then s
 
 -- the owner is an object, and the rights have the letters of a property's alone
 abbrev pub taking_property_info : World → Info → (Bits → Outcome) → Outcome
-taking_property_info w info then =
-    check (is_object w info.0) (Failed InvalidArgument)
-    (found_or (bits_of info.1) InvalidArgument then)
+taking_property_info w info then = do
+  require is_object w info.0 else E_INVARG
+  bits ← bits_of info.1 or_else E_INVARG
+  then bits

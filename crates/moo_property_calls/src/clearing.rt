@@ -23,9 +23,9 @@ fn is_clear(state: &SlotState) -> bool
     }
 }
 
-/// `is_clear_property(object, name)`: 1 where the property is clear on the object, so that it reads its parent's value, else
-/// 0, as always on the object that defines it. E_INVARG where the object is none; E_PROPNF where it has no property of the
-/// name; E_PERM where the programmer may not read the object's own slot of it.
+/// `is_clear_property(object, name)`: 1 if the property is clear on the object, so that it reads its parent's value, else
+/// 0, as always on the object that defines it. E_INVARG if there is no such object; E_PROPNF if it has no property of the
+/// name; E_PERM if the programmer may not read the object's own slot of it.
 /// LambdaMOO Programmer's Manual, 'Operations on Properties'.
 pub fn is_clear_property<R: Rows>(
     rows: &R,
@@ -44,8 +44,8 @@ pub fn is_clear_property<R: Rows>(
 }
 
 /// `clear_property(object, name)`: the property has no value of its own on the object from now on, so that the object reads
-/// what its parent reads; the answer is 0. E_INVARG where the object is none; E_PROPNF where it has no property of the name;
-/// E_PERM where the programmer may not write the object's own slot of it; E_INVARG where the object itself defines it.
+/// what its parent reads; the answer is 0. E_INVARG if there is no such object; E_PROPNF if it has no property of the name;
+/// E_PERM if the programmer may not write the object's own slot of it; E_INVARG if the object itself defines it.
 /// LambdaMOO Programmer's Manual, 'Operations on Properties'.
 pub fn clear_property<R: Rows>(
     rows: &mut R,

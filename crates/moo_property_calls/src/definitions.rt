@@ -24,7 +24,7 @@ use moo_rows::{Bits, PropId, Rows};
 use moo_tree::valid;
 use moo_value::{Code, MooStr, ObjNo, Value};
 use moo_world::BuiltIn;
-use std::alloc::{AllocError, Global};
+use std::alloc::Global;
 
 /// The most bytes in the name of a property.
 const MAX_NAME: usize = 255;
@@ -37,21 +37,13 @@ fn is_property_name(name: &MooStr) -> bool
     0 < length && length <= MAX_NAME && BuiltIn::of_name(name).is_none()
 }
 
-/// Whether a new property of x may have the name: one that a property may have, and that no property has which x, an
-/// ancestor or a descendant of x defines. The only error is want of memory.
-pub(crate) fn may_define<R: Rows>(
-    rows: &R,
-    alloc: Global,
-    x: ObjNo,
-    name: &MooStr,
-) -> Result<bool, AllocError>
+/// Whether a new property of x may have the name: a property may have it, and x, its ancestors and its descendants define
+/// none of that name.
+pub(crate) fn may_define<R: Rows>(rows: &R, x: ObjNo, name: &MooStr) -> bool
     requires { IsGood (R.held rows.now).maps }
-    ensures { IfOk result (λ may. may ≡ may_define (world_in (R.held rows.now)) x name.now) }
+    ensures { result ≡ may_define (world_in (R.held rows.now)) x name.now }
 {
-    if !is_property_name(name) {
-        return Ok(false);
-    }
-    Ok(!clashes(alloc, rows, x, name)?)
+    is_property_name(name) && !clashes(rows, x, name)
 }
 
 /// The property of a name that x itself defines.
@@ -79,8 +71,8 @@ pub(crate) fn defines<R: Rows>(rows: &R, x: ObjNo, name: &MooStr) -> bool
     own_property(rows, x, name).is_some()
 }
 
-/// The rights that a property takes with an owner, or E_INVARG: where the owner is no object, then where the rights have
-/// another letter than `r`, `w` and `c`.
+/// The rights that a property takes with an owner, or E_INVARG: if the owner isn't an object, then if the rights have a
+/// letter other than `r`, `w` and `c`.
 pub(crate) fn bits_taken<R: Rows>(rows: &R, info: Info<'_>) -> Result<Bits, Code>
     ensures owner { OnOk result (is_object (world_in (R.held rows.now)) info.entry.owner ≡ true) }
     ensures bits { IfOk result (λ bits. bits_of info.entry.perms.now ≡ Some bits) }
@@ -102,7 +94,6 @@ fn has_number_left<R: Rows>(rows: &R) -> bool
 /// The rights of the property that the programmer may define on x, or the first error of `add_property`.
 fn bits_to_define<R: Rows>(
     rows: &R,
-    alloc: Global,
     programmer: ObjNo,
     x: ObjNo,
     name: &MooStr,
@@ -126,7 +117,7 @@ fn bits_to_define<R: Rows>(
     if !rights::may_own(rows, programmer, info.owner) {
         return Err(Fault::Moo(Code::Permission));
     }
-    if !may_define(rows, alloc, x, name)? {
+    if !may_define(rows, x, name) {
         return Err(Fault::Moo(Code::InvalidArgument));
     }
     if !has_number_left(rows) {
@@ -136,10 +127,10 @@ fn bits_to_define<R: Rows>(
 }
 
 /// `add_property(object, name, value, {owner, perms})`: defines a property on the object, with the value; each descendant
-/// gets it clear. The answer is 0. E_INVARG where the object is none, then where the owner is none, then where a letter of
-/// perms is none of `r`, `w` and `c`; E_PERM where the programmer may not write the object, then where it is neither the
-/// owner nor a wizard; E_INVARG where the name is empty, longer than 255 bytes or built in, or the object, an ancestor or a
-/// descendant defines a property of it. Full where every number of a property has been given.
+/// gets it clear. The answer is 0. E_INVARG if there is no such object, then if the owner isn't an object, then if perms has
+/// a letter other than `r`, `w` and `c`; E_PERM if the programmer may not write the object, then if it is neither the owner
+/// nor a wizard; E_INVARG if the name is empty, longer than 255 bytes or built in, or if the object, an ancestor or a
+/// descendant defines a property of that name. Full if every number of a property has been given.
 /// LambdaMOO Programmer's Manual, 'Operations on Properties'.
 pub fn add_property<R: Rows>(
     rows: &mut R,
@@ -155,7 +146,7 @@ pub fn add_property<R: Rows>(
     ensures comes { ComesTo (add_property (world_in (R.held rows.old)) programmer x name.now value.now (info.entry.owner, info.entry.perms.now)) (R.held rows.old) (R.held rows.new) result }
     ensures kept { OnOk result (Keeps (R.held rows.old) (R.held rows.new)) }
 {
-    let bits = bits_to_define(rows, alloc, programmer, x, name, info)?;
+    let bits = bits_to_define(rows, programmer, x, name, info)?;
     let name = name.copy(alloc)?;
     let value = value.copy(alloc)?;
     define(alloc, rows, x, name, value, info.owner, bits)?;

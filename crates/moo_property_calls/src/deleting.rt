@@ -15,7 +15,7 @@ use moo_value::{Code, MooStr, ObjNo, Value};
 use std::alloc::Global;
 
 /// `delete_property(object, name)`: takes a property that the object itself defines from it and from all its descendants.
-/// The answer is 0. E_INVARG where the object is none; E_PERM where the programmer may not write the object; E_PROPNF where
+/// The answer is 0. E_INVARG if there is no such object; E_PERM if the programmer may not write the object; E_PROPNF if
 /// the object defines no property of the name.
 /// LambdaMOO Programmer's Manual, 'Operations on Properties'.
 pub fn delete_property<R: Rows>(

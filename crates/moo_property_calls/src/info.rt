@@ -30,27 +30,17 @@ fn may_give<R: Rows>(rows: &R, programmer: ObjNo, owner: ObjNo, present: ObjNo) 
 }
 
 /// Whether a property of x may have the new name, if there is one: x itself defines it, and a new property of x may have it.
-/// The only error is want of memory.
-fn may_rename<R: Rows>(
-    rows: &R,
-    alloc: Global,
-    x: ObjNo,
-    name: &MooStr,
-    new: Option<&MooStr>,
-) -> Result<bool, AllocError>
+fn may_rename<R: Rows>(rows: &R, x: ObjNo, name: &MooStr, new: Option<&MooStr>) -> bool
     requires { IsGood (R.held rows.now).maps }
-    ensures { IfOk result (λ may. may ≡ may_rename (world_in (R.held rows.now)) x name.now (option_map (λ n. n.now) new.entry)) }
+    ensures { result ≡ may_rename (world_in (R.held rows.now)) x name.now (option_map (λ n. n.now) new.entry) }
 {
-    let Some(new) = new else {
-        return Ok(true);
-    };
-    if !defines(rows, x, name) {
-        return Ok(false);
+    match new {
+        None => true,
+        Some(new) => defines(rows, x, name) && may_define(rows, x, new),
     }
-    may_define(rows, alloc, x, new)
 }
 
-/// A copy of a name, if there is one. The only error is want of memory.
+/// A copy of a name, if there is one. The only error is out of memory.
 fn copy_of(alloc: Global, name: Option<&MooStr>) -> Result<Option<MooStr>, AllocError>
     ensures { IfOk result (λ copy. copy ≡ option_map (λ n. n.now) name.entry) }
 {
@@ -60,7 +50,7 @@ fn copy_of(alloc: Global, name: Option<&MooStr>) -> Result<Option<MooStr>, Alloc
     }
 }
 
-/// Gives a property that x has an owner and rights on x, and another name, if there is one. The only error is want of
+/// Gives a property that x has an owner and rights on x, and another name, if there is one. The only error is out of
 /// memory, after which the rows may be half changed.
 fn change_info<R: Rows>(
     rows: &mut R,
@@ -88,7 +78,6 @@ fn change_info<R: Rows>(
 /// The property of a name on x and the rights that the programmer may give it, or the first error of `set_property_info`.
 fn property_to_change<R: Rows>(
     rows: &R,
-    alloc: Global,
     programmer: ObjNo,
     x: ObjNo,
     name: &MooStr,
@@ -116,7 +105,7 @@ fn property_to_change<R: Rows>(
     if !may_give(rows, programmer, info.owner, found.slot.owner) {
         return Err(Fault::Moo(Code::Permission));
     }
-    if !may_rename(rows, alloc, x, name, new_name)? {
+    if !may_rename(rows, x, name, new_name) {
         return Err(Fault::Moo(Code::InvalidArgument));
     }
     Ok((found.id, bits))
@@ -124,11 +113,11 @@ fn property_to_change<R: Rows>(
 
 /// `set_property_info(object, name, {owner, perms})` and `(object, name, {owner, perms, new-name})`: sets the owner and the
 /// rights of the property on that object alone, and gives the property the new name everywhere. The answer is 0. E_INVARG
-/// where the object is none; E_PROPNF where it has no property of the name; E_INVARG where the owner is none, then where a
-/// letter of perms is none of `r`, `w` and `c`; E_PERM where the programmer may not write the object's own slot of it, then
-/// where the owner is another one than before and the programmer no wizard; E_INVARG where there is a new name and the object
-/// itself doesn't define the property, or no new property of the object may have the name, so where it differs from the old
-/// one in case alone.
+/// if there is no such object; E_PROPNF if it has no property of the name; E_INVARG if the owner isn't an object, then if
+/// perms has a letter other than `r`, `w` and `c`; E_PERM if the programmer may not write the object's own slot of it, then
+/// if the owner is another one than before and the programmer isn't a wizard; E_INVARG if there is a new name and the object
+/// itself doesn't define the property, or no new property of the object may have that name. So it is if the new name
+/// differs from the old one in case alone.
 /// LambdaMOO Programmer's Manual, 'Operations on Properties'.
 pub fn set_property_info<R: Rows>(
     rows: &mut R,
@@ -143,7 +132,7 @@ pub fn set_property_info<R: Rows>(
     ensures comes { ComesTo (set_property_info (world_in (R.held rows.old)) programmer x name.now (info.entry.owner, info.entry.perms.now) (option_map (λ n. n.now) new_name.entry)) (R.held rows.old) (R.held rows.new) result }
     ensures kept { OnOk result (Keeps (R.held rows.old) (R.held rows.new)) }
 {
-    let (id, bits) = property_to_change(rows, alloc, programmer, x, name, info, new_name)?;
+    let (id, bits) = property_to_change(rows, programmer, x, name, info, new_name)?;
     let new = copy_of(alloc, new_name)?;
     change_info(rows, alloc, x, id, info.owner, bits, new)?;
     Ok(ZERO)

@@ -17,8 +17,8 @@ use moo_tree::valid;
 use moo_value::{Code, LiteralFault, MooStr, ObjNo, Value};
 use std::alloc::{AllocError, Global};
 
-/// `get(object, name)` of a name that isn't built in: the value that the object reads for its property. E_PROPNF where it
-/// has no property of the name; E_PERM where the programmer may not read the object's own slot of it.
+/// `get(object, name)` of a name that isn't built in: the value that the object reads for its property. E_PROPNF if it
+/// has no property of the name; E_PERM if the programmer may not read the object's own slot of it.
 /// LambdaMOO Programmer's Manual, 'Operations on Properties'.
 pub fn get_property<R: Rows>(
     rows: &R,
@@ -34,7 +34,7 @@ pub fn get_property<R: Rows>(
     Ok(value_of(rows, x, found.id).copy(alloc)?)
 }
 
-/// The names of the properties that x defines, in the order of their definition. The only error is want of memory.
+/// The names of the properties that x defines, in the order of their definition. The only error is out of memory.
 fn names_of<R: Rows>(rows: &R, alloc: Global, x: ObjNo) -> Result<Vec<MooStr>, AllocError>
     requires { IsGood (R.held rows.now).maps }
     ensures { IfOk result (λ names. names.items ≡ names_of (world_in (R.held rows.now)) x) }
@@ -47,7 +47,7 @@ fn names_of<R: Rows>(rows: &R, alloc: Global, x: ObjNo) -> Result<Vec<MooStr>, A
 }
 
 /// `properties(object)`: the names of the properties that the object itself defines, in the order of their definition.
-/// E_INVARG where the object is none; E_PERM where the programmer may not read it.
+/// E_INVARG if there is no such object; E_PERM if the programmer may not read it.
 /// LambdaMOO Programmer's Manual, 'Operations on Properties'.
 pub fn properties<R: Rows>(
     rows: &R,
@@ -67,7 +67,7 @@ pub fn properties<R: Rows>(
     Ok(text_list(alloc, names_of(rows, alloc, x)?)?)
 }
 
-/// The letters of rights as a string. The only error is want of memory.
+/// The letters of rights as a string. The only error is out of memory.
 fn letters(alloc: Global, bits: Bits) -> Result<MooStr, AllocError>
     ensures { IfOk result (λ text. text ≡ letters_of bits) }
 {
@@ -80,7 +80,7 @@ fn letters(alloc: Global, bits: Bits) -> Result<MooStr, AllocError>
     }
 }
 
-/// The owner and the rights of a slot. The only error is want of memory.
+/// The owner and the rights of a slot. The only error is out of memory.
 fn info_list(alloc: Global, slot: &SlotRow) -> Result<Value, AllocError>
     ensures { IfOk result (λ info. info ≡ list_of (Obj slot.now.owner ∷ Str (letters_of slot.now.bits) ∷ [])) }
 {
@@ -89,8 +89,8 @@ fn info_list(alloc: Global, slot: &SlotRow) -> Result<Value, AllocError>
     Ok(list_of(info))
 }
 
-/// `property_info(object, name)`: the owner and the rights of the property on the object, `{owner, perms}`. E_INVARG where
-/// the object is none; E_PROPNF where it has no property of the name, which a built-in name is none of; E_PERM where the
+/// `property_info(object, name)`: the owner and the rights of the property on the object, `{owner, perms}`. E_INVARG if
+/// there is no such object; E_PROPNF if it has no property of the name, as with a built-in name; E_PERM if the
 /// programmer may not read the object's own slot of it.
 /// LambdaMOO Programmer's Manual, 'Operations on Properties'.
 pub fn property_info<R: Rows>(

@@ -15,7 +15,7 @@ use moo_value::{MooStr, ObjNo, Value};
 use std::alloc::Global;
 
 /// `set(object, name, value)` of a name that isn't built in: the object's own slot of the property has the value from now
-/// on, and the answer is 0. E_PROPNF where the object has no property of the name; E_PERM where the programmer may not write
+/// on, and the answer is 0. E_PROPNF if the object has no property of the name; E_PERM if the programmer may not write
 /// the object's own slot of it. Its owner and rights stay.
 /// LambdaMOO Programmer's Manual, 'Operations on Properties'.
 pub fn set_property<R: Rows>(

@@ -30,8 +30,8 @@ pub(crate) fn may_write<R: Rows>(rows: &R, programmer: ObjNo, found: Found<'_>) 
     rights::may_write_slot(rows, programmer, found.slot)
 }
 
-/// The slot on x by which a call reads a property, or the error: E_PROPNF where x has no property of the name, then E_PERM
-/// where the programmer may not read x's own slot of it.
+/// The slot on x by which a call reads a property, or the error: E_PROPNF if x has no property of the name, then E_PERM
+/// if the programmer may not read x's own slot of it.
 pub(crate) fn readable_slot<'a, R: Rows>(
     rows: &'a R,
     programmer: ObjNo,
@@ -53,8 +53,8 @@ pub(crate) fn readable_slot<'a, R: Rows>(
     Ok(found)
 }
 
-/// The slot on x by which a call writes a property, or the error: E_PROPNF where x has no property of the name, then E_PERM
-/// where the programmer may not write x's own slot of it.
+/// The slot on x by which a call writes a property, or the error: E_PROPNF if x has no property of the name, then E_PERM
+/// if the programmer may not write x's own slot of it.
 pub(crate) fn writable_slot<'a, R: Rows>(
     rows: &'a R,
     programmer: ObjNo,

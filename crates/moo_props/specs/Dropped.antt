@@ -40,6 +40,6 @@ verb_left t x key = if same_object x key.0 then None else get t.verbs key
 abbrev pub heir : Maps → ObjNo → ObjNo
 heir t x = unwrap_or (option_map (λ r. r.parent) (get t.objects x)) nothing
 
--- x is gone; where the parent was x it is that of x, and where the place was x it is nothing
+-- x is gone; if the parent was x it is that of x, and if the place was x it is nothing
 abbrev pub row_left : Maps → ObjNo → ObjNo → Option ObjRow
 row_left t x y = if same_object x y then None else option_map (released_row x (heir t x)) (get t.objects y)

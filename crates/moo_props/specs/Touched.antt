@@ -33,7 +33,7 @@ removed_keys t x q = keys_over (props_of (lost (world_of t) x q) t.props) (owner
 abbrev pub added_keys : Maps → ObjNo → ObjNo → List (ObjNo × PropId)
 added_keys t x q = keys_over (props_of (gained (world_of t) x q) t.props) (owners_under t x)
 
--- x, where q isn't its parent
+-- x, if q isn't its parent
 abbrev pub relinked_objects : Maps → ObjNo → ObjNo → List ObjNo
 relinked_objects t x q = unwrap_or (option_map (λ row. relinked_list x row q) (get t.objects x)) []
 

@@ -33,9 +33,9 @@ fn put_new<R: Rows>(
 }
 
 /// Makes the object of the next number under a parent. It inherits all properties of the parent: each of its slots is
-/// clear, has the bits of the parent's slot, and as owner its own where the bit c is set, else the owner of that slot.
+/// clear, has the bits of the parent's slot, and as owner its own if the bit c is set, else the owner of that slot.
 ///
-/// The only error is want of memory, after which the rows may be half changed.
+/// The only error is out of memory, after which the rows may be half changed.
 pub fn make<R: Rows>(
     alloc: Global,
     rows: &mut R,

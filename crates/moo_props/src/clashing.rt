@@ -1,6 +1,6 @@
-//! Names that stand in the way of a new property, or of a change of parent.
+//! Names that keep out a new property, or a change of parent.
 
-ghost use Rattle.std.specs.Prelude.{◌≡◌, is_some, IfOk};
+ghost use Rattle.std.specs.Prelude.{◌≡◌, is_some};
 ghost use Rattle.std.specs.List.{list_any};
 ghost use Rattle.moo_world.specs.Changes.{clashes};
 ghost use Rattle.moo_world.specs.ObjectLists.{meets, subtree_of};
@@ -10,11 +10,10 @@ ghost use Rattle.moo_world.specs.Rows.{world_of, IsGood, IsSound};
 ghost use Rattle.moo_world.specs.World.{owed_by, pair_named};
 ghost use Rattle.moo_props.specs.Clashes.{meets_on};
 
+use crate::descent::{next_under, subtree_top};
 use crate::finding::{find, is_named};
 use moo_rows::{PropId, Rows, each_defined};
-use moo_tree::subtree;
 use moo_value::{MooStr, ObjNo};
-use std::alloc::{AllocError, Global};
 
 /// Whether y itself defines a property of the name.
 fn defines_named<R: Rows>(rows: &R, y: ObjNo, name: &MooStr) -> bool
@@ -25,39 +24,32 @@ fn defines_named<R: Rows>(rows: &R, y: ObjNo, name: &MooStr) -> bool
     each_defined(rows, y, PropId(0)).any(|(_id, row)| is_named(row, name))
 }
 
-/// Whether x or a descendant of x defines a property of the name. The only error is want of memory.
-fn is_defined_under<R: Rows>(
-    alloc: Global,
-    rows: &R,
-    x: ObjNo,
-    name: &MooStr,
-) -> Result<bool, AllocError>
+/// Whether x or a descendant of x defines a property of the name.
+fn is_defined_under<R: Rows>(rows: &R, x: ObjNo, name: &MooStr) -> bool
     requires { IsGood (R.held rows.now).maps }
-    ensures { let w = world_of (R.held rows.now).maps in IfOk result (λ r. r ≡ is_some (pair_named (owed_by w (subtree_of w x)) (folded name.now))) }
+    ensures { let w = world_of (R.held rows.now).maps in result ≡ is_some (pair_named (owed_by w (subtree_of w x)) (folded name.now)) }
 {
-    let under = subtree(alloc, rows, x)?;
-    Ok(under.iter().any(|y| defines_named(rows, *y, name)))
+    let mut at = subtree_top(rows, x);
+    while let Some(y) = at {
+        if defines_named(rows, y, name) {
+            return true;
+        }
+        at = next_under(rows, x, y);
+    }
+    false
 }
 
-/// Whether x, an ancestor or a descendant of x defines a property of a name. Names compare without ASCII case. The only
-/// error is want of memory.
+/// Whether x, an ancestor or a descendant of x defines a property of a name. Names compare without ASCII case.
 ///
-/// The slots of x tell of x and its ancestors; below, only what the descendants define themselves is looked at.
+/// It takes no memory. The slots of x show what x and its ancestors define. Below x only what the descendants define
+/// themselves is looked at: m log n steps for m descendants among n objects of the world.
 ///
 /// LambdaMOO Programmer's Manual, 'Operations on Properties': `add_property`.
-pub fn clashes<R: Rows>(
-    alloc: Global,
-    rows: &R,
-    x: ObjNo,
-    name: &MooStr,
-) -> Result<bool, AllocError>
+pub fn clashes<R: Rows>(rows: &R, x: ObjNo, name: &MooStr) -> bool
     requires { IsGood (R.held rows.now).maps }
-    ensures { IfOk result (λ r. r ≡ clashes (world_of (R.held rows.now).maps) x name.now) }
+    ensures { result ≡ clashes (world_of (R.held rows.now).maps) x name.now }
 {
-    if find(rows, x, name).is_some() {
-        return Ok(true);
-    }
-    is_defined_under(alloc, rows, x, name)
+    find(rows, x, name).is_some() || is_defined_under(rows, x, name)
 }
 
 /// Whether y itself defines a property of a name that new or an ancestor of new defines.
@@ -68,14 +60,21 @@ fn meets_on<R: Rows>(rows: &R, new: ObjNo, y: ObjNo) -> bool
     each_defined(rows, y, PropId(0)).any(|(_id, row)| find(rows, new, &row.name).is_some())
 }
 
-/// Whether x or a descendant of x defines a property of a name that new or an ancestor of new defines. The only error is
-/// want of memory.
+/// Whether x or a descendant of x defines a property of a name that new or an ancestor of new defines.
+///
+/// It takes no memory. Each property that x or a descendant defines is looked for among the slots of new.
 ///
 /// LambdaMOO Programmer's Manual, 'Fundamental Operations on Objects': `chparent`.
-pub fn meets<R: Rows>(alloc: Global, rows: &R, x: ObjNo, new: ObjNo) -> Result<bool, AllocError>
+pub fn meets<R: Rows>(rows: &R, x: ObjNo, new: ObjNo) -> bool
     requires { IsGood (R.held rows.now).maps }
-    ensures { IfOk result (λ r. r ≡ meets (world_of (R.held rows.now).maps) x new) }
+    ensures { result ≡ meets (world_of (R.held rows.now).maps) x new }
 {
-    let under = subtree(alloc, rows, x)?;
-    Ok(under.iter().any(|y| meets_on(rows, new, *y)))
+    let mut at = subtree_top(rows, x);
+    while let Some(y) = at {
+        if meets_on(rows, new, y) {
+            return true;
+        }
+        at = next_under(rows, x, y);
+    }
+    false
 }

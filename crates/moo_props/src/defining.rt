@@ -43,11 +43,11 @@ fn put_definition<R: Rows>(rows: &mut R, x: ObjNo, name: MooStr) -> Result<PropI
     Ok(id)
 }
 
-/// Defines a property on x, which no property of its name may stand in the way of: on x it has the value, owner and bits;
-/// each descendant of x gets a clear slot with the bits, and as owner its own where the bit c is set, else the owner. The
+/// Defines a property on x, which must clash with no other of its name: on x it has the value, owner and bits;
+/// each descendant of x gets a clear slot with the bits, and as owner its own if the bit c is set, else the owner. The
 /// answer is the number of the property, which is never given again. No other property changes.
 ///
-/// The only error is want of memory, after which the rows may be half changed.
+/// The only error is out of memory, after which the rows may be half changed.
 ///
 /// LambdaMOO Programmer's Manual, 'Operations on Properties': `add_property`.
 pub fn define<R: Rows>(

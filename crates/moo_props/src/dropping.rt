@@ -111,7 +111,7 @@ fn verbs_on<R: Rows>(alloc: Global, rows: &R, x: ObjNo) -> Result<Vec<(ObjNo, Ve
     each_verb_of(rows, x, VerbId(0)).map(|e| e.0).collect(alloc)
 }
 
-/// The least object past `last` whose parent or place is x, or none where there is no such object.
+/// The least object past `last` whose parent or place is x, or none if there is no such object.
 fn next_linked_to<R: Rows>(rows: &R, x: ObjNo, last: ObjNo) -> Option<ObjNo>
     ensures { IsFirst object_cmp (λ y. row_linked x (get (R.held rows.now).maps.objects y)) last result }
 {
@@ -181,7 +181,7 @@ fn remove_verbs<R: Rows>(rows: &mut R, keys: &[(ObjNo, VerbId)]) -> Result<(), A
     Ok(())
 }
 
-/// A link, or where it leads to x another one.
+/// A link, or another one if it leads to x.
 #[tactic(auto, unfolding(moo_world::specs::Objects::same_object))]
 fn redirected(x: ObjNo, link: ObjNo, to: ObjNo) -> ObjNo
     ensures { result ≡ (if same_object x link then to else link) }
@@ -226,10 +226,10 @@ fn release_all<R: Rows>(
 }
 
 /// Removes an object with its slots, verbs and properties, and the slots of these properties on its descendants. Its
-/// children go to its parent, and what lies in it to `#-1`; these are listed as relinked, and are still there. What is
+/// children go to its parent, and what is in it to `#-1`; these are listed as relinked, and are still there. What is
 /// listed is ascending.
 ///
-/// The only error is want of memory, after which the rows may be half changed.
+/// The only error is out of memory, after which the rows may be half changed.
 pub fn drop_object<R: Rows>(alloc: Global, rows: &mut R, x: ObjNo) -> Result<Dropped, AllocError>
     requires good { IsGood (R.held rows.old).maps }
     requires object { is_object (world_of (R.held rows.old).maps) x ≡ true }

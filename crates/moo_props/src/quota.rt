@@ -34,8 +34,8 @@ fn quota_here<R: Rows>(rows: &R, o: ObjNo) -> Option<(PropId, i64)>
     }
 }
 
-/// The quota of o: the integer that it reads for `ownership_quota`. None where o has no such property, where its value
-/// is no integer, or where o is no object.
+/// The quota of o: the integer that it reads for `ownership_quota`. None if o has no such property, if its value
+/// isn't an integer, or if o isn't an object.
 pub fn quota_of<R: Rows>(rows: &R, o: ObjNo) -> Option<i64>
     requires { IsGood (R.held rows.now).maps }
     ensures { result ≡ quota_of (world_of (R.held rows.now).maps) o }
@@ -54,8 +54,8 @@ fn set_to(quota: i64, by: i64) -> SlotState
     SlotState::Set(Value::Int(quota + by))
 }
 
-/// Adds to the quota of o, where it has one. What is stored is set on o itself; owner and bits of its slot stay. The only error
-/// is want of memory.
+/// Adds to the quota of o, if it has one. What is stored is set on o itself; owner and bits of its slot stay. The only error
+/// is out of memory.
 pub fn move_quota<R: Rows>(rows: &mut R, o: ObjNo, by: i64) -> Result<(), AllocError>
     requires good { IsGood (R.held rows.old).maps }
     requires room { HasRoom (quota_of (world_of (R.held rows.old).maps) o) by }
@@ -71,7 +71,7 @@ pub fn move_quota<R: Rows>(rows: &mut R, o: ObjNo, by: i64) -> Result<(), AllocE
     Ok(())
 }
 
-/// Takes one from the quota of o, where it has one. The only error is want of memory.
+/// Takes one from the quota of o, if it has one. The only error is out of memory.
 pub fn take_quota<R: Rows>(rows: &mut R, o: ObjNo) -> Result<(), AllocError>
     requires good { IsGood (R.held rows.old).maps }
     requires left { has_quota_left (world_of (R.held rows.old).maps) o ≡ true }
@@ -82,8 +82,8 @@ pub fn take_quota<R: Rows>(rows: &mut R, o: ObjNo) -> Result<(), AllocError>
     move_quota(rows, o, -1)
 }
 
-/// Gives one back to the quota of o, where it has one. A quota at the greatest integer, 9,223,372,036,854,775,807, stays. The
-/// only error is want of memory.
+/// Gives one back to the quota of o, if it has one. A quota at the greatest integer, 9,223,372,036,854,775,807, stays. The
+/// only error is out of memory.
 pub fn return_quota<R: Rows>(rows: &mut R, o: ObjNo) -> Result<(), AllocError>
     requires { IsGood (R.held rows.old).maps }
     ensures world { OnOk result (world_of (R.held rows.new).maps ≡ quota_returned (world_of (R.held rows.old).maps) o) }

@@ -27,7 +27,7 @@ pub struct Touched {
     pub relinked: ObjList,
 }
 
-/// Whether an object stands in a list.
+/// Whether an object is in a list.
 fn is_among(list: &[ObjNo], x: ObjNo) -> bool
     ensures { result ≡ is_among x list.now }
 {
@@ -87,7 +87,7 @@ fn move_slots<R: Rows>(
     Ok(())
 }
 
-/// Puts x under another parent where that is not its parent yet, and lists it then.
+/// Puts x under another parent, and lists it, unless that is its parent already.
 #[tactic(auto, unfolding(moo_world::specs::Objects::same_object))]
 fn relink<R: Rows>(
     alloc: Global,
@@ -112,7 +112,7 @@ fn relink<R: Rows>(
 /// Puts x under another parent: x and all under it lose the slots of definers that they are under no more, and get
 /// fresh ones of those that they are under now. What is listed is ascending. Under the present parent nothing is written.
 ///
-/// The only error is want of memory, after which the rows may be half changed.
+/// The only error is out of memory, after which the rows may be half changed.
 ///
 /// LambdaMOO Programmer's Manual, 'Fundamental Operations on Objects': `chparent`.
 pub fn reparent<R: Rows>(

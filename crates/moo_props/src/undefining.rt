@@ -29,7 +29,7 @@ fn remove_over<R: Rows>(
 
 /// Removes a property that x defines, from x and all its descendants. Each other one keeps its number.
 ///
-/// The only error is want of memory, after which the rows may be half changed.
+/// The only error is out of memory, after which the rows may be half changed.
 ///
 /// LambdaMOO Programmer's Manual, 'Operations on Properties': `delete_property`.
 pub fn undefine<R: Rows>(

@@ -13,7 +13,7 @@ abbrev pub calls_asked : Mode → Shape → Calls → Asked
 calls_asked mode shape (Whole calls) = asks.Calls mode (record { programmer = shape.programmer; at = shape.at; calls = calls })
 calls_asked mode shape (Bad n) = asks.Refused (Malformed n)
 
--- the batch of a shape; or the number, from 1, of its first text that is no call
+-- the batch of a shape; or the number, from 1, of its first text that isn't a call
 abbrev pub shape_asked : Mode → Option Shape → Asked
 shape_asked mode None = asks.Refused BadRequest
 shape_asked mode (Some shape) = calls_asked mode shape (calls_from 1 shape.calls)

@@ -4,7 +4,7 @@ use Rattle.std.specs.Option.{option_map_or}
 use Rattle.moo_world.specs.declared.call.Call.{Call}
 use Rattle.moo_text.specs.LineReading.{call_of}
 
--- the calls of texts; or the number of the first text that is none
+-- the calls of texts; or the number of the first text that isn't one
 pub data Calls : Type 0 where
   Whole : List Call → Calls
   Bad : ℕ → Calls

@@ -17,7 +17,7 @@ IsFoundAmong values line.Nothing = values ≡ []
 IsFoundAmong values (line.One value) = values ≡ value.now ∷ []
 IsFoundAmong values line.Several = 1 < length values
 
--- a head stands at the front of the bytes, whatever follows, and its parts lie where they were found
+-- a head is at the front of the bytes, whatever follows, and its parts lie where they were found
 pub record HeadStands (bytes : List ℕ) (found : Head) : Type 0 where
   pub head : RequestHead
   pub begins : (more : List ℕ) → BeginsWithHead (bytes ++ more) head (drop found.spans.len bytes ++ more)

@@ -1,8 +1,8 @@
--- What reading takes from a reader, where it tells its bytes.
+-- What reading takes from a reader, if it tells its bytes.
 use Rattle.std.specs.Prelude.{◌≡◌, ◌≤◌, ℕ, List, ◌++◌, length, Option}
 use Rattle.std.specs.Io.KnownBytes.{Consumes}
 
--- the reader gave some bytes, which stand behind those that were there before
+-- the reader gave some bytes, which are after those that were there before
 pub record Grows (old new : Option (List ℕ)) (before behind : List ℕ) : Type 0 where
   pub given : List ℕ
   pub known : Consumes old new given

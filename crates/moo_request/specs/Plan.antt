@@ -36,7 +36,7 @@ method_text Post = codes "POST"
 abbrev pub length_of : List Line → Option ℕ
 length_of lines = option_and_then (λ text. if nat_le (length text) 10 then bounded_of 9999999999 text else None) (length_text lines)
 
--- a body says it, where its length is stated and at most 1,048,576
+-- a body says it, if its length is stated and at most 1,048,576
 abbrev pub body_plan : Mode → Option ℕ → Plan
 body_plan mode None = Decided (Refused BadRequest)
 body_plan mode (Some n) = if nat_lt 1048576 n then Decided (Refused TooLarge) else Body mode n
@@ -45,7 +45,7 @@ abbrev pub object_plan : Option ℤ → Plan
 object_plan None = Decided (Refused NotFound)
 object_plan (Some n) = Decided (Object (record { 0 = n }))
 
--- the number of an object stands behind `/object/`
+-- the number of an object is after `/object/`
 abbrev pub endpoint_plan : Endpoint → List ℕ → List Line → Plan
 endpoint_plan to.Batch path lines = body_plan Run (length_of lines)
 endpoint_plan to.Ask path lines = body_plan Ask (length_of lines)
@@ -65,7 +65,7 @@ plan_of method target lines = routed_plan (endpoint_of (path_of target)) method 
 abbrev pub plan_by : RequestHead → Plan
 plan_by head = plan_of head.method head.target (map name_and_value head.fields)
 
--- the bytes that are read behind the head
+-- the bytes that are read after the head
 abbrev pub body_size : Plan → ℕ
 body_size (Decided asked) = 0
 body_size (Body mode n) = n

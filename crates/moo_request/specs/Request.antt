@@ -20,21 +20,21 @@ PlanAsks (Decided decided) rest asked = asked ≡ decided
 PlanAsks (Body mode n) rest asked =
     ((n ≤ length rest) × BodyAsks mode (take n rest) asked) ⊎ ((length rest < n) × (asked ≡ Refused BadRequest))
 
--- What the bytes of a connection ask: nothing where there are none; a bad request where they begin with no head; else what the one
--- head and the bytes behind it ask.
+-- What the bytes of a connection ask: nothing if there are none; a bad request if they begin with no head; else what the one
+-- head and the bytes after it ask.
 pub data Receives (input : List ℕ) (received : Received) : Type 0 where
   nothing : input ≡ [] → received ≡ Nothing → Receives input received
   no_head : input ≢ [] → HasNoHead input → received ≡ Request false (Refused BadRequest) → Receives input received
   request : (head : RequestHead) (rest : List ℕ) (asked : Asked) → BeginsWithHead input head rest → PlanAsks (plan_by head) rest asked
       → received ≡ Request (is_head head) asked → Receives input received
 
--- No more bytes are taken than are needed: 8,192 at most; or they begin with a head, and none stands behind the body that it plans.
+-- No more bytes are taken than are needed: 8,192 at most; or they begin with a head, and none is after the body that it plans.
 pub data IsSparing (given : List ℕ) : Type 0 where
   small : length given ≤ 8192 → IsSparing given
   body : (head : RequestHead) (rest : List ℕ) → BeginsWithHead given head rest → length given ≤ length (print_request head) + body_size (plan_by head)
       → IsSparing given
 
--- From old to new the reader gave these bytes, no more than are needed. Where it tells its bytes they stood in front and are gone.
+-- From old to new the reader gave these bytes, no more than are needed. If it tells its bytes they were in front and are gone.
 pub record GivesSparingly (old new : Option (List ℕ)) (given : List ℕ) : Type 0 where
   pub known : Consumes old new given
   pub sparing : IsSparing given

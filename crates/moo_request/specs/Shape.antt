@@ -25,7 +25,7 @@ abbrev pub seq_of : Option ℕ → Option (Option ℕ)
 seq_of None = None
 seq_of (Some n) = if nat_lt n (2 ^ 63) then Some (Some n) else None
 
--- no number where the key is absent or null
+-- no number if the key is absent or null
 abbrev pub stated_at : Option Data → Option (Option ℕ)
 stated_at None = Some None
 stated_at (Some d) = if is_some (as_null d) then Some None else seq_of (option_and_then as_u64 (as_number d))

@@ -21,7 +21,7 @@ pub enum Refusal {
     NotAllowed(Method),
     /// The stated length is over 1,048,576 bytes.
     TooLarge,
-    /// The number, from 1, of the first text under `calls` that is no call.
+    /// The number, from 1, of the first text under `calls` that isn't a call.
     Malformed(u32),
 }
 

@@ -28,7 +28,7 @@ use std::io::Read;
 pub enum CallsRead {
     /// Each text is a call.
     Whole(Vec<Call>),
-    /// The number, from 1, of the first text that is none.
+    /// The number, from 1, of the first text that isn't one.
     Bad(u32),
 }
 
@@ -112,7 +112,7 @@ fn read_body<R: Read>(
     Ok(asked)
 }
 
-/// What a plan comes to, whose head ends at `start` of the bytes. Nothing is read where it is decided.
+/// What comes of a plan whose head ends at `start` of the bytes. Nothing is read if it is decided.
 pub(crate) fn follow_plan<R: Read>(
     alloc: Global,
     reader: &mut R,

@@ -16,7 +16,7 @@ const MAX_HEAD: usize = 8192;
 
 const MAX_LINES: usize = 32;
 
-/// Where the parts of a head are in the bytes.
+/// The places of the parts of a head in the bytes.
 #[derive(Clone, Copy, Drop)]
 pub struct Head {
     pub spans: RequestSpans,
@@ -34,7 +34,7 @@ pub enum HeadRead {
     Empty,
 }
 
-/// What the bytes say of the head, whatever follows them. `None` where it may go on behind them.
+/// What the bytes say of the head, whatever follows them. `None` if it may go on after them.
 fn parse_head(bytes: &[u8]) -> Option<HeadRead>
     requires { (0 < length bytes.now) × (length bytes.now ≤ 8192) }
     ensures found { IfSome result (ShowsHead bytes.now) }

@@ -9,7 +9,7 @@ use std::io::Read;
 
 const PIECE: usize = 1024;
 
-/// Reads a piece behind the bytes, which stay within the limit. `false` is the end of the input.
+/// Reads a piece after the bytes, which stay within the limit. `false` is the end of the input.
 pub(crate) fn read_more<R: Read>(
     reader: &mut R,
     bytes: &mut Vec<u8>,

@@ -1,4 +1,4 @@
-//! What a request asks, from the bytes of a connection: its head, read in pieces, its route, and its body only where the head asks for one.
+//! What a request asks, from the bytes of a connection: its head, read in pieces, its route, and its body only if the head asks for one.
 #![tactic(auto)]
 
 mod asked;

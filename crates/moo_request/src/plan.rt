@@ -53,7 +53,7 @@ fn is_method(method: &[u8], wanted: Method) -> bool
     }
 }
 
-/// The stated length of the body; none where it isn't stated once, in 1 to 10 digits, or a coding stands beside it.
+/// The stated length of the body; none if it isn't stated once, in 1 to 10 digits, or a coding is beside it.
 fn body_length(bytes: &[u8], lines: &[HeaderSpan]) -> Option<u64>
     requires within { All (IsHeaderWithin (length bytes.now)) lines.now }
     ensures { result ≡ length_of (map (header_bytes bytes.now) lines.now) }
@@ -87,7 +87,7 @@ fn plan_body(mode: Mode, length: Option<u64>) -> Plan
     }
 }
 
-/// The number of an object stands behind `/object/`.
+/// The number of an object is after `/object/`.
 fn plan_object(path: &[u8]) -> Plan
     ensures value { result ≡ object_plan (number_of (drop 8 path.now)) }
     ensures bound { IsBounded result }

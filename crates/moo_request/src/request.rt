@@ -49,9 +49,9 @@ fn plan_head(routes: &Routes, bytes: &[u8], head: &Head) -> Plan
     )
 }
 
-/// Reads what a connection asks: its head, of at most 8,192 bytes and 32 lines, and its body only where the head asks for one, of the
-/// stated length, which is at most 1,048,576 bytes. Memory is taken as the bytes come, and not by the stated length. Read where the reader
-/// fails; OutOfMemory where memory runs out.
+/// Reads what a connection asks: its head, of at most 8,192 bytes and 32 lines, and its body only if the head asks for one, of the
+/// stated length, which is at most 1,048,576 bytes. Memory is taken as the bytes come, and not by the stated length. Read if the reader
+/// fails; OutOfMemory if memory runs out.
 pub fn read_request<R: Read>(
     alloc: Global,
     routes: &Routes,

@@ -22,7 +22,7 @@ pub struct Routes {
     ghost known: { ∥ router ≡ service_rows ∥₁ },
 }
 
-/// Adds a route. AllocError where memory runs out, since each text is a route and no two clash.
+/// Adds a route. AllocError if memory runs out, since each text is a route and no two clash.
 fn add_route(
     router: &mut Router<Endpoint>,
     text: &str,
@@ -37,7 +37,7 @@ fn add_route(
 }
 
 impl Routes {
-    /// The router of the four routes. AllocError where memory runs out.
+    /// The router of the four routes. AllocError if memory runs out.
     pub fn new(alloc: Global) -> Result<Routes, AllocError> {
         let mut router = Router::new(alloc);
         add_route(&mut router, "/batch", Endpoint::Batch)?;

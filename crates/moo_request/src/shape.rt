@@ -68,7 +68,7 @@ fn are_short(texts: &[&str]) -> bool
     texts.len() <= MAX_CALLS && all_short(texts)
 }
 
-/// The JSON that the bytes are. `None` is none.
+/// The JSON that the bytes are. `None` if they aren't JSON.
 pub(crate) fn read_json(alloc: Global, bytes: &[u8]) -> Result<Option<Value>, AllocError>
     ensures { IfOk result (λ found. MatchOption found
         (IsUtf8 bytes.now → read bytes.now ≡ None)

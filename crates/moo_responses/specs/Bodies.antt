@@ -1,4 +1,4 @@
--- The bodies of answers, as JSON. The members stand in the order of their keys.
+-- The bodies of answers, as JSON. The members are in the order of their keys.
 use Rattle.std.specs.Prelude.{ℕ, Bool, List, map, codes, cond}
 use Rattle.serde_json.specs.Data.{Data, unsigned, number, string, array, object, Items, member, no_members}
 use Rattle.serde_json.specs.View.{items_of}
@@ -39,7 +39,7 @@ objects xs = array (strings (map object_text xs))
 abbrev pub flag_data : Bool → Data
 flag_data set = number (unsigned (cond set 1 0))
 
--- the fields of an object, its children and what lies in it
+-- the fields of an object, its children and what is in it
 abbrev pub look_body : Look → Data
 look_body l = object
     (member (codes "children") (objects l.children)

@@ -7,7 +7,7 @@ use Rattle.moo_request.specs.declared.asked.Refusal.TheVariants.{BadRequest, Mal
 use Rattle.moo_responses.specs.declared.outcome.Outcome.{Outcome}
 use Rattle.moo_responses.specs.declared.outcome.Outcome.TheVariants as outcome
 
--- a look shows nothing where there is no object
+-- a look shows nothing if there is no object
 abbrev pub looked : Option Look → Outcome
 looked None = outcome.NoObject
 looked (Some look) = outcome.Object look

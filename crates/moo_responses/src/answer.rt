@@ -8,7 +8,7 @@ use crate::respond::respond;
 use crate::response::print_response;
 use std::alloc::{AllocError, Global};
 
-/// The bytes of the answer to what came of a request: its head and its body, and to HEAD the head alone. `AllocError` where memory is
+/// The bytes of the answer to what came of a request: its head and its body, and to HEAD the head alone. `AllocError` if memory is
 /// refused.
 pub fn answer_text(alloc: Global, outcome: &Outcome, is_head: bool) -> Result<String, AllocError>
     ensures { IfOk result (λ text. string_bytes text ≡ response_text is_head (response_of outcome.now)) }

@@ -60,7 +60,7 @@ pub(crate) fn call_text(alloc: Global, call: u32, word: &str) -> Result<String, 
     printed(alloc, &value)
 }
 
-/// The present number, where a batch named another.
+/// The present number, if a batch named another.
 pub(crate) fn stale_text(alloc: Global, seq: u64) -> Result<String, AllocError>
     ensures { IfOk result (λ text. string_bytes text ≡ compact_text (stale_body seq)) }
 {

@@ -117,7 +117,7 @@ fn look_value(alloc: Global, look: &Look) -> Result<Value, AllocError>
     Ok(Value::Object(fields))
 }
 
-/// The fields of an object, its children and what lies in it.
+/// The fields of an object, its children and what is in it.
 pub(crate) fn look_text(alloc: Global, look: &Look) -> Result<String, AllocError>
     ensures { IfOk result (λ text. string_bytes text ≡ compact_text (look_body look.now)) }
 {

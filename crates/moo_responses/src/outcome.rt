@@ -4,7 +4,7 @@ use moo_dump::Look;
 use moo_request::Refusal;
 use moo_text::Reply;
 
-/// What came of a request; what refuses it stands first, in the order of the answers' table.
+/// What came of a request; what refuses it is first, in the order of the answers' table.
 #[derive(Drop)]
 pub enum Outcome {
     /// It was refused before the World was asked.

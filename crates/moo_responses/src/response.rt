@@ -6,7 +6,7 @@ ghost use Rattle.moo_responses.specs.Bytes.{reason_of, status_line, length_line,
 use http::StatusCode;
 use std::alloc::{AllocError, Global};
 
-/// An answer: its status, the method of the route where another was asked, and its body.
+/// An answer: its status, the method of the route if another was asked, and its body.
 #[derive(Drop)]
 pub(crate) struct Response {
     pub status: StatusCode,

@@ -25,7 +25,7 @@ pub struct VerbId(pub u32);
 #[derive(Clone, Copy, Debug, PartialEq, Eq, PartialOrd, Ord)]
 pub struct PetitionId(pub u32);
 
-/// A list of objects, in the order given. Objects may stand in it more than once.
+/// A list of objects, in the order given. Objects may be in it more than once.
 #[derive(Clone, Drop)]
 pub struct ObjList {
     items: Vec<ObjNo>,
@@ -86,12 +86,12 @@ pub struct ObjRow {
     pub w: bool,
     /// Whether everybody may make children of it ("fertile").
     pub f: bool,
-    /// The objects that it takes in, with all their descendants; where there is no list, its parent's list counts.
+    /// The objects that it takes in, with all their descendants; if there is no list, its parent's list counts.
     pub accept: Option<ObjList>,
 }
 
 impl ObjRow {
-    /// An object with this name, owner and parent that has no rights, no place and no accept list. An `Err` is want of memory.
+    /// An object with this name, owner and parent that has no rights, no place and no accept list. An `Err` is a lack of memory.
     pub fn plain(
         alloc: Global,
         name: &[u8],
@@ -126,7 +126,7 @@ pub enum Link {
 }
 
 impl Link {
-    /// Whether it is to `#-1`: the link of an object that has no parent, or lies nowhere.
+    /// Whether it is to `#-1`: the link of an object that has no parent, or is nowhere.
     pub fn is_to_nothing(self) -> bool
         ensures { result ≡ is_to_nothing self }
     {
@@ -223,7 +223,7 @@ pub struct VerbBits {
     pub d: bool,
 }
 
-/// What stands at an object's place in a verb's arguments.
+/// What an object's place in a verb's arguments holds.
 #[derive(Clone, Copy, Debug, PartialEq, Eq)]
 pub enum Place {
     This,
@@ -289,7 +289,7 @@ pub struct PetitionRow {
 /// The counters.
 #[derive(Clone, Copy, Debug, PartialEq, Eq)]
 pub struct Head {
-    /// The greatest object number that was ever given, -1 where none was.
+    /// The greatest object number that was ever given, -1 if none was.
     pub top: i32,
     /// The number of the next property.
     pub next_prop: u32,

@@ -14,10 +14,10 @@ use std::alloc::AllocError;
 
 /// A head and five maps of rows: objects, properties, slots, verbs and petitions.
 ///
-/// A look-up, a next key and the head take no memory. A put or a removal that is refused, for want of memory alone, changes nothing.
+/// A look-up, a next key and the head take no memory. A put or a removal that is refused, for a lack of memory alone, changes nothing.
 /// Each other one changes the row of its key and nothing else, and raises the count of writes, which only contracts see, by one.
 pub trait Rows {
-    /// The head and what the maps hold, how many rows were put or removed so far, and what the rows stand over.
+    /// The head and what the maps hold, how many rows were put or removed so far, and what the rows are over.
     ghost held: { Self → Held };
 
     /// The head.
@@ -29,100 +29,100 @@ pub trait Rows {
         ensures { held self.new
             ≡ record (held self.old) { maps = record ((held self.old).maps) { head = head } } };
 
-    /// The row of an object, or none where the map doesn't hold it.
+    /// The row of an object, or none if the map doesn't hold it.
     fn object(&self, key: ObjNo) -> Option<&ObjRow>
         ensures { option_map (λ row. row.now) result ≡ map.get (held self.now).maps.objects key };
 
-    /// The least object that is held past `from`, or the least of all where no `from` is given; none where there is no such object.
+    /// The least object that is held past `from`, or the least of all if no `from` is given; none if there is no such object.
     fn next_object(&self, from: Option<ObjNo>) -> Option<ObjNo>
         ensures { IsNext (held self.now).maps.objects from result };
 
-    /// The least object past `after` that has the link, or none where no object past it has it.
+    /// The least object past `after` that has the link, or none if no object past it has it.
     fn next_linked(&self, link: Link, after: ObjNo) -> Option<ObjNo>
         ensures { IsFirst object_cmp (is_linked (held self.now).maps link) after result };
 
-    /// Sets the row of an object, in place of the one that it has, if any. An `Err` is want of memory.
+    /// Sets the row of an object, in place of the one that it has, if any. An `Err` is a lack of memory.
     fn put_object(&mut self, key: ObjNo, row: ObjRow) -> Result<(), AllocError>
         ensures ok { OnOk result (held self.new ≡ with_object (held self.old) key row) }
         ensures err { OnErr result (held self.new ≡ held self.old) };
 
-    /// Takes the row of an object away; it need not have one. An `Err` is want of memory.
+    /// Takes the row of an object away; it need not have one. An `Err` is a lack of memory.
     fn remove_object(&mut self, key: ObjNo) -> Result<(), AllocError>
         ensures ok { OnOk result (held self.new ≡ without_object (held self.old) key) }
         ensures err { OnErr result (held self.new ≡ held self.old) };
 
-    /// The row of a property, or none where the map doesn't hold it.
+    /// The row of a property, or none if the map doesn't hold it.
     fn prop(&self, key: PropId) -> Option<&PropRow>
         ensures { option_map (λ row. row.now) result ≡ map.get (held self.now).maps.props key };
 
-    /// The least property that is held past `from`, or the least of all where no `from` is given; none where there is no such property.
+    /// The least property that is held past `from`, or the least of all if no `from` is given; none if there is no such property.
     fn next_prop(&self, from: Option<PropId>) -> Option<PropId>
         ensures { IsNext (held self.now).maps.props from result };
 
-    /// The least property past `after` that x defines, or none where it defines no property past it.
+    /// The least property past `after` that x defines, or none if it defines no property past it.
     fn next_defined(&self, x: ObjNo, after: PropId) -> Option<PropId>
         ensures { IsFirst prop_cmp (is_definer (held self.now).maps x) after result };
 
-    /// Sets the row of a property, in place of the one that it has, if any. An `Err` is want of memory.
+    /// Sets the row of a property, in place of the one that it has, if any. An `Err` is a lack of memory.
     fn put_prop(&mut self, key: PropId, row: PropRow) -> Result<(), AllocError>
         ensures ok { OnOk result (held self.new ≡ with_prop (held self.old) key row) }
         ensures err { OnErr result (held self.new ≡ held self.old) };
 
-    /// Takes the row of a property away; it need not have one. An `Err` is want of memory.
+    /// Takes the row of a property away; it need not have one. An `Err` is a lack of memory.
     fn remove_prop(&mut self, key: PropId) -> Result<(), AllocError>
         ensures ok { OnOk result (held self.new ≡ without_prop (held self.old) key) }
         ensures err { OnErr result (held self.new ≡ held self.old) };
 
-    /// The row of a slot, or none where the map doesn't hold it.
+    /// The row of a slot, or none if the map doesn't hold it.
     fn slot(&self, key: (ObjNo, PropId)) -> Option<&SlotRow>
         ensures { option_map (λ row. row.now) result ≡ map.get (held self.now).maps.slots key };
 
-    /// The least slot that is held past `from`, or the least of all where no `from` is given; none where there is no such slot.
+    /// The least slot that is held past `from`, or the least of all if no `from` is given; none if there is no such slot.
     fn next_slot(&self, from: Option<(ObjNo, PropId)>) -> Option<(ObjNo, PropId)>
         ensures { IsNext (held self.now).maps.slots from result };
 
-    /// Sets the row of a slot, in place of the one that it has, if any. An `Err` is want of memory.
+    /// Sets the row of a slot, in place of the one that it has, if any. An `Err` is a lack of memory.
     fn put_slot(&mut self, key: (ObjNo, PropId), row: SlotRow) -> Result<(), AllocError>
         ensures ok { OnOk result (held self.new ≡ with_slot (held self.old) key row) }
         ensures err { OnErr result (held self.new ≡ held self.old) };
 
-    /// Takes the row of a slot away; it need not have one. An `Err` is want of memory.
+    /// Takes the row of a slot away; it need not have one. An `Err` is a lack of memory.
     fn remove_slot(&mut self, key: (ObjNo, PropId)) -> Result<(), AllocError>
         ensures ok { OnOk result (held self.new ≡ without_slot (held self.old) key) }
         ensures err { OnErr result (held self.new ≡ held self.old) };
 
-    /// The row of a verb, or none where the map doesn't hold it.
+    /// The row of a verb, or none if the map doesn't hold it.
     fn verb(&self, key: (ObjNo, VerbId)) -> Option<&VerbRow>
         ensures { option_map (λ row. row.now) result ≡ map.get (held self.now).maps.verbs key };
 
-    /// The least verb that is held past `from`, or the least of all where no `from` is given; none where there is no such verb.
+    /// The least verb that is held past `from`, or the least of all if no `from` is given; none if there is no such verb.
     fn next_verb(&self, from: Option<(ObjNo, VerbId)>) -> Option<(ObjNo, VerbId)>
         ensures { IsNext (held self.now).maps.verbs from result };
 
-    /// Sets the row of a verb, in place of the one that it has, if any. An `Err` is want of memory.
+    /// Sets the row of a verb, in place of the one that it has, if any. An `Err` is a lack of memory.
     fn put_verb(&mut self, key: (ObjNo, VerbId), row: VerbRow) -> Result<(), AllocError>
         ensures ok { OnOk result (held self.new ≡ with_verb (held self.old) key row) }
         ensures err { OnErr result (held self.new ≡ held self.old) };
 
-    /// Takes the row of a verb away; it need not have one. An `Err` is want of memory.
+    /// Takes the row of a verb away; it need not have one. An `Err` is a lack of memory.
     fn remove_verb(&mut self, key: (ObjNo, VerbId)) -> Result<(), AllocError>
         ensures ok { OnOk result (held self.new ≡ without_verb (held self.old) key) }
         ensures err { OnErr result (held self.new ≡ held self.old) };
 
-    /// The row of a petition, or none where the map doesn't hold it.
+    /// The row of a petition, or none if the map doesn't hold it.
     fn petition(&self, key: PetitionId) -> Option<&PetitionRow>
         ensures { option_map (λ row. row.now) result ≡ map.get (held self.now).maps.petitions key };
 
-    /// The least petition that is held past `from`, or the least of all where no `from` is given; none where there is no such petition.
+    /// The least petition that is held past `from`, or the least of all if no `from` is given; none if there is no such petition.
     fn next_petition(&self, from: Option<PetitionId>) -> Option<PetitionId>
         ensures { IsNext (held self.now).maps.petitions from result };
 
-    /// Sets the row of a petition, in place of the one that it has, if any. An `Err` is want of memory.
+    /// Sets the row of a petition, in place of the one that it has, if any. An `Err` is a lack of memory.
     fn put_petition(&mut self, key: PetitionId, row: PetitionRow) -> Result<(), AllocError>
         ensures ok { OnOk result (held self.new ≡ with_petition (held self.old) key row) }
         ensures err { OnErr result (held self.new ≡ held self.old) };
 
-    /// Takes the row of a petition away; it need not have one. An `Err` is want of memory.
+    /// Takes the row of a petition away; it need not have one. An `Err` is a lack of memory.
     fn remove_petition(&mut self, key: PetitionId) -> Result<(), AllocError>
         ensures ok { OnOk result (held self.new ≡ without_petition (held self.old) key) }
         ensures err { OnErr result (held self.new ≡ held self.old) };

@@ -1,9 +1,8 @@
--- The tables of a new world.
-use Rattle.std.proofs.Common.{◌≡◌, Option, None, Result, Ok, Err, IfOk, refl, sym, subst}
-use Rattle.std.specs.FinMap.{get-empty}
+-- The tables of a whole world.
+use Rattle.std.proofs.Common.{◌≡◌, Option, None, Ordering, refl, sym, subst}
+use Rattle.std.specs.FinMap.{FinMap, empty, get, get-empty}
 use Rattle.sqlite.specs.State.{State as Database, Survives}
 use Rattle.moo_rows.specs.Maps.{Maps, no_maps, object_cmp, prop_cmp, slot_cmp, verb_cmp, petition_cmp}
-use Rattle.moo_rows.specs.Opening.{opening_maps}
 use Rattle.moo_rows.specs.declared.row.ObjRow.{ObjRow}
 use Rattle.moo_rows.specs.declared.row.PropRow.{PropRow}
 use Rattle.moo_rows.specs.declared.row.SlotRow.{SlotRow}
@@ -17,11 +16,11 @@ use Rattle.moo_tables.specs.Cells.{tables_with}
 use Rattle.moo_tables.specs.Inside.{Rests, Leaves, HasNoTables, no_tables}
 use Rattle.moo_tables.specs.declared.cells.CellChanges.{CellChanges}
 use Rattle.sqlite.specs.Effect.{Database as Content}
-use Rattle.moo_draft.specs.declared.changes.Changes.{Changes}
-use Rattle.moo_draft.specs.Changes.{AreChanges}
+use Rattle.moo_draft.specs.Changes.{IsChanges, AreChanges}
 use Rattle.moo_cells.specs.Shows.{ShowsObject, ShowsProp, ShowsSlot, ShowsVerb, ShowsPetition, ShowsOrNone, ShowsMaps, ShowsRows}
-use Rattle.moo_store.specs.Printed.{Prints}
+use Rattle.moo_store.specs.Printed.{Prints, all_of, all_changes}
 use Rattle.moo_store.specs.States.{KeepsRows, LeavesState}
+use Rattle.moo_store.proofs.AllRows.{all_changed}
 use Rattle.moo_store.proofs.Committed.{survives-map}
 use Rattle.moo_store.proofs.Shown.{shows-written}
 
@@ -39,26 +38,32 @@ shows_nothing = record {
   no_petition = λ n. refl;
 }
 
--- the cells of the opening rows
-abbrev pub PrintsOpening : CellChanges → Type 0
-PrintsOpening cells = (changes : Changes) × Prints cells changes × AreChanges no_maps opening_maps changes
-
-pub printed_opening : {E : Type 0} (r : Result CellChanges E) (base new : Maps) (changes : Changes) → base ≡ no_maps → new ≡ opening_maps → AreChanges base new changes → IfOk r (λ cells. Prints cells changes) → IfOk r PrintsOpening
-printed_opening (Ok cells) base new changes none opening exact prints = (changes, prints, subst (λ m. AreChanges no_maps m changes) opening (subst (λ m. AreChanges m new changes) none exact))
-printed_opening (Err e) base new changes none opening exact prints = tt
-
 -- a database with an empty schema has no tables
 pub has_no_tables : (db : Content) → db.schema ≡ no_schema → HasNoTables db
 has_no_tables db e = record { schema_is = e; empty = tt }
 
-shows_opening : (cells : CellChanges) → PrintsOpening cells → ShowsRows (tables_with cells no_tables) opening_maps
-shows_opening cells p = shows-written cells p.0 no_maps opening_maps no_tables p.1 p.2 refl (λ n h. refl) (λ n h. refl) shows_nothing
+changed_from_none : {K X : Type 0} (cmp : K → K → Ordering) (m : FinMap cmp X) → IsChanges cmp (get (let none : FinMap cmp X = empty in none)) (get m) (all_of m)
+changed_from_none cmp m = subst (λ base. IsChanges cmp base (get m) (all_of m)) (λ i k. sym (get-empty cmp k) i) (all_changed cmp m)
 
--- the new tables show the opening rows
-pub keeps_opening : (store : Database) (cells : CellChanges) (rows : Maps) → PrintsOpening cells → rows ≡ opening_maps → Rests store (tables_with cells no_tables) → KeepsRows store rows
-keeps_opening store cells rows p is rests = subst (KeepsRows store) (sym is) (record { tables = tables_with cells no_tables; rests = rests; current = refl; shows = shows_opening cells p })
+-- all rows are what changed from no rows
+from_none : (m : Maps) → AreChanges no_maps m (all_changes m)
+from_none m = record {
+  head = refl;
+  objects = changed_from_none object_cmp m.objects;
+  props = changed_from_none prop_cmp m.props;
+  slots = changed_from_none slot_cmp m.slots;
+  verbs = changed_from_none verb_cmp m.verbs;
+  petitions = changed_from_none petition_cmp m.petitions;
+}
+
+shows_all : (cells : CellChanges) (m : Maps) → Prints cells (all_changes m) → ShowsRows (tables_with cells no_tables) m
+shows_all cells m p = shows-written cells (all_changes m) no_maps m no_tables p (from_none m) refl (λ n h. refl) (λ n h. refl) shows_nothing
+
+-- the new tables show the rows
+pub keeps_all : (store : Database) (cells : CellChanges) (m : Maps) → Prints cells (all_changes m) → Rests store (tables_with cells no_tables) → KeepsRows store m
+keeps_all store cells m p rests = record { tables = tables_with cells no_tables; rests = rests; current = refl; shows = shows_all cells m p }
 
 -- and so does what a crash leaves of them
-pub survives_opening : (old new : Database) (cells : CellChanges) → PrintsOpening cells → IsGood opening_maps → Survives old new (λ trees. Leaves trees (tables_with cells no_tables)) → Survives old new (λ trees. LeavesState trees (state_of opening_maps))
-survives_opening old new cells p good survives = survives-map old new (λ trees. Leaves trees (tables_with cells no_tables)) (λ trees. LeavesState trees (state_of opening_maps)) survives
-    (λ clean trees lies. record { rows = opening_maps; good = good; state = refl; leaves = record { tables = tables_with cells no_tables; leaves = lies; shows = shows_opening cells p } })
+pub survives_all : (old new : Database) (cells : CellChanges) (m : Maps) → Prints cells (all_changes m) → IsGood m → Survives old new (λ trees. Leaves trees (tables_with cells no_tables)) → Survives old new (λ trees. LeavesState trees (state_of m))
+survives_all old new cells m p good survives = survives-map old new (λ trees. Leaves trees (tables_with cells no_tables)) (λ trees. LeavesState trees (state_of m)) survives
+    (λ clean trees lies. record { rows = m; good = good; state = refl; leaves = record { tables = tables_with cells no_tables; leaves = lies; shows = shows_all cells m p } })

@@ -35,12 +35,12 @@ IsOfStore Closed = ⊥
 abbrev pub not_ours : StoreFault
 not_ours = Store (SqliteFailure NotADatabase)
 
--- in place of tables that show these rows the trees have others that show them
+-- in place of tables that show these rows, the trees have others that show them
 abbrev pub TakesOver : Maps → Database → Trees → Type 0
 TakesOver rows store trees = (tables : Tables) → Rests store tables → ShowsRows tables rows → LeavesRows trees rows
 
--- what opening may commit: in place of tables of the first version others that show what those showed; and of those that rest there
--- only such as show the rows of a world
+-- what opening may commit: in place of tables of the first version others that show what those showed; and it commits only if the
+-- tables that are there show the rows of a world
 abbrev pub Adopts : Database → Trees → Type 0
 Adopts conn trees =
     (conn.now.schema ≡ first_schema) × ((s : State) → ShowsState conn s → LeavesState trees s)

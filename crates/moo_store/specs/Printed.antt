@@ -11,6 +11,7 @@ use Rattle.moo_rows.specs.declared.row.VerbId.{VerbId}
 use Rattle.moo_rows.specs.declared.row.VerbRow.{VerbRow}
 use Rattle.moo_rows.specs.declared.row.PetitionId.{PetitionId}
 use Rattle.moo_rows.specs.declared.row.PetitionRow.{PetitionRow}
+use Rattle.moo_rows.specs.Maps.{Maps}
 use Rattle.moo_tables.specs.declared.object.ObjectCells.{ObjectCells}
 use Rattle.moo_tables.specs.declared.prop.PropCells.{PropCells}
 use Rattle.moo_tables.specs.declared.slot.SlotCells.{SlotCells}
@@ -50,6 +51,17 @@ as_changes es = map (λ e. (e.0, Some e.1)) es
 
 abbrev pub all_of : {K X : Type 0} {cmp : K → K → Ordering} → FinMap cmp X → List (K × Option X)
 all_of m = as_changes (entries m)
+
+-- each row, as a change from no rows
+abbrev pub all_changes : Maps → Changes
+all_changes m = record {
+  head = m.head;
+  objects = all_of m.objects;
+  props = all_of m.props;
+  slots = all_of m.slots;
+  verbs = all_of m.verbs;
+  petitions = all_of m.petitions;
+}
 
 pub record Prints (cells : CellChanges) (changes : Changes) : Type 0 where
   pub head : cells.head ≡ changes.head

@@ -8,7 +8,7 @@ use Rattle.moo_store.specs.Answered.{acknowledged}
 use Rattle.moo_store.specs.Kept.{World}
 use Rattle.moo_store.specs.World.{StandsFor}
 
--- the batches that were acknowledged, and so many of those that have no reply
+-- the batches that were acknowledged, and the first `more` of those that have no reply
 abbrev pub kept_of : List Batch → List Reply → ℕ → List Batch
 kept_of batches replies more = acknowledged batches replies ++ take more (drop (length replies) batches)
 
@@ -23,7 +23,7 @@ abbrev pub RunsInParts : State → List (List Batch × List Reply) → State →
 RunsInParts s [] end = end ≡ s
 RunsInParts s (part ∷ parts) end = (more : ℕ) × (more ≤ 1) × RunsInParts (after s (kept_of part.0 part.1 more)) parts end
 
--- one list of all the parts' acknowledged batches in turn, with at most one more behind each part's
+-- one list of all the parts' acknowledged batches in turn, with at most one more after each part's
 abbrev pub IsKeptOf : List Batch → List (List Batch × List Reply) → Type 0
 IsKeptOf kept [] = kept ≡ []
 IsKeptOf kept (part ∷ parts) = (more : ℕ) × (rest : List Batch) × (more ≤ 1) × IsKeptOf rest parts × (kept ≡ kept_of part.0 part.1 more ++ rest)

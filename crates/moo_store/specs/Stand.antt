@@ -8,14 +8,14 @@ use Rattle.moo_text.specs.declared.reply.Answer.TheVariants as answer
 use Rattle.moo_text.specs.declared.reply.Reply.TheVariants.{NoMemory}
 use Rattle.moo_store.specs.Answered.{reply_of, answer_of, state_behind, IsRun}
 
--- It works at a state. Or it failed there: memory was refused behind the commit that made it. Or its store failed there, with a
+-- It works at a state. Or it failed there: memory ran out after the commit that made the state. Or its store failed there, with a
 -- batch in hand.
 pub data Stand : Type 0 where
   Works : State → Stand
   Failed : State → Stand
   StoreFailed : State → Batch → Stand
 
--- the state behind the last acknowledged batch
+-- the state after the last acknowledged batch
 abbrev pub state_at : Stand → State
 state_at (Works s) = s
 state_at (Failed s) = s
@@ -27,7 +27,7 @@ MayLeave (Works s) t = t ≡ s
 MayLeave (Failed s) t = t ≡ s
 MayLeave (StoreFailed s hand) t = (t ≡ s) ⊎ (t ≡ state_behind s hand)
 
--- what a verdict leaves: only behind a commit can a World fail
+-- what a verdict leaves: only after a commit can a World fail
 abbrev pub VerdictLeaves : State → model.Verdict → Stand → Type 0
 VerdictLeaves s (model.Accepted answers next) new = (new ≡ Works next) ⊎ (new ≡ Failed next)
 VerdictLeaves s verdict new = new ≡ Works s
@@ -37,7 +37,7 @@ abbrev pub ReachesStore : model.Verdict → Type 0
 ReachesStore (model.Accepted answers next) = ⊤
 ReachesStore verdict = ⊥
 
--- A World that works replies as it judges, or NoMemory where it runs the calls; or its store fails. A failed one is closed.
+-- A World that works replies as it judges, or NoMemory if it runs the calls; or its store fails. A failed one is closed.
 abbrev pub RunsBatch : Stand → Batch → Answer → Stand → Type 0
 RunsBatch (Works s) batch (answer.Replied reply) new =
     ((reply ≡ NoMemory) × (new ≡ Works s) × IsRun s batch) ⊎ ((reply ≡ reply_of (judge s batch)) × VerdictLeaves s (judge s batch) new)

@@ -44,7 +44,7 @@ pub record RunsAndAnswers {S : Type 0} (g : Ghosts S) (old : World S) (batch : B
   pub closed : IsTrue old.failed → (result ≡ Err Closed) × (new ≡ old)
   pub fails : old.failed ≡ false → IfErr result (λ fault. ((error : Error) × (fault ≡ Store error)) × (new.failed ≡ true))
 
--- Each batch that has a reply had its turn; where the store failed, so had the next one.
+-- Each batch that has a reply had its turn; if the store failed, so had the next one.
 pub record RunsAll {S : Type 0} (g : Ghosts S) (known : Bool) (world : World S) (old : Stand) (batches : List Batch) (replies : List Reply) (r : Result (Unit {0}) StoreFault) : Type 0 where
   pub mid : Stand
   pub turns : Turns RunsBatch old (map Whole (take (length replies) batches)) (map answer.Replied replies) mid
@@ -62,8 +62,8 @@ abbrev pub accepted : List Next → List Answer → List Batch
 accepted (item ∷ items) (a ∷ answers) = accepted_at item a ++ accepted items answers
 accepted items answers = []
 
--- Where the disk returns what was written, and the World works or its connection is open still: what these batches left of the
--- tables that rested in its store.
+-- What these batches left of the tables that were in its store, if the disk returns what was written, and the World works or its
+-- connection is still open.
 abbrev pub KeepsRest : {S : Type 0} (g : Ghosts S) → World S → World S → List Batch → Type 0
 KeepsRest g was world batches =
     HasCleanDisk (store_of g world) → (world.failed ≡ false) ⊎ IsTrue (store_of g world).is_open → (tables : Tables) → Rests (store_of g was) tables → HasWritten g was world tables batches
@@ -87,7 +87,7 @@ pub record StopsRun {S : Type 0} (g : Ghosts S) (known : Bool) (old : Stand) (te
   pub clean : HasCleanDisk (store_of g world) → HasCleanDisk (store_of g was)
   pub cells : IsTrue known → KeepsRest g was world (accepted halts.done halts.answers ++ accepted halts.hand halts.last)
 
--- ---- where nothing is refused
+-- ---- if memory doesn't run out and no fault comes
 
 abbrev pub is_plain : Answer → Bool
 is_plain (answer.Replied (Accepted seq answers)) = true

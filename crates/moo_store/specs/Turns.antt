@@ -36,7 +36,7 @@ Turn step old (Malformed number) a new = (a ≡ answer.Malformed number) × (new
 Turn step old Truncated a new = (a ≡ answer.Truncated) × (new ≡ old)
 Turn step old End a new = ⊥
 
--- each item has one turn, which goes on where the one before it ended
+-- each item has one turn, which begins from what the turn before it left
 abbrev pub Turns : {A : Type 0} → (A → Batch → Answer → A → Type 0) → A → List Next → List Answer → A → Type 0
 Turns step old [] [] new = new ≡ old
 Turns {A = A} step old (item ∷ items) (a ∷ answers) new = (mid : A) × Turn step old item a mid × Turns step mid items answers new
@@ -53,12 +53,12 @@ pub record Completes {A : Type 0} (step : A → Batch → Answer → A → Type 
   pub batches_are : batches ≡ count_by is_batch answers
   pub lost_are : lost ≡ count_by is_lost_answer answers
 
--- where the reader tells its bytes, these stand in front of them, and are all of them if it has ended
+-- if the reader tells its bytes, these come first in them, and are all of them if it has ended
 abbrev pub GivesFrontOrAll : Option (List ℕ) → Bool → List ℕ → Type 0
 GivesFrontOrAll text ended given = IfSome text (λ bytes. (rest : List ℕ) × (bytes ≡ given ++ rest) × (ended ≡ true → rest ≡ []))
 
--- Some items are done, and their answers are written whole. Then a fault came; or the next item had its turn first, and a front of
--- its answer is written.
+-- Some items are done, and their answers are written whole. Then a fault came; or the next item had its turn first, and the
+-- beginning of its answer is written.
 pub record Halts {A : Type 0} (step : A → Batch → Answer → A → Type 0) (old new : A) (text before behind : Option (List ℕ)) (fault : TextFault) : Type 0 where
   pub given : List ℕ
   pub ended : Bool
@@ -66,7 +66,7 @@ pub record Halts {A : Type 0} (step : A → Batch → Answer → A → Type 0) (
   pub long : (fault ≡ Long → length given ≡ 1073741825) × (fault ≢ Long → length given ≤ 1073741824)
   pub done : List Next
   pub hand : List Next
-  -- they come first, whatever the reader may give behind what it gave
+  -- they come first, whatever the reader may give after what it gave
   pub whole : (rest : List ℕ) → (ended ≡ true → rest ≡ []) → (left : List Next) × (items (given ++ rest) ≡ done ++ (hand ++ left))
   pub answers : List Answer
   pub mid : A
@@ -77,6 +77,6 @@ pub record Halts {A : Type 0} (step : A → Batch → Answer → A → Type 0) (
   pub in_hand : Turns step mid hand last new
   pub count : ℕ
   pub wrote : Appends before behind (answers_text answers ++ take count (answers_text last))
-  -- where the reader fails or the text is too long, none is in hand; and an answer is cut off only where the writer fails
+  -- if the reader fails or the text is too long, none is in hand; and an answer is cut off only if the writer fails
   pub read : (fault ≡ Read) ⊎ (fault ≡ Long) → hand ≡ []
   pub cut : fault ≢ Write → count ≡ 0

@@ -21,7 +21,7 @@ use Rattle.moo_store.specs.World.{store_of, MatchStore}
 use Rattle.moo_store.specs.Kept.{World}
 use Rattle.moo_store.specs.declared.fault.StoreFault.{StoreFault}
 
--- From rows that the tables show to rows that the tables then show: where a row is the same in both, so are its cells.
+-- From rows that the tables show to rows that the tables then show: if a row is the same in both, so are its cells.
 pub record KeepsCells (rows next : Maps) (old new : Tables) : Type 0 where
   pub version : new.version ≡ old.version
   pub shown : ShowsRows old rows
@@ -59,11 +59,11 @@ pub record StandsOver {S : Type 0} (g : Ghosts S) (world : World S) (tables : Ta
   pub current : world.failed ≡ false → IsCurrent tables
   pub shows : world.failed ≡ false → ShowsRows tables world.rows.maps
 
--- where the store failed, its connection is open still
+-- if the store failed, its connection is still open
 abbrev pub IsKnown : {T : Type 0} → Database → Result T StoreFault → Type 0
 IsKnown store r = MatchStore r ⊤ (IsTrue store.is_open)
 
--- What one batch writes, where the disk returns what was written; it returned that before too. One that meets a fault writes nothing.
+-- What one batch writes, if the disk returns what was written; it returned that before too. If the store fails, it writes nothing.
 pub record WritesOne {S : Type 0} (g : Ghosts S) (old new : World S) (batch : Batch) (r : Result Reply StoreFault) : Type 0 where
   pub clean : HasCleanDisk (store_of g new) → HasCleanDisk (store_of g old)
   pub written : HasCleanDisk (store_of g new) → IsKnown (store_of g new) r → (tables : Tables) → StandsOver g old tables → HasWritten g old new tables (taken_of batch r)

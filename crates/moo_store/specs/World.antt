@@ -17,14 +17,14 @@ use Rattle.moo_store.specs.declared.fault.StoreFault.TheVariants.{Store, OutOfMe
 abbrev pub store_of : {S : Type 0} (g : Ghosts S) → World S → Database
 store_of g world = state g world.connection
 
--- where the disk returns what was written, the tables of the World show its rows
+-- if the disk returns what was written, the tables of the World show its rows
 abbrev pub ShowsItsRows : {S : Type 0} (g : Ghosts S) → World S → Type 0
 ShowsItsRows g world = HasCleanDisk (store_of g world) → KeepsRows (store_of g world) world.rows.maps
 
 -- The tables of the World show s, and so do its rows while it works. A failed World may be at a state too.
 --
--- `known` says whether its tables are known to be so. Of a file that anybody may have written no query tells in which order its
--- trees hold the rows, so that nothing can be said of what a change leaves of them; what is said of the rows holds all the same.
+-- `known` says whether its tables are known to show s. Anybody may have written a file, and no query tells in which order its
+-- trees hold the rows: then nothing can be said of what a change leaves of them. What is said of the rows holds all the same.
 pub record IsAt {S : Type 0} (g : Ghosts S) (known : Bool) (world : World S) (s : State) : Type 0 where
   pub tables : IsTrue known → HasCleanDisk (store_of g world) → KeepsState (store_of g world) s
   pub rows : world.failed ≡ false → state_of world.rows.maps ≡ s
@@ -47,18 +47,18 @@ LeftOrNext store s batches = (trees : Trees) → store.may_leave trees → (more
 abbrev pub CrashLeaves : Database → Stand → Type 0
 CrashLeaves store stand = (trees : Trees) → store.may_leave trees → (t : State) × MayLeave stand t × LeavesState trees t
 
--- the World stands there: it is at the state, or where its store failed a crash leaves that or the one after the batch in hand
+-- the World stands there: it is at the state; or its store failed, and a crash leaves that state or the one after the batch in hand
 abbrev pub StandsAt : {S : Type 0} (g : Ghosts S) → Bool → World S → Stand → Type 0
 StandsAt g known world (Works s) = StandsFor g known world s
 StandsAt g known world (Failed s) = (world.failed ≡ true) × IsAt g known world s
 StandsAt g known world (StoreFailed s hand) = (world.failed ≡ true) × (IsTrue known → HasCleanDisk (store_of g world) → CrashLeaves (store_of g world) (StoreFailed s hand))
 
--- P, or Q where the store failed
+-- P, or Q if the store failed
 abbrev pub MatchStore : {T : Type 0} → Result T StoreFault → Type 0 → Type 0 → Type 0
 MatchStore (Ok x) P Q = P
 MatchStore (Err (Store error)) P Q = Q
 MatchStore (Err fault) P Q = P
 
--- the faults of a run: the store failed, memory was refused, or the World had failed before
+-- the faults of a run: the store failed, memory ran out, or the World had failed before
 abbrev pub IsOfRun : StoreFault → Type 0
 IsOfRun fault = ((error : Error) × (fault ≡ Store error)) ⊎ ((fault ≡ OutOfMemory) ⊎ (fault ≡ Closed))

@@ -22,8 +22,8 @@ use moo_flat::Flat;
 use sqlite::{Alter, Connection};
 use std::alloc::Global;
 
-/// The rows that the tables of a connection show. Tables of the first version are taken over to the second, once they are
-/// found whole.
+/// The rows that the tables of a connection show. Tables of the first version are migrated to the second, once they are found
+/// whole.
 fn open_rows<S: Alter>(alloc: Global, conn: &mut Connection<S>) -> Result<Flat, StoreFault>
     requires outside { (state S.Store conn.old).in_transaction ≡ false }
     ensures outside { (state S.Store conn.new).in_transaction ≡ false }
@@ -50,19 +50,19 @@ fn open_rows<S: Alter>(alloc: Global, conn: &mut Connection<S>) -> Result<Flat, 
 
 /// Opens the world that the tables of a connection show.
 ///
-/// Tables of the first version are taken over to the second, in one transaction, once the whole world was read and found
-/// sound; they show the same world then. Nothing else is written.
+/// Tables of the first version are migrated to the second, in one transaction, once the whole world was read and found sound.
+/// They show the same world then. Nothing else is written.
 ///
 /// The connection has to be in no transaction (`is_autocommit`), and comes back at each refusal, with its tables as they were
-/// where it is open still.
+/// if it is still open.
 /// Store: the store failed, or it has other tables than ours (`ErrorCode::NotADatabase`), or ours made in another order. Damaged
-/// and NewerVersion: the tables show no world, and say where, or are those of a later version. OutOfMemory: memory was refused.
+/// and NewerVersion: the tables show no world, and the fault says where, or they are of a later version. OutOfMemory: memory ran out.
 pub fn adopt<S: Alter + Drop>(
     alloc: Global,
     mut conn: Connection<S>,
 ) -> Result<World<S>, (StoreFault, Connection<S>)>
     requires outside { (state S.Store conn).in_transaction ≡ false }
-    // Tables of either version that show a world and a number give a World that stands for these, unless the store fails or memory is refused.
+    // Tables of either version that show a world and a number give a World that stands for these, unless the store fails or memory runs out.
     ensures stands { (s : State) → ShowsState (state S.Store conn) s → IfOk result (λ world. HasCleanDisk (store_of S.Store world) → StandsFor S.Store true world s) }
     // Whatever is opened, its rows are good, and what is said of rows alone is said of them.
     ensures rows { IfOk result (λ world. IsGood world.rows.maps × StandsFor S.Store false world (state_of world.rows.maps)) }
@@ -73,17 +73,17 @@ pub fn adopt<S: Alter + Drop>(
     ensures fault { IfErr result (λ e. HasCleanDisk (state S.Store e.1) → (tables : Tables) → Rests (state S.Store conn) tables → Says tables e.0) }
     // What is opened has the tables of the second version.
     ensures current { IfOk result (λ world. HasCleanDisk (store_of S.Store world) → (tables : Tables) → Rests (state S.Store conn) tables → HasTables second_schema (store_of S.Store world)) }
-    // Other tables than ours are a fault of the store, and the connection comes back as it is; so it does where memory is refused.
+    // Other tables than ours are a fault of the store, and the connection comes back as it is; so it does if memory runs out.
     ensures other { ((version : Version) → (state S.Store conn).now.schema ≢ schema_of version) → IsErrAnd result (λ e. IsOfStore e.0 × (e.1 ≡ conn)) }
     // Of tables of ours it never says that they aren't.
     ensures own { IfErr result (λ e. (version : Version) → HasTables (schema_of version) (state S.Store conn) → e.0 ≢ not_ours) }
     // A refusal leaves the database as it was.
     ensures outside_refused { IfErr result (λ e. (state S.Store e.1).in_transaction ≡ false) }
     ensures undone { IfErr result (λ e. (e.1 ≡ conn) ⊎ (HasCleanDisk (state S.Store e.1) → IsTrue (state S.Store e.1).is_open → RestsAt (state S.Store e.1) (state S.Store conn).now)) }
-    // A crash leaves what it could leave before, or of tables of the first version those that they were taken over to.
+    // A crash leaves what it could leave before, or in place of tables of the first version those that they were migrated to.
     ensures crash { IfOk result (λ world. Survives (state S.Store conn) (store_of S.Store world) (Adopts (state S.Store conn))) }
     ensures crash_refused { IfErr result (λ e. Survives (state S.Store conn) (state S.Store e.1) (Adopts (state S.Store conn))) }
-    // So where a crash left one state before, it leaves that state still.
+    // So if a crash left one state before, it still leaves that state.
     ensures left { (s : State) → ShowsState (state S.Store conn) s → Left (state S.Store conn) s → IfOk result (λ world. HasCleanDisk (store_of S.Store world) → Left (store_of S.Store world) s) }
     ensures left_refused { (s : State) → ShowsState (state S.Store conn) s → Left (state S.Store conn) s → IfErr result (λ e. HasCleanDisk (state S.Store e.1) → Left (state S.Store e.1) s) }
 {

@@ -9,7 +9,7 @@ ghost use Rattle.moo_store.specs.Turns.{Turn, Completes, Halts};
 use crate::fault::StoreFault;
 use crate::output::put_answer;
 use crate::tally::Tally;
-use moo_text::{Answer, Feed, Next, Reply, TextFault};
+use moo_text::{Answer, Feed, Next, Notes, Reply, TextFault};
 use moo_world::Batch;
 use std::alloc::Global;
 use std::io::{Read, Write};
@@ -49,12 +49,13 @@ fn answer_item<A: Answering>(answering: &mut A, item: &Next) -> Option<Answer>
     }
 }
 
-/// Answers each item of a text, and writes its answer before the next item is read.
-pub(crate) fn answer_all<R: Read + Drop, W: Write, A: Answering>(
+/// Answers each item of a text, and writes its answer before the next item is read. Then the notes are told of it.
+pub(crate) fn answer_all<R: Read + Drop, W: Write, A: Answering, N: Notes>(
     alloc: Global,
     reader: R,
     writer: &mut W,
     answering: &mut A,
+    notes: &mut N,
 ) -> Result<Tally, TextFault>
     ensures completes { IfOk result (λ tally. Completes A.answered answering.old answering.new (R.remaining reader) (W.contents writer.old) (W.contents writer.new) tally.batches tally.lost) }
     ensures halts { IfErr result (λ fault. Halts A.answered answering.old answering.new (R.remaining reader) (W.contents writer.old) (W.contents writer.new) fault) }
@@ -68,5 +69,6 @@ pub(crate) fn answer_all<R: Read + Drop, W: Write, A: Answering>(
         };
         tally.count(&answer);
         put_answer(alloc, writer, &answer)?;
+        notes.note(&item, feed.marks(), &answer);
     }
 }

@@ -8,7 +8,7 @@ ghost use Rattle.moo_store.specs.Text.{RunsAndAnswers, Applies, StopsRun};
 use crate::answering::{Answering, answer_all, answered_by};
 use crate::tally::Tally;
 use crate::world::World;
-use moo_text::{Answer, TextFault};
+use moo_text::{Answer, Notes, TextFault};
 use moo_world::Batch;
 use sqlite::Alter;
 use std::alloc::Global;
@@ -23,23 +23,26 @@ impl<S: Alter + Drop> Answering for World<S> {
 }
 
 /// Runs the batches of a text in turn, and writes each answer before the next batch is read. Answers how many batches the text had
-/// and how many met a fault; behind a `fault` the text is read on, and its batches are answered `closed`.
+/// and how many met a fault; after a `fault` the text is read on, and its batches are answered `closed`.
 ///
-/// The faults: Read where the reader fails, and the unfinished batch is dropped; Write where the writer fails or takes no
-/// bytes, and OutOfMemory, which may come after a commit that stands; Long where the text goes on behind 1,073,741,824 bytes.
-pub fn apply_text<R: Read + Drop, W: Write, S: Alter + Drop>(
+/// The notes are told of each item once its answer is written.
+///
+/// The faults: Read if the reader fails, and the unfinished batch is dropped; Write if the writer fails or takes no bytes, and
+/// OutOfMemory, both of which may come after a commit, which stays; Long if the text goes on after 1,073,741,824 bytes.
+pub fn apply_text<R: Read + Drop, W: Write, S: Alter + Drop, N: Notes>(
     alloc: Global,
     reader: R,
     writer: &mut W,
     world: &mut World<S>,
+    notes: &mut N,
 ) -> Result<Tally, TextFault>
     // The answers of all items of the text that the reader gave are written, and nothing else.
     ensures applies { IfOk result (λ tally. (known : Bool) (stand : Stand) → StandsAt S.Store known world.old stand →
         Applies S.Store known stand (R.remaining reader) (W.contents writer.old) (W.contents writer.new) world.old world.new tally.batches tally.lost) }
 
-    // At a fault those of the items that are done, and a front of the next one.
+    // At a fault those of the items that are done are written, and the beginning of the next one.
     ensures stops { IfErr result (λ fault. (known : Bool) (stand : Stand) → StandsAt S.Store known world.old stand →
         StopsRun S.Store known stand (R.remaining reader) (W.contents writer.old) (W.contents writer.new) world.old world.new fault) }
 {
-    answer_all(alloc, reader, writer, world)
+    answer_all(alloc, reader, writer, world, notes)
 }

@@ -8,7 +8,7 @@ ghost use Rattle.moo_store.specs.World.{StandsAt};
 use crate::answering::{Answering, answer_all, answered_by};
 use crate::tally::Tally;
 use crate::world::World;
-use moo_text::{Answer, TextFault};
+use moo_text::{Answer, Notes, TextFault};
 use moo_world::Batch;
 use sqlite::Alter;
 use std::alloc::Global;
@@ -30,19 +30,20 @@ impl<'a, S: Alter + Drop> Answering for Questions<'a, S> {
 
 /// Answers each batch of a text by what it would come to at present, with the present number, and changes nothing: no batch
 /// sees another. What is written before the next batch is read, and the faults, are those of `apply_text`.
-pub fn ask_text<R: Read + Drop, W: Write, S: Alter + Drop>(
+pub fn ask_text<R: Read + Drop, W: Write, S: Alter + Drop, N: Notes>(
     alloc: Global,
     reader: R,
     writer: &mut W,
     world: &World<S>,
+    notes: &mut N,
 ) -> Result<Tally, TextFault>
     // The answers of all items of the text that the reader gave are written, and nothing else.
     ensures asks { IfOk result (λ tally. (known : Bool) (stand : Stand) → StandsAt S.Store known world.now stand →
         Completes AsksBatch stand stand (R.remaining reader) (W.contents writer.old) (W.contents writer.new) tally.batches tally.lost) }
 
-    // At a fault those of the items that are done, and a front of the next one.
+    // At a fault those of the items that are done are written, and the beginning of the next one.
     ensures stops { IfErr result (λ fault. (known : Bool) (stand : Stand) → StandsAt S.Store known world.now stand →
         Halts AsksBatch stand stand (R.remaining reader) (W.contents writer.old) (W.contents writer.new) fault) }
 {
-    answer_all(alloc, reader, writer, &mut Questions { world })
+    answer_all(alloc, reader, writer, &mut Questions { world }, notes)
 }

@@ -25,7 +25,7 @@ use sqlite::{Alter, Connection, Error, ErrorCode};
 use std::alloc::Global;
 
 /// The number of objects. Takes no memory.
-fn object_count<R: Rows>(rows: &R) -> u64
+pub(crate) fn object_count<R: Rows>(rows: &R) -> u64
     requires { IsGood (R.held rows.now).maps }
     ensures { result ≡ length (objects_of (world_of (R.held rows.now).maps)) }
 {
@@ -36,7 +36,7 @@ fn object_count<R: Rows>(rows: &R) -> u64
     count
 }
 
-/// The number of objects, where the cells of the tables show these rows.
+/// The number of objects, if the cells of the tables show these rows.
 fn compare_lists(alloc: Global, lists: &CellLists, own: &Flat) -> Result<u64, StoreFault>
     requires good { IsGood own.now.maps }
     ensures shown { OnOk result (ShowsRows (tables_of lists.now) own.now.maps) }
@@ -57,7 +57,7 @@ fn compare_lists(alloc: Global, lists: &CellLists, own: &Flat) -> Result<u64, St
     }
 }
 
-/// The number of objects, where the tables of a connection show these rows. Nothing is written.
+/// The number of objects, if the tables of a connection show these rows. Nothing is written.
 fn check_rows<S: Alter>(
     alloc: Global,
     conn: &mut Connection<S>,
@@ -86,7 +86,7 @@ fn check_rows<S: Alter>(
     }
 }
 
-/// Whether a World has failed by such a check: by every fault but want of memory.
+/// Whether a World has failed by such a check: by every fault but out of memory.
 fn has_failed(checked: &Result<u64, StoreFault>) -> bool
     ensures { FailsWorld checked.now result }
 {
@@ -97,25 +97,25 @@ fn has_failed(checked: &Result<u64, StoreFault>) -> bool
 }
 
 impl<S: Alter + Drop> World<S> {
-    /// Reads the tables again, and answers the number of objects where they show the World's own rows.
+    /// Reads the tables again, and answers the number of objects if they show the World's own rows.
     ///
     /// Nothing is written. Store: the store failed, or its tables are no longer ours. Damaged and NewerVersion: the tables show
     /// no world, or another than the World's (`Kind::Mismatch`, with the first row in which they differ). These fail the
-    /// World. OutOfMemory: memory was refused, and the World works on. Closed: the World had failed.
+    /// World. OutOfMemory: memory ran out, and the World works on. Closed: the World had failed.
     pub fn check(&mut self) -> Result<u64, StoreFault>
-        // Ok only where the tables show the World's own rows.
+        // Ok only if the tables show the World's own rows.
         ensures shown { OnOk result (HasCleanDisk (store_of S.Store self.new) → (tables : Tables) → Rests (store_of S.Store self.old) tables → ShowsRows tables self.old.rows.maps) }
         ensures count { IfOk result (λ count. count ≡ length (objects_of (world_of self.old.rows.maps))) }
-        // A damage is answered only as it is said of the tables, or where they show other rows than these.
+        // A damage is answered only if the tables have it, or if they show other rows than these.
         ensures fault { HasCleanDisk (store_of S.Store self.new) → IfErr result (λ fault. (tables : Tables) → Rests (store_of S.Store self.old) tables → SaysInCheck self.old.rows.maps tables fault) }
         // A World that stands for a state is checked with no damage, and stands for it as long as it works.
         ensures whole { (known : Bool) (s : _) → StandsFor S.Store known self.old s → IsTrue known → HasCleanDisk (store_of S.Store self.new) → IfErr result IsOfStore }
         ensures stands { (known : Bool) (s : _) → StandsFor S.Store known self.old s → self.new.failed ≡ false → HasCleanDisk (store_of S.Store self.new) → StandsFor S.Store known self.new s }
-        // The rows, the tables and what a crash leaves stay.
+        // The rows, the tables and what a crash leaves stay as they are.
         ensures rows { self.new.rows ≡ self.old.rows }
         ensures kept { HasCleanDisk (store_of S.Store self.new) → IsTrue (store_of S.Store self.new).is_open → (tables : Tables) → Rests (store_of S.Store self.old) tables → Rests (store_of S.Store self.new) tables }
         ensures crash { Survives (store_of S.Store self.old) (store_of S.Store self.new) (λ _. ⊥) }
-        // Every fault but want of memory fails the World. A failed World changes no more.
+        // Every fault but out of memory fails the World. A failed World changes no more.
         ensures fails { self.old.failed ≡ false → FailsWorld result self.new.failed }
         ensures closed { IsTrue self.old.failed → IsErrOf result StoreFault.Closed × (self.new ≡ self.old) }
         ensures open { self.old.failed ≡ false → IfErr result (λ fault. fault ≢ StoreFault.Closed) }

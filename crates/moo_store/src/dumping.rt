@@ -24,7 +24,7 @@ pub enum DumpFault {
 impl<S: Alter + Drop> World<S> {
     /// Writes all that the World holds as text, as `moo_dump::dump` does.
     ///
-    /// Write where the writer fails or takes no bytes, and OutOfMemory: a front of the text is written then. Closed where the
+    /// Write if the writer fails or takes no bytes, and OutOfMemory: only the beginning of the text is written then. Closed if the
     /// World had failed: nothing is written.
     pub fn dump<W: Write>(&self, output: &mut W) -> Result<(), DumpFault>
         ensures ok { (known : Bool) (s : _) → StandsFor S.Store known self.now s → OnOk result (Appends (W.contents output.old) (W.contents output.new) (dump s)) }

@@ -17,7 +17,7 @@ ghost use Rattle.moo_store.specs.Stand.{Stand, state_at, RunsBatch, AsksBatch};
 ghost use Rattle.moo_store.specs.Text.{accepted, is_plain, replies, answers_asked, batches_of};
 ghost use Rattle.moo_store.specs.Turns.{Turns};
 
-/// The state behind a run is that after its acknowledged batches.
+/// The state after a run is that after its acknowledged batches.
 pub fn acknowledged_batches_decide()
     ensures { (s end : State) (batches : List Batch) (answers : List Reply) → Answered s batches answers end → end ≡ after s (acknowledged batches answers) }
 {}
@@ -27,25 +27,25 @@ pub fn runs_join()
     ensures { (s : State) (first second : List Batch) → after s (first ++ second) ≡ after (after s first) second }
 {}
 
-/// The rows that accepted batches lead to have every property, verb and petition that they keep under its number, and none under a
+/// In the rows that accepted batches lead to, every property, verb and petition that is kept has its number, and no other one has a
 /// number that was given before.
 pub fn written_batches_keep_numbers()
     ensures numbers { (rows end : Maps) (tables after : Tables) (batches : List Batch) → Writes rows tables batches end after → NumbersStay rows end }
     ensures petitions { (rows end : Maps) (tables after : Tables) (batches : List Batch) → Writes rows tables batches end after → PetitionsStay (state_of rows) (state_of end) }
 {}
 
-/// The state behind a text is that after its acknowledged batches.
+/// The state after a text is that after its acknowledged batches.
 pub fn acknowledged_items_decide()
     ensures { (old new : Stand) (items : List Next) (answers : List Answer) → Turns RunsBatch old items answers new → state_at new ≡ after (state_at old) (accepted items answers) }
 {}
 
-/// Where nothing is refused for want of memory and no fault is met, each batch of a text is judged after the accepted ones before it.
+/// If memory doesn't run out and no fault comes, each batch of a text is judged after the accepted ones before it.
 pub fn plain_answers_are_judged()
     ensures { (old new : Stand) (items : List Next) (answers : List Answer) → Turns RunsBatch old items answers new → AllByRecursion (λ answer. is_plain answer ≡ true) answers →
         (answers ≡ replies (state_at old) items) × (state_at new ≡ after (state_at old) (batches_of items)) }
 {}
 
-/// Where nothing is refused for want of memory and no fault is met, each batch of a text of questions is judged on the one state.
+/// If memory doesn't run out and no fault comes, each batch of a text of questions is judged on the one state.
 pub fn plain_questions_are_judged()
     ensures { (old new : Stand) (items : List Next) (answers : List Answer) → Turns AsksBatch old items answers new → AllByRecursion (λ answer. is_plain answer ≡ true) answers → answers ≡ answers_asked (state_at old) items }
 {}

@@ -11,9 +11,9 @@ use moo_value::ObjNo;
 use sqlite::Alter;
 
 impl<S: Alter + Drop> World<S> {
-    /// The fields of an object, its children and what lies in it; none where the number is that of no object. Nothing changes.
+    /// The fields of an object, its children and its contents; none if no object has the number. Nothing changes.
     ///
-    /// OutOfMemory where memory runs out. Closed where the World had failed.
+    /// OutOfMemory if memory runs out. Closed if the World had failed.
     pub fn object(&self, x: ObjNo) -> Result<Option<Look>, StoreFault>
         ensures look { (known : Bool) (s : _) → StandsFor S.Store known self.now s → IfOk result (λ look. look ≡ look_of s.world x) }
         ensures fault { self.now.failed ≡ false → IfErr result (λ fault. fault ≡ StoreFault.OutOfMemory) }

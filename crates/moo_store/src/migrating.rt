@@ -1,4 +1,4 @@
-//! Tables of the first version, taken over to the second.
+//! Tables of the first version, migrated to the second.
 
 ghost use Rattle.std.specs.Prelude.{◌≡◌, ◌≢◌, ◌⊎◌, ◌<◌, ◌^◌, IfErr, IsTrue, OnOk, OnErr, false};
 ghost use Rattle.sqlite.specs.State.{HasCleanDisk, Survives};
@@ -18,9 +18,9 @@ use moo_tables::{Version, migrate};
 use sqlite::{Alter, Connection};
 use std::alloc::Global;
 
-/// Takes tables of the first version, which show these rows, over to the second in one transaction.
+/// Migrates tables of the first version, which show these rows, to the second in one transaction.
 ///
-/// OutOfMemory: nothing was done. Store: the store failed; where the connection is open still, the tables are those before.
+/// OutOfMemory: nothing was done. Store: the store failed; if the connection is still open, the tables are those before.
 fn migrate_rows<S: Alter>(
     alloc: Global,
     conn: &mut Connection<S>,

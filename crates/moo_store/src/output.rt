@@ -9,7 +9,7 @@ use moo_text::{Answer, TextFault, print_answer};
 use std::alloc::Global;
 use std::io::Write;
 
-/// Writes all of the bytes. Where the writer fails or takes none, a front of them is written.
+/// Writes all of the bytes. If the writer fails or takes none, only the first of them are written.
 fn put_text<W: Write>(writer: &mut W, bytes: &[u8]) -> Result<(), TextFault>
     ensures ok { OnOk result (Appends (W.contents writer.old) (W.contents writer.new) bytes.now) }
     ensures err { OnErr result ((count : ℕ) × Appends (W.contents writer.old) (W.contents writer.new) (take count bytes.now)) }
@@ -31,7 +31,7 @@ fn printed(alloc: Global, answer: &Answer) -> Result<Vec<u8>, TextFault>
     Ok(text)
 }
 
-/// Writes the lines of an answer whole. At Write a front of them is written, at OutOfMemory nothing.
+/// Writes the lines of an answer whole. At Write only the beginning of them is written, at OutOfMemory nothing.
 pub(crate) fn put_answer<W: Write>(
     alloc: Global,
     writer: &mut W,

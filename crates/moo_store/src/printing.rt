@@ -1,16 +1,17 @@
 //! Rows that change, printed as the cells of their tables.
 
-ghost use Rattle.std.specs.Prelude.{◌≡◌, IfOk};
+ghost use Rattle.std.specs.Prelude.{◌≡◌, List, Option, IfOk};
+ghost use Rattle.std.specs.Iterator.{YieldsFirstBy, IsFinite};
 ghost use Rattle.moo_value.specs.Literal.{Spells};
 ghost use Rattle.moo_world.specs.Answers.{object_list};
 ghost use Rattle.moo_cells.specs.Shows.{ShowsAccept, ShowsSlotState, ShowsOrNone};
-ghost use Rattle.moo_store.specs.Printed.{PrintEach, PrintsSlot, Prints, all_of};
+ghost use Rattle.moo_store.specs.Printed.{PrintEach, PrintsSlot, Prints, as_changes, all_of, all_changes};
 
 use moo_draft::{ChangeList, Changes};
 use moo_flat::Flat;
 use moo_rows::{
-    ObjList, ObjRow, PetitionId, PetitionRow, PropId, PropRow, Row, SlotRow, SlotState, VerbId,
-    VerbRow, each_slot,
+    ObjList, ObjRow, PetitionId, PetitionRow, PropId, PropRow, Row, Rows, SlotRow, SlotState,
+    VerbId, VerbRow, each_object, each_petition, each_prop, each_slot, each_verb,
 };
 use moo_tables::{CellChanges, ObjectCells, PetitionCells, PropCells, SlotCells, VerbCells};
 use moo_value::{MooStr, ObjNo, Value, ValueList, print_literal};
@@ -173,22 +174,55 @@ fn print_each<K: Copy + Drop, C: Drop, V: Print<K, C>>(
     Ok(cells)
 }
 
-/// The cells of all slots, in the order of their keys. The only error is want of memory.
-pub(crate) fn print_slots(
-    alloc: Global,
-    rows: &Flat,
-) -> Result<Vec<((ObjNo, PropId), Option<SlotCells>)>, AllocError>
-    ensures { IfOk result (λ cells. PrintEach PrintsSlot cells.items (all_of rows.now.maps.slots)) }
+/// The cells of rows that come one after another, each with its key. The only error is out of memory.
+fn print_left<
+    'a,
+    K: Copy + Drop,
+    C: Drop,
+    V: Print<K, C> + 'a,
+    I: Iterator<Item = (K, &'a V)> + Drop,
+>(alloc: Global, left: I) -> Result<Vec<(K, Option<C>)>, AllocError>
+    requires can_next { I.can_next left × IsFinite (I.remaining left) }
+    ensures { IfOk result (λ cells. (rest : I → List (K × V)) → ((it next : I) (item : _) → I.next_gives it item next → YieldsFirstBy (λ e. (e.0, e.1.now)) rest it item next) → PrintEach V.prints cells.items (as_changes (rest left))) }
 {
     let mut cells = Vec::new(alloc);
-    for (key, row) in each_slot(rows) {
+    for (key, row) in left {
         let printed = row.cells(alloc)?;
         cells.push((key, Some(printed)))?;
     }
     Ok(cells)
 }
 
-/// The cells of changes. The only error is want of memory.
+/// The cells of all slots, in the order of their keys. The only error is out of memory.
+pub(crate) fn print_slots(
+    alloc: Global,
+    rows: &Flat,
+) -> Result<Vec<((ObjNo, PropId), Option<SlotCells>)>, AllocError>
+    ensures { IfOk result (λ cells. PrintEach PrintsSlot cells.items (all_of rows.now.maps.slots)) }
+{
+    print_left(alloc, each_slot(rows))
+}
+
+/// The cells of all rows, as changes from no rows. The only error is out of memory.
+pub(crate) fn print_all(alloc: Global, rows: &Flat) -> Result<CellChanges, AllocError>
+    ensures { IfOk result (λ cells. Prints cells (all_changes rows.now.maps)) }
+{
+    let objects = print_left(alloc, each_object(rows))?;
+    let props = print_left(alloc, each_prop(rows))?;
+    let slots = print_slots(alloc, rows)?;
+    let verbs = print_left(alloc, each_verb(rows))?;
+    let petitions = print_left(alloc, each_petition(rows))?;
+    Ok(CellChanges {
+        head: rows.head(),
+        objects,
+        props,
+        slots,
+        verbs,
+        petitions,
+    })
+}
+
+/// The cells of changes. The only error is out of memory.
 pub fn print_changes(alloc: Global, changes: &Changes) -> Result<CellChanges, AllocError>
     ensures { IfOk result (λ cells. Prints cells changes.now) }
 {

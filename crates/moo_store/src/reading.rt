@@ -73,7 +73,7 @@ pub(crate) fn read_lists<S: Alter>(
     }
 }
 
-/// The version of the tables of a connection; a fault where they aren't ours, or where memory is refused.
+/// The version of the tables of a connection; a fault if they aren't ours, or if memory runs out.
 pub(crate) fn test_tables<S: Alter>(
     alloc: Global,
     conn: &Connection<S>,
@@ -91,7 +91,7 @@ pub(crate) fn test_tables<S: Alter>(
     }
 }
 
-/// Tests that the tables are ours, and of the present version; a fault where they aren't, or where memory is refused.
+/// Tests that the tables are ours, and of the present version; a fault if they aren't, or if memory runs out.
 pub(crate) fn test_current<S: Alter>(alloc: Global, conn: &Connection<S>) -> Result<(), StoreFault>
     ensures ours { OnOk result (HasTables second_schema (state S.Store conn.now)) }
     ensures fault { IfErr result IsOfStore }

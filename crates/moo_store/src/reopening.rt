@@ -22,8 +22,8 @@ use sqlite::{Alter, Connection};
 use sqlite_trees::store::Reopen;
 use std::alloc::Global;
 
-/// Whatever batches come and at whichever call of the store the run stops, opening again what a crash then left finds exactly the
-/// database that the definitions give for the acknowledged batches, every one of them, and at most one more.
+/// Whatever batches come, and at whichever call of the store the run stops: if what a crash then left is opened again, exactly the
+/// database is found that the definitions give for all acknowledged batches, and at most one more.
 ///
 /// `found` is a connection that was opened on one of the contents that the crash may have left.
 pub fn run_and_reopen<S: Alter + Drop, T: Alter + Drop>(
@@ -45,7 +45,7 @@ pub fn run_and_reopen<S: Alter + Drop, T: Alter + Drop>(
 
 /// Runs batches, then crashes and opens again: the World that is found holds every acknowledged batch, and at most one more.
 ///
-/// Answers none where the store fails at the opening.
+/// Answers none if the store fails at the opening.
 pub fn run_then_crash_then_adopt<S: Alter + Reopen + Drop>(
     alloc: Global,
     mut world: World<S>,
@@ -70,7 +70,7 @@ pub fn parts_join<S: Alter + Drop>(world: &World<S>)
     // One part more, from the state that the parts before it left.
     ensures goes_on { (s t : State) (parts : List (List Batch × List Reply)) (batches : List Batch) (replies : List Reply) → RunsInParts s parts t → HoldsAcknowledged S.Store world.now t batches replies →
         (end : State) × RunsInParts s (parts ++ (batches, replies) ∷ []) end × StandsFor S.Store true world.now end }
-    // All parts together: every acknowledged batch of each, and at most one more behind them.
+    // All parts together: every acknowledged batch of each, and at most one more after them.
     ensures joins { (s end : State) (parts : List (List Batch × List Reply)) → RunsInParts s parts end → (kept : List Batch) × IsKeptOf kept parts × (end ≡ after s kept) }
 {
     let _world = world;

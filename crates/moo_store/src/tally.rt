@@ -5,7 +5,7 @@ ghost use Rattle.moo_store.specs.Turns.{is_batch, is_lost_answer};
 
 use moo_text::Answer;
 
-/// How many batches of a text were read whole, and how many of these were answered `fault` or `closed`.
+/// How many batches of a text were read whole, and how many of them were answered `fault` or `closed`.
 #[derive(Clone, Copy, Debug)]
 pub struct Tally {
     pub batches: u64,

@@ -1,5 +1,6 @@
 //! A World: the rows in memory, over the tables of a store.
 
+use crate::checking::object_count;
 use crate::committing::commit_cells;
 use crate::fault::StoreFault;
 use crate::printing::print_changes;
@@ -16,8 +17,8 @@ use std::marker::Model;
 
 /// The rows of a database in memory, and the connection whose tables show them.
 ///
-/// A World fails at a fault of its store, and where memory is refused after a commit. It then answers Closed to every call
-/// but `into_connection`; what was committed stands.
+/// A World fails at a fault of its store, and if memory runs out after a commit. It then answers Closed to every call but
+/// `into_connection`. What was committed stays.
 #[derive(Drop)]
 pub struct World<S: Alter> {
     pub(crate) alloc: Global,
@@ -47,6 +48,7 @@ impl<S: Alter + Drop> World<S> {
     ghost use Rattle.moo_rows.specs.Maps.{Maps};
     ghost use Rattle.moo_world.specs.Rows.{IsGood};
     ghost use Rattle.moo_world.specs.Judge.{state_of, judge as verdict, after};
+    ghost use Rattle.moo_world.specs.ObjectLists.{objects_of};
     ghost use Rattle.moo_draft.specs.Changes.{AreChanges};
     ghost use Rattle.moo_store.specs.Printed.{Prints};
     ghost use Rattle.moo_cells.specs.Shows.{ShowsRows};
@@ -60,8 +62,8 @@ impl<S: Alter + Drop> World<S> {
     ghost use Rattle.moo_store.specs.World.{store_of, ShowsItsRows, IsAt, StandsFor, StandsAt, CrashLeaves, Left, LeftOrNext, MatchStore, IsOfRun};
     ghost use Rattle.moo_store.specs.declared.fault.StoreFault.TheVariants.{Store, OutOfMemory, Closed};
 
-    /// The World of good rows, over a connection in no transaction. It stands for them where the tables of the connection
-    /// show them, which `check` asks: nothing is read or written here. `create_in` and `adopt` make Worlds whose tables do.
+    /// The World of good rows, over a connection in no transaction. It stands for them if the tables of the connection
+    /// show them. `check` tests that: nothing is read or written here. `create_in`, `load_in` and `adopt` make Worlds whose tables do.
     pub fn over(alloc: Global, connection: Connection<S>, rows: Flat) -> World<S>
         requires outside { connection.in_transaction ≡ false }
         requires good { IsGood rows.maps }
@@ -110,7 +112,7 @@ impl<S: Alter + Drop> World<S> {
         Ok(Reply::Accepted { seq, answers })
     }
 
-    /// Runs one batch, and commits it where it is accepted.
+    /// Runs one batch, and commits it if it is accepted.
     pub(crate) fn run_one(&mut self, batch: &Batch) -> Result<Reply, StoreFault>
         ensures stands { StandsBehind S.Store self.old batch.now (answer_to result) self.new }
         ensures cells { WritesOne S.Store self.old self.new batch.now result }
@@ -136,24 +138,24 @@ impl<S: Alter + Drop> World<S> {
 
     /// Runs batches in order, and commits each that is accepted before the next one is judged.
     ///
-    /// One reply a batch is added behind those that stand, each after its commit. The faults: OutOfMemory where room for the
-    /// replies is refused, before anything is done; Store where the store failed, and then the batch in hand and those after
-    /// it have no reply; Closed where the World had failed.
+    /// One reply for each batch is added after the replies that are there, each after its commit. The faults: OutOfMemory if there
+    /// is no room for the replies, before anything is done; Store if the store failed, and then the batch in hand and those after
+    /// it have no reply; Closed if the World had failed.
     pub fn run(&mut self, batches: &[Batch], replies: &mut Vec<Reply>) -> Result<(), StoreFault>
-        // The replies that stood stay, and behind them comes one for each batch before the run stopped.
+        // The replies that were there stay, and after them comes one for each batch before the run stopped.
         ensures stood { take (length replies.old.items) replies.new.items ≡ replies.old.items }
         ensures each { OnOk result (length (added replies.old.items replies.new.items) ≡ length batches.now) }
         ensures fewer { self.old.failed ≡ false → IfErr result (λ fault. fault ≢ StoreFault.OutOfMemory → length (added replies.old.items replies.new.items) < length batches.now) }
 
-        // Wherever the World stood, each of these batches has its turn. A fault of the store is met by the next one.
+        // Wherever the World stood, each of these batches has its turn. If the store failed, it failed in the next batch.
         ensures turns { (known : Bool) (stand : Stand) → StandsAt S.Store known self.old stand → RunsAll S.Store known self.new stand batches.now (added replies.old.items replies.new.items) result }
 
-        // Each is judged after the accepted batches before it; or, where its calls are run, NoMemory, which changes nothing.
+        // Each is judged after the accepted batches before it; or, if its calls are run, the reply may be NoMemory, which changes nothing.
         ensures replies { (known : Bool) (s : _) → IsAt S.Store known self.old s →
             let new = added replies.old.items replies.new.items in
             Answered s (take (length new) batches.now) new (after s (acknowledged batches.now new)) }
 
-        // Then the World is at the state after the acknowledged batches. Where the store failed, a crash leaves that state,
+        // Then the World is at the state after the acknowledged batches. If the store failed, a crash leaves that state,
         // or the one after the batch in hand.
         ensures world { (known : Bool) (s : _) → IsAt S.Store known self.old s →
             let new = added replies.old.items replies.new.items in
@@ -167,14 +169,14 @@ impl<S: Alter + Drop> World<S> {
         ensures clean { HasCleanDisk (store_of S.Store self.new) → HasCleanDisk (store_of S.Store self.old) }
 
         // In the tables, each acknowledged batch leads from rows that they show to rows that they show, and a row that is the
-        // same in both keeps its cells, byte for byte. Where the store failed, the batch in hand wrote nothing.
+        // same in both keeps its cells, byte for byte. If the store failed, the batch in hand wrote nothing.
         ensures cells { (s : _) → IsAt S.Store true self.old s → HasCleanDisk (store_of S.Store self.new) → IsKnown (store_of S.Store self.new) result → (tables : Tables) → Rests (store_of S.Store self.old) tables →
             HasWritten S.Store self.old self.new tables (acknowledged batches.now (added replies.old.items replies.new.items)) }
 
         // Batches of which none is acknowledged change nothing.
         ensures same { acknowledged batches.now (added replies.old.items replies.new.items) ≡ [] → MatchStore result (self.new ≡ self.old) ⊤ }
 
-        // Where room for the replies is refused, nothing has changed. A failed World changes no more.
+        // If there is no room for the replies, nothing has changed. A failed World changes no more.
         ensures memory { IsErrOf result StoreFault.OutOfMemory → (self.new ≡ self.old) × (replies.new.items ≡ replies.old.items) }
         ensures closed { IsTrue self.old.failed → IsErrOf result StoreFault.Closed × (self.new ≡ self.old) × (replies.new.items ≡ replies.old.items) }
         ensures failed { IfErr result (λ fault. (fault ≡ StoreFault.OutOfMemory) ⊎ IsTrue self.new.failed) }
@@ -243,6 +245,17 @@ impl<S: Alter + Drop> World<S> {
             return Err(StoreFault::Closed);
         }
         Ok(self.rows.head().seq)
+    }
+
+    /// The number of objects. Takes no memory. The only fault is Closed.
+    pub fn object_count(&self) -> Result<u64, StoreFault>
+        ensures count { (known : Bool) (s : _) → StandsFor S.Store known self.now s → result ≡ Ok (length (objects_of s.world)) }
+        ensures closed { IsTrue self.now.failed → IsErrOf result StoreFault.Closed }
+    {
+        if self.failed {
+            return Err(StoreFault::Closed);
+        }
+        Ok(object_count(&self.rows))
     }
 
     /// The connection, with its tables.

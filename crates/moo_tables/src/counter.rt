@@ -36,7 +36,7 @@ fn counter_values(next: u32) -> [ValueRef<'static>; 2]
     [ValueRef::Int(1), counter_value(next)]
 }
 
-/// Puts the number of the next petition, in place of the one that is there. Where that is the same nothing is written.
+/// Puts the number of the next petition, in place of the one that is there. If that is the same, nothing is written.
 pub(crate) fn put_counter<S: Alter>(tx: &mut Transaction<'_, S>, next: u32) -> Result<usize, Error>
     ensures same_reference { tx.new.conn.ghost_name ≡ tx.old.conn.ghost_name }
     ensures inside { StaysInside (state S.Store tx.old.conn.now) (state S.Store tx.new.conn.now) }

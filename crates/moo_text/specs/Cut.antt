@@ -45,7 +45,7 @@ pub record IsBatch (lines : List (List ℕ)) (batch : Batch) (rest : List (List 
   pub not_blank : is_blank_line last ≡ false
   pub is_end : is_end_line last ≡ true
 
--- the first line of the batch that is bad is line n: a header that is none; a line that is no call, or a call too many
+-- the first line of the batch that is bad is line n: a bad header; a line that isn't a call, or a call too many
 abbrev pub IsFirstBad : List (List ℕ) → ℕ → List (List ℕ) → Type 0
 IsFirstBad lines n rest =
     ((header : List ℕ) × IsContentLine header × IsNoHeader header × (lines ≡ header ∷ rest) × (n ≡ 1))

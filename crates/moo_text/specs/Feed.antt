@@ -14,11 +14,11 @@ abbrev pub TakesLine : List ℕ → List ℕ → Option (List ℕ) → Type 0
 TakesLine old new None = (old ≡ []) × (new ≡ [])
 TakesLine old new (Some read) = (line : List ℕ) × IsLineRead read line × (lines old ≡ line ∷ lines new)
 
--- what f says of the lines before is what g says of those behind
+-- what f says of the lines before is what g says of those after
 abbrev pub Carries : (List (List ℕ) → List Next) → (List (List ℕ) → List Next) → List ℕ → List ℕ → Type 0
 Carries f g old new = f (lines old) ≡ g (lines new)
 
--- f's first item is taken, and what follows it lies between two batches
+-- f's first item is taken, and what follows it is between two batches
 abbrev pub TakesFirst : (List (List ℕ) → List Next) → List ℕ → List ℕ → Next → Type 0
 TakesFirst f old new End = ⊥
 TakesFirst f old new item = Carries f (λ rest. item ∷ between rest) old new

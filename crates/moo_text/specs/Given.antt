@@ -8,15 +8,15 @@ use Rattle.moo_text.specs.declared.fault.TextFault.{TextFault}
 use Rattle.moo_text.specs.declared.fault.TextFault.TheVariants.{Read, Write, OutOfMemory, Long}
 use Rattle.moo_text.specs.declared.next.Next.{Next}
 
--- From old to new the reader gave these bytes. Where it tells its bytes they stood in front and are gone. Once it has given no bytes it
--- gives none, and where it tells its bytes none are left then.
+-- From old to new the reader gave these bytes. If it tells its bytes they were in front and are gone. Once it has given no bytes it
+-- gives none, and if it tells its bytes none are left then.
 pub record ReaderGives (old new : Side) (given : List ℕ) : Type 0 where
   pub known : Consumes old.left new.left given
   pub stays : old.ended ≡ true → (given ≡ []) × (new.ended ≡ true)
   pub at_end : (old.ended ≡ true → IsAtEnd old.left) → new.ended ≡ true → IsAtEnd new.left
 
 -- The reader gave some bytes, as many as were taken of the room. P holds of the bytes that were not used before and of those that are
--- not used now, whatever the reader may give behind them: nothing, where the text is at its end.
+-- not used now, whatever the reader may give after them: nothing, if the text is at its end.
 pub record ReadsOn (old new : Side) (P : List ℕ → List ℕ → Type 0) : Type 0 where
   pub given : List ℕ
   pub gives : ReaderGives old new given
@@ -41,7 +41,7 @@ pub record BreaksOff (old new : Side) (fault : TextFault) : Type 0 where
 abbrev pub ReadsLine : Side → Side → Option (List ℕ) → Type 0
 ReadsLine old new line = ReadsOn old new (λ before behind. TakesLine before behind line)
 
--- what f says of the lines before is what g says of those behind
+-- what f says of the lines before is what g says of those after
 abbrev pub ReadsAlong : (List (List ℕ) → List Next) → (List (List ℕ) → List Next) → Side → Side → Type 0
 ReadsAlong f g old new = ReadsOn old new (λ before behind. Carries f g before behind)
 
@@ -49,7 +49,7 @@ ReadsAlong f g old new = ReadsOn old new (λ before behind. Carries f g before b
 abbrev pub ReadsFirst : (List (List ℕ) → List Next) → Side → Side → Next → Type 0
 ReadsFirst f old new item = ReadsOn old new (λ before behind. TakesFirst f before behind item)
 
--- the next item is read, and End where there is none
+-- the next item is read, and End if there is none
 abbrev pub ReadsNext : Side → Side → Next → Type 0
 ReadsNext old new item = ReadsOn old new (λ before behind. TakesNext before behind item)
 
@@ -61,14 +61,14 @@ ReadsItems old new done = ReadsOn old new (λ before behind. items before ≡ do
 abbrev pub ReadsAll : Side → Side → List Next → Type 0
 ReadsAll old new all = ReadsOn old new (λ before behind. items before ≡ all)
 
--- From the start of a text on reading was stopped behind these items: whatever the reader may give behind what it gave, they come first.
+-- From the start of a text on reading was stopped after these items: whatever the reader may give after what it gave, they come first.
 pub record StopsBehind (left : Option (List ℕ)) (room : ℕ) (new : Side) (done : List Next) (fault : TextFault) : Type 0 where
   pub given : List ℕ
   pub gives : ReaderGives (untouched left room) new given
   pub count : Explains room (length given) fault
   pub front : (rest : List ℕ) → (new.ended ≡ true → rest ≡ []) → (more : List Next) × (items (given ++ rest) ≡ done ++ more)
 
--- where the reader tells its bytes, these are all of them, or they stand in front
+-- if the reader tells its bytes, these are all of them, or they are in front
 abbrev pub GivesAll : Option (List ℕ) → List ℕ → Type 0
 GivesAll left given = IfSome left (λ text. given ≡ text)
 

@@ -42,7 +42,7 @@ pub record SpellsCallName (name : CallName) (b : List ℕ) : Type 0 where
 abbrev pub ClosesCall : List ℕ → Type 0
 ClosesCall b = (blanks : List ℕ) × AreBlanks blanks × (b ≡ 41 ∷ blanks)
 
--- the arguments of a call behind its bracket, to the end of the line; a comma stands before each but the first
+-- the arguments of a call after its bracket, to the end of the line; a comma comes before each but the first
 abbrev pub SpellsArguments : Bool → List Value → List ℕ → Type 0
 SpellsArguments first [] b = Spaced ClosesCall b
 SpellsArguments first (v ∷ vs) b = Fits v × Item first (SpellsToken v) (SpellsArguments false vs) b

@@ -26,11 +26,11 @@ abbrev mutual
       else (if is_end_line line then Whole (record { programmer = header.programmer; at = header.at; calls = calls }) ∷ between rest
       else option_map_or (λ call. if nat_lt (length calls) 1000 then within header (calls ++ call ∷ []) (n + 1) rest else skipping (n + 1) rest) (call_of line) (skipping (n + 1) rest))
 
-  -- behind line n, the first bad one of its batch
+  -- after line n, the first bad one of its batch
   pub skipping : ℕ → List (List ℕ) → List Next
   skipping n [] = Truncated ∷ []
   skipping n (line ∷ rest) = if is_end_line line then Malformed n ∷ between rest else skipping n rest
 
--- the items of a text: its batches, and what stands in the place of those that are malformed or cut off
+-- the items of a text: its batches, and what is in the place of those that are malformed or cut off
 abbrev pub items : List ℕ → List Next
 items text = between (lines text)

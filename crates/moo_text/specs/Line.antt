@@ -22,11 +22,11 @@ is_end_word _ = false
 abbrev pub is_end_line : List ℕ → Bool
 is_end_line line = is_short line && is_end_word (after_blanks line)
 
--- what stands between blanks, in order
+-- what is between blanks, in order
 abbrev pub words_of_line : List ℕ → List (List ℕ)
 words_of_line line = filter (λ word. not (length word == 0)) (slice_split is_blank line)
 
--- what stands in front of the first blank, and what follows
+-- what is in front of the first blank, and what follows
 abbrev pub until_blank : List ℕ → List ℕ
 until_blank [] = []
 until_blank (c ∷ cs) = if is_blank c then [] else c ∷ until_blank cs

@@ -18,13 +18,13 @@ abbrev pub found : Read Value → Option (Value × List ℕ)
 found (Ok x) = Some x
 found (Err f) = None
 
--- the literal that stands in front, and what follows it
+-- the literal that is in front, and what follows it
 unfoldable pub front_of : List ℕ → Option (Value × List ℕ)
 front_of b = found (literal_at b)
 
 -- ---- headers
 
--- the words behind this first one
+-- the words after this first one
 abbrev pub behind_word : List ℕ → List (List ℕ) → Option (List (List ℕ))
 behind_word w [] = None
 behind_word w (x ∷ xs) = if same_text x w then Some xs else None
@@ -53,7 +53,7 @@ abbrev pub last_place : List (List ℕ) → Option ℕ
 last_place [] = None
 last_place (n ∷ more) = if length more == 0 then place_number n else None
 
--- the number that `at` gives, where it stands
+-- the number that `at` gives, if it is there
 abbrev pub at_of : List (List ℕ) → Option (Option ℕ)
 at_of [] = Some None
 at_of (w ∷ ws) = option_map (λ m. Some m) (option_and_then last_place (behind_word (codes "at") (w ∷ ws)))
@@ -67,12 +67,12 @@ header_of line = if is_short line then option_and_then header_behind (option_and
 
 -- ---- calls
 
--- what follows the mark, where it stands in front
+-- what follows the mark, if it is in front
 abbrev pub behind_mark : ℕ → List ℕ → Option (List ℕ)
 behind_mark mark [] = None
 behind_mark mark (c ∷ cs) = if c == mark then Some cs else None
 
--- what follows the mark, where it stands in front behind blanks
+-- what follows the mark, if it is in front after blanks
 abbrev pub after_mark : ℕ → List ℕ → Option (List ℕ)
 after_mark mark b = behind_mark mark (after_blanks b)
 
@@ -80,7 +80,7 @@ after_mark mark b = behind_mark mark (after_blanks b)
 abbrev pub closed : List Value → List ℕ → Option (List Value)
 closed args end = if is_all_blank end then Some args else None
 
--- the arguments that end with v, or those that `more` gives behind v and a comma
+-- the arguments that end with v, or those that `more` gives after v and a comma
 abbrev pub behind_value : Value → (List ℕ → Option (List Value)) → List ℕ → Option (List Value)
 behind_value v more rest =
     option_map_or (closed (v ∷ [])) (after_mark 41 rest) (option_and_then (λ others. option_map (λ vs. v ∷ vs) (more others)) (after_mark 44 rest))
@@ -90,7 +90,7 @@ abbrev pub values_at : ℕ → List ℕ → Option (List Value)
 values_at zero b = None
 values_at (suc most) b = option_and_then (λ x. behind_value x.0 (values_at most) x.1) (front_of b)
 
--- the arguments behind the bracket
+-- the arguments after the bracket
 abbrev pub arguments_of : List ℕ → Option (List Value)
 arguments_of b = option_map_or (closed []) (after_mark 41 b) (values_at (length b) b)
 

@@ -5,7 +5,7 @@ use Rattle.moo_text.specs.declared.feed.Feed.{Feed}
 use Rattle.moo_text.specs.declared.next.Next.{Next}
 use Rattle.moo_text.specs.declared.next.Next.TheVariants.{Batch as Whole, Malformed, Truncated, End}
 
--- the bytes that the reader will give, where it tells them; how many may still be read; whether the reader has given no bytes, so that
+-- the bytes that the reader will give, if it tells them; how many may still be read; whether the reader has given no bytes, so that
 -- it isn't read again; and the bytes that it gave and that are not used yet
 pub record Side : Type 0 where
   pub left : Option (List ℕ)
@@ -34,7 +34,7 @@ feed_room feed = lines_room feed.lines
 abbrev pub IsOver : Side → Type 0
 IsOver side = (side.ended ≡ true) × (side.ahead ≡ [])
 
--- behind the end of a text, and behind a batch that the end cuts off, nothing is left
+-- after the end of a text, and after a batch that the end cuts off, nothing is left
 abbrev pub EndsAt : Next → Side → Type 0
 EndsAt End side = IsOver side
 EndsAt Truncated side = IsOver side

@@ -13,7 +13,7 @@ use crate::literal::read_front;
 use moo_world::{Args, Call, CallName};
 use std::alloc::{AllocError, Global};
 
-/// What follows the mark, where the bytes begin with it behind blanks.
+/// What follows the mark, if the bytes begin with it after blanks.
 fn after_mark(mark: u8, bytes: &[u8]) -> Option<&[u8]>
     ensures { option_map (λ rest. rest.now) result ≡ behind_mark mark bytes.now }
 {
@@ -47,7 +47,7 @@ fn values_of(alloc: Global, bytes: &[u8]) -> Result<Option<Args>, AllocError>
     }
 }
 
-/// The arguments behind the bracket, to the end of the line.
+/// The arguments after the bracket, to the end of the line.
 fn arguments_of(alloc: Global, bytes: &[u8]) -> Result<Option<Args>, AllocError>
     ensures { IfOk result (λ args. args ≡ arguments_in bytes.now) }
 {
@@ -68,7 +68,7 @@ fn call_named(word: &[u8]) -> Option<CallName>
     CallName::read(word)
 }
 
-/// The call that a line of at most 262,144 bytes spells; none for any other line. AllocError where memory runs out.
+/// The call that a line of at most 262,144 bytes spells; none for any other line. AllocError if memory runs out.
 pub fn call_in(alloc: Global, line: &[u8]) -> Result<Option<Call>, AllocError>
     ensures { IfOk result (λ call. call ≡ call_of line.now) }
 {
@@ -89,7 +89,7 @@ pub fn call_in(alloc: Global, line: &[u8]) -> Result<Option<Call>, AllocError>
 }
 
 /// The call that a line of at most 262,144 bytes spells, `name(value, ...)`: the name in any case, spaces and tabs between the tokens.
-/// Malformed for any other line; OutOfMemory where memory runs out.
+/// Malformed for any other line; OutOfMemory if memory runs out.
 pub fn read_call(alloc: Global, line: &[u8]) -> Result<Call, CallFault>
     // What is read is spelled so.
     ensures ok { IfOk result (λ call. SpellsCall call line.now) }

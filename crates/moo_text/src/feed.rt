@@ -11,18 +11,24 @@ use crate::header::{Header, read_header};
 use crate::line::{is_blank_line, is_end_line};
 pub use crate::lines::LONGEST_TEXT;
 use crate::lines::LineReader;
+use crate::marks::Marks;
 use crate::next::Next;
 use moo_world::{Batch, Calls, MOST_CALLS};
 use std::alloc::Global;
 use std::io::Read;
 
-/// Reads on behind the first bad line of a batch, to its end.
-fn skip_batch<R: Read>(number: u32, lines: &mut LineReader<R>) -> Result<Next, TextFault>
+/// Reads on after the first bad line of a batch, to its end.
+fn skip_batch<R: Read>(
+    number: u32,
+    bad: Vec<u8>,
+    lines: &mut LineReader<R>,
+) -> Result<Next, TextFault>
     ensures item { IfOk result (λ item. ReadsFirst (skipping number) (lines_side R.remaining lines.old) (lines_side R.remaining lines.new) item) }
     ensures falls { OnOk result (lines_room lines.new ≤ lines_room lines.old) }
     ensures ends { IfOk result (λ item. EndsAt item (lines_side R.remaining lines.new)) }
     ensures cause { IfErr result (λ fault. BreaksOff (lines_side R.remaining lines.old) (lines_side R.remaining lines.new) fault) }
 {
+    lines.marks.spoil(bad);
     loop {
         match lines.next_line()? {
             Some(line) => {
@@ -66,11 +72,11 @@ fn rest_of_batch<R: Read>(
         match call_in(alloc, &line)? {
             Some(call) => {
                 if MOST_CALLS <= calls.len() {
-                    return skip_batch(number, lines);
+                    return skip_batch(number, line, lines);
                 }
                 calls.push(call)?;
             }
-            None => return skip_batch(number, lines),
+            None => return skip_batch(number, line, lines),
         }
     }
 }
@@ -90,11 +96,12 @@ fn next_item<R: Read>(alloc: Global, lines: &mut LineReader<R>) -> Result<Next, 
             continue;
         }
         if is_end_line(&line) {
+            lines.marks.spoil(line);
             return Ok(Next::Malformed(1));
         }
         match read_header(alloc, &line)? {
             Some(header) => return rest_of_batch(alloc, header, lines),
-            None => return skip_batch(1, lines),
+            None => return skip_batch(1, line, lines),
         }
     }
 }
@@ -135,19 +142,19 @@ impl<R: Read> Feed<R> {
     }
 
     /// What comes next in the text: a batch, the number of the first bad line of one, that the text ends inside one, or its end.
-    /// A line of spaces and tabs is skipped. Read where the reader fails, Long where the text goes on behind 1,073,741,824 bytes, OutOfMemory where memory
+    /// A line of spaces and tabs is skipped. Read if the reader fails, Long if the text goes on after 1,073,741,824 bytes, OutOfMemory if memory
     /// runs out. After a fault each call gives that fault again, and reads nothing. A reader that has given no bytes isn't read again.
     pub fn next_batch(&mut self) -> Result<Next, TextFault>
-        // As many bytes were given as were taken of the room, and these lead from the text before to its next item and the text behind.
+        // As many bytes were given as were taken of the room, and these lead from the text before to its next item and the text after.
         ensures next { IfOk result (λ item. ReadsNext (feed_side R.remaining self.old) (feed_side R.remaining self.new) item) }
         ensures fault { IfErr result (λ fault. self.new.fault ≡ Some fault) }
         ensures works { OnOk result (self.new.fault ≡ None) }
         ensures repeats { IfSome self.old.fault (λ fault. result ≡ Err fault) }
         ensures rests { IfSome self.old.fault (λ _. self.new ≡ self.old) }
-        // Each item but the end takes some of the room, and behind the end nothing is left.
+        // Each item but the end takes some of the room, and after the end nothing is left.
         ensures falls { IfOk result (λ item. item ≢ Next.End → feed_room self.new < feed_room self.old) }
         ensures ends { IfOk result (λ item. EndsAt item (feed_side R.remaining self.new)) }
-        // A first fault is Long only where one byte more was given than there was room for, and never Write.
+        // A first fault is Long only if one byte more was given than there was room for, and never Write.
         ensures cause { IfNone self.old.fault (IfErr result (λ fault. BreaksOff (feed_side R.remaining self.old) (feed_side R.remaining self.new) fault)) }
     {
         if let Some(fault) = self.fault {
@@ -159,5 +166,10 @@ impl<R: Read> Feed<R> {
             return Err(fault);
         }
         result
+    }
+
+    /// Where the lines of the last item are in the text.
+    pub fn marks(&self) -> &Marks {
+        &self.lines.marks
     }
 }

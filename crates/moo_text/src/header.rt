@@ -11,14 +11,14 @@ use crate::literal::read_front;
 use moo_value::{ObjNo, Value};
 use std::alloc::{AllocError, Global};
 
-/// Who runs a batch, and after how many accepted batches, where it says so.
+/// Who runs a batch, and after how many accepted batches, if it says so.
 #[derive(Clone, Copy, Debug)]
 pub struct Header {
     pub programmer: ObjNo,
     pub at: Option<u64>,
 }
 
-/// What follows the word, where the bytes begin with it.
+/// What follows the word, if the bytes begin with it.
 #[tactic(auto, unfolding(moo_world::specs::Objects::same_text))]
 fn after_the_word<'a>(word: &[u8], bytes: &'a [u8]) -> Option<&'a [u8]>
     ensures { option_map (λ rest. words_of_line rest.now) result ≡ behind_word word.now (words_of_line bytes.now) }
@@ -47,7 +47,7 @@ fn object_value(value: &Value) -> Option<ObjNo>
     }
 }
 
-/// The object that a word spells, as `#3`; none for any other word. AllocError where memory runs out.
+/// The object that a word spells, as `#3`; none for any other word. AllocError if memory runs out.
 pub fn object_of(alloc: Global, word: &[u8]) -> Result<Option<ObjNo>, AllocError>
     ensures { IfOk result (λ object. object ≡ object_spelled word.now) }
 {
@@ -107,7 +107,7 @@ fn last_place(bytes: &[u8]) -> Option<u64>
     }
 }
 
-/// What stands behind the programmer: nothing, or `at` and a number.
+/// What is after the programmer: nothing, or `at` and a number.
 fn at_of(bytes: &[u8]) -> Option<Option<u64>>
     ensures { result ≡ at_in (words_of_line bytes.now) }
 {
@@ -123,7 +123,7 @@ fn at_of(bytes: &[u8]) -> Option<Option<u64>>
     }
 }
 
-/// The header that a line is; none where it is no header.
+/// The header that a line is; none if it isn't a header.
 pub fn read_header(alloc: Global, line: &[u8]) -> Result<Option<Header>, AllocError>
     ensures { IfOk result (λ header. header ≡ header_of line.now) }
 {

@@ -9,7 +9,9 @@ mod header;
 mod line;
 mod lines;
 mod literal;
+mod marks;
 mod next;
+mod notes;
 mod reply;
 pub mod text_laws;
 
@@ -17,5 +19,8 @@ pub use call_text::{call_in, read_call};
 pub use fault::{CallFault, TextFault};
 pub use feed::Feed;
 pub use header::{Header, object_of, read_header};
+pub use line::{is_end_line, is_short, next_word, skip_blanks, split_word};
+pub use marks::Marks;
 pub use next::Next;
+pub use notes::{NoNotes, Notes};
 pub use reply::{Answer, Reply, print_answer, print_reply};

@@ -27,7 +27,7 @@ pub fn is_short(line: &[u8]) -> bool
     line.len() <= LONGEST_LINE
 }
 
-/// The bytes behind the spaces and tabs in front.
+/// The bytes after the spaces and tabs in front.
 pub fn skip_blanks(bytes: &[u8]) -> &[u8]
     ensures { result.now ≡ after_blanks bytes.now }
 {
@@ -53,7 +53,7 @@ pub fn is_blank_line(line: &[u8]) -> bool
     is_short(line) && is_all_blank(line)
 }
 
-/// Whether a line is `end`, with spaces and tabs before and behind.
+/// Whether a line is `end`, with spaces and tabs before and after.
 pub fn is_end_line(line: &[u8]) -> bool
     ensures { result ≡ end_line line.now }
 {
@@ -79,7 +79,7 @@ pub fn split_word(bytes: &[u8]) -> (&[u8], &[u8])
     (bytes, &[])
 }
 
-/// What stands in front of the first space or tab, and what follows.
+/// What is in front of the first space or tab, and what follows.
 fn split_at_blank(bytes: &[u8]) -> (&[u8], &[u8])
     ensures front { result.0.now ≡ until_blank bytes.now }
     ensures back { result.1.now ≡ from_blank bytes.now }
@@ -92,7 +92,7 @@ fn split_at_blank(bytes: &[u8]) -> (&[u8], &[u8])
     (bytes, &[])
 }
 
-/// The first of the words that stand between blanks, and what follows.
+/// The first of the words that are between blanks, and what follows.
 pub fn next_word(bytes: &[u8]) -> Option<(&[u8], &[u8])>
     ensures { MatchOption result (words_of_line bytes.now ≡ []) (λ x. words_of_line bytes.now ≡ x.0.now ∷ words_of_line x.1.now) }
 {

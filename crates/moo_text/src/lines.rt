@@ -7,6 +7,7 @@ ghost use Rattle.std.specs.Str.Lines.{strip_carriage_return};
 use crate::ahead::Ahead;
 use crate::fault::TextFault;
 use crate::line::LONGEST_LINE;
+use crate::marks::Marks;
 use std::alloc::{AllocError, Global};
 use std::io::Read;
 
@@ -16,7 +17,7 @@ pub const LONGEST_TEXT: usize = 1073741824;
 /// So much of a line is kept: its limit, a carriage return that may be dropped, and a byte by which it is seen to be too long.
 const MOST_KEPT: usize = LONGEST_LINE + 2;
 
-/// Where the first line end stands.
+/// The place of the first line end.
 fn newline_at(text: &[u8]) -> Option<usize>
     ensures first { result ≡ position_from (λ byte. byte == 10) 0 text.now }
     ensures within { IfSome result (λ at. at < length text.now) }
@@ -51,6 +52,7 @@ pub struct LineReader<R> {
     pub(crate) ahead: Ahead,
     room: usize,
     ended: bool,
+    pub(crate) marks: Marks,
     ghost limited: { length ahead + room ≤ 1073741824 },
 }
 
@@ -70,10 +72,11 @@ impl<R: Read> LineReader<R> {
             ahead: Ahead::new(alloc),
             room: room.min(LONGEST_TEXT),
             ended: false,
+            marks: Marks::new(alloc),
         }
     }
 
-    /// Reads one more piece, where none is left. False at the end of the text.
+    /// Reads one more piece if none is left. False at the end of the text.
     fn read_piece(&mut self) -> Result<bool, TextFault>
         requires { self.old.ahead ≡ [] }
         ensures gives { OnOk result (ReaderGives (lines_side R.remaining self.old) (lines_side R.remaining self.new) self.new.ahead) }
@@ -113,7 +116,7 @@ impl<R: Read> LineReader<R> {
     }
 
     /// The next line, and none at the end of the text. Of a line over the limit so much is given that it is seen to be over it.
-    pub fn next_line(&mut self) -> Result<Option<Vec<u8>>, TextFault>
+    fn read_line(&mut self) -> Result<Option<Vec<u8>>, TextFault>
         ensures line { IfOk result (λ line. ReadsLine (lines_side R.remaining self.old) (lines_side R.remaining self.new) (option_map (λ l. l.items) line)) }
         ensures falls { IfOk result (λ line. MatchOption line (lines_room self.new ≤ lines_room self.old) (λ _. lines_room self.new < lines_room self.old)) }
         ensures ends { IfOk result (λ line. IfNone line (IsOver (lines_side R.remaining self.new))) }
@@ -140,5 +143,19 @@ impl<R: Read> LineReader<R> {
                 return Ok(Some(line));
             }
         }
+    }
+
+    /// The next line, and none at the end of the text. Of a line over the limit so much is given that it is seen to be over it.
+    pub fn next_line(&mut self) -> Result<Option<Vec<u8>>, TextFault>
+        ensures line { IfOk result (λ line. ReadsLine (lines_side R.remaining self.old) (lines_side R.remaining self.new) (option_map (λ l. l.items) line)) }
+        ensures falls { IfOk result (λ line. MatchOption line (lines_room self.new ≤ lines_room self.old) (λ _. lines_room self.new < lines_room self.old)) }
+        ensures ends { IfOk result (λ line. IfNone line (IsOver (lines_side R.remaining self.new))) }
+        ensures cause { IfErr result (λ fault. BreaksOff (lines_side R.remaining self.old) (lines_side R.remaining self.new) fault) }
+    {
+        let read = self.read_line();
+        if let Ok(Some(line)) = &read {
+            self.marks.add(line);
+        }
+        read
     }
 }

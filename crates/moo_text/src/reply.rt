@@ -126,7 +126,7 @@ fn put_answer(alloc: Global, answer: &Answer, out: &mut Vec<u8>) -> Result<(), A
     }
 }
 
-/// Appends the lines of a reply. The only error is want of memory, and it leaves the bytes as they were.
+/// Appends the lines of a reply. The only error is a lack of memory, and it leaves the bytes as they were.
 pub fn print_reply(alloc: Global, reply: &Reply, out: &mut Vec<u8>) -> Result<(), AllocError>
     ensures ok { OnOk result (out.new.items ≡ out.old.items ++ reply_text reply.now) }
     ensures err { OnErr result (out.new.items ≡ out.old.items) }
@@ -139,7 +139,7 @@ pub fn print_reply(alloc: Global, reply: &Reply, out: &mut Vec<u8>) -> Result<()
     result
 }
 
-/// Appends the lines that answer a batch of a text. The only error is want of memory, and it leaves the bytes as they were.
+/// Appends the lines that answer a batch of a text. The only error is a lack of memory, and it leaves the bytes as they were.
 pub fn print_answer(alloc: Global, answer: &Answer, out: &mut Vec<u8>) -> Result<(), AllocError>
     ensures ok { OnOk result (out.new.items ≡ out.old.items ++ answer_text answer.now) }
     ensures err { OnErr result (out.new.items ≡ out.old.items) }

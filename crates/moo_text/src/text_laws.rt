@@ -37,7 +37,7 @@ pub fn one_cut()
     ensures only { (text : List ℕ) (others : List Next) → Cuts (lines text) others → items text ≡ others }
 {}
 
-/// The items that are read one after another are those of all bytes that were given meanwhile; where the reader tells its bytes, these are
+/// The items that are read one after another are those of all bytes that were given meanwhile; if the reader tells its bytes, these are
 /// all of them once it has ended. Behind a fault the items that were read stay the first ones.
 pub fn items_are_joined()
     ensures none { (a : Side) → ReadsItems a a [] }

@@ -18,7 +18,7 @@ under_among w x es = map (λ e. (e.0, e.1.owner)) (filter (λ e. is_among x (cha
 abbrev pub owners_under : Maps → ObjNo → List (ObjNo × ObjNo)
 owners_under t x = under_among (world_of t) x (entries t.objects)
 
--- the owner of an object, where it is under x
+-- the owner of an object, if it is under x
 abbrev pub owner_if_under : Maps → ObjNo → ObjNo → Option ObjNo
 owner_if_under t x q = if is_among x (chain (world_of t) q) then option_map (λ r. r.owner) (get t.objects q) else None
 

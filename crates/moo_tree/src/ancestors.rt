@@ -11,7 +11,7 @@ use moo_rows::Rows;
 use moo_value::ObjNo;
 use std::alloc::{AllocError, Global};
 
-/// The object and its ancestors, the root last; nothing where it is no object. An `Err` is want of memory.
+/// The object and its ancestors, the root last; nothing if it isn't an object. An `Err` is a lack of memory.
 pub fn chain<R: Rows>(alloc: Global, rows: &R, x: ObjNo) -> Result<Vec<ObjNo>, AllocError>
     requires { IsTree (world_of (R.held rows.now).maps) }
     ensures { IfOk result (λ v. v.items ≡ chain (world_of (R.held rows.now).maps) x) }
@@ -25,8 +25,8 @@ pub fn chain<R: Rows>(alloc: Global, rows: &R, x: ObjNo) -> Result<Vec<ObjNo>, A
     Ok(found)
 }
 
-/// Whether x is an object that is the other one or has it as an ancestor. It climbs from x to the root at most: where many
-/// are asked for, take what lies under the other one by `owners_under`.
+/// Whether x is an object that is the other one or has it as an ancestor. It climbs from x to the root at most: if many
+/// are asked for, take what is under the other one by `owners_under`.
 pub fn is_under<R: Rows>(rows: &R, x: ObjNo, ancestor: ObjNo) -> bool
     requires { IsTree (world_of (R.held rows.now).maps) }
     ensures { result ≡ is_among ancestor (chain (world_of (R.held rows.now).maps) x) }
@@ -41,7 +41,7 @@ pub fn is_under<R: Rows>(rows: &R, x: ObjNo, ancestor: ObjNo) -> bool
     false
 }
 
-/// What stands as many steps above x as there are objects in the chain of other, or the end where the chain of x is shorter.
+/// The object as many steps above x as there are objects in the chain of other, or the end if the chain of x is shorter.
 fn up_along<R: Rows>(rows: &R, x: ObjNo, other: ObjNo) -> ObjNo
     requires { IsTree (world_of (R.held rows.now).maps) }
     ensures { chain (world_of (R.held rows.now).maps) result
@@ -59,7 +59,7 @@ fn up_along<R: Rows>(rows: &R, x: ObjNo, other: ObjNo) -> ObjNo
     at
 }
 
-/// x, or where its chain is longer than that of other the ancestor of x whose chain is as long as that.
+/// x, or if its chain is longer than that of other the ancestor of x whose chain is as long as that.
 fn no_deeper<R: Rows>(rows: &R, x: ObjNo, other: ObjNo) -> ObjNo
     requires { IsTree (world_of (R.held rows.now).maps) }
     ensures { chain (world_of (R.held rows.now).maps) result
@@ -70,7 +70,7 @@ fn no_deeper<R: Rows>(rows: &R, x: ObjNo, other: ObjNo) -> ObjNo
     up_along(rows, x, beyond)
 }
 
-/// The first of new and its ancestors that is a proper ancestor of x, or `#-1` where there is none. No more steps are taken
+/// The first of new and its ancestors that is a proper ancestor of x, or `#-1` if there is none. No more steps are taken
 /// than a few times as many as the two stand deep. LambdaMOO Programmer's Manual, 'Fundamental Operations on Objects': `chparent`.
 pub fn common<R: Rows>(rows: &R, x: ObjNo, new: ObjNo) -> ObjNo
     requires { IsTree (world_of (R.held rows.now).maps) }

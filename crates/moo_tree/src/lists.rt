@@ -10,7 +10,7 @@ use moo_rows::{Link, Rows, each_linked};
 use moo_value::ObjNo;
 use std::alloc::{AllocError, Global};
 
-/// The objects whose parent is x, ascending; the roots for `#-1`. An `Err` is want of memory.
+/// The objects whose parent is x, ascending; the roots for `#-1`. An `Err` is a lack of memory.
 /// LambdaMOO Programmer's Manual, 'Fundamental Operations on Objects': `children`.
 pub fn children<R: Rows>(alloc: Global, rows: &R, x: ObjNo) -> Result<Vec<ObjNo>, AllocError>
     requires { IsTree (world_of (R.held rows.now).maps) }
@@ -21,7 +21,7 @@ pub fn children<R: Rows>(alloc: Global, rows: &R, x: ObjNo) -> Result<Vec<ObjNo>
         .collect(alloc)
 }
 
-/// The objects that lie in x itself, ascending; those that lie nowhere for `#-1`. An `Err` is want of memory.
+/// The objects that are in x itself, ascending; those that are nowhere for `#-1`. An `Err` is a lack of memory.
 /// LambdaMOO Programmer's Manual, 'Properties on Objects'.
 pub fn contents<R: Rows>(alloc: Global, rows: &R, x: ObjNo) -> Result<Vec<ObjNo>, AllocError>
     requires { IsTree (world_of (R.held rows.now).maps) }
@@ -32,7 +32,7 @@ pub fn contents<R: Rows>(alloc: Global, rows: &R, x: ObjNo) -> Result<Vec<ObjNo>
         .collect(alloc)
 }
 
-/// The objects with the player flag, ascending. An `Err` is want of memory.
+/// The objects with the player flag, ascending. An `Err` is a lack of memory.
 /// LambdaMOO Programmer's Manual, 'Operations on Player Objects': `players`.
 pub fn players<R: Rows>(alloc: Global, rows: &R) -> Result<Vec<ObjNo>, AllocError>
     requires { IsTree (world_of (R.held rows.now).maps) }

@@ -1,4 +1,4 @@
-//! What lies under an object.
+//! What is under an object.
 
 ghost use Rattle.std.specs.Prelude.{◌≡◌, ◌++◌, true, Some, IfOk, OnOk};
 ghost use Rattle.std.specs.FinMap.{get, insert};
@@ -40,7 +40,7 @@ fn visit<R: Rows>(
     Ok(())
 }
 
-/// x and its descendants, each with its owner; nothing where x is no object. It goes down level by level, so that what is
+/// x and its descendants, each with its owner; nothing if x isn't an object. It goes down level by level, so that what is
 /// done is as much as is found, and not as the world holds.
 fn find_under<R: Rows>(
     alloc: Global,
@@ -66,9 +66,9 @@ fn find_under<R: Rows>(
     Ok(found)
 }
 
-/// x and its descendants, ascending; nothing where x is no object. An `Err` is want of memory.
+/// x and its descendants, ascending; nothing if x isn't an object. An `Err` is a lack of memory.
 ///
-/// Only what lies under x is looked at: m log n steps for m objects there among n of the world, however deep they stand.
+/// Only what is under x is looked at: m log n steps for m objects there among n of the world, however deep they stand.
 pub fn subtree<R: Rows>(alloc: Global, rows: &R, x: ObjNo) -> Result<Vec<ObjNo>, AllocError>
     requires { IsTree (world_of (R.held rows.now).maps) }
     ensures { IfOk result (λ v. v.items ≡ subtree_of (world_of (R.held rows.now).maps) x) }
@@ -76,8 +76,8 @@ pub fn subtree<R: Rows>(alloc: Global, rows: &R, x: ObjNo) -> Result<Vec<ObjNo>,
     find_under(alloc, rows, x)?.into_keys().collect(alloc)
 }
 
-/// The objects under x with their owners, ascending; nothing where x is no object. It costs what `subtree` does. An `Err`
-/// is want of memory.
+/// The objects under x with their owners, ascending; nothing if x isn't an object. It costs what `subtree` does. An `Err`
+/// is a lack of memory.
 pub fn owners_under<R: Rows>(
     alloc: Global,
     rows: &R,

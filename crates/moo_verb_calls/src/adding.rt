@@ -28,8 +28,8 @@ fn has_word(names: &MooStr) -> bool
     check_names(names).is_ok()
 }
 
-/// The rights that a verb takes with an owner and names, or E_INVARG: where the owner is no object, then where the rights have
-/// another letter than `r`, `w`, `x` and `d`, then where the names are empty or all spaces.
+/// The rights that a verb takes with an owner and names, or E_INVARG: if the owner isn't an object, then if the rights have
+/// a letter other than `r`, `w`, `x` and `d`, then if the names are empty or all spaces.
 pub(crate) fn bits_taken<R: Rows>(rows: &R, verb: VerbInfo<'_>) -> Result<VerbBits, Code>
     ensures owner { OnOk result (is_object (world_in (R.held rows.now)) verb.entry.info.owner ≡ true) }
     ensures bits { IfOk result (λ bits. verb_bits_of verb.entry.info.perms.now ≡ Some bits) }
@@ -48,7 +48,7 @@ pub(crate) fn bits_taken<R: Rows>(rows: &R, verb: VerbInfo<'_>) -> Result<VerbBi
     Ok(bits)
 }
 
-/// The arguments that texts name, where they name some.
+/// The arguments that texts name, if they name some.
 pub(crate) fn args_of(args: ArgTexts<'_>) -> Option<ArgSpec>
     ensures { result ≡ args_of args.entry.dobj.now args.entry.prep.now args.entry.iobj.now }
 {
@@ -90,9 +90,9 @@ fn verb_taken<R: Rows>(
 }
 
 /// `add_verb(x, {owner, perms, names}, {dobj, prep, iobj})`: puts a verb last in the directory of an object and answers 0.
-/// E_INVARG where x or the owner is no object, where the rights have another letter than `r`, `w`, `x` and `d`, where the
-/// names are empty or all spaces, and where the arguments are none that a verb may have; then E_PERM where the programmer may
-/// not write x, and where the owner is another than a programmer who is no wizard. Full where every number has been given.
+/// E_INVARG if x or the owner isn't an object, if the rights have a letter other than `r`, `w`, `x` and `d`, if the
+/// names are empty or all spaces, and if a verb may not have the arguments; then E_PERM if the programmer may
+/// not write x, and if the owner is another one and the programmer isn't a wizard. Full if every number has been given.
 /// LambdaMOO Programmer's Manual, 'Operations on Verbs'.
 pub fn add_verb<R: Rows>(
     rows: &mut R,

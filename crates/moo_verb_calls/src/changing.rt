@@ -19,9 +19,9 @@ use moo_verbs::found_verb;
 use moo_world::Desc;
 use std::alloc::Global;
 
-/// `delete_verb(x, desc)`: takes a verb out of the directory of an object and answers 0. The others keep their numbers, also where
+/// `delete_verb(x, desc)`: takes a verb out of the directory of an object and answers 0. The others keep their numbers, also if
 /// two verbs are alike.
-/// E_INVARG where x is no object; E_PERM where the programmer may not write x; E_VERBNF where no verb of x itself is meant.
+/// E_INVARG if x isn't an object; E_PERM if the programmer may not write x; E_VERBNF if no verb of x itself is meant.
 /// LambdaMOO Programmer's Manual, 'Operations on Verbs'.
 pub fn delete_verb<R: Rows>(
     rows: &mut R,
@@ -51,9 +51,9 @@ pub fn delete_verb<R: Rows>(
 }
 
 /// `set_verb_info(x, desc, {owner, perms, names})`: changes the owner, the rights and the names of a verb and answers 0.
-/// E_INVARG where x is no object; E_VERBNF where no verb of x itself is meant; E_INVARG where the owner is no object, where
-/// the rights have another letter than `r`, `w`, `x` and `d`, and where the names are empty or all spaces; then E_PERM where
-/// the programmer may not write the verb, and where the owner is another than a programmer who is no wizard.
+/// E_INVARG if x isn't an object; E_VERBNF if no verb of x itself is meant; E_INVARG if the owner isn't an object, if
+/// the rights have a letter other than `r`, `w`, `x` and `d`, and if the names are empty or all spaces; then E_PERM if
+/// the programmer may not write the verb, and if the owner is another one and the programmer isn't a wizard.
 /// LambdaMOO Programmer's Manual, 'Operations on Verbs'.
 pub fn set_verb_info<R: Rows>(
     rows: &mut R,
@@ -89,8 +89,8 @@ pub fn set_verb_info<R: Rows>(
 }
 
 /// `set_verb_args(x, desc, {dobj, prep, iobj})`: changes the arguments of a verb and answers 0.
-/// E_INVARG where x is no object; E_VERBNF where no verb of x itself is meant; E_INVARG where the arguments are none that a
-/// verb may have; E_PERM where the programmer may not write the verb.
+/// E_INVARG if x isn't an object; E_VERBNF if no verb of x itself is meant; E_INVARG if a verb may not have the
+/// arguments; E_PERM if the programmer may not write the verb.
 /// LambdaMOO Programmer's Manual, 'Operations on Verbs'.
 pub fn set_verb_args<R: Rows>(
     rows: &mut R,

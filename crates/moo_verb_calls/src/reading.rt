@@ -22,7 +22,7 @@ use moo_world::Desc;
 use std::alloc::{AllocError, Global};
 
 /// `verbs(x)`: answers the names of the verbs of an object, each string whole as given, in the order of the directory.
-/// E_INVARG where x is no object; E_PERM where the programmer may not read it.
+/// E_INVARG if x isn't an object; E_PERM if the programmer may not read it.
 /// LambdaMOO Programmer's Manual, 'Operations on Verbs'.
 pub fn verbs<R: Rows>(rows: &R, alloc: Global, programmer: ObjNo, x: ObjNo) -> Result<Value, Fault>
     requires { IsGood (R.held rows.now).maps }
@@ -39,7 +39,7 @@ pub fn verbs<R: Rows>(rows: &R, alloc: Global, programmer: ObjNo, x: ObjNo) -> R
     Ok(answer)
 }
 
-/// A text as a string. It may stand in one, so that only memory can be wanting.
+/// A text as a string. It may be one, so that the only error is out of memory.
 fn text(alloc: Global, text: &'static str) -> Result<Value, AllocError>
     requires { IsText text.now }
     ensures { IfOk result (λ value. value ≡ Str text.now) }
@@ -53,8 +53,8 @@ fn text(alloc: Global, text: &'static str) -> Result<Value, AllocError>
     }
 }
 
-/// The verb that a call on x reads, or the error: E_INVARG where x is no object, then E_VERBNF where no verb of x itself is
-/// meant, then E_PERM where the programmer may not read the verb.
+/// The verb that a call on x reads, or the error: E_INVARG if x isn't an object, then E_VERBNF if no verb of x itself is
+/// meant, then E_PERM if the programmer may not read the verb.
 fn readable_verb<'a, R: Rows>(
     rows: &'a R,
     programmer: ObjNo,
@@ -77,7 +77,7 @@ fn readable_verb<'a, R: Rows>(
     Ok(found.row)
 }
 
-/// `{owner, perms, names}` of a verb. The only error is want of memory.
+/// `{owner, perms, names}` of a verb. The only error is out of memory.
 fn info_of(alloc: Global, verb: &VerbRow) -> Result<Value, AllocError>
     ensures { IfOk result (λ value. value
         ≡ list_of (Obj verb.now.owner ∷ Str (verb_letters_of verb.now.bits) ∷ Str verb.now.names ∷ [])) }
@@ -89,7 +89,7 @@ fn info_of(alloc: Global, verb: &VerbRow) -> Result<Value, AllocError>
 }
 
 /// `verb_info(x, desc)`: answers `{owner, perms, names}` of a verb, the letters of the rights in the order `rwxd`.
-/// E_INVARG where x is no object; E_VERBNF where no verb of x itself is meant; E_PERM where the programmer may not read the verb.
+/// E_INVARG if x isn't an object; E_VERBNF if no verb of x itself is meant; E_PERM if the programmer may not read the verb.
 /// LambdaMOO Programmer's Manual, 'Operations on Verbs'.
 pub fn verb_info<R: Rows>(
     rows: &R,
@@ -106,7 +106,7 @@ pub fn verb_info<R: Rows>(
     Ok(answer)
 }
 
-/// `{dobj, prep, iobj}` of a verb. The only error is want of memory.
+/// `{dobj, prep, iobj}` of a verb. The only error is out of memory.
 fn args_of(alloc: Global, args: ArgSpec) -> Result<Value, AllocError>
     ensures { IfOk result (λ value. value
         ≡ list_of (Str (place_text args.dobj) ∷ Str (prep_text args.prep) ∷ Str (place_text args.iobj) ∷ [])) }
@@ -119,7 +119,7 @@ fn args_of(alloc: Global, args: ArgSpec) -> Result<Value, AllocError>
 }
 
 /// `verb_args(x, desc)`: answers `{dobj, prep, iobj}` of a verb, the preposition as its whole set with slashes.
-/// E_INVARG where x is no object; E_VERBNF where no verb of x itself is meant; E_PERM where the programmer may not read the verb.
+/// E_INVARG if x isn't an object; E_VERBNF if no verb of x itself is meant; E_PERM if the programmer may not read the verb.
 /// LambdaMOO Programmer's Manual, 'Operations on Verbs'.
 pub fn verb_args<R: Rows>(
     rows: &R,

@@ -7,7 +7,7 @@ use Rattle.clap.specs.Kinds.{Kinds, HasKind}
 use Rattle.clap.specs.Faults.{fault_of}
 use Rattle.moo_words.specs.Commands.{moo_app}
 use Rattle.moo_words.specs.declared.task.Task.{Task}
-use Rattle.moo_words.specs.declared.task.Task.TheVariants.{Init, Apply, Ask, Dump, Check, Serve}
+use Rattle.moo_words.specs.declared.task.Task.TheVariants.{Init, Apply, Ask, Dump, Load, Check, Serve}
 use Rattle.moo_words.specs.declared.task.Usage.{Usage}
 use Rattle.moo_words.specs.declared.task.Usage.TheVariants.{Refused, Absent}
 
@@ -28,6 +28,8 @@ IsTask (name, rows) (Apply file batches) =
 IsTask (name, rows) (Ask file batches) =
     (name ≡ codes "ask") × HasText rows (codes "FILE") file.now × HasText rows (codes "BATCHES") batches.now
 IsTask (name, rows) (Dump file) = (name ≡ codes "dump") × HasText rows (codes "FILE") file.now
+IsTask (name, rows) (Load file dump) =
+    (name ≡ codes "load") × HasText rows (codes "FILE") file.now × HasText rows (codes "DUMP") dump.now
 IsTask (name, rows) (Check file) = (name ≡ codes "check") × HasText rows (codes "FILE") file.now
 IsTask (name, rows) (Serve file port count) =
     (name ≡ codes "serve") × HasText rows (codes "FILE") file.now
@@ -40,11 +42,29 @@ IsDefault (Init file) = ⊥
 IsDefault (Apply file batches) = (file.now ≡ codes ":memory:") × (batches.now ≡ codes "-")
 IsDefault (Ask file batches) = ⊥
 IsDefault (Dump file) = ⊥
+IsDefault (Load file dump) = ⊥
 IsDefault (Check file) = ⊥
 IsDefault (Serve file port count) = ⊥
 
+-- What a task asks for: a command, its file, and its text (batches or a dump), port and count if the command has these.
+pub record Request : Type 0 where
+  pub command : Text
+  pub file : Text
+  pub text : Text
+  pub port : ℕ
+  pub count : ℕ
+
+abbrev pub request_of : Task → Request
+request_of (Init file) = record { command = codes "init"; file = file.now; text = []; port = 0; count = 0 }
+request_of (Apply file batches) = record { command = codes "apply"; file = file.now; text = batches.now; port = 0; count = 0 }
+request_of (Ask file batches) = record { command = codes "ask"; file = file.now; text = batches.now; port = 0; count = 0 }
+request_of (Dump file) = record { command = codes "dump"; file = file.now; text = []; port = 0; count = 0 }
+request_of (Load file dump) = record { command = codes "load"; file = file.now; text = dump.now; port = 0; count = 0 }
+request_of (Check file) = record { command = codes "check"; file = file.now; text = []; port = 0; count = 0 }
+request_of (Serve file port count) = record { command = codes "serve"; file = file.now; text = []; port = port; count = count }
+
 -- what is wrong with the words, by clap's rules for the program: the kinds of error that they give, help and the version among these;
--- none where they are those of a command
+-- none if they are those of a command
 unfoldable pub mistakes : List Text → Kinds
 mistakes words = fault_of moo_app words
 
@@ -53,6 +73,10 @@ abbrev pub NamesTask : List Text → Task → Type 0
 NamesTask words task =
     ((length words ≤ 1) × IsDefault task)
     ⊎ ((1 < length words) × (mistakes words ≡ []) × (found : Text × List Row) × (subcommand_of moo_app words ≡ Some found) × IsTask found task)
+
+-- any task that the words name asks for what this one does
+abbrev pub NamesAlone : List Text → Task → Type 0
+NamesAlone words task = (other : Task) → NamesTask words other → request_of other ≡ request_of task
 
 -- The words name no task: they have a mistake of this kind, or memory ran out. Absent says that they have none.
 abbrev pub IsRefusal : List Text → Usage → Type 0

@@ -3,7 +3,7 @@ ghost use Rattle.std.specs.Prelude.{◌≡◌, false, codes, IfOk};
 ghost use Rattle.clap.specs.Walk.{rule_of};
 ghost use Rattle.clap.specs.Simple.{app_of, new_app, with_subcommand};
 ghost use Rattle.clap.specs.declared.builder.command.Command.TheViews.{out-Command as fields_of};
-ghost use Rattle.moo_words.specs.Commands.{text_rule, port_rule, count_rule, file_app, batches_app, serve_app, program_app, moo_app};
+ghost use Rattle.moo_words.specs.Commands.{text_rule, port_rule, count_rule, file_app, batches_app, load_app, serve_app, program_app, moo_app};
 
 use crate::help;
 use clap::{Arg, Command, value_parser};
@@ -68,6 +68,17 @@ fn batches_command<'a>(
     file_command(alloc, name, about, more)?.arg(text_arg(alloc, "BATCHES", help::BATCHES))
 }
 
+fn load_command<'a>(alloc: Global) -> Result<Command<'a>, AllocError>
+    ensures shape { IfOk result (λ command. app_of command ≡ load_app) }
+    ensures local { IfOk result (λ command. (fields_of command).has_globals ≡ false) }
+{
+    file_command(alloc, "load", help::LOAD, help::LOAD_MORE)?.arg(text_arg(
+        alloc,
+        "DUMP",
+        help::DUMP_FILE,
+    ))
+}
+
 fn serve_command<'a>(alloc: Global) -> Result<Command<'a>, AllocError>
     ensures shape { IfOk result (λ command. app_of command ≡ serve_app) }
     ensures local { IfOk result (λ command. (fields_of command).has_globals ≡ false) }
@@ -126,6 +137,8 @@ pub(crate) fn moo_command<'a>(alloc: Global) -> Result<Command<'a>, AllocError>
     let program = with_batches_command(alloc, program, "apply", help::APPLY, help::APPLY_MORE)?;
     let program = with_batches_command(alloc, program, "ask", help::ASK, help::ASK_MORE)?;
     let program = with_file_command(alloc, program, "dump", help::DUMP, help::DUMP_MORE)?;
+    let command = load_command(alloc)?;
+    let program = with_command(program, command)?;
     let program = with_file_command(alloc, program, "check", help::CHECK, help::CHECK_MORE)?;
     let command = serve_command(alloc)?;
     with_command(program, command)

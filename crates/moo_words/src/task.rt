@@ -2,7 +2,7 @@
 ghost use Rattle.std.specs.Prelude.{◌≡◌, ◌<◌, Some, map, IfOk, IfErr, IsErr, IfSome, codes, length};
 ghost use Rattle.clap.specs.Walk.{rows_of};
 ghost use Rattle.clap.specs.Matches.{found_of};
-ghost use Rattle.moo_words.specs.Tasks.{HasNumber, HasText, IsRefusal, IsTask, NamesTask};
+ghost use Rattle.moo_words.specs.Tasks.{HasNumber, HasText, IsRefusal, IsTask, NamesTask, NamesAlone};
 
 use crate::commands::moo_command;
 use clap::{ArgMatches, Error};
@@ -10,7 +10,8 @@ use std::alloc::{AllocError, Global};
 
 /// What the program is to do.
 ///
-/// `file` is the path of a database, or `:memory:` for a new world; `batches` the path of a text, or `-` for standard input.
+/// `file` is the path of a database, or `:memory:` for a new world. `batches` is the path of a text of batches, and `dump` that of a
+/// dump; `-` is standard input.
 #[derive(Clone, Copy, Debug, PartialEq, Eq, Drop)]
 pub enum Task<'a> {
     /// Make a new world.
@@ -22,7 +23,7 @@ pub enum Task<'a> {
         file: &'a str,
         batches: &'a str,
     },
-    /// Say what the batches of a text would come to.
+    /// Say what the batches of a text would answer.
     Ask {
         file: &'a str,
         batches: &'a str,
@@ -30,6 +31,11 @@ pub enum Task<'a> {
     /// Print the whole world.
     Dump {
         file: &'a str,
+    },
+    /// Make the world of a dump.
+    Load {
+        file: &'a str,
+        dump: &'a str,
     },
     /// Test that the file holds a whole world.
     Check {
@@ -46,8 +52,8 @@ pub enum Task<'a> {
 /// Why the words name no task.
 #[derive(Drop)]
 pub enum Usage {
-    /// They aren't those of a command, or they ask for help or the version; the error has the text to show. Want of memory is
-    /// such an error too.
+    /// They aren't those of a command, or they ask for help or the version; the error has the text to show. If memory runs
+    /// out, that is such an error too.
     Refused(Error),
     /// The matches lack an entry that the command asks for.
     Absent,
@@ -101,6 +107,10 @@ fn task_in<'a>(name: &str, matches: &ArgMatches<'a>) -> Option<Task<'a>>
     } else if name == "dump" {
         let file = text_of(matches, "FILE")?;
         Some(Task::Dump { file })
+    } else if name == "load" {
+        let file = text_of(matches, "FILE")?;
+        let dump = text_of(matches, "DUMP")?;
+        Some(Task::Load { file, dump })
     } else if name == "check" {
         let file = text_of(matches, "FILE")?;
         Some(Task::Check { file })
@@ -113,10 +123,12 @@ fn task_in<'a>(name: &str, matches: &ArgMatches<'a>) -> Option<Task<'a>>
 
 /// The task that the words name, the first of which is the program's own name.
 ///
-/// With no other word it is `apply :memory: -`. Refused where `clap` refuses the words, which asking for help or the version is
-/// too, or memory runs out; Absent where its matches lack an entry.
+/// With no other word it is `apply :memory: -`. Refused if `clap` refuses the words, as it does if they ask for help or the version,
+/// or if memory runs out. Absent if its matches lack an entry.
 pub fn read_words<'a>(alloc: Global, words: &'a [&'a str]) -> Result<Task<'a>, Usage>
     ensures task { IfOk result (NamesTask (map (λ word. word.now) words.entry.now)) }
+    // No other task is named by these words.
+    ensures alone { IfOk result (NamesAlone (map (λ word. word.now) words.entry.now)) }
     ensures refused { IfErr result (IsRefusal (map (λ word. word.now) words.entry.now)) }
     ensures more { IsErr result → 1 < length words.entry.now }
 {

@@ -1,5 +1,5 @@
 -- What a call is given. A wrong number of arguments is E_ARGS, and a wrong type E_TYPE, which is also said of the length of a
--- list of an owner and rights and of what stands in it.
+-- list of an owner and rights and of what is in it.
 use Rattle.std.specs.Prelude.{ℕ, nat_le, nat_lt, ℤ, pos, negsuc, Bool, true, ◌&&◌, List, [], ◌∷◌, length, Option, Some, None, Result, Ok, Err, ok_or, if◌then◌else◌}
 use Rattle.std.specs.List.{list_all}
 use Rattle.std.specs.Option.{option_map}
@@ -85,7 +85,7 @@ object_text_and_value (Obj x ∷ Str name ∷ v ∷ []) = Ok (x, name, v)
 object_text_and_value (a ∷ b ∷ c ∷ []) = Err E_TYPE
 object_text_and_value args = Err E_ARGS
 
--- what create takes: a parent, and an owner, which is the programmer where none is given
+-- what create takes: a parent, and an owner, which is the programmer if none is given
 abbrev pub parent_and_owner : ObjNo → List Value → Result (ObjNo × ObjNo) Code
 parent_and_owner p (Obj q ∷ []) = Ok (q, p)
 parent_and_owner p (Obj q ∷ Obj owner ∷ []) = Ok (q, owner)

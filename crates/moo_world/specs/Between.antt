@@ -25,7 +25,7 @@ abbrev pub GrantLeads : ObjNo → List Value → Maps → Maps → Type 0
 GrantLeads p args old new =
     (n : ℤ) × (e : PetitionId × PetitionRow) × (one_integer args ≡ Ok n) × (petition_at (state_of old) n ≡ Some e) × HeldCallsLead p (spread e.1.calls) (record old { petitions = remove old.petitions e.0 }) new
 
--- what a call does to numbers: one change, or, where it grants a petition, one for each call that the petition holds
+-- what a call does to numbers: one change, or, if it grants a petition, one for each call that the petition holds
 abbrev pub CallKeepsNumbers : Bool → ObjNo → List Value → Maps → Maps → Type 0
 CallKeepsNumbers true p args = GrantLeads p args
 CallKeepsNumbers false p args = KeepsNumbers

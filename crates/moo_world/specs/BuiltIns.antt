@@ -31,7 +31,7 @@ all_fields = name ∷ Owner ∷ Location ∷ Contents ∷ Programmer ∷ Wizard 
 abbrev pub built_in : Name → Option BuiltIn
 built_in n = find (λ field. same_text (folded n) (field_name field)) all_fields
 
--- what an object's row says of a field; its contents are those objects that lie in it
+-- what an object's row says of a field; its contents are those objects that are in it
 abbrev pub field_in : World → ObjNo → BuiltIn → ObjRow → Value
 field_in w x name row = Str row.name
 field_in w x Owner row = Obj row.owner

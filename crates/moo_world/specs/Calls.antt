@@ -54,7 +54,7 @@ players w = Done (object_list (players_of w)) w
 abbrev pub max_object : World → Outcome
 max_object w = Done (Obj (record { 0 = w.top })) w
 
--- the list, or 0 where none is held
+-- the list, or 0 if none is held
 abbrev pub accept_value : Option (List ObjNo) → Value
 accept_value None = zero
 accept_value (Some objects) = object_list objects
@@ -147,7 +147,7 @@ named_call w p DeleteVerb args = given (object_and_desc args) λ (x, desc). dele
 named_call w p SetVerbInfo args = given (new_verb_info args) λ (x, (desc, (info, names))). set_verb_info w p x desc info names
 named_call w p SetVerbArgs args = given (new_verb_args args) λ (x, (desc, verb_args)). set_verb_args w p x desc verb_args
 named_call w p SetAccept args = given (object_and_accept args) λ (x, list). set_accept w p x list
--- petitions stand beside the world: what their calls come to, `request` says, which asks for no step of theirs
+-- petitions are beside the world: `request` says what their calls answer, and asks for no step of theirs
 named_call w p Petition args = Failed E_INVARG
 named_call w p Petitions args = Failed E_INVARG
 named_call w p Grant args = Failed E_INVARG

@@ -6,11 +6,11 @@ use Rattle.moo_rows.specs.PlainRow.{plain_row}
 use Rattle.moo_world.specs.Objects.{nothing, same_object}
 use Rattle.moo_world.specs.World.{World, Record, rebuilt}
 
--- the number of the next object, where one is left
+-- the number of the next object, if one is left
 abbrev pub next_object : World → Option ObjNo
 next_object w = if int_lt w.top (pos 2147483647) then Some (record { 0 = w.top +ℤ pos 1 }) else None
 
--- an object owns itself where #-1 was given as owner
+-- an object owns itself if #-1 was given as owner
 abbrev pub owner_or_self : ObjNo → ObjNo → ObjNo
 owner_or_self x owner = if same_object nothing owner then x else owner
 

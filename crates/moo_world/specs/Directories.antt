@@ -1,4 +1,4 @@
--- What the calls on verbs leave of the directory of an object. A verb stands at its place, counted from 0.
+-- What the calls on verbs leave of the directory of an object. A verb is at its place, counted from 0.
 -- LambdaMOO Programmer's Manual, 'Operations on Verbs'.
 use Rattle.std.specs.Prelude.{ℕ, zero, suc, ◌+◌, List, [], ◌∷◌, ◌++◌, Option, slice_get}
 use Rattle.std.specs.List.{remove}

@@ -10,7 +10,7 @@ use Rattle.moo_world.specs.Numbers.{KeepsNumbers}
 abbrev pub beside_world : Maps → ℕ × (ℕ × FinMap petition_cmp PetitionRow)
 beside_world m = (m.head.seq, (m.head.next_petition, m.petitions))
 
--- the rows are good ones, what stands beside the world is as it was, and what stays keeps its number
+-- the rows are good ones, what is beside the world is as it was, and what stays keeps its number
 pub record Keeps (old new : Held) : Type 0 where
   pub good : IsGood new.maps
   pub beside : beside_world new.maps ≡ beside_world old.maps

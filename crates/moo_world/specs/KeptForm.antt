@@ -19,7 +19,7 @@ use Rattle.moo_world.specs.World.{World, IsWellFormed}
 abbrev pub arguments_fit : Call → Bool
 arguments_fit call = list_all fits call.args
 
--- where a call is answered in a well formed world, the world that it leaves is well formed
+-- if a call is answered in a well formed world, the world that it leaves is well formed
 abbrev pub CallsKeepForm : Type 0
 CallsKeepForm = (w next : World) (p : ObjNo) (call : Call) (v : Value) → IsWellFormed w → arguments_fit call ≡ true → step w p call ≡ Done v next → IsWellFormed next
 
@@ -37,6 +37,6 @@ RunsKeepForm = (s : State) (batches : List Batch) → IsFormed s → list_all (�
 abbrev pub TextIsTested : Type 0
 TextIsTested = (s : List ℕ) → Decides (is_text s) (IsText s)
 
--- a value fits where it is one within the limits of literals
+-- a value fits if it is one within the limits of literals
 abbrev pub FitsIsTested : Type 0
 FitsIsTested = (v : Value) → Decides (fits v) (Fits v)

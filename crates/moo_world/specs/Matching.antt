@@ -23,7 +23,7 @@ same_name a b = same_text (folded a) (folded b)
 abbrev pub begins_with : Name → Name → Bool
 begins_with text front = same_name (take (length front) text) front
 
--- the front stands, and the rest of the word begins the text behind the star, or is anything where that is empty
+-- the front is there, and the rest of the word begins the text after the star, or is anything if that is empty
 abbrev pub matches_around : Name → Name → Name → Bool
 matches_around front behind word =
     begins_with word front && (is_empty behind || begins_with behind (drop (length front) word))
@@ -36,7 +36,7 @@ matches_at (Some star) name word = matches_around (take star name) (drop (star +
 abbrev pub matches : Name → Name → Bool
 matches name word = matches_at (position is_star name) name word
 
--- names stand between spaces
+-- names are between spaces
 abbrev pub words : Name → List Name
 words names = filter (λ name. not (is_empty name)) (slice_split is_space names)
 

@@ -113,7 +113,7 @@ spelled_is bytes name = (λ e. (same_text-Decides bytes (spelling name)).0 (find
 
 -- ---- petitions
 
--- which call of petitions a name is: none where it is a call on the world
+-- which call of petitions a name is: none if it is a call on the world
 abbrev pub petition_call : CallName → Option PetitionCall
 petition_call Petition = Some to_petition
 petition_call Petitions = Some to_list

@@ -43,8 +43,8 @@ pub record KeepsNumbers (old new : Maps) : Type 0 where
 abbrev pub IsSameButSlots : Maps → Maps → Type 0
 IsSameButSlots old new = new ≡ record old { slots = new.slots }
 
--- over any time, a number once given is not given again: under a number that was given there stands a property of its definer,
--- or a verb of its object, that stood there before
+-- over any time, a number once given is not given again: under a number that was given there is a property of its definer,
+-- or a verb of its object, that was there before
 pub record NumbersStay (old new : Maps) : Type 0 where
   pub props : (id : PropId) (row : PropRow) → id.0 < old.head.next_prop → get new.props id ≡ Some row → (was : PropRow) × (get old.props id ≡ Some was) × (was.definer ≡ row.definer)
   pub verbs : (x : ObjNo) (id : VerbId) → id.0 < old.head.next_verb → is_some (get new.verbs (x, id)) ≡ true → is_some (get old.verbs (x, id)) ≡ true

@@ -18,7 +18,7 @@ children_of w x = filter (has_parent w x) (objects_of w)
 abbrev pub lies_in : World → ObjNo → ObjNo → Bool
 lies_in w x y = row_passes (λ r. same_object x r.location) w y
 
--- what lies in x itself
+-- what is in x itself
 abbrev pub contents_of : World → ObjNo → List ObjNo
 contents_of w x = filter (lies_in w x) (objects_of w)
 

@@ -14,7 +14,7 @@ use Rattle.moo_world.specs.Recycling.{recycled}
 abbrev pub manually_moved : World → ObjNo → ObjNo → World
 manually_moved w x q = record w { object = λ y. option_map (with_slots (manual_slot w x q y)) ((with_parent w x q).object y) }
 
--- where a change of parent may be made, the world that the manual's words give is the model's
+-- if a change of parent may be made, the world that the manual's words give is the model's
 abbrev pub ManualMoveHolds : Type 0
 ManualMoveHolds = (w : World) (x q : ObjNo) → MayReparent w x q → manually_moved w x q ≡ reparented w x q
 
@@ -28,7 +28,7 @@ abbrev pub MayMoveOneByOne : World → List ObjNo → ObjNo → Type 0
 MayMoveOneByOne w [] q = ⊤
 MayMoveOneByOne w (c ∷ l) q = MayReparent w c q × MayMoveOneByOne (manually_moved w c q) l q
 
--- what lies in x lies nowhere
+-- what is in x is nowhere
 abbrev pub emptied : ObjNo → Record → Record
 emptied x r = record r { row = record r.row { location = if same_object x r.row.location then nothing else r.row.location } }
 

@@ -21,7 +21,7 @@ abbrev pub given : {A : Type 0} → Result A Code → (A → Outcome) → Outcom
 given (Ok a) rest = rest a
 given (Err code) rest = Failed code
 
--- the number of a new object, where one is left
+-- the number of a new object, if one is left
 abbrev pub with_next : Option ObjNo → (ObjNo → Outcome) → Outcome
 with_next None rest = Full
 with_next (Some x) rest = rest x
@@ -33,7 +33,7 @@ found_or (Some a) code rest = rest a
 
 -- ---- how the steps of a call are written, one to a line, in their order
 
--- what follows a step is done where the step lets it
+-- what follows a step is done if the step lets it
 abbrev pub ◌>>◌ : {R : Type 0} → (R → R) → R → R
 ◌>>◌ step rest = step rest
 

@@ -50,7 +50,7 @@ pub record KeepsOwnership (w next : World) (p : ObjNo) (renamed : ObjNo → Name
   pub slots : (y : ObjNo) (n : Name) (s t : Slot) → slot_of w y n ≡ Some s → slot_of next y (renamed y n) ≡ Some t → s.definer ≡ t.definer → t.owner ≡ s.owner
   pub made : (y : ObjNo) → is_object w y ≡ false → is_object next y ≡ true → (owner_of next y ≡ p) × (row_passes (λ r. r.player) next y ≡ false) × (row_passes (λ r. r.programmer) next y ≡ false) × (row_passes (λ r. r.wizard) next y ≡ false)
 
--- a call of a programmer who is no wizard
+-- a call of a programmer who isn't a wizard
 abbrev pub NoWizardKeepsOwnership : Type 0
 NoWizardKeepsOwnership = (w next : World) (p : ObjNo) (call : Call) (v : Value) → IsWellFormed w → is_wizard w p ≡ false → step w p call ≡ Done v next → KeepsOwnership w next p (name_after w call)
 

@@ -33,7 +33,7 @@ are_shallow calls = nat_le (nesting (a_list calls)) 30
 abbrev pub petition_fits : PetitionRow → Bool
 petition_fits row = is_number row.who && (list_all is_named (spread row.calls) && (are_few row.calls && (are_shallow row.calls && all_within_limits row.calls)))
 
--- each petition's number lies below that of the next, and it holds what petitions may
+-- each petition's number is below that of the next, and it holds what petitions may
 pub record PetitionsStand (petitions : FinMap petition_cmp PetitionRow) (next : ℕ) : Type 0 where
   pub numbered : (id : PetitionId) → is_some (get petitions id) ≡ true → (0 < id.0) × (id.0 < next)
   pub fit : (id : PetitionId) (row : PetitionRow) → get petitions id ≡ Some row → petition_fits row ≡ true

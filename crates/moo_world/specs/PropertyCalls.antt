@@ -70,7 +70,7 @@ is_clear_property w p x n = do
 
 -- ---- setting
 
--- the change that a value is for a field, or the error. What is no flag takes the truth of the value
+-- the change that a value is for a field, or the error. What isn't a flag takes the truth of the value
 abbrev pub change_of : BuiltIn → Value → Result Change Code
 change_of Location v = Err E_PERM
 change_of Contents v = Err E_PERM

@@ -1,5 +1,5 @@
 -- The quota of an owner.
--- LambdaMOO Programmer's Manual, 'Fundamental Operations on Objects': `create` and `recycle`. That none is consulted where #-1 was
+-- LambdaMOO Programmer's Manual, 'Fundamental Operations on Objects': `create` and `recycle`. That none is consulted if #-1 was
 -- given as owner, and that one at the greatest integer stays, are this server's own.
 use Rattle.std.specs.Prelude.{ℤ, pos, ◌+ℤ◌, int_lt, Bool, true, false, ◌||◌, codes, Option, Some, None, unwrap_or, if◌then◌else◌}
 use Rattle.std.specs.Option.{option_map}
@@ -33,7 +33,7 @@ quota_moved w o k = elim (quota_of w o) [ None ↦ w | Some had ↦ with_record 
 abbrev pub has_quota_left : World → ObjNo → Bool
 has_quota_left w o = unwrap_or (option_map (λ k. int_lt (pos 0) k) (quota_of w o)) true
 
--- no quota is consulted where #-1 was given as owner
+-- no quota is consulted if #-1 was given as owner
 abbrev pub may_afford : World → ObjNo → Bool
 may_afford w owner = same_object nothing owner || has_quota_left w owner
 

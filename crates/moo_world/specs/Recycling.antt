@@ -6,7 +6,7 @@ use Rattle.moo_value.specs.declared.value.ObjNo.{ObjNo}
 use Rattle.moo_world.specs.Objects.{nothing, same_object}
 use Rattle.moo_world.specs.World.{World, Record, parent_of, rebuilt}
 
--- a record whose object x is gone: its parent is x's parent where it was x, its location nothing where it was x
+-- a record whose object x is gone: its parent is x's parent if it was x, its location nothing if it was x
 abbrev pub released : ObjNo → ObjNo → Record → Record
 released x parent r = record r {
   row = record r.row {

@@ -1,4 +1,4 @@
--- The calls of petitions, and what any call of a batch comes to. Petitions are this server's own: LambdaMOO has none.
+-- The calls of petitions, and the outcome of any call of a batch. Petitions are this server's own: LambdaMOO has none.
 use Rattle.std.specs.Prelude.{◌≡◌, ℕ, ◌+◌, ◌<◌, ◌≤◌, ℤ, pos, negsuc, nat_lt, Bool, true, false, ◌&&◌, ◌||◌, List, [], ◌∷◌, map, Option, Some, None, is_some, Result, Ok, Err, if◌then◌else◌}
 use Rattle.std.specs.Option.{option_map, option_and_then}
 use Rattle.std.specs.List.{filter, list_all}
@@ -37,12 +37,12 @@ pub record State : Type 0 where
 abbrev pub state_of : Maps → State
 state_of m = record { world = world_of m; petitions = m.petitions; next_petition = m.head.next_petition; seq = m.head.seq }
 
--- a well formed world, and petitions as they may stand beside it
+-- a well formed world, and petitions as they may be beside it
 pub record IsFormed (s : State) : Type 0 where
   pub world : IsWellFormed s.world
   pub petitions : PetitionsStand s.petitions s.next_petition
 
--- what a call of a batch comes to: an answer and the next state, an error, or no number left
+-- the outcome of a call of a batch: an answer and the next state, an error, or no number left
 pub data Effect : Type 0 where
   Answered : Value → State → Effect
   Erred : Code → Effect
@@ -135,7 +135,7 @@ may_be_asked calls =
     then (if are_few calls && (list_all (λ held. is_some (held_call held)) (spread calls) && are_shallow calls) then Ok tt else Err E_INVARG)
     else Err E_TYPE
 
--- one petition more, where a number is left
+-- one petition more, if a number is left
 abbrev pub ask : State → ObjNo → Values → Effect
 ask s p calls = if nat_lt s.next_petition last_petition then Answered (Int (pos s.next_petition)) (asked s p calls) else NoneLeft
 
@@ -179,7 +179,7 @@ request s p call =
 
 -- ---- numbers of petitions
 
--- over any time, a number once given is not given again: under a number that was given there stands the petition that stood there
+-- over any time, a number once given is not given again: under a number that was given there is the petition that was there
 pub record PetitionsStay (old new : State) : Type 0 where
   pub same : (id : PetitionId) (row : PetitionRow) → id.0 < old.next_petition → get new.petitions id ≡ Some row → get old.petitions id ≡ Some row
   pub next : old.next_petition ≤ new.next_petition

@@ -28,14 +28,14 @@ abbrev pub numbers_below : ℕ → List ℕ
 numbers_below zero = []
 numbers_below (suc n) = numbers_below n ++ n ∷ []
 
--- the name of a property, where x defines it
+-- the name of a property, if x defines it
 abbrev pub name_on : LookUps → ObjNo → ℕ → Option Name
 name_on rows x id = option_and_then (λ p. if same_object p.definer x then Some p.name else None) (rows.prop id)
 
 abbrev pub slot_seen : ObjNo → SlotRow → Slot
 slot_seen definer s = record { definer = definer; owner = s.owner; bits = s.bits; state = s.state }
 
--- the slot on x of a property, where n is its folded name
+-- the slot on x of a property, if n is its folded name
 abbrev pub slot_on : LookUps → ObjNo → Name → ℕ → Option Slot
 slot_on rows x n id = option_and_then (λ p. if same_text (folded p.name) n then option_map (slot_seen p.definer) (rows.slot x id) else None) (rows.prop id)
 
@@ -56,7 +56,7 @@ world_shown rows = record {
   next_verb = rows.head.next_verb;
 }
 
--- each number lies below its counter, what a row names is there, and no object has two slots of one name
+-- each number is below its counter, what a row names is there, and no object has two slots of one name
 pub record AreSound (rows : LookUps) : Type 0 where
   pub props_below : (id : ℕ) → is_some (rows.prop id) ≡ true → (0 < id) × (id < rows.head.next_prop)
   pub definers : (id : ℕ) (p : PropRow) → rows.prop id ≡ Some p → is_some (rows.object p.definer) ≡ true
@@ -89,7 +89,7 @@ world_of t = world_shown (look_ups t)
 abbrev pub IsSound : Maps → Type 0
 IsSound t = AreSound (look_ups t)
 
--- sound rows of a well formed world, and petitions as they may stand beside it
+-- sound rows of a well formed world, and petitions as they may be beside it
 pub record IsGood (m : Maps) : Type 0 where
   pub sound : IsSound m
   pub formed : IsWellFormed (world_of m)

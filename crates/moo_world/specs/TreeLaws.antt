@@ -11,7 +11,7 @@ use Rattle.moo_world.specs.Rights.{accepts, is_within}
 abbrev pub OneChain : Type 0
 OneChain = (w : World) (x : ObjNo) (l m : List ObjNo) → IsTree w → Chain w x l → Chain w x m → l ≡ m
 
--- no object stands in a chain twice
+-- no object is in a chain twice
 abbrev pub NoneTwice : Type 0
 NoneTwice = (w : World) (x y : ObjNo) (front behind : List ObjNo) → IsTree w → Chain w x (front ++ y ∷ behind) → is_among y behind ≡ false
 
@@ -43,14 +43,14 @@ OwesIsTested = (w : World) (x : ObjNo) (p : Pair) → IsTree w → Decides (owes
 abbrev pub ReadsIsFound : Type 0
 ReadsIsFound = (w : World) (x : ObjNo) (n : Name) (v : Value) → IsTree w → (read_of w x n ≡ Some v) ↔ Reads w n x v
 
--- x is y or lies in y at any depth
+-- x is y or is in y at any depth
 abbrev pub IsWithin : World → ObjNo → ObjNo → Type 0
 IsWithin w x y = (l : List ObjNo) × Places w x l × (is_among y l ≡ true)
 
 abbrev pub WithinIsTested : Type 0
 WithinIsTested = (w : World) (x y : ObjNo) → IsTree w → is_object w x ≡ true → Decides (is_within w x y) (IsWithin w x y)
 
--- the accept list that counts for an object: its own, or where it holds none its parent's
+-- the accept list that counts for an object: its own, or if it holds none its parent's
 pub data HasList (w : World) : ObjNo → List ObjNo → Type 0 where
   own : {x : ObjNo} {r : Record} {list : List ObjNo} → w.object x ≡ Some r → r.row.accept ≡ Some list → HasList w x list
   inherited : {x : ObjNo} {r : Record} {list : List ObjNo} → w.object x ≡ Some r → r.row.accept ≡ None → HasList w r.row.parent list → HasList w x list

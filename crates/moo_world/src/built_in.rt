@@ -59,7 +59,7 @@ impl BuiltIn {
         name.bytes().eq_ignore_ascii_case(self.name())
     }
 
-    /// The built-in property of a name, in any case; none where no property of that name is built in.
+    /// The built-in property of a name, in any case; none if no property of that name is built in.
     ///
     /// LambdaMOO Programmer's Manual, 'Properties on Objects' in the chapter on the database.
     pub fn of_name(name: &MooStr) -> Option<BuiltIn>

@@ -1,6 +1,6 @@
 //! Drafts over rows, beside rows that take the same steps.
 //!
-//! What makes a draft stands over any rows where it can: over `Flat` its proof takes longer. What rows show by themselves, and what a
+//! What makes a draft is over any rows if it can: over `Flat` its proof takes longer. What rows show by themselves, and what a
 //! draft shows of links and of petitions, the clauses say and the scenes of `tests/` run.
 
 ghost use Rattle.std.specs.Prelude.{◌<◌};
@@ -71,7 +71,7 @@ fn drafted<B: Rows>(alloc: Global, base: &B, met: &mut Keys) -> Result<Changes, 
     draft.into_changes()
 }
 
-/// Meets keys on rows behind the changes of a draft over others.
+/// Meets keys on rows under the changes of a draft over others.
 fn meet_behind_draft<B: Rows>(
     alloc: Global,
     base: &B,
@@ -101,7 +101,7 @@ fn a_draft_steps_as_rows_do(rt: HostRuntime) -> Result<(), AllocError> {
     step_on_draft(&rt, rt.alloc(), &mut some_slots(rt.alloc())?)
 }
 
-/// The keys that are met on a copy of rows behind the changes of a draft.
+/// The keys that are met on a copy of rows under the changes of a draft.
 fn met_behind_draft(alloc: Global, base: &Flat) -> Result<Keys, AllocError> {
     let mut copy = base.copy(alloc)?;
     let mut met = Vec::new(alloc);

@@ -13,12 +13,12 @@ pub(crate) enum Which {
     Db,
 }
 
-/// What is left of a file behind a stop.
+/// What is left of a file after a stop.
 #[derive(Clone, Copy, Debug, PartialEq, Eq, Drop)]
 pub(crate) enum Loss {
-    /// All that was not synced is lost, as where the machine stopped.
+    /// All that was not synced is lost, as if the machine had stopped.
     Unsynced,
-    /// Nothing is lost, as where the process was ended.
+    /// Nothing is lost, as if the process had been ended.
     Nothing,
 }
 
@@ -44,7 +44,7 @@ pub(crate) fn bytes_of(alloc: Global, files: &Files<Fused>) -> Result<Kept, Fail
     })
 }
 
-/// A file of these bytes, all of them synced, that stops behind so many calls.
+/// A file of these bytes, all of them synced, that stops after so many calls.
 fn fused(alloc: Global, bytes: &[u8], calls: u64) -> Result<Fused, Fail> {
     let mut memory = Memory::new(alloc);
     if memory.may_be_used() {
@@ -65,7 +65,7 @@ pub(crate) fn whole(alloc: Global, kept: &Kept) -> Result<Files<Fused>, Fail> {
     })
 }
 
-/// Two such files, of which one stops behind so many calls.
+/// Two such files, of which one stops after so many calls.
 pub(crate) fn stopping(
     alloc: Global,
     kept: &Kept,

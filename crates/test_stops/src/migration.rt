@@ -57,7 +57,7 @@ impl Found {
     }
 }
 
-/// One round: one of the files stops behind so many calls. Whether it ended without a stop.
+/// One round: one of the files stops after so many calls. Whether it ended without a stop.
 fn one_round(
     alloc: Global,
     (kept, dump): (&Kept, &[u8]),
@@ -98,7 +98,7 @@ fn each_round(
     Err(Fail::from("no round ended without a stop"))
 }
 
-/// The stops of an opening that takes a file over: behind each the world is there, in the tables of the first version or of the second.
+/// The stops of an opening that takes a file over: after each the world is there, in the tables of the first version or of the second.
 #[test]
 fn a_migration_that_stops_left_the_world(rt: HostRuntime) -> Result<(), Fail> {
     let alloc = rt.alloc();

@@ -9,6 +9,7 @@ use moo_cells::read_cells;
 use moo_flat::Flat;
 use moo_store::{World, apply_text, create_in};
 use moo_tables::{Version, are_listed, read_tables};
+use moo_text::NoNotes;
 use sqlite::{Connection, MemStore};
 use std::alloc::Global;
 use std::process::Abort;
@@ -26,7 +27,13 @@ fn tables_after(alloc: Global, call: &str) -> Result<Connection<MemStore>, Fail>
     if !call.is_empty() {
         let text = format!(in alloc; "batch as #3\n{call}\nend\n")?;
         let mut written = Vec::new(alloc);
-        apply_text(alloc, text.as_bytes(), &mut written, &mut world)?;
+        apply_text(
+            alloc,
+            text.as_bytes(),
+            &mut written,
+            &mut world,
+            &mut NoNotes,
+        )?;
     }
     Ok(world.into_connection())
 }
@@ -60,7 +67,7 @@ fn line(alloc: Global, world: &mut World<MemStore>) -> Result<String, Fail> {
     })
 }
 
-/// The calls behind a World's own rows and behind its tables, and what a check of it says, and the next one.
+/// The calls after a World's own rows and after its tables, and what a check of it says, and the next one.
 static CHECKED: [(&str, &str, &str, &str); 7] = [
     ("create(#1)", "create(#1)", "5 objects", "5 objects"),
     (NO_BATCH, "create(#1)", "damaged mismatch head", CLOSED),

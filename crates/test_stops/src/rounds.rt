@@ -1,11 +1,11 @@
-//! A run that stops at each call of a file in turn, and what is found behind each stop.
+//! A run that stops at each call of a file in turn, and what is found after each stop.
 
 use crate::files::{Kept, Loss, Which, bytes_of, left, stopping, whole};
 use std::alloc::Global;
 use std::test::Fail;
 use test_visits::{Seen, Task, visit_fused};
 
-/// A run on prepared files, what is written where it is done, and the dumps of the world before it and behind it. Before `Init`
+/// A run on prepared files, what is written when it is done, and the dumps of the world before it and after it. Before `Init`
 /// there is no world, and no dump.
 #[derive(Drop)]
 pub(crate) struct Run<'a> {
@@ -91,7 +91,7 @@ pub(crate) fn making<'a>(alloc: Global) -> Result<Run<'a>, Fail> {
 enum Found {
     /// The world before the run.
     Old,
-    /// The world behind it.
+    /// The world after it.
     New,
     /// Neither, or not that of an acknowledged run.
     Wrong,
@@ -124,7 +124,7 @@ fn is_acknowledged(run: &Run<'_>, seen: &Seen) -> bool {
     }
 }
 
-/// One round: one of the files stops behind so many calls.
+/// One round: one of the files stops after so many calls.
 fn one_round(
     alloc: Global,
     run: &Run<'_>,

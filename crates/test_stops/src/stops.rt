@@ -62,7 +62,7 @@ fn all_rounds(alloc: Global, run: &Run<'_>) -> Result<Counts, Fail> {
     Ok(all)
 }
 
-/// Whether every round left the world before or the world behind, both of them at some stop.
+/// Whether every round left the world before or the world after, both of them at some stop.
 fn are_right(counts: &Counts) -> bool {
     counts.wrong == 0 && counts.ended == 4 && counts.old > 0 && counts.new > 0
 }
@@ -78,7 +78,7 @@ fn a_batch_that_stops_is_there_or_not(rt: HostRuntime) -> Result<(), Fail> {
     Ok(())
 }
 
-/// The stops of a batch by which 42 objects lose a slot and get another one: behind each, all of them have, or none.
+/// The stops of a batch by which 42 objects lose a slot and get another one: after each, all of them have, or none.
 #[test]
 fn a_change_of_parent_that_stops_is_there_or_not(rt: HostRuntime) -> Result<(), Fail> {
     let alloc = rt.alloc();
@@ -115,7 +115,7 @@ petition({{"create", #1, #4}, {"set_player_flag", #4, 1}})
 end
 "#;
 
-/// The stops of a batch that grants a petition: behind each, all of its calls are made and it is gone, or none is and it stands.
+/// The stops of a batch that grants a petition: after each, all of its calls are made and it is gone, or none is and it is still there.
 #[test]
 fn a_grant_that_stops_is_there_or_not(rt: HostRuntime) -> Result<(), Fail> {
     let alloc = rt.alloc();
@@ -146,7 +146,7 @@ fn a_check_that_stops_changes_nothing(rt: HostRuntime) -> Result<(), Fail> {
     Ok(())
 }
 
-/// The stops of the making of a world: behind each the new world is there, or none and one can be made.
+/// The stops of the making of a world: after each the new world is there, or none and one can be made.
 #[test]
 fn a_new_world_that_stops_is_there_or_can_be_made(rt: HostRuntime) -> Result<(), Fail> {
     let alloc = rt.alloc();

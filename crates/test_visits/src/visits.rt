@@ -1,6 +1,7 @@
 //! A task on the world of two files.
 
 use moo_store::{World, adopt, apply_text, create_in};
+use moo_text::NoNotes;
 use sqlite::{Alter, Connection, FileStore, Files, Options};
 use sqlite_disk::{Disk, Fuse, Memory};
 use std::alloc::Global;
@@ -63,7 +64,7 @@ fn do_task<S: Alter + Drop>(
     match task {
         Task::Init | Task::Statements(_) | Task::Tables => true,
         Task::Apply(text) => {
-            apply_text(alloc, text, written, world).is_ok_and(|tally| tally.lost == 0)
+            apply_text(alloc, text, written, world, &mut NoNotes).is_ok_and(|tally| tally.lost == 0)
         }
         Task::Check => world.check().is_ok(),
         Task::Look => look(world, written),

@@ -41,7 +41,7 @@ fn take_object(alloc: Global, cells: &Row, rows: &mut Flat) -> Result<(), RowFau
     Ok(())
 }
 
-/// Puts what each row of the table shows, where no row is so far.
+/// Puts what each row of the table shows, in rows that have none of the table yet.
 pub(crate) fn read_objects(alloc: Global, cells: &[Row], rows: &mut Flat) -> Result<(), CellFault>
     requires listed { AreKeyed cells.now }
     requires none { rows.old.maps.objects ≡ empty }

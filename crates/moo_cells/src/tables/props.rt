@@ -40,7 +40,7 @@ fn take_prop(alloc: Global, cells: &Row, rows: &mut Flat) -> Result<(), RowFault
     Ok(())
 }
 
-/// Puts what each row of the table shows, where no row is so far.
+/// Puts what each row of the table shows, in rows that have none of the table yet.
 pub(crate) fn read_props(alloc: Global, cells: &[Row], rows: &mut Flat) -> Result<(), CellFault>
     requires listed { AreKeyed cells.now }
     requires none { rows.old.maps.props ≡ empty }

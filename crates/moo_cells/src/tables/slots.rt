@@ -44,7 +44,7 @@ fn take_slot(alloc: Global, version: Version, cells: &Row, rows: &mut Flat) -> R
     Ok(())
 }
 
-/// Puts what each row of the table shows, where no row is so far.
+/// Puts what each row of the table shows, in rows that have none of the table yet.
 pub(crate) fn read_slots(
     alloc: Global,
     version: Version,

@@ -44,7 +44,7 @@ fn take_verb(alloc: Global, cells: &Row, rows: &mut Flat) -> Result<(), RowFault
     Ok(())
 }
 
-/// Puts what each row of the table shows, where no row is so far.
+/// Puts what each row of the table shows, in rows that have none of the table yet.
 pub(crate) fn read_verbs(alloc: Global, cells: &[Row], rows: &mut Flat) -> Result<(), CellFault>
     requires listed { ArePaired cells.now }
     requires none { rows.old.maps.verbs ≡ empty }

@@ -26,7 +26,7 @@ pub(super) const READ: Bits = Bits {
     c: false,
 };
 
-/// The number of the next object, where one is left.
+/// The number of the next object, if one is left.
 #[tactic(auto, unfolding(moo_world::specs::Rows::world_shown))]
 fn next_number<R: Rows>(rows: &R) -> Option<ObjNo>
     ensures { result ≡ next_object (world_of (R.held rows.now).maps) }
@@ -73,8 +73,7 @@ pub(super) fn added<R: Rows>(
 {
     let name = MooStr::from_bytes(alloc, name)?;
     assert!(rt; valid(rows, ObjNo(x)));
-    let clash = clashes(alloc, rows, ObjNo(x), &name)?;
-    assert!(rt; !clash);
+    assert!(rt; !clashes(rows, ObjNo(x), &name));
     assert!(rt; rows.head().next_prop < u32::MAX);
     let value = Value::Int(value);
     Ok(define(alloc, rows, ObjNo(x), name, value, WIZARD, bits)?)
@@ -111,7 +110,7 @@ fn reads<R: Rows>(rows: &R, x: ObjNo, name: &MooStr, want: Option<i64>) -> bool
     }
 }
 
-/// An object, a name, and the integer that the object reads for it; none where it has no property of that name.
+/// An object, a name, and the integer that the object reads for it; none if it has no property of that name.
 pub(super) type Reading = (i32, &'static str, Option<i64>);
 
 /// Whether objects read these integers.
@@ -198,8 +197,7 @@ pub(super) fn moved<R: Rows>(
     assert!(rt; valid(rows, ObjNo(x)));
     assert!(rt; valid(rows, ObjNo(new)));
     assert!(rt; !is_under(rows, ObjNo(new), ObjNo(x)));
-    let clash = meets(alloc, rows, ObjNo(x), ObjNo(new))?;
-    assert!(rt; !clash);
+    assert!(rt; !meets(rows, ObjNo(x), ObjNo(new)));
     Ok(reparent(alloc, rows, ObjNo(x), ObjNo(new))?)
 }
 

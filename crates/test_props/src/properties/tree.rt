@@ -13,7 +13,7 @@ use moo_world::laws::good_opening;
 use std::alloc::{AllocError, Global};
 use std::process::Abort;
 
-/// Plants it over any rows that hold the opening world. They are borrowed, so that nothing is let go where this ends early.
+/// Plants it over any rows that hold the opening world. They are borrowed, so that nothing is let go if this ends early.
 fn plant<R: Rows>(rt: &impl Abort, alloc: Global, rows: &mut R) -> Result<(), LiteralFault>
     requires { IsGood (R.held rows.old).maps }
     ensures { OnOk result (IsGood (R.held rows.new).maps) }

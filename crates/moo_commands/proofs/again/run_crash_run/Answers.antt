@@ -1,10 +1,11 @@
 use Rattle.std.proofs.Common.{map}
 use Rattle.sqlite.specs.WalFiles.{image_at}
+use Rattle.moo_commands.specs.Run.{texts_by}
 use Rattle.moo_commands.proofs.AgainLemmas.{takes_up, crashes_to}
 use Rattle.moo_commands.proofs.again.run_crash_run.Goals as goal
 
 pub returns-clause-reopened : goal.returns-clause-reopened
 returns-clause-reopened g c =
-    crashes_to (map (λ word. word.now) c.args.words.now) (image_at g.T.Start) c.run_words-ends.result (g.R.Read.remaining c.args.input) (g.W.Write.contents c.args.output.now) (g.W.Write.contents c.run_words-ends.new.output) c.run_words-ends.new.status (image_at g.U.Start) _
+    crashes_to (map (λ word. word.now) c.args.words.now) (image_at g.T.Start) c.run_words-ends.result (texts_by (g.R.Read.remaining c.args.input) (g.B.BatchFiles.text c.args.files.now)) (g.W.Write.contents c.args.output.now) (g.W.Write.contents c.run_words-ends.new.output) c.run_words-ends.new.status (image_at g.U.Start) _
     c.run_words-ends.ensures.over
-    (takes_up (map (λ word. word.now) c.args.next_words.now) (image_at g.U.Start) c.run_words-next_ends.result (g.Q.Read.remaining c.args.next_input) (g.V.Write.contents c.args.next_output.now) (g.V.Write.contents c.run_words-next_ends.new.output) c.run_words-next_ends.new.status c.run_words-next_ends.ensures.over)
+    (takes_up (map (λ word. word.now) c.args.next_words.now) (image_at g.U.Start) c.run_words-next_ends.result (texts_by (g.Q.Read.remaining c.args.next_input) (g.C.BatchFiles.text c.args.next_files.now)) (g.V.Write.contents c.args.next_output.now) (g.V.Write.contents c.run_words-next_ends.new.output) c.run_words-next_ends.new.status c.run_words-next_ends.ensures.over)

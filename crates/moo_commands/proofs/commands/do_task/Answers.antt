@@ -1,6 +1,6 @@
 use Rattle.std.proofs.Common.{refl}
 use Rattle.moo_store.specs.Stand.{Works}
-use Rattle.moo_commands.proofs.Tasks.{unchanged, stays_at, on_ok, on_err}
+use Rattle.moo_commands.proofs.Tasks.{unchanged, stays_at, on_ok, both_ok, on_err}
 use Rattle.moo_commands.proofs.commands.do_task.Goals as goal
 
 pub returns-in-Init : goal.returns-in-Init
@@ -29,7 +29,7 @@ returns-in-Dump g c = record {
 
 pub returns-in-Check : goal.returns-in-Check
 returns-in-Check g c = record {
-  done = λ known s stands. rw c.in-Check.is (on_ok _ _ c.check.result (λ status it. stays_at g.S.Store known c.args.world.now c.check.new.world s _ c.check.ensures.crash (c.leaves.ensures known (Works s) stands) (refl, it.0, it.1)) (c.check.ensures.done known s stands));
+  done = λ known s stands. rw c.in-Check.is (on_ok _ _ c.check.result (λ status it. stays_at g.S.Store known c.args.world.now c.check.new.world s _ c.check.ensures.crash (c.leaves.ensures known (Works s) stands) (refl, it.1, it.0.0, it.0.1)) (both_ok c.check.result _ _ (c.check.ensures.done known s stands) c.check.ensures.shown));
   stops = λ known s stands. rw c.in-Check.is (on_err _ _ c.check.result (λ failure it. stays_at g.S.Store known c.args.world.now c.check.new.world s _ c.check.ensures.crash (c.leaves.ensures known (Works s) stands) (refl, it)) (c.check.ensures.stops known s stands));
 }
 

@@ -11,18 +11,25 @@ returns-in-Ok g c =
     let here = state_of world.rows.maps in
     let ran = c.run_in_files.ensures in
     record {
-      anew = λ anew. surely _ _ _ _ _ _ _ _ (ran.runs true (state_of opening_maps) (c.in-Ok.ensures.anew anew));
+      anew = λ anew. surely _ _ _ _ _ _ _ _ _ (ran.runs true (state_of opening_maps) (c.in-Ok.ensures.anew anew));
       taken = λ s anew holds clean. c.in-Ok.ensures.taken anew s holds (ran.clean true (state_of opening_maps) (c.in-Ok.ensures.anew anew) clean);
       kept = λ s other holds clean.
           let early = ran.clean false here (c.in-Ok.ensures.opened other).1 clean in
-          surely _ _ _ _ _ _ _ _ (ran.runs true s (c.in-Ok.ensures.kept other s holds early));
+          surely _ _ _ _ _ _ _ _ _ (ran.runs true s (c.in-Ok.ensures.kept other s holds early));
       only = λ tables other holds clean.
           let found = c.in-Ok.ensures.opened other in
-          (world.rows.maps, found.0, c.in-Ok.ensures.only other tables holds (ran.clean false here found.1 clean), unseen _ _ _ _ _ _ _ _ (ran.runs false here found.1));
+          (world.rows.maps, found.0, c.in-Ok.ensures.only other tables holds (ran.clean false here found.1 clean), unseen _ _ _ _ _ _ _ _ _ (ran.runs false here found.1));
+      nothing = λ other none clean. c.in-Ok.ensures.nothing other none (ran.clean false here (c.in-Ok.ensures.opened other).1 clean);
+      other = λ trees other holds others clean. c.in-Ok.ensures.other other trees holds others (ran.clean false here (c.in-Ok.ensures.opened other).1 clean);
       opened = λ other.
           let found = c.in-Ok.ensures.opened other in
-          (world.rows.maps, found.0, unseen _ _ _ _ _ _ _ _ (ran.runs false here found.1));
+          (world.rows.maps, found.0, unseen _ _ _ _ _ _ _ _ _ (ran.runs false here found.1));
       left = λ s holds. tt;
+      trees = λ trees other holds. tt;
+      spared = λ trees anew holds any. tt;
+      unmade = λ trees anew holds. tt;
+      blank = λ other none. tt;
+      told = tt;
     }
 
 pub returns-in-Err : goal.returns-in-Err
@@ -36,6 +43,13 @@ returns-in-Err g c =
       taken = λ s anew holds. tt;
       kept = λ s other holds clean. fails_at_once fault old new c.report.result (c.in-Err.ensures.whole other s holds clean) reports;
       only = λ tables other holds clean. (fault, c.in-Err.ensures.fault other tables holds clean, reports);
+      nothing = λ other none. tt;
+      other = λ trees other holds others. tt;
       opened = λ other. refuses_file fault old new c.report.result reports;
       left = c.in-Err.ensures.left;
+      trees = λ trees other holds. c.in-Err.ensures.trees other trees holds;
+      spared = λ trees anew holds any. c.in-Err.ensures.spared anew trees holds any;
+      unmade = λ trees anew holds. c.in-Err.ensures.unmade anew trees holds;
+      blank = λ other none. c.in-Err.ensures.blank other none;
+      told = (fault, c.in-Err.ensures.stopped, reports);
     }

@@ -1,14 +1,18 @@
-use Rattle.std.proofs.Common.{inl, refl}
-use Rattle.moo_http.specs.Connections.{Moves}
-use Rattle.moo_http.proofs.Connections.{moves, connected, stood}
+use Rattle.std.proofs.Common.{false}
+use Rattle.moo_http.specs.Turns.{Visited}
+use Rattle.moo_http.proofs.Connections.{connected, stood}
+use Rattle.moo_http.proofs.Turns.{visited, unvisited}
 use Rattle.moo_http.proofs.listen.serve_connection.Goals as goal
 
 pub returns-clause-served : goal.returns-clause-served
-returns-clause-served g c limited known stand at = connected g.S.Store known stand c.args.world.now c.serve_one.new.world c.serve_one.result c.is_ok.result _ _ _ _ c.is_ok.ensures.value (c.serve_one.ensures.served known stand at)
+returns-clause-served g c limited known stand at = connected g.S.Store known stand c.args.world.now c.serve_one-served.new.world c.serve_one-served.result c.ends.result _ _ _ _ c.ends.ensures (c.serve_one-served.ensures.served known stand at)
 
-pub returns-clause-moves : goal.returns-clause-moves
-returns-clause-moves g c known stand at = moves g.S.Store known stand c.args.world.now c.serve_one.new.world c.serve_one.result _ _ _ _ at (c.serve_one.ensures.served known stand at)
+pub returns-clause-visited : goal.returns-clause-visited
+returns-clause-visited g c known stand at = visited g.S.Store known stand c.args.world.now c.serve_one-served.new.world _ _ _ _ c.serve_one-served.result c.ends.result c.ends.ensures at (c.serve_one-served.ensures.served known stand at)
 
 -- a connection that isn't read leaves the World where it stood
-pub returns-then-not-is_limited-clause-moves : goal.returns-then-not-is_limited-clause-moves
-returns-then-not-is_limited-clause-moves g c known stand at = stood g.S.Store known stand c.args.world.now (λ end. Moves stand end) at (c.leaves.ensures known stand at) (inl refl)
+pub returns-then-not-is_limited-clause-visited : goal.returns-then-not-is_limited-clause-visited
+returns-then-not-is_limited-clause-visited g c known stand at =
+    let left = g.R.Read.remaining c.args.reader.now in
+    let before = g.W.Write.contents c.args.writer.now in
+    stood g.S.Store known stand c.args.world.now (λ end. Visited false stand end left left before before) at (c.leaves.ensures known stand at) (unvisited stand left left before)

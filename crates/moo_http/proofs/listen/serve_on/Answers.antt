@@ -1,23 +1,47 @@
-use Rattle.std.proofs.Common.{◌≡◌, ◌+◌, arith, refl, sym, subst, rules}
-use Rattle.moo_http.specs.Connections.{AfterConnections, StandsAtEnd}
+use Rattle.std.proofs.Common.{◌≡◌, ◌+◌, ◌∷◌, [], refl, sym, subst, rules}
 use Rattle.moo_http.specs.declared.listen.Served.{Served}
-use Rattle.moo_http.proofs.Connections.{none_taken, taken_on}
+use Rattle.moo_http.specs.Turns.{Visit, AfterTurns, Attended}
+use Rattle.moo_http.proofs.Turns.{Counted, none_counted, one_answered, one_failed, ends_as, leads_nowhere, leads_on}
 use Rattle.moo_http.proofs.listen.serve_on.Goals as goal
 use Rattle.moo_http.proofs.listen.serve_on.Goals.{then-serve_next, else-serve_next}
 
 pub loop-init : goal.loop-init
-loop-init g c = record { count = refl; taken = none_taken g.S.Store c.args.world.now c.leaves.ensures }
+loop-init g c = record {
+  turns = [];
+  counted = none_counted;
+  leads = leads_nowhere g.S.Store c.args.world.now (λ old new. AfterTurns g.A.Arrivals.hands_out g.A.Arrivals.takes_back g.A.Reader.Read.remaining g.A.Writer.Write.contents [] c.args.arrivals.now old c.args.arrivals.now new)
+      (λ stand. (refl, refl)) c.leaves.ensures;
+}
 
 pub loop-preserved : goal.loop-preserved
-loop-preserved g c = record {
-  count = elim c.if-serve_next.branch [
-    | then-serve_next w ↦ subst (λ (s : Served). s.answered + s.failed ≡ c.loop.counter + 1) (sym w.served-is) (omega (arith, c.loop.invariant.count))
-    | else-serve_next w ↦ subst (λ (s : Served). s.answered + s.failed ≡ c.loop.counter + 1) (sym w.served-is) (omega (arith, c.loop.invariant.count))
-  ];
-  taken = taken_on g.S.Store c.args.world.now c.loop.world c.serve_next.new.world c.loop.counter (c.loop.counter + 1) (omega (arith)) c.loop.invariant.taken c.serve_next.ensures.moves c.serve_next.ensures.clean;
-}
+loop-preserved g c =
+    let before = c.loop.invariant in
+    let result = c.serve_next.result in
+    record {
+      turns = result ∷ before.turns;
+      counted = elim c.if-serve_next.branch [
+        | then-serve_next w ↦ subst (λ (s : Served). Counted (result ∷ before.turns) s.answered s.failed (c.loop.counter + 1)) (sym w.served-is) (one_answered before.turns result _ _ _ w.if-serve_next.true before.counted)
+        | else-serve_next w ↦ subst (λ (s : Served). Counted (result ∷ before.turns) s.answered s.failed (c.loop.counter + 1)) (sym w.served-is) (one_failed before.turns result _ _ _ w.if-serve_next.false before.counted)
+      ];
+      leads = leads_on g.S.Store c.args.world.now c.loop.world c.serve_next.new.world
+          (λ old new. AfterTurns g.A.Arrivals.hands_out g.A.Arrivals.takes_back g.A.Reader.Read.remaining g.A.Writer.Write.contents before.turns c.args.arrivals.now old c.loop.arrivals new)
+          (λ old new. Visit g.A.Arrivals.hands_out g.A.Arrivals.takes_back g.A.Reader.Read.remaining g.A.Writer.Write.contents result c.loop.arrivals old c.serve_next.new.arrivals new)
+          (λ old new. AfterTurns g.A.Arrivals.hands_out g.A.Arrivals.takes_back g.A.Reader.Read.remaining g.A.Writer.Write.contents (result ∷ before.turns) c.args.arrivals.now old c.serve_next.new.arrivals new)
+          (λ old mid new earlier turn. (c.loop.arrivals, mid, earlier, turn)) before.leads c.serve_next.ensures.turn c.serve_next.ensures.clean;
+    }
+
+pub returns-clause-count : goal.returns-clause-count
+returns-clause-count g c =
+    let all : c.loop.counter ≡ c.args.count = search rules in
+    subst (λ n. c.loop.served.answered + c.loop.served.failed ≡ n) all c.loop.invariant.counted.sum
 
 pub returns-clause-serves : goal.returns-clause-serves
 returns-clause-serves g c known stand at =
-    let all : c.loop.counter ≡ c.args.count = search rules in
-    subst (λ n. StandsAtEnd g.S.Store known c.loop.world (λ end. AfterConnections n stand end)) all (c.loop.invariant.taken.reaches known stand at)
+    let it = c.loop.invariant in
+    ends_as g.S.Store known c.loop.world
+    (λ end. AfterTurns g.A.Arrivals.hands_out g.A.Arrivals.takes_back g.A.Reader.Read.remaining g.A.Writer.Write.contents it.turns c.args.arrivals.now stand c.loop.arrivals end)
+    (λ end. Attended g.A.Arrivals.hands_out g.A.Arrivals.takes_back g.A.Reader.Read.remaining g.A.Writer.Write.contents c.loop.served.answered c.loop.served.failed c.args.arrivals.now stand c.loop.arrivals end)
+    (λ end after. (it.turns, it.counted.answered_are, it.counted.failed_are, after)) (it.leads.reaches known stand at)
+
+pub returns-clause-clean : goal.returns-clause-clean
+returns-clause-clean g c = c.loop.invariant.leads.clean

@@ -1,9 +1,11 @@
-use Rattle.std.proofs.Common.{◌≡◌, ◌+◌}
-use Rattle.moo_http.proofs.Connections.{Taken}
+use Rattle.std.proofs.Common.{Bool, List}
+use Rattle.moo_http.specs.Turns.{AfterTurns}
+use Rattle.moo_http.proofs.Turns.{Counted, Leads}
 use Rattle.moo_http.proofs.listen.serve_on.Given as goal
 
 abbrev pub invariant-loop : goal.invariant-loop
 invariant-loop g l = record {
-  count : l.served.answered + l.served.failed ≡ l.counter;
-  taken : Taken g.S.Store l.fn.world l.world l.counter;
+  turns : List Bool;
+  counted : Counted turns l.served.answered l.served.failed l.counter;
+  leads : Leads g.S.Store l.fn.world l.world (λ old new. AfterTurns g.A.Arrivals.hands_out g.A.Arrivals.takes_back g.A.Reader.Read.remaining g.A.Writer.Write.contents turns l.fn.arrivals old l.arrivals new);
 }

@@ -1,4 +1,4 @@
-use Rattle.std.proofs.Common.{◌≡◌, true, false, ◌||◌, IfOk, sym, ap, ◌∙◌, subst}
+use Rattle.std.proofs.Common.{◌≡◌, true, false, ◌||◌, sym, ap, ◌∙◌}
 use Rattle.std.specs.Prelude.{is_some}
 use Rattle.moo_world.specs.Objects.{folded}
 use Rattle.moo_world.specs.ObjectLists.{subtree_of}
@@ -12,13 +12,11 @@ returns-then-is_some g c =
     let w = world_of (g.R.Rows.held c.args.rows.now).maps in
     let n = folded c.args.name.now in
     let has : is_some (slot_of w c.args.x n) ≡ true = sym c.find.ensures.exact ∙ sym c.is_some.ensures ∙ c.if-is_some.true in
-    sym (ap (λ b. b || is_some (pair_named (owed_by w (subtree_of w c.args.x)) n)) has) ∙ slot_or_under w c.requires.formed c.args.x c.args.name.now
+    c.if-is_some.true ∙ sym (ap (λ b. b || is_some (pair_named (owed_by w (subtree_of w c.args.x)) n)) has) ∙ slot_or_under w c.requires.formed c.args.x c.args.name.now
 
-pub returns : goal.returns
-returns g c =
+pub returns-else-is_some : goal.returns-else-is_some
+returns-else-is_some g c =
     let w = world_of (g.R.Rows.held c.args.rows.now).maps in
     let n = folded c.args.name.now in
     let lacks : is_some (slot_of w c.args.x n) ≡ false = sym c.find.ensures.exact ∙ sym c.is_some.ensures ∙ c.if-is_some.false in
-    subst (λ b. IfOk c.is_defined_under.result (λ r. r ≡ b))
-    (sym (ap (λ b. b || is_some (pair_named (owed_by w (subtree_of w c.args.x)) n)) lacks) ∙ slot_or_under w c.requires.formed c.args.x c.args.name.now)
-    c.is_defined_under.ensures
+    c.is_defined_under.ensures ∙ sym (ap (λ b. b || is_some (pair_named (owed_by w (subtree_of w c.args.x)) n)) lacks) ∙ slot_or_under w c.requires.formed c.args.x c.args.name.now

@@ -1,17 +1,28 @@
-use Rattle.std.proofs.Common.{rules, ◌∙◌}
-use Rattle.std.proofs.lemmas.Iterator.{YieldsList-from_slice}
-use Rattle.std.proofs.lemmas.Iterator.Search.{any_from_yields_List}
+use Rattle.std.proofs.Common.{Bool, sym, ap, ◌∙◌}
+use Rattle.std.specs.List.{list_any}
+use Rattle.std.proofs.lemmas.Bool.{or_left}
+use Rattle.moo_value.specs.declared.value.ObjNo.{ObjNo}
 use Rattle.moo_world.specs.ObjectLists.{subtree_of}
 use Rattle.moo_world.specs.PropertyCalls.{defines_name}
 use Rattle.moo_world.specs.Rows.{world_of}
+use Rattle.moo_props.specs.Descent.{walk_after, from_here}
 use Rattle.moo_props.proofs.NameClashes.{any_defines}
 use Rattle.moo_props.proofs.clashing.is_defined_under.Goals as goal
-use borrow.Author.Tests.{tests}
+
+pub returns-then-defines_named : goal.returns-then-defines_named
+returns-then-defines_named g c =
+    let t = (g.R.Rows.held c.args.rows.now).maps in
+    let w = world_of t in
+    let test : ObjNo → Bool = λ y. defines_name w y c.args.name.now in
+    sym (or_left (test c.in-Some.y) (list_any test (walk_after t c.args.x c.in-Some.y)) (sym c.defines_named.ensures ∙ c.if-defines_named.true))
+    ∙ ap (λ at. list_any test (from_here t c.args.x at)) (sym c.in-Some.is)
+    ∙ c.loop-at.invariant.any
+    ∙ any_defines w (subtree_of w c.args.x) c.args.name.now
 
 pub returns : goal.returns
 returns g c =
-    let w = world_of (g.R.Rows.held c.args.rows.now).maps in
-    any_from_yields_List (λ y. defines_name w y c.args.name.now) _ _ c.any.result c.any.ensures.ran
-    (YieldsList-from_slice (subtree_of w c.args.x) (c.iter.ensures.rest ∙ c.deref.ensures.value ∙ c.in_ok-under.ensures))
-    (λ x b q k. search (rules, tests))
+    let t = (g.R.Rows.held c.args.rows.now).maps in
+    let w = world_of t in
+    ap (λ at. list_any (λ y. defines_name w y c.args.name.now) (from_here t c.args.x at)) (sym c.in_default.is)
+    ∙ c.loop-at.invariant.any
     ∙ any_defines w (subtree_of w c.args.x) c.args.name.now

@@ -1,17 +1,25 @@
-use Rattle.std.proofs.Common.{rules, ◌∙◌}
-use Rattle.std.proofs.lemmas.Iterator.{YieldsList-from_slice}
-use Rattle.std.proofs.lemmas.Iterator.Search.{any_from_yields_List}
-use Rattle.moo_world.specs.ObjectLists.{subtree_of}
+use Rattle.std.proofs.Common.{sym, ap, ◌∙◌}
+use Rattle.std.specs.List.{list_any}
+use Rattle.std.proofs.lemmas.Bool.{or_left}
 use Rattle.moo_world.specs.Rows.{world_of}
 use Rattle.moo_props.specs.Clashes.{meets_on}
+use Rattle.moo_props.specs.Descent.{walk_after, from_here}
 use Rattle.moo_props.proofs.NameClashes.{any_meets}
 use Rattle.moo_props.proofs.clashing.meets.Goals as goal
-use borrow.Author.Tests.{tests}
+
+pub returns-then-meets_on : goal.returns-then-meets_on
+returns-then-meets_on g c =
+    let t = (g.R.Rows.held c.args.rows.now).maps in
+    let w = world_of t in
+    sym (or_left (meets_on w c.args.new c.in-Some.y) (list_any (meets_on w c.args.new) (walk_after t c.args.x c.in-Some.y)) (sym c.meets_on.ensures ∙ c.if-meets_on.true))
+    ∙ ap (λ at. list_any (meets_on w c.args.new) (from_here t c.args.x at)) (sym c.in-Some.is)
+    ∙ c.loop-at.invariant.any
+    ∙ any_meets w c.args.x c.args.new
 
 pub returns : goal.returns
 returns g c =
-    let w = world_of (g.R.Rows.held c.args.rows.now).maps in
-    any_from_yields_List (meets_on w c.args.new) _ _ c.any.result c.any.ensures.ran
-    (YieldsList-from_slice (subtree_of w c.args.x) (c.iter.ensures.rest ∙ c.deref.ensures.value ∙ c.in_ok-under.ensures))
-    (λ x b q k. search (rules, tests))
+    let t = (g.R.Rows.held c.args.rows.now).maps in
+    let w = world_of t in
+    ap (λ at. list_any (meets_on w c.args.new) (from_here t c.args.x at)) (sym c.in_default.is)
+    ∙ c.loop-at.invariant.any
     ∙ any_meets w c.args.x c.args.new

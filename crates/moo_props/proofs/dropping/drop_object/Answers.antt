@@ -2,7 +2,7 @@ use Rattle.std.proofs.Common.{◌≡◌, refl, sym, ap, ◌∙◌, subst, [], �
 use Rattle.std.specs.Prelude.{is_some}
 use Rattle.std.specs.FinMap.{get, entries, remove}
 use Rattle.std.proofs.lemmas.Bool.{false≢true}
-use Rattle.moo_rows.specs.Maps.{Maps, Held, wrote, object_cmp, prop_cmp, slot_cmp, verb_cmp}
+use Rattle.moo_rows.specs.Maps.{Held, wrote, object_cmp, prop_cmp, slot_cmp, verb_cmp}
 use Rattle.moo_world.specs.Recycling.{recycled}
 use Rattle.moo_world.specs.Rows.{AreSound, look_ups, world_of, world_shown}
 use Rattle.moo_world.specs.World.{IsWellFormed}

@@ -1,43 +1,21 @@
-use Rattle.std.proofs.Common.{IsTrue, true, inr, sym, subst, rules}
-use Rattle.sqlite.specs.State.{HasCleanDisk, Survives}
+use Rattle.std.proofs.Common.{◌⊎◌, true, subst, IfOk, IfErr, ◌≡◌}
+use Rattle.sqlite.specs.State.{Survives}
 use Rattle.sqlite.specs.Held.{state}
-use Rattle.moo_world.specs.Rows.{IsGood}
 use Rattle.moo_world.specs.Judge.{state_of}
-use Rattle.moo_rows.specs.Opening.{opening_maps}
-use Rattle.moo_store.specs.States.{KeepsRows, LeavesState}
-use Rattle.moo_store.specs.World.{ShowsItsRows, StandsFor}
-use Rattle.moo_store.proofs.Opened.{has_no_tables, keeps_opening, survives_opening}
+use Rattle.moo_store.specs.States.{LeavesState}
+use Rattle.moo_store.specs.World.{store_of, StandsFor}
 use Rattle.moo_store.proofs.creating.create_in.Goals as goal
 
-pub returns-in-Ok-create_tables-clause-stands : goal.returns-in-Ok-create_tables-clause-stands
-returns-in-Ok-create_tables-clause-stands g c =
-    let new : IsTrue c.is_new.result = search rules in
-    let rows = c.in-Ok.opening.1.maps in
-    let keeps : HasCleanDisk (state g.S.Store c.in-Ok-create_tables.connection) → KeepsRows (state g.S.Store c.in-Ok-create_tables.connection) rows = λ clean.
-    keeps_opening (state g.S.Store c.in-Ok-create_tables.connection) c.in-Ok.opening.0 rows c.in-Ok.ensures.cells c.in-Ok.ensures.rows
-    (c.in-Ok-create_tables.ensures.made clean (has_no_tables (state g.S.Store c.args.conn).now (c.is_new.ensures.0 new))) in
-    let shown : ShowsItsRows g.S.Store c.over.result = λ clean.
-    subst (KeepsRows (state g.S.Store c.over.result.connection)) (sym c.over.ensures.rows)
-    (subst (λ conn. HasCleanDisk (state g.S.Store conn) → KeepsRows (state g.S.Store conn) rows) (sym c.over.ensures.connection) keeps clean) in
-    subst (λ m. StandsFor g.S.Store true c.over.result (state_of m)) c.in-Ok.ensures.rows (c.over.ensures.stands true (λ _. shown))
+pub load_in-requires-clause-good : goal.load_in-requires-clause-good
+load_in-requires-clause-good g c = c.good_opening.ensures c.in-Ok.rows.maps c.in-Ok.ensures
 
-pub returns-in-Ok-create_tables-clause-crash : goal.returns-in-Ok-create_tables-clause-crash
-returns-in-Ok-create_tables-clause-crash g c =
-    let new : IsTrue c.is_new.result = search rules in
-    let none = has_no_tables (state g.S.Store c.args.conn).now (c.is_new.ensures.0 new) in
-    let good = subst IsGood c.in-Ok.ensures.rows c.in-Ok.ensures.good in
-    subst (λ conn. Survives (state g.S.Store c.args.conn) (state g.S.Store conn) (λ trees. LeavesState trees (state_of opening_maps))) (sym c.over.ensures.connection)
-    (survives_opening (state g.S.Store c.args.conn) (state g.S.Store c.in-Ok-create_tables.connection) c.in-Ok.opening.0 c.in-Ok.ensures.cells good (c.in-Ok-create_tables.ensures.crash (λ clean. none)))
+pub returns-clause-stands : goal.returns-clause-stands
+returns-clause-stands g c = subst (λ m. IfOk c.load_in.result (λ world. StandsFor g.S.Store true world (state_of m))) c.in-Ok.ensures c.load_in.ensures.stands
 
-pub returns-clause-undone : goal.returns-clause-undone
-returns-clause-undone g c =
-    let new : IsTrue c.is_new.result = search rules in
-    let none = has_no_tables (state g.S.Store c.args.conn).now (c.is_new.ensures.0 new) in
-    inr (λ clean opened. c.in-Err-create_tables.ensures.undone clean none opened)
+pub returns-clause-crash : goal.returns-clause-crash
+returns-clause-crash g c =
+    subst (λ m. IfOk c.load_in.result (λ world. Survives (state g.S.Store c.args.conn) (store_of g.S.Store world) (λ trees. LeavesState trees (state_of m)))) c.in-Ok.ensures c.load_in.ensures.crash
 
 pub returns-clause-crash_refused : goal.returns-clause-crash_refused
 returns-clause-crash_refused g c =
-    let new : IsTrue c.is_new.result = search rules in
-    let none = has_no_tables (state g.S.Store c.args.conn).now (c.is_new.ensures.0 new) in
-    let good = subst IsGood c.in-Ok.ensures.rows c.in-Ok.ensures.good in
-    inr (survives_opening (state g.S.Store c.args.conn) (state g.S.Store c.in-Err-create_tables.conn) c.in-Ok.opening.0 c.in-Ok.ensures.cells good (c.in-Err-create_tables.ensures.crash_refused (λ clean. none)))
+    subst (λ m. IfErr c.load_in.result (λ e. (e.1 ≡ c.args.conn) ⊎ Survives (state g.S.Store c.args.conn) (state g.S.Store e.1) (λ trees. LeavesState trees (state_of m)))) c.in-Ok.ensures c.load_in.ensures.crash_refused

@@ -6,6 +6,7 @@ use Rattle.clap.specs.Kinds.{HasKind}
 use Rattle.clap.specs.Faults.{fault_of, is_simple_and_free}
 use Rattle.clap.specs.declared.error.Error.{Error}
 use Rattle.clap.proofs.OnLiterals.{clap_on_literals}
+use Rattle.moo_words.proofs.AloneLemmas.{names_alone}
 use Rattle.moo_words.proofs.MatchLemmas.{name_is, pair_given}
 use Rattle.moo_words.specs.Commands.{moo_app}
 use Rattle.moo_words.specs.Tasks.{mistakes}
@@ -36,6 +37,10 @@ returns-in-Some-task_in-clause-task c =
     omega (arith, c.if-words-le1.false, length-map c.args.words.now (λ word. word.now)) in
     let none = no_mistake _ _ c.in-Ok.ensures c.in-Ok-try_get_matches_from.ensures.kinds in
     inr (many, none, _, ap₂ subcommand_of (sym c.in-Ok.ensures) refl ∙ sym parsed.1 ∙ found, c.in-Some-task_in.ensures)
+
+pub returns-in-Some-task_in-clause-alone : goal.returns-in-Some-task_in-clause-alone
+returns-in-Some-task_in-clause-alone c =
+    names_alone (map (λ word. word.now) c.args.words.now) c.in-Some-task_in.task (returns-in-Some-task_in-clause-task c)
 
 pub returns-in-Err-try_get_matches_from-clause-refused : goal.returns-in-Err-try_get_matches_from-clause-refused
 returns-in-Err-try_get_matches_from-clause-refused c = has_mistake _ _ c.in-Err-try_get_matches_from.error c.in-Ok.ensures c.in-Err-try_get_matches_from.ensures.kinds

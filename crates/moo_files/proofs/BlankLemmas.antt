@@ -1,0 +1,122 @@
+-- Files that hold no database yet.
+use Rattle.std.proofs.Common.{◌≡◌, ◌⊎◌, ◌∙◌, true, inl, inr, ℕ, ◌≤◌, [], Result, Ok, Err, IfOk, IfErr, arith, refl, sym, subst}
+use Rattle.std.proofs.Math.Logic.{∥∥₁_map}
+use Rattle.sqlite_disk.specs.declared.Disk.{Ghosts}
+use Rattle.sqlite_disk.specs.declared.Files.{Files}
+use Rattle.sqlite_wal.specs.Reads.{OnlyReads}
+use Rattle.sqlite_wal.specs.Recovery.{Image, AreWhole}
+use Rattle.sqlite_wal.specs.Files.{outcomes}
+use Rattle.sqlite_wal.specs.PageSize.{IsPageSize}
+use Rattle.sqlite_pages.specs.PageMap.{PageMap}
+use Rattle.sqlite_pool.specs.File.{version_in, in_use}
+use Rattle.sqlite_pool.specs.Opening.{IsBlankFile, IsNew}
+use Rattle.sqlite_pool.specs.Stored.{reserved, stored_size, is_summed, Recovers, StandsAs, IsUnreadable}
+use Rattle.sqlite_pool.specs.StoredLaws.{trimmed_whole}
+use Rattle.sqlite_pool.proofs.ProbeLemmas.{not_blank}
+use Rattle.sqlite_pool.proofs.ResealLemmas.{adopts_of}
+use Rattle.sqlite_store.specs.Opening as store
+use Rattle.sqlite_store.specs.Db.{trees_in}
+use Rattle.sqlite_store.specs.Listed.{catalog_rows}
+use Rattle.sqlite_store.specs.Listing.{all_trees, file_trees, IsOurs}
+use Rattle.sqlite_store.specs.Unopened.{state_of}
+use Rattle.sqlite_store.proofs.BuildLemmas.{new_is_empty}
+use Rattle.sqlite_store.proofs.ListingLemmas.{past_version, named_tree}
+use Rattle.sqlite_trees.specs.Tree.{Trees}
+use Rattle.sqlite.specs.Held.{Held}
+use Rattle.sqlite_store.specs.declared.store.FileStore.{FileStore}
+use Rattle.sqlite_wal.proofs.CleanLemmas.{both_clean}
+use Rattle.sqlite.specs.Files.{Finds, file_state, HoldsDatabase, IsEmpty, IsNothing, LeavesFiles, IsKept, NamesSize, BeginsWell, SaysSums, AreFoundIn, image_of}
+use Rattle.sqlite.specs.declared.file.Leftover.{Leftover}
+use Rattle.sqlite.specs.declared.file.Leftover.TheVariants as left
+use Rattle.sqlite.proofs.FileLemmas.{same_image}
+use Rattle.sqlite.proofs.ListingLemmas.{empty_is_sound}
+use Rattle.moo_files.specs.Blank.{IsBlank, LeavesBlank}
+
+pub holds_none : (image : Image) (db : Trees) → IsBlank image → HoldsDatabase image db → ⊥
+holds_none image db blank held =
+    let large : 504 ≤ held.0 = (let few : reserved held.0 ≤ 8 = grind arith in omega (arith, held.1.0)) in
+    not_blank held.0 image held.2.pages held.2.found large held.2.ours.file.sound 1024 (omega arith) blank
+
+empty_database : (size : ℕ) (image : Image) (pages : PageMap) → IsPageSize (stored_size size) → Recovers size image pages → IsOurs size true [] pages
+    → (db : Trees) × HoldsDatabase image db × IsEmpty db
+unfolding trees_in
+empty_database size image pages valid found ours =
+    let db = file_trees size [] pages in
+    let unlisted = catalog_rows size [] (in_use size pages) in (
+      db,
+      (size, valid, record { pages = pages; wanted = []; schema = _; found = adopts_of size image pages found; ours = ours; reads = refl; sound = empty_is_sound db unlisted }),
+      (λ tree low. past_version tree low (all_trees size [] (in_use size pages)) (version_in pages) ∙ named_tree tree low size [] (in_use size pages), unlisted),
+    )
+
+-- what `create` leaves on its way
+pub on_the_way : (size : ℕ) (image : Image) → size ≡ 1024 → IsPageSize (stored_size size)
+    → IsBlankFile size image ⊎ ((pages : PageMap) × Recovers size image pages × (IsNew size pages ⊎ ∥ store.IsFresh size [] pages ∥₁))
+    → IsBlank image ⊎ ∥ ((db : Trees) × HoldsDatabase image db × IsEmpty db) ∥₁
+on_the_way size image is valid (inl blank) = inl (subst (λ n. IsBlankFile n image) is blank)
+on_the_way size image is valid (inr made) =
+    inr (elim made.2 [
+      | inl new ↦
+          let whole : AreWhole size made.0 = subst (AreWhole size) made.1.shows (trimmed_whole size made.1.stored made.1.whole) in
+          let empty = new_is_empty size made.0 whole new in
+          ∣ empty_database size image made.0 valid made.1 (record { file = empty.0; numbered = λ _. record { listed = empty.1; spaced = refl; ordered = refl } }) ∣₁
+      | inr fresh ↦ ∥∥₁_map fresh (λ it. empty_database size image made.0 valid made.1 it.0)
+    ])
+
+module _ {D : Type 0} {g : Ghosts D} {old new : Files D} (log : OnlyReads g old.log new.log) (db : OnlyReads g old.db new.db) where
+  earlier : (image : Image) → outcomes g new.log new.db image → outcomes g old.log old.db image
+  earlier image it = (log.crash _ it.0, db.crash _ it.1)
+
+  same : image_of g new ≡ image_of g old
+  same = same_image log db
+
+  -- what is left after reads is left of the files as they were before
+  pub blank_earlier : (rest : Leftover D g) → LeavesBlank new rest → LeavesBlank old rest
+  blank_earlier (left.Files now) it = λ image lies. earlier image (it image lies)
+  blank_earlier (left.Unopened now) it = λ image may. elim (it image may) [ inl was ↦ inl (earlier image was) | inr way ↦ inr way ]
+  blank_earlier (left.Store now) it = it
+
+  pub finds_earlier : (c : Held (FileStore D g)) → Finds new c → Finds old c
+  finds_earlier c it = record {
+    honest = both_clean _ _ _ _ log.clean db.clean it.honest;
+    holds = λ trees held. it.holds trees (subst (λ i. HoldsDatabase i trees) (sym same) held);
+    reads = subst (λ i. AreFoundIn i (file_state c).committed.trees) same it.reads;
+  }
+
+  kept_earlier : (size : ℕ) (image : Image) → IsKept g new size image → IsKept g old size image
+  kept_earlier size image it = record {
+    same = elim it.same [ inl was ↦ inl (earlier image was) | inr stands ↦ inr (subst (λ i. StandsAs size i image) same stands) ];
+    unread = λ unreadable. earlier image (it.unread (subst (IsUnreadable size) (sym same) unreadable));
+    something = λ fresh. it.something (λ was. fresh (earlier image was));
+  }
+
+  pub files_earlier : (rest : Leftover D g) → LeavesFiles new rest → LeavesFiles old rest
+  files_earlier (left.Files now) it = λ image lies. earlier image (it image lies)
+  files_earlier (left.Unopened now) (inl it) = inl (subst IsNothing same it.0, λ image may. elim (it.1 image may) [ inl was ↦ inl (earlier image was) | inr way ↦ inr way ])
+  files_earlier (left.Unopened now) (inr it) =
+      let size = (state_of now).page_size in
+      inr (
+        (λ nothing. it.0 (subst IsNothing (sym same) nothing)),
+        subst (λ i. NamesSize i (stored_size size)) same it.1,
+        subst (BeginsWell (stored_size size)) same it.2,
+        (λ sums. subst (SaysSums (stored_size size)) same (it.3 sums)),
+        λ image may. kept_earlier size image (it.4 image may),
+      )
+  files_earlier (left.Store now) it = λ found lies.
+      let was = it found lies in
+      (subst (λ i. AreFoundIn i found) same was.0, λ trees held. was.1 trees (subst (λ i. HoldsDatabase i trees) (sym same) held))
+
+pub both_ok : {A E : Type 0} {P Q R : A → Type 0} (r : Result A E) → IfOk r P → IfOk r Q → ((a : A) → P a → Q a → R a) → IfOk r R
+both_ok (Ok a) it also f = f a it also
+both_ok (Err e) it also f = tt
+
+pub each_ok : {A E : Type 0} {P Q : A → Type 0} (r : Result A E) → IfOk r P → ((a : A) → P a → Q a) → IfOk r Q
+each_ok (Ok a) it f = f a it
+each_ok (Err e) it f = tt
+
+pub each_err : {A E : Type 0} {P Q : E → Type 0} (r : Result A E) → IfErr r P → ((e : E) → P e → Q e) → IfErr r Q
+each_err (Ok a) it f = tt
+each_err (Err e) it f = f e it
+
+pub both_err : {A E : Type 0} {P Q R : E → Type 0} (r : Result A E) → IfErr r P → IfErr r Q → ((e : E) → P e → Q e → R e) → IfErr r R
+both_err (Ok a) it also f = tt
+both_err (Err e) it also f = f e it also

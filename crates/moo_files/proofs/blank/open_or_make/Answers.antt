@@ -1,0 +1,63 @@
+use Rattle.std.proofs.Common.{◌≡◌, ◌∙◌, ap, sym, subst, inl, inr, rules, arith, true, false, IsTrue, ◌↔◌}
+use Rattle.sqlite_wal.specs.PageSize.{bytes_of}
+use Rattle.sqlite_wal.specs.Reads.{AreClean}
+use Rattle.sqlite_wal.proofs.CleanLemmas.{both_clean}
+use Rattle.sqlite_pool.specs.Opening.{IsBlankFile}
+use Rattle.sqlite_trees.specs.Tree.{Trees}
+use Rattle.sqlite.specs.Files.{HoldsDatabase, image_of}
+use Rattle.sqlite.proofs.FileLemmas.{same_image}
+use Rattle.moo_files.specs.Blank.{IsBlank}
+use Rattle.moo_files.proofs.BlankLemmas.{holds_none, blank_earlier, files_earlier, finds_earlier, each_ok, both_ok, each_err, both_err}
+use Rattle.moo_files.proofs.blank.open_or_make.Goals as goal
+
+pub returns-in-Ok-true-clause-holds : goal.returns-in-Ok-true-clause-holds
+returns-in-Ok-true-clause-holds g c =
+    let size : bytes_of c.unwrap-size.result ≡ 1024 = search rules in
+    each_ok c.connect_blank.result c.connect_blank.ensures.honest
+    (λ conn honest clean db held.
+    let blank = subst (λ n. IsBlankFile n (image_of g.D.Disk c.args.files)) size ((c.in-Ok-true.ensures.ok (honest clean)).0 c.in-Ok-true.field-0-test) in
+    absurd (holds_none (image_of g.D.Disk c.args.files) db blank held))
+
+pub returns-in-Ok-true-clause-blank : goal.returns-in-Ok-true-clause-blank
+returns-in-Ok-true-clause-blank g c = each_ok c.connect_blank.result c.connect_blank.ensures.empty (λ conn empty clean blank. empty clean)
+
+pub returns-in-Ok-true-clause-spared : goal.returns-in-Ok-true-clause-spared
+returns-in-Ok-true-clause-spared g c =
+    let size : bytes_of c.unwrap-size.result ≡ 1024 = search rules in
+    let read = c.probe_blank.ensures in
+    both_err c.connect_blank.result c.connect_blank.ensures.falls c.connect_blank.ensures.left
+    (λ e falls left clean.
+    let blank = subst (λ n. IsBlankFile n (image_of g.D.Disk c.args.files)) size ((c.in-Ok-true.ensures.ok (falls clean)).0 c.in-Ok-true.field-0-test) in
+    inl (blank, blank_earlier read.log read.db e.1 (left clean (subst IsBlank (sym (same_image read.log read.db)) blank))))
+
+pub returns-in-Ok-false-clause-holds : goal.returns-in-Ok-false-clause-holds
+returns-in-Ok-false-clause-holds g c =
+    let read = c.probe_blank.ensures in
+    each_ok c.open_files.result c.open_files.ensures.found
+    (λ conn found clean db held. (found clean).holds db (subst (λ i. HoldsDatabase i db) (sym (same_image read.log read.db)) held))
+
+pub returns-in-Ok-false-clause-blank : goal.returns-in-Ok-false-clause-blank
+returns-in-Ok-false-clause-blank g c =
+    let size : bytes_of c.unwrap-size.result ≡ 1024 = search rules in
+    each_ok c.open_files.result c.open_files.ensures.found
+    (λ conn found clean blank.
+    let yes = (c.in-Ok-false.ensures.ok (found clean).honest).1 (subst (λ n. IsBlankFile n (image_of g.D.Disk c.args.files)) (sym size) blank) in
+    absurd (let both : true ≡ false = sym yes ∙ c.in-Ok-false.field-0-test in cc))
+
+pub returns-in-Ok-false-clause-spared : goal.returns-in-Ok-false-clause-spared
+returns-in-Ok-false-clause-spared g c =
+    let read = c.probe_blank.ensures in
+    each_err c.open_files.result c.open_files.ensures.unharmed (λ e left clean. inr (files_earlier read.log read.db e.1 (left clean)))
+
+pub returns-in-Ok-true-clause-found : goal.returns-in-Ok-true-clause-found
+returns-in-Ok-true-clause-found g c =
+    let size : bytes_of c.unwrap-size.result ≡ 1024 = search rules in
+    both_ok c.connect_blank.result c.connect_blank.ensures.honest c.connect_blank.ensures.empty
+    (λ conn honest empty clean.
+    let blank = subst (λ n. IsBlankFile n (image_of g.D.Disk c.args.files)) size ((c.in-Ok-true.ensures.ok (honest clean)).0 c.in-Ok-true.field-0-test) in
+    inl (blank, empty clean))
+
+pub returns-in-Ok-false-clause-found : goal.returns-in-Ok-false-clause-found
+returns-in-Ok-false-clause-found g c =
+    let read = c.probe_blank.ensures in
+    each_ok c.open_files.result c.open_files.ensures.found (λ conn found clean. inr (finds_earlier read.log read.db conn (found clean)))

@@ -1,0 +1,148 @@
+//! New files, with small pages.
+
+ghost use Rattle.std.specs.Prelude.{◌≡◌, [], IsTrue, IfOk, IfErr, false};
+ghost use Rattle.sqlite_wal.specs.PageSize.{bytes_of};
+ghost use Rattle.sqlite_wal.specs.Reads.{AreClean};
+ghost use Rattle.sqlite_trees.specs.Tree.{Trees};
+ghost use Rattle.sqlite_store.specs.FileStore.{view};
+ghost use Rattle.sqlite_store.specs.Unopened.{state_of, files_of, wanted_by, AreUsable, Creates};
+ghost use Rattle.sqlite.specs.State.{HasCleanDisk};
+ghost use Rattle.sqlite.specs.Held.{IsNew};
+ghost use Rattle.sqlite.specs.Opening.{IsMade};
+ghost use Rattle.sqlite.specs.Files.{file_state, IsOpened, HoldsDatabase, IsEmpty, IsCleanLeft, image_of};
+ghost use Rattle.moo_files.specs.Blank.{IsBlank, MakesOrFinds, LeavesBlank, SparesFiles};
+
+use sqlite::{Connection, Error, ErrorCode, FileStore, Files, Leftover, Options};
+use sqlite_disk::Disk;
+use sqlite_pager::{PageSize, Pager};
+use sqlite_pool::probe_blank;
+use sqlite_store::{OpenError, Unopened};
+use std::alloc::{AllocFailed, Global};
+
+/// The size of a new file's pages, in bytes. `sqlite` makes pages of 4,096 bytes. A batch changes few bytes of each page that it
+/// writes, so that small pages are faster.
+const NEW_SIZE: usize = 1024;
+
+const NO_MEMORY: Error = Error::SqliteFailure(ErrorCode::OutOfMemory);
+
+const IO: Error = Error::SqliteFailure(ErrorCode::SystemIoFailure);
+
+const FULL: Error = Error::SqliteFailure(ErrorCode::DiskFull);
+
+const UNSOUND: Error = Error::SqliteFailure(ErrorCode::NotADatabase);
+
+/// Why a blank database can't be made.
+fn make_error(error: OpenError) -> Error {
+    match error {
+        OpenError::OutOfMemory => NO_MEMORY,
+        OpenError::Io => IO,
+        OpenError::Full => FULL,
+        OpenError::Refused => UNSOUND,
+    }
+}
+
+/// Why the files can't be looked at.
+fn probe_error(error: sqlite_wal::Error) -> Error {
+    match error {
+        sqlite_wal::Error::OutOfMemory => NO_MEMORY,
+        sqlite_wal::Error::Full => FULL,
+        _ => IO,
+    }
+}
+
+/// The files before anything was read of them. They come back if memory is refused.
+fn unopened<D: Disk>(
+    alloc: Global,
+    files: Files<D>,
+    size: PageSize,
+    options: Options,
+) -> Result<Unopened<D>, Files<D>>
+    ensures back { IfErr result (λ left. (left.log ≡ files.log) × (left.db ≡ files.db)) }
+    ensures files { IfOk result (λ fresh. files_of fresh ≡ (files.log, files.db)) }
+    ensures size { IfOk result (λ fresh. (state_of fresh).page_size ≡ bytes_of size) }
+    ensures none { IfOk result (λ fresh. wanted_by fresh ≡ []) }
+{
+    let pager = match Pager::new(alloc, files, size, options) {
+        Ok(pager) => pager,
+        Err(AllocFailed { value }) => return Err(value),
+    };
+    match Unopened::new(alloc, pager, &[]) {
+        Ok(fresh) => Ok(fresh),
+        Err(AllocFailed { value }) => Err(value.close()),
+    }
+}
+
+/// Makes a database without tables in files that hold none.
+fn create_blank<D: Disk>(fresh: Unopened<D>) -> Result<FileStore<D>, (Error, Unopened<D>)>
+    requires usable { AreUsable fresh }
+    requires none { wanted_by fresh ≡ [] }
+    ensures made { IfOk result (λ store. IsTrue (view store).is_clean → IsMade fresh store) }
+    ensures honest { IfOk result (λ store. IsTrue (view store).is_clean → IsTrue (state_of fresh).is_clean) }
+    ensures falls { IfErr result (λ e. IsTrue (state_of e.1).is_clean → IsTrue (state_of fresh).is_clean) }
+    ensures kept { IfErr result (λ e. IsTrue (state_of e.1).is_clean → Creates fresh (state_of e.1)) }
+{
+    match fresh.create() {
+        Ok(store) => Ok(store),
+        Err((error, left)) => Err((make_error(error), left)),
+    }
+}
+
+/// A connection to a new database without tables, in files that hold none.
+fn connect_blank<D: Disk + Drop>(
+    alloc: Global,
+    files: Files<D>,
+    size: PageSize,
+    options: Options,
+) -> Result<Connection<FileStore<D>>, (Error, Leftover<D>)>
+    requires log { IsTrue (D.Disk.is_usable files.log) }
+    requires db { IsTrue (D.Disk.is_usable files.db) }
+    requires size { bytes_of size ≡ 1024 }
+    ensures opened { IfOk result (λ c. HasCleanDisk (file_state c) → IsOpened c) }
+    ensures honest { IfOk result (λ c. HasCleanDisk (file_state c) → AreClean D.Disk files.log files.db) }
+    ensures empty { IfOk result (λ c. HasCleanDisk (file_state c) → IsEmpty (file_state c).committed.trees) }
+    ensures fresh { IfOk result IsNew }
+    ensures falls { IfErr result (λ e. IsCleanLeft e.1 → AreClean D.Disk files.log files.db) }
+    ensures left { IfErr result (λ e. IsCleanLeft e.1 → IsBlank (image_of D.Disk files) → LeavesBlank files e.1) }
+{
+    let fresh = match unopened(alloc, files, size, options) {
+        Ok(fresh) => fresh,
+        Err(left) => return Err((NO_MEMORY, Leftover::Files(left))),
+    };
+    let store = match create_blank(fresh) {
+        Ok(store) => store,
+        Err((error, left)) => return Err((error, Leftover::Unopened(left))),
+    };
+    match Connection::over(alloc, store) {
+        Ok(conn) => Ok(conn),
+        Err((error, store)) => Err((error, Leftover::Store(store))),
+    }
+}
+
+/// A connection to the files. If they hold no database, one without tables is made in them first, with pages of 1,024 bytes. Files
+/// that hold a database are opened as `sqlite` opens them, whatever the size of their pages.
+///
+/// Errors, each with what is left of the files: `OutOfMemory`; `NotADatabase` and `DatabaseCorrupt`: the files hold something that
+/// isn't a sound database; `DiskFull`: the disk or a limit of the format; `SystemIoFailure` and others: the disk failed.
+pub fn open_or_make<D: Disk + Drop>(
+    alloc: Global,
+    mut files: Files<D>,
+    options: Options,
+) -> Result<Connection<FileStore<D>>, (Error, Leftover<D>)>
+    requires log { IsTrue (D.Disk.is_usable files.log) }
+    requires db { IsTrue (D.Disk.is_usable files.db) }
+    ensures opened { IfOk result (λ c. HasCleanDisk (file_state c) → IsOpened c) }
+    ensures found { IfOk result (λ c. HasCleanDisk (file_state c) → MakesOrFinds files c) }
+    // So of files that hold a database it shows what they hold, and of those that hold none it shows none.
+    ensures holds { IfOk result (λ c. HasCleanDisk (file_state c) → (db : Trees) → HoldsDatabase (image_of D.Disk files) db → (file_state c).committed.trees ≡ db) }
+    ensures blank { IfOk result (λ c. HasCleanDisk (file_state c) → IsBlank (image_of D.Disk files) → IsEmpty (file_state c).committed.trees) }
+    ensures fresh { IfOk result IsNew }
+    // After an error files that hold a database are as they were.
+    ensures spared { IfErr result (λ e. IsCleanLeft e.1 → SparesFiles files e.1) }
+{
+    let size = PageSize::new(NEW_SIZE).unwrap();
+    match probe_blank(alloc, &mut files, size, false) {
+        Ok(true) => connect_blank(alloc, files, size, options),
+        Ok(false) => Connection::open_files(alloc, files, options),
+        Err(error) => Err((probe_error(error), Leftover::Files(files))),
+    }
+}

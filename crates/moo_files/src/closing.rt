@@ -1,0 +1,43 @@
+//! Closing a connection to the files of a world.
+
+ghost use Rattle.std.specs.Prelude.{◌≡◌, IsTrue};
+ghost use Rattle.sqlite.specs.Tree.{Trees};
+ghost use Rattle.sqlite.specs.State.{HasCleanDisk};
+ghost use Rattle.sqlite.specs.Held.{state};
+ghost use Rattle.sqlite.specs.Files.{file_state, IsCleanLeft};
+ghost use Rattle.moo_files.specs.Closing.{IsLeftOf, IsClosedAs};
+
+use sqlite::{Alter, Connection, FileStore, Leftover};
+use sqlite_disk::Disk;
+
+/// While a connection is open, a crash leaves its last commit and nothing else.
+fn leave_last_commit<S: Alter>(conn: &Connection<S>)
+    ensures only { IsTrue (state S.Store conn.now).is_open → (trees : Trees) → (state S.Store conn.now).may_leave trees → trees ≡ (state S.Store conn.now).committed.trees }
+    ensures stays { IsTrue (state S.Store conn.now).is_open → (state S.Store conn.now).may_leave (state S.Store conn.now).committed.trees }
+{}
+
+/// `leave_last_commit` at the store in files.
+pub(crate) fn leave_commit<D: Disk + Drop>(conn: &Connection<FileStore<D>>)
+    ensures only { IsTrue (file_state conn.now).is_open → (trees : Trees) → (file_state conn.now).may_leave trees → trees ≡ (file_state conn.now).committed.trees }
+    ensures stays { IsTrue (file_state conn.now).is_open → (file_state conn.now).may_leave (file_state conn.now).committed.trees }
+{
+    leave_last_commit(conn);
+}
+
+/// Closes a connection: what wasn't committed is rolled back, and its log is copied into the database file. The two files come
+/// back, or the store if that failed; either is shut when it is dropped.
+///
+/// If closing failed, a part of what was committed may be in the log alone, which the next open reads.
+pub fn close_connection<D: Disk + Drop>(conn: Connection<FileStore<D>>) -> Leftover<D>
+    ensures clean { IsCleanLeft result → HasCleanDisk (file_state conn) }
+    // What the files then hold, and what a crash leaves of them, is a database that a crash might have left before.
+    ensures left { IsCleanLeft result → IsLeftOf (file_state conn) result }
+    // It is the last commit, in the database file alone, unless closing failed.
+    ensures copied { IsClosedAs conn result }
+{
+    leave_commit(&conn);
+    match conn.close_files() {
+        Ok(files) => Leftover::Files(files),
+        Err((_error, store)) => Leftover::Store(store),
+    }
+}

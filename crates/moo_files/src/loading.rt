@@ -1,0 +1,85 @@
+//! Making the world of given rows in a file.
+
+ghost use Rattle.std.specs.Prelude.{◌≡◌, ◌≢◌, ◌⊎◌, ◌<◌, ◌^◌, IfOk, IfErr, IsErrAnd, false, true};
+ghost use Rattle.sqlite.specs.State.{HasCleanDisk, Survives};
+ghost use Rattle.sqlite.specs.Tree.{Trees};
+ghost use Rattle.sqlite.specs.Files.{over_files, file_state, IsNothing};
+ghost use Rattle.sqlite.specs.WalFiles.{image_at};
+ghost use Rattle.moo_world.specs.Judge.{State, state_of};
+ghost use Rattle.moo_world.specs.Rows.{IsGood};
+ghost use Rattle.moo_tables.specs.Tables.{no_schema};
+ghost use Rattle.moo_store.specs.States.{LeavesState};
+ghost use Rattle.moo_store.specs.Opening.{IsOfStore};
+ghost use Rattle.moo_store.specs.World.{store_of, StandsFor, Left};
+ghost use Rattle.moo_files.specs.Contents.{HoldsTrees, HoldsState, HasAnyTable};
+ghost use Rattle.moo_files.specs.Remains.{IsCleanRemains, MayStopAs, KeepsSuch, StillHolds, KeepsNothingBut};
+
+use crate::making::leaves_its_state;
+use crate::remains::{Remains, open_new};
+use moo_flat::Flat;
+use moo_store::{StoreFault, World, load_in};
+use sqlite::{Connection, Error, ErrorCode, FileFrom, FileStore, Start};
+use sqlite_disk::Disk;
+use std::alloc::Global;
+
+/// `load_in` at the store in files, over any disk.
+fn load_files<D: Disk + Drop>(
+    alloc: Global,
+    conn: Connection<FileStore<D>>,
+    rows: Flat,
+) -> Result<World<FileStore<D>>, (StoreFault, Connection<FileStore<D>>)>
+    requires outside { conn.in_transaction ≡ false }
+    requires good { IsGood rows.maps }
+    requires limit { rows.maps.head.seq < 2 ^ 63 }
+    ensures stands { IfOk result (λ world. StandsFor over_files true world (state_of rows.maps)) }
+    // A database that has tables is refused, and comes back as it is.
+    ensures refused { (file_state conn).now.schema ≢ no_schema → IsErrAnd result (λ e. (e.0 ≡ StoreFault.Store (Error.SqliteFailure ErrorCode.NameTaken)) × (e.1 ≡ conn)) }
+    ensures fault { IfErr result (λ e. IsOfStore e.0) }
+    ensures crash { IfOk result (λ world. Survives (file_state conn) (store_of over_files world) (λ trees. LeavesState trees (state_of rows.maps))) }
+    ensures crash_refused { IfErr result (λ e. (e.1 ≡ conn) ⊎ Survives (file_state conn) (file_state e.1) (λ trees. LeavesState trees (state_of rows.maps))) }
+{
+    load_in(alloc, conn, rows)
+}
+
+/// Makes the world of these rows in a file that holds no table, or makes the file; `T` is what the files hold. It is proved for all
+/// contents, and no code reads them.
+///
+/// The rows have to be good, and `seq` below 2^63. They are written in one transaction. Store with `ErrorCode::NameTaken`: the file
+/// has a table, an index or a view already, and stays as it is. Store with any other code: the file can't be made or opened, isn't
+/// a database, is open elsewhere, or the disk failed. OutOfMemory: memory ran out, and nothing was written.
+pub fn load_from<T: Start>(
+    rt: &HostRuntime,
+    path: &str,
+    start: T,
+    rows: Flat,
+) -> Result<World<FileStore<FileFrom<T>>>, (StoreFault, Remains<T, FileFrom<T>>)>
+    requires good { IsGood rows.maps }
+    requires limit { rows.maps.head.seq < 2 ^ 63 }
+    ensures stands { IfOk result (λ world. StandsFor over_files true world (state_of rows.maps)) }
+    // A file that holds a world takes no other.
+    ensures taken { (s : State) → HoldsState (image_at T.Start) s → IfOk result (λ world. HasCleanDisk (store_of over_files world) → ⊥) }
+    ensures fault { IfErr result (λ e. IsOfStore e.0) }
+    // After a refusal files that held any table hold the same database, and so does what a crash leaves. If they held no table, or
+    // nothing, a crash leaves nothing but the world of these rows.
+    ensures kept { (trees : Trees) → HoldsTrees (image_at T.Start) trees → HasAnyTable trees → IfErr result (λ e. IsCleanRemains e.1 → KeepsSuch (λ found. found ≡ trees) (image_at T.Start) e.1) }
+    ensures trees { (trees : Trees) → HoldsTrees (image_at T.Start) trees → IfErr result (λ e. IsCleanRemains e.1 → KeepsSuch (λ found. (found ≡ trees) ⊎ LeavesState found (state_of rows.maps)) (image_at T.Start) e.1) }
+    ensures blank { IsNothing (image_at T.Start) → IfErr result (λ e. IsCleanRemains e.1 → KeepsNothingBut (λ found. LeavesState found (state_of rows.maps)) (image_at T.Start) e.1) }
+    // A file that wasn't opened is refused for one of few reasons.
+    ensures stopped { IfErr result (λ e. MayStopAs e.0 e.1) }
+    // So a state that they held is still there.
+    ensures refused { (s : State) → HoldsState (image_at T.Start) s → IfErr result (λ e. IsCleanRemains e.1 → StillHolds (image_at T.Start) e.1 s) }
+    // A crash of a new World leaves it as it was made.
+    ensures crash { IfOk result (λ world. HasCleanDisk (store_of over_files world) → Left (store_of over_files world) (state_of rows.maps)) }
+{
+    let conn = match open_new(rt, path, start) {
+        Ok(conn) => conn,
+        Err((fault, remains)) => return Err((fault, remains)),
+    };
+    match load_files(rt.alloc(), conn, rows) {
+        Ok(world) => {
+            leaves_its_state(&world);
+            Ok(world)
+        }
+        Err((fault, conn)) => Err((fault, Remains::Connection(conn))),
+    }
+}

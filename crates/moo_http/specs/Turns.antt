@@ -1,0 +1,70 @@
+-- The connections that a source hands out, served one after another.
+use Rattle.std.specs.Prelude.{◌≡◌, ◌⊎◌, ℕ, suc, List, [], ◌∷◌, take, Option, Some, None, Result, Ok, Err, Bool, true, false}
+use Rattle.std.specs.Io.KnownBytes.{Appends}
+use Rattle.moo_store.specs.Stand.{Stand}
+use Rattle.moo_request.specs.Request.{Takes}
+use Rattle.moo_request.specs.declared.request.Received.{Received}
+use Rattle.moo_http.specs.declared.arrivals.Connection.{Connection}
+use Rattle.moo_http.specs.declared.fault.ServeFault.{ServeFault}
+use Rattle.moo_http.specs.declared.fault.ServeFault.TheVariants.{Read, Write, OutOfMemory}
+use Rattle.moo_http.specs.declared.service.ServiceFault.{ServiceFault}
+use Rattle.moo_http.specs.Serves.{Gets}
+use Rattle.moo_http.specs.Connections.{SaysByResult}
+
+-- ---- one connection
+
+-- The reader gave some bytes, and this is the whole answer to what they ask, which leads from one stand to the next.
+abbrev pub Yields : Stand → Stand → Option (List ℕ) → Option (List ℕ) → List ℕ → Type 0
+Yields old new left rest output = (received : Received) × Takes left rest received × Gets old received output new
+
+-- What came of a connection, by the result: the answer is written whole; or a front of it; or, if the reader failed, nothing was asked;
+-- or memory was refused, before anything was asked or after that, and nothing is written.
+abbrev pub Exchanged : Result (Unit {0}) ServeFault → Stand → Stand → Option (List ℕ) → Option (List ℕ) → Option (List ℕ) → Option (List ℕ) → Type 0
+Exchanged (Ok done) old new left rest before after = (output : List ℕ) × Yields old new left rest output × Appends before after output
+Exchanged (Err Write) old new left rest before after = (output : List ℕ) × Yields old new left rest output × (sent : ℕ) × Appends before after (take sent output)
+Exchanged (Err Read) old new left rest before after = (new ≡ old) × (after ≡ before)
+Exchanged (Err OutOfMemory) old new left rest before after = (after ≡ before) × ((new ≡ old) ⊎ ((output : List ℕ) × Yields old new left rest output))
+
+-- the same, by whether it was answered
+abbrev pub Visited : Bool → Stand → Stand → Option (List ℕ) → Option (List ℕ) → Option (List ℕ) → Option (List ℕ) → Type 0
+Visited true old new left rest before after = Exchanged (Ok tt) old new left rest before after
+Visited false old new left rest before after = (fault : ServeFault) × Exchanged (Err fault) old new left rest before after
+
+-- ---- a source of them
+
+abbrev pub answered_in : List Bool → ℕ
+answered_in [] = 0
+answered_in (true ∷ turns) = suc (answered_in turns)
+answered_in (false ∷ turns) = answered_in turns
+
+abbrev pub failed_in : List Bool → ℕ
+failed_in [] = 0
+failed_in (true ∷ turns) = failed_in turns
+failed_in (false ∷ turns) = suc (failed_in turns)
+
+-- a source of connections, by what it is before and after it hands one out and takes one back, and by the bytes that are known of them
+module _ {A R W : Type 0} (hands_out : A → Option (Connection R W) → A → Type 0) (takes_back : A → Connection R W → A → Type 0)
+    (remaining : R → Option (List ℕ)) (contents : W → Option (List ℕ)) where
+  -- One turn, by whether a connection was answered: the source hands one out, which is visited, and takes it back; or it hands out none.
+  abbrev pub Visit : Bool → A → Stand → A → Stand → Type 0
+  Visit answered from old to new =
+      ((opened closed : Connection R W) × (between : A) × hands_out from (Some opened) between
+      × Visited answered old new (remaining opened.reader) (remaining closed.reader) (contents opened.writer) (contents closed.writer)
+      × takes_back between closed to)
+      ⊎ ((answered ≡ false) × (new ≡ old) × hands_out from None to)
+
+  -- turns one after another; the head of the list tells the last one
+  abbrev pub AfterTurns : List Bool → A → Stand → A → Stand → Type 0
+  AfterTurns [] from old to new = (to ≡ from) × (new ≡ old)
+  AfterTurns (answered ∷ earlier) from old to new =
+      (between : A) × (stand : Stand) × AfterTurns earlier from old between stand × Visit answered between stand to new
+
+  -- After turns of which so many were answered, and so many failed.
+  abbrev pub Attended : ℕ → ℕ → A → Stand → A → Stand → Type 0
+  Attended answered failed from old to new =
+      (turns : List Bool) × (answered_in turns ≡ answered) × (failed_in turns ≡ failed) × AfterTurns turns from old to new
+
+  -- What comes of the service, by its result.
+  abbrev pub ServesFrom : Result (Unit {0}) ServiceFault → ℕ → ℕ → A → Stand → A → Stand → Option (List ℕ) → Option (List ℕ) → Type 0
+  ServesFrom result port count from old to new before after =
+      SaysByResult (λ answered failed. Attended answered failed from old to new) ((to ≡ from) × (new ≡ old)) result port count before after

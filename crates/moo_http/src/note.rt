@@ -1,0 +1,169 @@
+//! What is noted of a connection.
+
+ghost use Rattle.std.specs.Prelude.{◌≡◌, ◌≢◌, IfSome, IfNone, is_ok};
+ghost use Rattle.moo_responses.specs.Responses.{response_of, reply_response};
+
+use crate::arrivals::Closing;
+use crate::fault::ServeFault;
+use moo_request::{Asked, Mode};
+use moo_responses::Outcome;
+use moo_text::Reply;
+use std::fmt::{self, Display, Formatter};
+use thiserror::Error;
+
+/// The route that a request asked for.
+#[derive(Clone, Copy, Debug, PartialEq, Eq, Drop)]
+pub enum Route {
+    /// None: the request was refused, or wasn't read.
+    Unknown,
+    Batch,
+    Ask,
+    Seq,
+    /// The object with this number.
+    Object(i32),
+}
+
+impl Display for Route {
+    fn fmt<W: fmt::Write>(&self, f: &mut Formatter<W>) -> fmt::Result {
+        match self {
+            Route::Unknown => write!(f, "-"),
+            Route::Batch => write!(f, "/batch"),
+            Route::Ask => write!(f, "/ask"),
+            Route::Seq => write!(f, "/seq"),
+            Route::Object(number) => write!(f, "/object/{number}"),
+        }
+    }
+}
+
+/// Why a connection failed, or was answered 503.
+#[derive(Clone, Copy, Debug, PartialEq, Eq, Drop, Error)]
+pub enum Trouble {
+    #[error("failed: the connection can't be taken")]
+    NotTaken,
+    #[error("failed: the waits of the connection can't be limited")]
+    NotLimited,
+    #[error("failed: the request can't be read, or its peer was silent")]
+    Read,
+    #[error("failed: the answer can't be written, or its peer was silent")]
+    Write,
+    #[error("failed: out of memory")]
+    OutOfMemory,
+    #[error("503: the store failed before, and the world is closed")]
+    Closed,
+    #[error("503: the store failed")]
+    Store,
+    #[error("503: out of memory")]
+    NoMemory,
+}
+
+impl From<ServeFault> for Trouble {
+    fn from(fault: ServeFault) -> Trouble {
+        match fault {
+            ServeFault::Read => Trouble::Read,
+            ServeFault::Write => Trouble::Write,
+            ServeFault::OutOfMemory => Trouble::OutOfMemory,
+        }
+    }
+}
+
+/// What is noted of a connection while it is served: what is told of it, and how it is to be closed.
+#[derive(Clone, Copy, Debug, PartialEq, Eq, Drop)]
+pub struct Note {
+    pub route: Route,
+    /// None if the connection was answered, and not by 503.
+    pub trouble: Option<Trouble>,
+    pub closing: Closing,
+}
+
+/// The route that a batch is sent to.
+fn route_of_batch(mode: Mode) -> Route {
+    match mode {
+        Mode::Run => Route::Batch,
+        Mode::Ask => Route::Ask,
+    }
+}
+
+fn route_of(asked: &Asked) -> Route {
+    match asked {
+        Asked::Refused(_) => Route::Unknown,
+        Asked::Calls(mode, _) => route_of_batch(*mode),
+        Asked::Seq => Route::Seq,
+        Asked::Object(number) => Route::Object(number.0),
+    }
+}
+
+/// How a connection is closed after its answer. A refusal may leave a part of the request unread; else only more than was asked for can be.
+fn closing_after(asked: &Asked) -> Closing {
+    match asked {
+        Asked::Refused(_) => Closing::Gently,
+        _ => Closing::IfMoreCame,
+    }
+}
+
+/// Why a reply is answered 503, if it is.
+fn trouble_of_reply(reply: &Reply) -> Option<Trouble>
+    ensures some { IfSome result (λ _. (reply_response reply.now).status ≡ 503) }
+    ensures none { IfNone result ((reply_response reply.now).status ≢ 503) }
+{
+    match reply {
+        Reply::NoMemory => Some(Trouble::NoMemory),
+        _ => None,
+    }
+}
+
+/// Why an outcome is answered 503, if it is.
+fn trouble_of(outcome: &Outcome) -> Option<Trouble>
+    ensures some { IfSome result (λ _. (response_of outcome.now).status ≡ 503) }
+    ensures none { IfNone result ((response_of outcome.now).status ≢ 503) }
+{
+    match outcome {
+        Outcome::Closed => Some(Trouble::Closed),
+        Outcome::Fault => Some(Trouble::Store),
+        Outcome::NoMemory => Some(Trouble::NoMemory),
+        Outcome::Replied(reply) => trouble_of_reply(reply),
+        _ => None,
+    }
+}
+
+impl Note {
+    /// Before anything is known of the connection.
+    pub fn new() -> Note {
+        Note {
+            route: Route::Unknown,
+            trouble: None,
+            closing: Closing::AtOnce,
+        }
+    }
+
+    /// Notes what is asked.
+    pub(crate) fn asks(&mut self, asked: &Asked) {
+        self.route = route_of(asked);
+        self.closing = closing_after(asked);
+    }
+
+    /// Notes what comes of it.
+    pub(crate) fn comes_to(&mut self, outcome: &Outcome) {
+        self.trouble = trouble_of(outcome);
+    }
+
+    /// Notes that the connection failed. A failure of the store is the deeper cause.
+    pub(crate) fn fails(&mut self, trouble: Trouble) {
+        if self.trouble.is_none() {
+            self.trouble = Some(trouble);
+        }
+        self.closing = Closing::AtOnce;
+    }
+
+    /// Notes how serving it ended; whether it was answered.
+    pub(crate) fn ends(&mut self, served: Result<(), ServeFault>) -> bool
+        ensures { result ≡ is_ok served }
+    {
+        match served {
+            Ok(()) => true,
+            Err(fault) => {
+                self.fails(Trouble::from(fault));
+                false
+            }
+        }
+    }
+}

@@ -1,0 +1,22 @@
+-- Values within the limits, and the calls of petitions.
+use Rattle.std.proofs.Common.{◌≡◌, true}
+use Rattle.std.specs.Prelude.{◌&&◌, nat_le}
+use Rattle.std.specs.List.{list_all}
+use Rattle.std.proofs.lemmas.Bool.{and_parts, and_from}
+use Rattle.moo_value.specs.declared.value.Value.TheVariants.{List as a_list}
+use Rattle.moo_value.specs.Literal.{Fits}
+use Rattle.moo_value.specs.Value.{nesting, spread}
+use Rattle.moo_value.specs.Values.{Values}
+use Rattle.moo_world.specs.Arguments.{all_within_limits}
+use Rattle.moo_world.specs.Petitions.{is_named, are_few, are_shallow}
+use Rattle.moo_world.proofs.Form.Ranges.{fits_of}
+
+-- a value within the limits is calls that a petition may hold, if they are named, few and shallow
+pub calls_held : (calls : Values) → Fits (a_list calls) → (list_all is_named (spread calls) && (are_few calls && are_shallow calls)) ≡ true
+    → (list_all is_named (spread calls) && (are_few calls && (are_shallow calls && all_within_limits calls))) ≡ true
+calls_held calls fits held =
+    let one = and_parts (list_all is_named (spread calls)) (are_few calls && are_shallow calls) held in
+    let two = and_parts (are_few calls) (are_shallow calls) one.1 in
+    let limits = and_parts (nat_le (nesting (a_list calls)) 32) (all_within_limits calls) (fits_of (a_list calls) fits) in
+    and_from (list_all is_named (spread calls)) (are_few calls && (are_shallow calls && all_within_limits calls)) one.0
+    (and_from (are_few calls) (are_shallow calls && all_within_limits calls) two.0 (and_from (are_shallow calls) (all_within_limits calls) two.1 limits.1))

@@ -1,0 +1,6 @@
+use Rattle.std.proofs.Common.{◌≡◌, ◌+◌, take}
+use Rattle.moo_load.specs.Lines.{line_ends}
+use Rattle.moo_load.proofs.place.line_at.Given as goal
+
+abbrev pub invariant-loop-byte : goal.invariant-loop-byte
+invariant-loop-byte l = l.number ≡ line_ends (take l.byte-index (take l.at l.text)) + 1

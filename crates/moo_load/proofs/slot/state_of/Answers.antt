@@ -1,0 +1,10 @@
+use Rattle.std.proofs.Common.{ap, ◌∙◌, rules}
+use Rattle.moo_value.specs.Literal.{Fits}
+use Rattle.moo_world.specs.Arguments.{fits}
+use Rattle.moo_world.proofs.Form.Ranges.{fits_of}
+use Rattle.moo_load.proofs.slot.state_of.Goals as goal
+
+pub returns-in_ok-value-in-Int-2-clause-fits : goal.returns-in_ok-value-in-Int-2-clause-fits
+returns-in_ok-value-in-Int-2-clause-fits c =
+    let own : Fits c.value-item.result = search rules in
+    ap fits c.in_ok-value-in-Int-2.ensures ∙ fits_of c.value-item.result own

@@ -1,0 +1,14 @@
+-- Why a text gives no world.
+use Rattle.std.specs.Prelude.{ℕ, List}
+use Rattle.moo_rows.specs.Maps.{Maps}
+use Rattle.moo_damage.specs.Kinds.{IsFirstInRows}
+use Rattle.moo_damage.specs.Limits.{AreWithin}
+use Rattle.moo_load.specs.declared.fault.LoadFault.{LoadFault}
+use Rattle.moo_load.specs.declared.fault.LoadFault.TheVariants.{NotADump, Damaged, OutOfMemory}
+use Rattle.moo_load.specs.Lines.{IsLineOf}
+
+-- the text has a line of this number; or rows within the limits have this damage, and none before it
+abbrev pub SaysOfText : List ℕ → LoadFault → Type 0
+SaysOfText text (NotADump line) = IsLineOf text line
+SaysOfText text (Damaged kind key) = (m : Maps) × AreWithin m × IsFirstInRows m kind key
+SaysOfText text OutOfMemory = Unit {0}

@@ -1,0 +1,74 @@
+//! Why a text gives no world.
+
+ghost use Rattle.std.specs.Prelude.{◌≡◌, ◌≢◌, ◌≤◌, length};
+ghost use Rattle.moo_value.specs.declared.fault.LiteralFault.TheVariants.{OutOfMemory as no_memory};
+ghost use Rattle.moo_load.specs.Loaded.{SaysOfText};
+ghost use Rattle.moo_load.specs.declared.fault.LineFault.TheVariants.{Unreadable, OutOfMemory as none_left};
+ghost use Rattle.moo_load.specs.declared.fault.LoadFault.TheVariants.{OutOfMemory};
+
+use crate::place::line_at;
+use moo_damage::{Key, Kind};
+use moo_value::LiteralFault;
+use std::alloc::AllocError;
+
+/// Why a text gives no world.
+#[derive(Clone, Copy, Debug, PartialEq, Eq)]
+pub enum LoadFault {
+    /// The line of this number, from 1, isn't as a dump has it, or is missing.
+    NotADump(u64),
+    /// Each line can be read, and the rows show no world: the first kind of damage, with the least key at which it is.
+    /// Objects and petitions have the numbers that the text gives them. Properties and verbs are numbered from 1, in the order
+    /// of the text.
+    Damaged(Kind, Key),
+    /// Memory ran out.
+    OutOfMemory,
+}
+
+impl From<AllocError> for LoadFault {
+    ghost from_gives = { λ _ e. e ≡ OutOfMemory };
+
+    fn from(_e: AllocError) -> LoadFault {
+        LoadFault::OutOfMemory
+    }
+}
+
+/// Why a line can't be read.
+#[derive(Clone, Copy, Debug, PartialEq, Eq)]
+pub(crate) enum LineFault {
+    /// No dump has the line.
+    Unreadable,
+    /// There is no memory for what it says.
+    OutOfMemory,
+}
+
+impl From<AllocError> for LineFault {
+    ghost from_gives = { λ _ e. e ≡ none_left };
+
+    fn from(_e: AllocError) -> LineFault {
+        LineFault::OutOfMemory
+    }
+}
+
+impl From<LiteralFault> for LineFault {
+    ghost from_gives = { λ fault e. e ≡ Unreadable → fault ≢ no_memory };
+
+    fn from(fault: LiteralFault) -> LineFault {
+        match fault {
+            LiteralFault::OutOfMemory => LineFault::OutOfMemory,
+            _ => LineFault::Unreadable,
+        }
+    }
+}
+
+impl LineFault {
+    /// The fault of the text in which it is that of the line at this place.
+    pub(crate) fn within(self, text: &[u8], at: usize) -> LoadFault
+        requires { at ≤ length text.now }
+        ensures { SaysOfText text.now result }
+    {
+        match self {
+            LineFault::Unreadable => LoadFault::NotADump(line_at(text, at)),
+            LineFault::OutOfMemory => LoadFault::OutOfMemory,
+        }
+    }
+}

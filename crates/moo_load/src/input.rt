@@ -1,0 +1,61 @@
+//! The whole text that a reader gives.
+
+ghost use Rattle.std.specs.Prelude.{◌≡◌, ◌≤◌, ◌<◌, length, IfOk, IfErr, IfSome, OnOk};
+ghost use Rattle.std.specs.Io.KnownBytes.{Consumes, IsAtEnd};
+ghost use Rattle.moo_load.specs.declared.input.ReadFault.TheVariants.{TooLong, OutOfMemory};
+
+use std::alloc::{AllocError, Global};
+use std::io::Read;
+
+/// The most bytes of a text: 1,073,741,824.
+pub const LONGEST_TEXT: usize = 1073741824;
+
+/// How many bytes are asked for at once.
+const PIECE: usize = 65536;
+
+/// Why a reader gives no text.
+#[derive(Clone, Copy, Debug, PartialEq, Eq)]
+pub enum ReadFault {
+    /// The reader failed.
+    Read,
+    /// The reader gave more than 1,073,741,824 bytes.
+    TooLong,
+    /// Memory ran out.
+    OutOfMemory,
+}
+
+impl From<AllocError> for ReadFault {
+    ghost from_gives = { λ _ e. e ≡ OutOfMemory };
+
+    fn from(_e: AllocError) -> ReadFault {
+        ReadFault::OutOfMemory
+    }
+}
+
+/// The bytes that a reader gives, to its end.
+///
+/// Errors: `Read` if the reader fails, also if it was interrupted; `TooLong` if it gives more than 1,073,741,824 bytes, of which
+/// one more is read; `OutOfMemory` if memory runs out.
+pub fn read_text<R: Read>(alloc: Global, reader: &mut R) -> Result<Vec<u8>, ReadFault>
+    // The text is what the reader gave, and nothing is left in it.
+    ensures given { IfOk result (λ text. Consumes (R.remaining reader.old) (R.remaining reader.new) text.items) }
+    ensures end { OnOk result (IsAtEnd (R.remaining reader.new)) }
+    ensures whole { IfOk result (λ text. IfSome (R.remaining reader.old) (λ bytes. text.items ≡ bytes)) }
+    ensures limit { IfOk result (λ text. length text.items ≤ 1073741824) }
+    ensures long { IfErr result (λ fault. fault ≡ TooLong → IfSome (R.remaining reader.old) (λ bytes. 1073741824 < length bytes)) }
+{
+    let mut text = Vec::new(alloc);
+    let mut piece = [0; PIECE];
+    while text.len() <= LONGEST_TEXT {
+        // One byte more than the limit, by which a text is seen to be too long.
+        let room = (LONGEST_TEXT + 1 - text.len()).min(piece.len());
+        let Ok(count) = reader.read(&mut piece[..room]) else {
+            return Err(ReadFault::Read);
+        };
+        if count == 0 {
+            return Ok(text);
+        }
+        text.extend_from_slice(&piece[..count])?;
+    }
+    Err(ReadFault::TooLong)
+}

@@ -1,0 +1,22 @@
+//! A world from the text that it was dumped as.
+#![tactic(auto)]
+
+mod comparing;
+mod fault;
+mod heading;
+mod input;
+mod line;
+mod loading;
+mod object;
+mod petition;
+mod place;
+mod property;
+mod reading;
+mod slot;
+mod taking;
+mod value;
+mod verb;
+
+pub use fault::LoadFault;
+pub use input::{LONGEST_TEXT, ReadFault, read_text};
+pub use loading::read_dump;

@@ -1,0 +1,64 @@
+//! The lines of a dump: a word and a literal.
+
+ghost use Rattle.std.specs.Prelude.{◌≤◌, ◌<◌, ◌+◌, length, IfOk, IfErr};
+ghost use Rattle.moo_load.specs.Loaded.{SaysOfText};
+
+use crate::fault::{LineFault, LoadFault};
+use crate::place::line_from;
+use moo_value::{Value, read_whole_literal};
+use std::alloc::Global;
+
+/// What the line of a row begins with.
+#[derive(Clone, Copy, Debug, PartialEq, Eq)]
+pub(crate) enum Word {
+    Object,
+    Property,
+    Slot,
+    Verb,
+    Petition,
+}
+
+/// The word that a line begins with, and what follows the space after it.
+pub(crate) fn split_word(line: &[u8]) -> Result<(Word, &[u8]), LineFault> {
+    if let Some(literal) = line.strip_prefix(b"object ") {
+        return Ok((Word::Object, literal));
+    }
+    if let Some(literal) = line.strip_prefix(b"property ") {
+        return Ok((Word::Property, literal));
+    }
+    if let Some(literal) = line.strip_prefix(b"slot ") {
+        return Ok((Word::Slot, literal));
+    }
+    if let Some(literal) = line.strip_prefix(b"verb ") {
+        return Ok((Word::Verb, literal));
+    }
+    if let Some(literal) = line.strip_prefix(b"petition ") {
+        return Ok((Word::Petition, literal));
+    }
+    Err(LineFault::Unreadable)
+}
+
+/// The values of a literal list.
+pub(crate) fn values_of(alloc: Global, literal: &[u8]) -> Result<Vec<Value>, LineFault> {
+    match read_whole_literal(alloc, literal)? {
+        Value::List(values) => Ok(values.into_vec()),
+        _ => Err(LineFault::Unreadable),
+    }
+}
+
+/// Whether it is the last line of a dump.
+pub(crate) fn is_end(line: &[u8]) -> bool {
+    line == b"end".as_slice()
+}
+
+/// The line that begins at a place of the text, without its end, which has to be there.
+pub(crate) fn next_line(text: &[u8], at: usize) -> Result<&[u8], LoadFault>
+    requires { at ≤ length text.now }
+    ensures ok { IfOk result (λ line. at + length line.now < length text.now) }
+    ensures err { IfErr result (SaysOfText text.now) }
+{
+    match line_from(text, at) {
+        Some(line) => Ok(line),
+        None => Err(LineFault::Unreadable.within(text, at)),
+    }
+}

@@ -1,0 +1,72 @@
+//! The values of a petition's line.
+
+ghost use Rattle.std.specs.Prelude.{◌≡◌, ◌<◌, pos, true, ◌&&◌, IfOk};
+ghost use Rattle.std.specs.List.{list_all};
+ghost use Rattle.moo_value.specs.declared.value.Value.TheVariants.{Int, List as a_list};
+ghost use Rattle.moo_value.specs.Value.{spread};
+ghost use Rattle.moo_world.specs.Arguments.{all_within_limits};
+ghost use Rattle.moo_world.specs.Petitions.{are_few, are_shallow, is_named, petition_fits};
+
+use crate::fault::LineFault;
+use crate::value::object_of;
+use moo_rows::{PetitionId, PetitionRow};
+use moo_value::{Value, ValueList, fits};
+use moo_world::{are_few, are_named, are_shallow};
+use std::alloc::Global;
+
+/// The number of a petition: 1 to 4,294,967,294, one below the greatest counter.
+fn number_of(value: &Value) -> Result<u32, LineFault>
+    ensures shown { IfOk result (λ number. value.now ≡ Int (pos number)) }
+    ensures some { IfOk result (λ number. 0 < number) }
+    ensures below { IfOk result (λ number. number < 4294967295) }
+{
+    let Value::Int(number) = value else {
+        return Err(LineFault::Unreadable);
+    };
+    match u32::try_from(*number) {
+        Ok(number) if 0 < number && number < u32::MAX => Ok(number),
+        _ => Err(LineFault::Unreadable),
+    }
+}
+
+/// Whether a petition may hold these calls, which are within the limits of values.
+fn may_be_held(calls: &ValueList) -> bool
+    ensures { result ≡ (list_all is_named (spread calls.now) && (are_few calls.now && are_shallow calls.now)) }
+{
+    are_named(calls.items()) && are_few(calls) && are_shallow(calls)
+}
+
+/// The calls that a petition holds.
+fn calls_of(alloc: Global, value: &Value) -> Result<ValueList, LineFault>
+    ensures shown { IfOk result (λ calls. value.now ≡ a_list calls) }
+    ensures fits { IfOk result (λ calls. (list_all is_named (spread calls) && (are_few calls && (are_shallow calls && all_within_limits calls))) ≡ true) }
+{
+    if !fits(value) {
+        return Err(LineFault::Unreadable);
+    }
+    match value {
+        Value::List(calls) if may_be_held(calls) => {
+            let calls = calls.clone()?;
+            Ok(calls)
+        }
+        _ => Err(LineFault::Unreadable),
+    }
+}
+
+/// The petition with its number.
+pub(crate) fn read_petition(
+    alloc: Global,
+    values: &[Value],
+) -> Result<(PetitionId, PetitionRow), LineFault>
+    ensures fits { IfOk result (λ r. petition_fits r.1 ≡ true) }
+    ensures some { IfOk result (λ r. 0 < r.0.0) }
+    ensures below { IfOk result (λ r. r.0.0 < 4294967295) }
+{
+    let [number, who, calls] = values else {
+        return Err(LineFault::Unreadable);
+    };
+    let number = number_of(number)?;
+    let who = object_of(who)?;
+    let calls = calls_of(alloc, calls)?;
+    Ok((PetitionId(number), PetitionRow { who, calls }))
+}

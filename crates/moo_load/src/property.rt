@@ -1,0 +1,40 @@
+//! The values of a property's line.
+
+ghost use Rattle.std.specs.Prelude.{◌≡◌, ◌∷◌, [], true, IfOk};
+ghost use Rattle.moo_value.specs.declared.value.Value.TheVariants.{Obj, Str};
+ghost use Rattle.moo_world.specs.World.{is_property_name};
+
+use crate::fault::LineFault;
+use crate::value::{object_of, text_of};
+use moo_rows::PropRow;
+use moo_value::{MooStr, Value};
+use moo_world::BuiltIn;
+use std::alloc::Global;
+
+/// The most bytes in the name of a property.
+const MAX_NAME: usize = 255;
+
+/// Whether a property may have the name: 1 to 255 bytes, and not built in.
+fn is_property_name(name: &MooStr) -> bool
+    ensures { result ≡ is_property_name name.now }
+{
+    let length = name.bytes().len();
+    0 < length && length <= MAX_NAME && BuiltIn::of_name(name).is_none()
+}
+
+/// The property with its definer.
+pub(crate) fn read_property(alloc: Global, values: &[Value]) -> Result<PropRow, LineFault>
+    ensures shown { IfOk result (λ row. values.now ≡ Obj row.definer ∷ Str row.name ∷ []) }
+    ensures fits { IfOk result (λ row. is_property_name row.name ≡ true) }
+{
+    let [definer, name] = values else {
+        return Err(LineFault::Unreadable);
+    };
+    let definer = object_of(definer)?;
+    let name = text_of(name)?;
+    if !is_property_name(name) {
+        return Err(LineFault::Unreadable);
+    }
+    let name = name.copy(alloc)?;
+    Ok(PropRow { definer, name })
+}

@@ -1,0 +1,111 @@
+//! The rows of a dump. Its lines are gone over twice: the slots, which name their properties by definers that may come later,
+//! are put once all properties are.
+
+ghost use Rattle.std.specs.Prelude.{◌≤◌, length, IfOk, IfErr, OnOk};
+ghost use Rattle.moo_load.specs.Loaded.{SaysOfText};
+ghost use Rattle.moo_load.specs.Rows.{AreRead};
+
+use crate::fault::{LineFault, LoadFault};
+use crate::heading::read_heading;
+use crate::line::{Word, is_end, next_line, split_word, values_of};
+use crate::taking::{LastSlot, take_object, take_petition, take_property, take_slot, take_verb};
+use moo_flat::Flat;
+use moo_rows::{PropId, Rows};
+use moo_value::ObjNo;
+use std::alloc::Global;
+
+/// Puts the row of a line, if it isn't a slot.
+fn take_line(alloc: Global, line: &[u8], rows: &mut Flat) -> Result<(), LineFault>
+    requires { AreRead rows.old.maps }
+    ensures { OnOk result (AreRead rows.new.maps) }
+{
+    let (word, literal) = split_word(line)?;
+    if word == Word::Slot {
+        return Ok(());
+    }
+    let values = values_of(alloc, literal)?;
+    match word {
+        Word::Object => take_object(alloc, &values, rows),
+        Word::Property => take_property(alloc, &values, rows),
+        Word::Verb => take_verb(alloc, &values, rows),
+        Word::Petition => take_petition(alloc, &values, rows),
+        Word::Slot => Ok(()),
+    }
+}
+
+/// Puts the slot of a line, if it is one.
+fn take_slot_line(
+    alloc: Global,
+    line: &[u8],
+    last: LastSlot,
+    rows: &mut Flat,
+) -> Result<LastSlot, LineFault>
+    requires { AreRead rows.old.maps }
+    ensures { OnOk result (AreRead rows.new.maps) }
+{
+    let (word, literal) = split_word(line)?;
+    if word != Word::Slot {
+        return Ok(last);
+    }
+    let values = values_of(alloc, literal)?;
+    take_slot(alloc, &values, last, rows)
+}
+
+/// Puts the rows of the lines from a place to the last line, but for the slots.
+fn take_lines(alloc: Global, text: &[u8], start: usize, rows: &mut Flat) -> Result<(), LoadFault>
+    requires start { start ≤ length text.now }
+    requires read { AreRead rows.old.maps }
+    ensures read { OnOk result (AreRead rows.new.maps) }
+    ensures fault { IfErr result (SaysOfText text.now) }
+{
+    let mut at = start;
+    loop {
+        let line = next_line(text, at)?;
+        if is_end(line) {
+            return Ok(());
+        }
+        if let Err(fault) = take_line(alloc, line, rows) {
+            return Err(fault.within(text, at));
+        }
+        at += line.len() + 1;
+    }
+}
+
+/// Puts the slots of the lines from a place to the last line.
+fn take_slots(alloc: Global, text: &[u8], start: usize, rows: &mut Flat) -> Result<(), LoadFault>
+    requires start { start ≤ length text.now }
+    requires read { AreRead rows.old.maps }
+    ensures read { OnOk result (AreRead rows.new.maps) }
+    ensures fault { IfErr result (SaysOfText text.now) }
+{
+    let mut at = start;
+    let mut last = LastSlot {
+        object: ObjNo(-1),
+        definer: ObjNo(-1),
+        id: PropId(0),
+    };
+    loop {
+        let line = next_line(text, at)?;
+        if is_end(line) {
+            return Ok(());
+        }
+        match take_slot_line(alloc, line, last, rows) {
+            Ok(slot) => last = slot,
+            Err(fault) => return Err(fault.within(text, at)),
+        }
+        at += line.len() + 1;
+    }
+}
+
+/// The rows of a dump, within their limits. Whether they show a world, and whether its dump is the text, isn't asked.
+pub(crate) fn read_rows(alloc: Global, text: &[u8]) -> Result<Flat, LoadFault>
+    ensures read { IfOk result (λ rows. AreRead rows.maps) }
+    ensures fault { IfErr result (SaysOfText text.now) }
+{
+    let (head, start) = read_heading(alloc, text)?;
+    let mut rows = Flat::new(alloc);
+    rows.set_head(head);
+    take_lines(alloc, text, start, &mut rows)?;
+    take_slots(alloc, text, start, &mut rows)?;
+    Ok(rows)
+}

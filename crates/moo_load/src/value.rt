@@ -1,0 +1,91 @@
+//! The values of a line.
+
+ghost use Rattle.std.specs.Prelude.{◌≡◌, ◌≢◌, ◌≤◌, ◌<◌, ℕ, pos, true, Bool, List, Option, Some, map, length, IfOk, IfErr};
+ghost use Rattle.moo_value.specs.declared.value.ObjNo.{ObjNo};
+ghost use Rattle.moo_value.specs.declared.value.Value.TheVariants.{Int, Obj, Str};
+ghost use Rattle.moo_rows.specs.declared.row.SlotState.{SlotState};
+ghost use Rattle.moo_world.specs.Answers.{flag, object_list};
+ghost use Rattle.moo_world.specs.Arguments.{is_number, is_text};
+ghost use Rattle.moo_world.specs.Calls.{accept_value};
+ghost use Rattle.moo_world.specs.World.{accept_fits, state_fits};
+
+use crate::fault::LineFault;
+use moo_rows::ObjList;
+use moo_value::{MooStr, ObjNo, Value};
+use std::alloc::{AllocError, Global};
+
+/// The most objects in an accept list.
+const MAX_ACCEPTED: usize = 1000;
+
+/// The object that a value is.
+pub(crate) fn object_of(value: &Value) -> Result<ObjNo, LineFault>
+    ensures ok { IfOk result (λ x. value.now ≡ Obj x) }
+    ensures fits { IfOk result (λ x. is_number x ≡ true) }
+    ensures err { IfErr result (λ _. (x : ObjNo) → value.now ≢ Obj x) }
+{
+    match value {
+        Value::Obj(ObjNo(number)) => Ok(ObjNo(*number)),
+        _ => Err(LineFault::Unreadable),
+    }
+}
+
+/// The string that a value is.
+pub(crate) fn text_of(value: &Value) -> Result<&MooStr, LineFault>
+    ensures ok { IfOk result (λ text. value.now ≡ Str text.now) }
+    ensures fits { IfOk result (λ text. is_text text.now ≡ true) }
+    ensures err { IfErr result (λ _. (text : List ℕ) → value.now ≢ Str text) }
+{
+    match value {
+        Value::Str(text) => {
+            // The limits that its type keeps are known only of what was read.
+            let _bytes = text.bytes();
+            Ok(text)
+        }
+        _ => Err(LineFault::Unreadable),
+    }
+}
+
+/// The 0 or 1 that a value is.
+pub(crate) fn flag_of(value: &Value) -> Result<bool, LineFault>
+    ensures ok { IfOk result (λ holds. value.now ≡ flag holds) }
+    ensures err { IfErr result (λ _. (holds : Bool) → value.now ≢ flag holds) }
+{
+    match value {
+        Value::Int(0) => Ok(false),
+        Value::Int(1) => Ok(true),
+        _ => Err(LineFault::Unreadable),
+    }
+}
+
+/// The objects of a list that has only objects, and not too many.
+fn objects_of(alloc: Global, values: &[Value]) -> Result<ObjList, LineFault>
+    ensures ok { IfOk result (λ objects. values.now ≡ map Obj objects) }
+    ensures fits { IfOk result (λ objects. accept_fits (Some objects) ≡ true) }
+    ensures err { IfErr result (λ fault. fault ≡ LineFault.Unreadable → (objects : List ObjNo) → length objects ≤ 1000 → values.now ≢ map Obj objects) }
+{
+    if values.len() > MAX_ACCEPTED {
+        return Err(LineFault::Unreadable);
+    }
+    let mut objects = Vec::new(alloc);
+    for value in values {
+        let object = object_of(value)?;
+        objects.push(object).map_err(AllocError::from)?;
+    }
+    Ok(ObjList::from_vec(objects))
+}
+
+/// The accept list that a value is: a list of objects, or 0 for none.
+pub(crate) fn accept_of(alloc: Global, value: &Value) -> Result<Option<ObjList>, LineFault>
+    ensures ok { IfOk result (λ accept. value.now ≡ accept_value accept) }
+    ensures fits { IfOk result (λ accept. accept_fits accept ≡ true) }
+    ensures err { IfErr result (λ fault. fault ≡ LineFault.Unreadable → (accept : Option (List ObjNo)) → accept_fits accept ≡ true → value.now ≢ accept_value accept) }
+{
+    match value {
+        Value::Int(0) => Ok(None),
+        Value::List(list) => {
+            let objects = objects_of(alloc, list.items())?;
+            Ok(Some(objects))
+        }
+        _ => Err(LineFault::Unreadable),
+    }
+}

@@ -1,0 +1,278 @@
+-- The walk down from an object meets what is under it, and nothing else.
+use Rattle.std.proofs.Common.{◌≡◌, ℕ, zero, suc, ◌+◌, ◌≤◌, Bool, true, false, cond, ◌||◌, Option, None, Some, List, [], ◌∷◌, ◌++◌, map, length, drop, refl, sym, ap, ◌∙◌, subst, inl, inr, arith, append_assoc, append-nil, ◌⊎◌}
+use Rattle.std.specs.Prelude.{is_some}
+use Rattle.std.specs.List.{flat_map, list_any}
+use Rattle.std.specs.FinMap.{get}
+use Rattle.std.proofs.lemmas.Bool.{true≢false, or_left, or_right, or_cases}
+use Rattle.moo_value.specs.declared.value.ObjNo.{ObjNo}
+use Rattle.moo_rows.specs.declared.row.ObjRow.{ObjRow}
+use Rattle.moo_rows.specs.declared.row.Link.TheVariants.{ChildOf}
+use Rattle.moo_rows.specs.Links.{IsFirst, is_linked, row_has}
+use Rattle.moo_rows.specs.Maps.{Maps, object_cmp}
+use Rattle.moo_rows.proofs.Linking.{linked-end, linked-step}
+use Rattle.moo_world.specs.Objects.{nothing, same_object, is_among, same_object-Decides, same_object-eq}
+use Rattle.moo_world.specs.ObjectLists.{objects_of, subtree_of}
+use Rattle.moo_world.specs.Rows.{look_ups, world_of}
+use Rattle.moo_world.specs.World.{World, IsTree, Chain, is_object, parent_of, chain, numbers_to}
+use Rattle.moo_world.proofs.Ancestry.Ancestors.{same_object-self}
+use Rattle.moo_world.proofs.Ancestry.Chains.{Climbs-bound, Climbs-once}
+use Rattle.moo_world.proofs.Ancestry.Subtrees.{among_filter, object_listed}
+use Rattle.moo_world.proofs.Ancestry.Trees.{Chain-chain, no_parent, parents_below}
+use Rattle.moo_world.proofs.Ancestry.Upward.{filter_passes}
+use Rattle.moo_world.proofs.Inheritance.Owed.{is_among-append}
+use Rattle.moo_world.proofs.Shown.MapLaws.{decided_alike}
+use Rattle.moo_world.proofs.Shown.Seen.{chain_of_row, chain_of_no_row, is_object_seen}
+use Rattle.moo_tree.proofs.Listing.{children_listed}
+use Rattle.moo_tree.proofs.Searching.{child_listed, listed_child, is_there}
+use Rattle.moo_props.specs.Descent.{children_past, below, levels_below, descendants, branches, after_branch, after_below, walk_after, from_here}
+
+-- ---- lists
+
+first_among : (c : ObjNo) (l : List ObjNo) → is_among c (c ∷ l) ≡ true
+first_among c l = or_left (same_object c c) (is_among c l) (same_object-self c)
+
+-- an object of a list, or one that it leads to
+module _ (f : ObjNo → List ObjNo) (z : ObjNo) where
+  in_branch : (l : List ObjNo) → is_among z (flat_map (λ c. c ∷ f c) l) ≡ true → (c : ObjNo) × (is_among c l ≡ true) × (is_among z (c ∷ f c) ≡ true)
+  in_branch [] h = absurd (true≢false (sym h))
+  in_branch (c ∷ l) h = by (or_cases (is_among z (c ∷ f c)) (is_among z (flat_map (λ c. c ∷ f c) l)) (sym (is_among-append z (c ∷ f c) (flat_map (λ c. c ∷ f c) l)) ∙ h)) (in_branch l)
+    where
+      by : (is_among z (c ∷ f c) ≡ true) ⊎ (is_among z (flat_map (λ c. c ∷ f c) l) ≡ true)
+          → (is_among z (flat_map (λ c. c ∷ f c) l) ≡ true → (d : ObjNo) × (is_among d l ≡ true) × (is_among z (d ∷ f d) ≡ true))
+          → (d : ObjNo) × (is_among d (c ∷ l) ≡ true) × (is_among z (d ∷ f d) ≡ true)
+      by (inl g) r = (c, first_among c l, g)
+      by (inr g) r = let b = r g in (b.0, or_right (same_object b.0 c) (is_among b.0 l) b.1, b.2)
+
+  branch_in : (l : List ObjNo) (c : ObjNo) → is_among c l ≡ true → is_among z (c ∷ f c) ≡ true → is_among z (flat_map (λ c. c ∷ f c) l) ≡ true
+  branch_in [] c k h = absurd (true≢false (sym k))
+  branch_in (d ∷ l) c k h = is_among-append z (d ∷ f d) (flat_map (λ c. c ∷ f c) l) ∙ by (or_cases (same_object c d) (is_among c l) k) (branch_in l c)
+    where
+      by : (same_object c d ≡ true) ⊎ (is_among c l ≡ true) → (is_among c l ≡ true → is_among z (c ∷ f c) ≡ true → is_among z (flat_map (λ c. c ∷ f c) l) ≡ true)
+          → (is_among z (d ∷ f d) || is_among z (flat_map (λ c. c ∷ f c) l)) ≡ true
+      by (inl e) r = or_left _ _ (ap (λ q. is_among z (q ∷ f q)) (sym ((same_object-Decides c d).0 e)) ∙ h)
+      by (inr g) r = or_right _ _ (r g h)
+
+module _ (test : ObjNo → Bool) where
+  any_of_member : (l : List ObjNo) (y : ObjNo) → is_among y l ≡ true → test y ≡ true → list_any test l ≡ true
+  any_of_member [] y h k = absurd (true≢false (sym h))
+  any_of_member (z ∷ l) y h k = by (or_cases (same_object y z) (is_among y l) h) (any_of_member l y)
+    where
+      by : (same_object y z ≡ true) ⊎ (is_among y l ≡ true) → (is_among y l ≡ true → test y ≡ true → list_any test l ≡ true) → (test z || list_any test l) ≡ true
+      by (inl e) r = or_left _ _ (ap test (sym ((same_object-Decides y z).0 e)) ∙ k)
+      by (inr g) r = or_right _ _ (r g k)
+
+  any_within : (l m : List ObjNo) → ((z : ObjNo) → is_among z l ≡ true → is_among z m ≡ true) → list_any test l ≡ true → list_any test m ≡ true
+  any_within [] m f h = absurd (true≢false (sym h))
+  any_within (z ∷ l) m f h = by (or_cases (test z) (list_any test l) h) (any_within l m (λ y k. f y (or_right (same_object y z) (is_among y l) k)))
+    where
+      by : (test z ≡ true) ⊎ (list_any test l ≡ true) → (list_any test l ≡ true → list_any test m ≡ true) → list_any test m ≡ true
+      by (inl e) r = any_of_member m z (f z (first_among z l)) e
+      by (inr g) r = r g
+
+  any_alike : (l m : List ObjNo) → ((z : ObjNo) → is_among z l ≡ true → is_among z m ≡ true) → ((z : ObjNo) → is_among z m ≡ true → is_among z l ≡ true) → list_any test l ≡ list_any test m
+  any_alike l m f g = decided_alike _ _ (list_any test m ≡ true) (any_within l m f, any_within m l g) (λ e. e, λ e. e)
+
+module _ (t : Maps) (tree : IsTree (world_of t)) where
+  abbrev w : World
+  w = world_of t
+
+  abbrev depth : ObjNo → ℕ
+  depth y = length (chain w y)
+
+  -- ---- one step
+
+  pub linked_child : (y from c : ObjNo) → IsFirst object_cmp (is_linked t (ChildOf y)) from (Some c) → (r : ObjRow) × (get t.objects c ≡ Some r) × (r.parent ≡ y)
+  linked_child y from c h = by (get t.objects c) refl
+    where
+      by : (o : Option ObjRow) → get t.objects c ≡ o → (r : ObjRow) × (get t.objects c ≡ Some r) × (r.parent ≡ y)
+      by None e = absurd (true≢false (sym h.0 ∙ ap (row_has (ChildOf y)) e))
+      by (Some r) e = (r, e, sym ((same_object-Decides y r.parent).0 (sym (same_object-eq y r.parent) ∙ sym (ap (row_has (ChildOf y)) e) ∙ h.0)))
+
+  children_on : (y from c : ObjNo) → IsFirst object_cmp (is_linked t (ChildOf y)) from (Some c) → children_past t y from ≡ c ∷ children_past t y c
+  children_on y from c h = let k = linked_child y from c h in ap (map (λ e. e.0)) (linked-step t (ChildOf y) from c k.0 h k.1)
+
+  children_over : (y from : ObjNo) → IsFirst object_cmp (is_linked t (ChildOf y)) from None → children_past t y from ≡ []
+  children_over y from h = ap (map (λ e. e.0)) (linked-end t (ChildOf y) from h)
+
+  pub chain_up : (c y : ObjNo) (r : ObjRow) → get t.objects c ≡ Some r → r.parent ≡ y → chain w c ≡ c ∷ chain w y
+  chain_up c y r e p = chain_of_row (look_ups t) tree c r (sym e) ∙ ap (λ q. c ∷ chain w q) p
+
+  there : (c : ObjNo) (r : ObjRow) → get t.objects c ≡ Some r → is_object w c ≡ true
+  there c r e = is_object_seen (look_ups t) c ∙ ap is_some e
+
+  pub has_row : (x z : ObjNo) → is_among x (chain w z) ≡ true → (r : ObjRow) × (get t.objects z ≡ Some r)
+  has_row x z h = by (get t.objects z) refl
+    where
+      by : (o : Option ObjRow) → get t.objects z ≡ o → (r : ObjRow) × (get t.objects z ≡ Some r)
+      by None e = absurd (true≢false (sym h ∙ ap (is_among x) (chain_of_no_row (look_ups t) z (sym e))))
+      by (Some r) e = (r, e)
+
+  -- ---- how deep
+
+  deep : (z : ObjNo) → is_object w z ≡ true → depth z ≤ numbers_to w.top
+  deep z o = Climbs-bound (parent_of w) (numbers_to w.top) (no_parent w tree) (parents_below w tree) (chain w z) z (Chain-chain w tree z o)
+
+  -- a child, by the list of the children
+  child_of : (y c : ObjNo) → is_among c (children_past t y nothing) ≡ true → (r : ObjRow) × (get t.objects c ≡ Some r) × (r.parent ≡ y)
+  child_of y c h = listed_child t tree c y (ap (is_among c) (sym (children_listed t tree y nothing refl)) ∙ h)
+
+  child_in : (y c : ObjNo) (r : ObjRow) → get t.objects c ≡ Some r → r.parent ≡ y → is_among c (children_past t y nothing) ≡ true
+  child_in y c r e p = ap (is_among c) (children_listed t tree y nothing refl) ∙ child_listed t tree c y r e p
+
+  deeper : (y c : ObjNo) → is_among c (children_past t y nothing) ≡ true → depth c ≡ suc (depth y)
+  deeper y c h = let k = child_of y c h in ap length (chain_up c y k.0 k.1 k.2)
+
+  levels : (y c : ObjNo) → is_among c (children_past t y nothing) ≡ true → levels_below t y ≡ suc (levels_below t c)
+  levels y c h = let k = child_of y c h in omega (arith, deeper y c h, deep c (there c k.0 k.1))
+
+  -- what is below y is its children, each with what is below it
+  descend : (y : ObjNo) → descendants t y ≡ branches t (children_past t y nothing)
+  descend y = by (levels_below t y) refl
+    where
+      none : (l : List ObjNo) → ((c : ObjNo) → is_among c l ≡ true → ⊥) → [] ≡ branches t l
+      none [] h = refl
+      none (c ∷ l) h = absurd (h c (first_among c l))
+
+      alike : (n : ℕ) (l : List ObjNo) → ((c : ObjNo) → is_among c l ≡ true → levels_below t c ≡ n) → flat_map (λ c. c ∷ below n t c) l ≡ branches t l
+      alike n [] h = refl
+      alike n (c ∷ l) h =
+          let rest = alike n l (λ d k. h d (or_right (same_object d c) (is_among d l) k)) in
+          let same = sym (h c (first_among c l)) in
+          λ i. (c ∷ below (same i) t c) ++ rest i
+
+      by : (n : ℕ) → levels_below t y ≡ n → below n t y ≡ branches t (children_past t y nothing)
+      by zero e = none (children_past t y nothing) (λ c h. absurd (omega (arith, e, levels y c h)))
+      by (suc n) e = alike n (children_past t y nothing) (λ c h. omega (arith, e, levels y c h))
+
+  -- ---- what is met
+
+  module _ (x : ObjNo) where
+    met_under : (n : ℕ) (y z : ObjNo) → is_among x (chain w y) ≡ true → is_among z (below n t y) ≡ true → is_among x (chain w z) ≡ true
+    met_under zero y z u h = absurd (true≢false (sym h))
+    met_under (suc n) y z u h =
+        let b = in_branch (below n t) z (children_past t y nothing) h in
+        let k = child_of y b.0 b.1 in
+        let here : is_among x (chain w b.0) ≡ true = ap (is_among x) (chain_up b.0 y k.0 k.1 k.2) ∙ or_right (same_object x b.0) (is_among x (chain w y)) u in
+        elim (or_cases (same_object z b.0) (is_among z (below n t b.0)) b.2) [
+          | inl e ↦ ap (λ q. is_among x (chain w q)) ((same_object-Decides z b.0).0 e) ∙ here
+          | inr g ↦ met_under n b.0 z here g
+        ]
+
+    -- a child of what is met is met, if there are levels left
+    closed : (n : ℕ) (y p z : ObjNo) (r : ObjRow) → get t.objects z ≡ Some r → r.parent ≡ p → is_among p (y ∷ below n t y) ≡ true → depth z ≤ n + depth y → is_among z (below n t y) ≡ true
+    closed zero y p z r e q h d = elim (or_cases (same_object p y) false h) [
+      | inl k ↦ absurd (omega (arith, d, ap length (chain_up z p r e q), ap depth ((same_object-Decides p y).0 k)))
+      | inr k ↦ absurd (true≢false (sym k))
+    ]
+    closed (suc n) y p z r e q h d = elim (or_cases (same_object p y) (is_among p (below (suc n) t y)) h) [
+      | inl k ↦ branch_in (below n t) z (children_past t y nothing) z (child_in y z r e (q ∙ (same_object-Decides p y).0 k)) (first_among z (below n t z))
+      | inr k ↦
+          let b = in_branch (below n t) p (children_past t y nothing) k in
+          branch_in (below n t) z (children_past t y nothing) b.0 b.1 (or_right (same_object z b.0) (is_among z (below n t b.0)) (closed n b.0 p z r e q b.2 (omega (arith, d, deeper y b.0 b.1))))
+    ]
+
+    -- what holds of x, and of each child of what it holds of, holds of all under x
+    along : (P : ObjNo → Type 0) → (is_object w x ≡ true → P x) → ((z p : ObjNo) (r : ObjRow) → get t.objects z ≡ Some r → r.parent ≡ p → P p → P z) → (l : List ObjNo) (z : ObjNo) → chain w z ≡ l → is_among x l ≡ true → P z
+    along P start more [] z e h = absurd (true≢false (sym h))
+    along P start more (a ∷ l) z e h =
+        let row = has_row x z (ap (is_among x) e ∙ h) in
+        let whole : a ∷ l ≡ z ∷ chain w row.0.parent = sym e ∙ chain_up z row.0.parent row.0 row.1 refl in
+        let rest : chain w row.0.parent ≡ l = sym (ap (drop 1) whole) in
+        elim (or_cases (same_object x z) (is_among x (chain w row.0.parent)) (sym (ap (is_among x) whole) ∙ h)) [
+          | inl k ↦ let same = (same_object-Decides x z).0 k in subst P same (start (ap (is_object w) same ∙ there z row.0 row.1))
+          | inr k ↦ more z row.0.parent row.0 row.1 refl (along P start more l row.0.parent rest (ap (is_among x) (sym rest) ∙ k))
+        ]
+
+    -- all under x is met from x on
+    met : is_object w x ≡ true → (z : ObjNo) → is_among x (chain w z) ≡ true → is_among z (x ∷ descendants t x) ≡ true
+    met o z h = along (λ y. is_among y (x ∷ descendants t x) ≡ true) (λ _. first_among x (descendants t x))
+        (λ y p r e q k. or_right (same_object y x) (is_among y (descendants t x)) (closed (levels_below t x) x p y r e q k (omega (arith, deep y (there y r e)))))
+        (chain w z) z refl h
+
+    pub own_among : is_object w x ≡ true → is_among x (chain w x) ≡ true
+    own_among o = by (get t.objects x) refl
+      where
+        by : (row : Option ObjRow) → get t.objects x ≡ row → is_among x (chain w x) ≡ true
+        by None e = absurd (true≢false (sym o ∙ is_object_seen (look_ups t) x ∙ ap is_some e))
+        by (Some r) e = ap (is_among x) (chain_up x r.parent r e refl) ∙ first_among x (chain w r.parent)
+
+    -- what is met from x on is x's subtree
+    pub any_met : (test : ObjNo → Bool) → is_object w x ≡ true → list_any test (x ∷ descendants t x) ≡ list_any test (subtree_of w x)
+    any_met test o = any_alike test (x ∷ descendants t x) (subtree_of w x)
+        (λ z h. listed z (under z h))
+        (λ z h. met o z (filter_passes (λ y. is_among x (chain w y)) (objects_of w) z h))
+      where
+        under : (z : ObjNo) → is_among z (x ∷ descendants t x) ≡ true → is_among x (chain w z) ≡ true
+        under z h = elim (or_cases (same_object z x) (is_among z (descendants t x)) h) [
+          | inl e ↦ ap (λ q. is_among x (chain w q)) ((same_object-Decides z x).0 e) ∙ own_among o
+          | inr g ↦ met_under (levels_below t x) x z (own_among o) g
+        ]
+
+        listed : (z : ObjNo) → is_among x (chain w z) ≡ true → is_among z (subtree_of w x) ≡ true
+        listed z h = among_filter (λ y. is_among x (chain w y)) (objects_of w) z (object_listed w tree z (is_there t tree x z h)) h
+
+    -- and if it isn't an object nothing is
+    pub none_met : (test : ObjNo → Bool) → is_object w x ≡ false → list_any test (subtree_of w x) ≡ false
+    none_met test lacking = any_alike test (subtree_of w x) []
+        (λ z h. absurd (true≢false (sym (along (λ y. is_object w x ≡ true) (λ o. o) (λ y p r e q k. k) (chain w z) z refl (filter_passes (λ y. is_among x (chain w y)) (objects_of w) z h)) ∙ lacking)))
+        (λ z h. absurd (true≢false (sym h)))
+
+    -- ---- what comes next
+
+    -- a proper descendant isn't x
+    apart : (c y : ObjNo) (r : ObjRow) → get t.objects c ≡ Some r → r.parent ≡ y → is_among x (chain w y) ≡ true → same_object x c ≡ false
+    apart c y r e p h = by (same_object x c) refl
+      where
+        once : is_among c (chain w y) ≡ false
+        once = Climbs-once (parent_of w) (no_parent w tree) (chain w y) c c (subst (Chain w c) (chain_up c y r e p) (Chain-chain w tree c (there c r e)))
+
+        by : (b : Bool) → same_object x c ≡ b → b ≡ false
+        by true k = absurd (true≢false (sym h ∙ ap (λ z. is_among z (chain w y)) ((same_object-Decides x c).0 k) ∙ once))
+        by false k = refl
+
+    pub still_under : (c y : ObjNo) (r : ObjRow) → get t.objects c ≡ Some r → r.parent ≡ y → is_among x (chain w y) ≡ true → is_among x (chain w c) ≡ true
+    still_under c y r e p h = ap (is_among x) (chain_up c y r e p) ∙ or_right (same_object x c) (is_among x (chain w y)) h
+
+    -- a child that isn't x is under x by its parent
+    pub parent_under : (c y : ObjNo) (r : ObjRow) → get t.objects c ≡ Some r → r.parent ≡ y → same_object x c ≡ false → is_among x (chain w c) ≡ true → is_among x (chain w y) ≡ true
+    parent_under c y r e p other h = sym (ap (is_among x) (chain_up c y r e p) ∙ ap (λ b. b || is_among x (chain w y)) other) ∙ h
+
+    -- after c and all below it come its later siblings, and what comes after their parent
+    beside : (c y : ObjNo) (r : ObjRow) → get t.objects c ≡ Some r → r.parent ≡ y → is_among x (chain w y) ≡ true → after_below t x c ≡ branches t (children_past t y c) ++ after_below t x y
+    beside c y r e p h =
+        let row = has_row x y h in
+        let up : chain w y ≡ y ∷ drop 1 (chain w y) = let k = chain_up y row.0.parent row.0 row.1 refl in k ∙ ap (λ l. y ∷ drop 1 l) (sym k) in
+        ap (after_branch t x c) (ap (drop 1) (chain_up c y r e p) ∙ up)
+        ∙ ap (λ b. cond b [] (branches t (children_past t y c) ++ after_below t x y)) (apart c y r e p h)
+
+    pub at_top : after_below t x x ≡ []
+    at_top = by (drop 1 (chain w x))
+      where
+        by : (l : List ObjNo) → after_branch t x x l ≡ []
+        by [] = refl
+        by (p ∷ l) = ap (λ b. cond b [] (branches t (children_past t p x) ++ after_branch t x p l)) (same_object-self x)
+
+    -- the walk from x on
+    pub top_any : (test : ObjNo → Bool) → is_object w x ≡ true → list_any test (from_here t x (Some x)) ≡ list_any test (subtree_of w x)
+    top_any test o = ap (λ l. list_any test (x ∷ (descendants t x ++ l))) at_top ∙ ap (λ l. list_any test (x ∷ l)) (append-nil (descendants t x)) ∙ any_met test o
+
+    -- no sibling is left
+    pub upward : (c y : ObjNo) (r : ObjRow) → get t.objects c ≡ Some r → r.parent ≡ y → is_among x (chain w y) ≡ true → IsFirst object_cmp (is_linked t (ChildOf y)) c None → after_below t x y ≡ after_below t x c
+    upward c y r e p h first = sym (beside c y r e p h ∙ ap (λ l. branches t l ++ after_below t x y) (children_over y c first))
+
+    -- the next child of y, and what comes after it
+    pub onward : (y from c : ObjNo) → is_among x (chain w y) ≡ true → IsFirst object_cmp (is_linked t (ChildOf y)) from (Some c) → from_here t x (Some c) ≡ branches t (children_past t y from) ++ after_below t x y
+    onward y from c h first =
+        let k = linked_child y from c first in
+        ap (λ l. c ∷ (descendants t c ++ l)) (beside c y k.0 k.1 k.2 h)
+        ∙ sym (append_assoc (c ∷ descendants t c) (branches t (children_past t y c)) (after_below t x y))
+        ∙ ap (λ l. branches t l ++ after_below t x y) (sym (children_on y from c first))
+
+    pub sideward : (c y next : ObjNo) (r : ObjRow) → get t.objects c ≡ Some r → r.parent ≡ y → is_among x (chain w y) ≡ true → IsFirst object_cmp (is_linked t (ChildOf y)) c (Some next) → from_here t x (Some next) ≡ after_below t x c
+    sideward c y next r e p h first = onward y c next h first ∙ sym (beside c y r e p h)
+
+    pub downward : (y c : ObjNo) → is_among x (chain w y) ≡ true → IsFirst object_cmp (is_linked t (ChildOf y)) nothing (Some c) → from_here t x (Some c) ≡ walk_after t x y
+    downward y c h first = onward y nothing c h first ∙ ap (λ l. l ++ after_below t x y) (sym (descend y))
+
+    pub leaf : (y : ObjNo) → IsFirst object_cmp (is_linked t (ChildOf y)) nothing None → after_below t x y ≡ walk_after t x y
+    leaf y first = ap (λ l. l ++ after_below t x y) (sym (descend y ∙ ap (branches t) (children_over y nothing first)))

@@ -1,0 +1,22 @@
+use Rattle.std.proofs.Common.{◌≡◌, true, length, IfSome}
+use Rattle.std.specs.List.{list_any}
+use Rattle.moo_world.specs.ObjectLists.{subtree_of}
+use Rattle.moo_world.specs.Objects.{is_among}
+use Rattle.moo_world.specs.PropertyCalls.{defines_name}
+use Rattle.moo_world.specs.Rows.{world_of}
+use Rattle.moo_world.specs.World.{chain}
+use Rattle.moo_props.specs.Descent.{from_here}
+use Rattle.moo_props.proofs.clashing.is_defined_under.Given as goal
+
+-- one that is still to come defines the name if one of the subtree does
+abbrev pub invariant-loop-at : goal.invariant-loop-at
+invariant-loop-at g l =
+    let t = (g.R.Rows.held l.rows).maps in
+    let w = world_of t in
+    record {
+      any : list_any (λ y. defines_name w y l.name) (from_here t l.x l.at) ≡ list_any (λ y. defines_name w y l.fn.name) (subtree_of w l.fn.x);
+      under : IfSome l.at (λ y. is_among l.x (chain w y) ≡ true);
+    }
+
+abbrev pub decreases-loop-at : goal.decreases-loop-at
+decreases-loop-at g l = length (from_here (g.R.Rows.held l.rows).maps l.x l.at)

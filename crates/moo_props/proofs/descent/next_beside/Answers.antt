@@ -1,0 +1,60 @@
+use Rattle.std.proofs.Common.{◌≡◌, Bool, true, false, Some, length, refl, sym, ap, ◌∙◌, arith}
+use Rattle.std.specs.Prelude.{not}
+use Rattle.std.proofs.lemmas.Bool.{true≢false}
+use Rattle.std.specs.FinMap.{get}
+use Rattle.std.specs.Ordering.{int_eq}
+use Rattle.moo_value.specs.declared.value.ObjNo.{ObjNo}
+use Rattle.moo_rows.specs.declared.row.ObjRow.{ObjRow}
+use Rattle.moo_rows.specs.Maps.{Maps}
+use Rattle.moo_world.specs.Objects.{is_among, same_object-eq, same_object-Decides}
+use Rattle.moo_world.specs.Rows.{look_ups, world_of}
+use Rattle.moo_world.specs.World.{IsTree, chain}
+use Rattle.moo_world.proofs.Shown.Seen.{chain_of_no_row}
+use Rattle.moo_props.specs.Descent.{after_below}
+use Rattle.moo_props.proofs.Descending.{linked_child, chain_up, parent_under, still_under, sideward, upward, at_top}
+use Rattle.moo_props.proofs.descent.next_beside.Goals as goal
+
+fails : (b : Bool) → true ≡ not b → b ≡ false
+fails true e = absurd (true≢false e)
+fails false e = refl
+
+passes : (b : Bool) → false ≡ not b → b ≡ true
+passes true e = refl
+passes false e = absurd (true≢false (sym e))
+
+-- what is below x has a parent that is under x
+above : (t : Maps) (tree : IsTree (world_of t)) (x y : ObjNo) (r : ObjRow) → Some r ≡ get t.objects y → true ≡ not (int_eq y.0 x.0) → is_among x (chain (world_of t) y) ≡ true → is_among x (chain (world_of t) r.parent) ≡ true
+above t tree x y r row other under = parent_under t tree x y r.parent r (sym row) refl (sym (same_object-eq x y) ∙ fails _ other) under
+
+pub unreachable-requires : goal.unreachable-requires
+unreachable-requires g c =
+    true≢false (sym c.loop-x.invariant.under ∙ ap (is_among c.args.x) (chain_of_no_row (look_ups (g.R.Rows.held c.args.rows.now).maps) c.loop-x.done c.in-None.ensures))
+
+pub returns-in-Some-next_linked-clause-next : goal.returns-in-Some-next_linked-clause-next
+returns-in-Some-next_linked-clause-next g c =
+    let t = (g.R.Rows.held c.args.rows.now).maps in
+    sideward t c.requires.tree c.args.x c.loop-x.done c.in-Some.row.now.parent c.in-Some-next_linked.next c.in-Some.row.now (sym c.in-Some.ensures) refl (above t c.requires.tree c.args.x c.loop-x.done c.in-Some.row.now c.in-Some.ensures c.loop-x-test.ensures c.loop-x.invariant.under) c.in-Some-next_linked.ensures
+    ∙ c.loop-x.invariant.same
+
+pub returns-in-Some-next_linked-clause-under : goal.returns-in-Some-next_linked-clause-under
+returns-in-Some-next_linked-clause-under g c =
+    let t = (g.R.Rows.held c.args.rows.now).maps in
+    let k = linked_child t c.requires.tree c.in-Some.row.now.parent c.loop-x.done c.in-Some-next_linked.next c.in-Some-next_linked.ensures in
+    still_under t c.requires.tree c.args.x c.in-Some-next_linked.next c.in-Some.row.now.parent k.0 k.1 k.2 (above t c.requires.tree c.args.x c.loop-x.done c.in-Some.row.now c.in-Some.ensures c.loop-x-test.ensures c.loop-x.invariant.under)
+
+pub loop-x-smaller : goal.loop-x-smaller
+loop-x-smaller g c = omega (arith, ap length (chain_up (g.R.Rows.held c.args.rows.now).maps c.requires.tree c.loop-x.done c.in-Some.row.now.parent c.in-Some.row.now (sym c.in-Some.ensures) refl))
+
+pub loop-x-preserved : goal.loop-x-preserved
+loop-x-preserved g c =
+    let t = (g.R.Rows.held c.args.rows.now).maps in
+    record {
+      same = upward t c.requires.tree c.args.x c.loop-x.done c.in-Some.row.now.parent c.in-Some.row.now (sym c.in-Some.ensures) refl (above t c.requires.tree c.args.x c.loop-x.done c.in-Some.row.now c.in-Some.ensures c.loop-x-test.ensures c.loop-x.invariant.under) c.in_default.ensures ∙ c.loop-x.invariant.same;
+      under = above t c.requires.tree c.args.x c.loop-x.done c.in-Some.row.now c.in-Some.ensures c.loop-x-test.ensures c.loop-x.invariant.under;
+    }
+
+pub returns-clause-next : goal.returns-clause-next
+returns-clause-next g c =
+    let t = (g.R.Rows.held c.args.rows.now).maps in
+    let same = (same_object-Decides c.args.x c.loop-x.done).0 (sym (same_object-eq c.args.x c.loop-x.done) ∙ passes _ c.loop-x-test.ensures) in
+    sym (at_top t c.requires.tree c.args.x) ∙ ap (after_below t c.args.x) same ∙ c.loop-x.invariant.same

@@ -1,0 +1,59 @@
+//! Going down a subtree without taking memory: each object before its children, and these in ascending order.
+
+ghost use Rattle.std.specs.Prelude.{◌≡◌, Bool, true, IfSome};
+ghost use Rattle.std.specs.List.{list_any};
+ghost use Rattle.moo_value.specs.declared.value.ObjNo.{ObjNo};
+ghost use Rattle.moo_world.specs.ObjectLists.{subtree_of};
+ghost use Rattle.moo_world.specs.Objects.{is_among};
+ghost use Rattle.moo_world.specs.Rows.{world_of};
+ghost use Rattle.moo_world.specs.World.{IsTree, chain};
+ghost use Rattle.moo_props.specs.Descent.{walk_after, after_below, from_here};
+
+use moo_rows::{Link, Rows};
+use moo_tree::{nothing, valid};
+use moo_value::ObjNo;
+
+/// The object of x's subtree that comes after y and all that is below y.
+fn next_beside<R: Rows>(rows: &R, x: ObjNo, y: ObjNo) -> Option<ObjNo>
+    requires tree { IsTree (world_of (R.held rows.now).maps) }
+    requires under { is_among x (chain (world_of (R.held rows.now).maps) y) ≡ true }
+    ensures next { from_here (R.held rows.now).maps x result ≡ after_below (R.held rows.now).maps x y }
+    ensures under { IfSome result (λ z. is_among x (chain (world_of (R.held rows.now).maps) z) ≡ true) }
+{
+    let mut done = y;
+    while done != x {
+        let parent = match rows.object(done) {
+            None => unreachable!(),
+            Some(row) => row.parent,
+        };
+        if let Some(next) = rows.next_linked(Link::ChildOf(parent), done) {
+            return Some(next);
+        }
+        done = parent;
+    }
+    None
+}
+
+/// The object of x's subtree that comes after y: its first child, or what comes after all that is below it.
+///
+/// From x on it meets the m objects of the subtree, among n of the world, in m log n steps.
+pub(crate) fn next_under<R: Rows>(rows: &R, x: ObjNo, y: ObjNo) -> Option<ObjNo>
+    requires tree { IsTree (world_of (R.held rows.now).maps) }
+    requires under { is_among x (chain (world_of (R.held rows.now).maps) y) ≡ true }
+    ensures next { from_here (R.held rows.now).maps x result ≡ walk_after (R.held rows.now).maps x y }
+    ensures under { IfSome result (λ z. is_among x (chain (world_of (R.held rows.now).maps) z) ≡ true) }
+{
+    match rows.next_linked(Link::ChildOf(y), nothing()) {
+        None => next_beside(rows, x, y),
+        Some(child) => Some(child),
+    }
+}
+
+/// Where the walk down from x begins: at x, if that is an object.
+pub(crate) fn subtree_top<R: Rows>(rows: &R, x: ObjNo) -> Option<ObjNo>
+    requires tree { IsTree (world_of (R.held rows.now).maps) }
+    ensures top { (test : ObjNo → Bool) → list_any test (from_here (R.held rows.now).maps x result) ≡ list_any test (subtree_of (world_of (R.held rows.now).maps) x) }
+    ensures under { IfSome result (λ z. is_among x (chain (world_of (R.held rows.now).maps) z) ≡ true) }
+{
+    if valid(rows, x) { Some(x) } else { None }
+}

@@ -1,0 +1,14 @@
+//! Why a line of a batch can't be read, and why a call is refused, in words for people.
+//!
+//! These words go to standard error. Nothing that is proved rests on them: what a batch is answered is judged elsewhere.
+#![tactic(auto)]
+
+mod calls;
+mod headers;
+mod names;
+mod notes;
+mod refusals;
+mod values;
+mod words;
+
+pub use notes::StandardNotes;

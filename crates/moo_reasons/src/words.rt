@@ -1,0 +1,29 @@
+//! Pieces of the words.
+
+use std::alloc::{AllocError, Global};
+
+/// So many bytes of a text are shown.
+const MOST_SHOWN: usize = 40;
+
+/// Appends the first bytes of a text between quotes, and a question mark for each that doesn't print.
+pub(crate) fn put_shown(bytes: &[u8], out: &mut Vec<u8>) -> Result<(), AllocError> {
+    out.push(b'\'')?;
+    for byte in bytes.iter().take(MOST_SHOWN) {
+        out.push(if matches!(*byte, 32..=126) {
+            *byte
+        } else {
+            b'?'
+        })?;
+    }
+    if MOST_SHOWN < bytes.len() {
+        out.extend_from_slice(b"..")?;
+    }
+    out.push(b'\'')?;
+    Ok(())
+}
+
+/// Appends a number.
+pub(crate) fn put_number(alloc: Global, number: u64, out: &mut Vec<u8>) -> Result<(), AllocError> {
+    let digits = number.to_string(alloc)?;
+    out.extend_from_slice(digits.as_bytes())
+}

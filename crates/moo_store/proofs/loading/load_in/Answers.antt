@@ -1,0 +1,39 @@
+use Rattle.std.proofs.Common.{IsTrue, true, inr, sym, subst, rules}
+use Rattle.sqlite.specs.State.{HasCleanDisk, Survives}
+use Rattle.sqlite.specs.Held.{state}
+use Rattle.moo_world.specs.Judge.{state_of}
+use Rattle.moo_store.specs.States.{KeepsRows, LeavesState}
+use Rattle.moo_store.specs.World.{ShowsItsRows}
+use Rattle.moo_store.proofs.Opened.{has_no_tables, keeps_all, survives_all}
+use Rattle.moo_store.proofs.loading.load_in.Goals as goal
+
+pub returns-in-Ok-create_tables-clause-stands : goal.returns-in-Ok-create_tables-clause-stands
+returns-in-Ok-create_tables-clause-stands g c =
+    let new : IsTrue c.is_new.result = search rules in
+    let rows = c.args.rows.maps in
+    let keeps : HasCleanDisk (state g.S.Store c.in-Ok-create_tables.connection) → KeepsRows (state g.S.Store c.in-Ok-create_tables.connection) rows = λ clean.
+    keeps_all (state g.S.Store c.in-Ok-create_tables.connection) c.in-Ok.cells rows c.in-Ok.ensures
+    (c.in-Ok-create_tables.ensures.made clean (has_no_tables (state g.S.Store c.args.conn).now (c.is_new.ensures.0 new))) in
+    let shown : ShowsItsRows g.S.Store c.over.result = λ clean.
+    subst (KeepsRows (state g.S.Store c.over.result.connection)) (sym c.over.ensures.rows)
+    (subst (λ conn. HasCleanDisk (state g.S.Store conn) → KeepsRows (state g.S.Store conn) rows) (sym c.over.ensures.connection) keeps clean) in
+    c.over.ensures.stands true (λ _. shown)
+
+pub returns-in-Ok-create_tables-clause-crash : goal.returns-in-Ok-create_tables-clause-crash
+returns-in-Ok-create_tables-clause-crash g c =
+    let new : IsTrue c.is_new.result = search rules in
+    let none = has_no_tables (state g.S.Store c.args.conn).now (c.is_new.ensures.0 new) in
+    subst (λ conn. Survives (state g.S.Store c.args.conn) (state g.S.Store conn) (λ trees. LeavesState trees (state_of c.args.rows.maps))) (sym c.over.ensures.connection)
+    (survives_all (state g.S.Store c.args.conn) (state g.S.Store c.in-Ok-create_tables.connection) c.in-Ok.cells c.args.rows.maps c.in-Ok.ensures c.requires.good (c.in-Ok-create_tables.ensures.crash (λ clean. none)))
+
+pub returns-in-Err-clause-undone : goal.returns-in-Err-clause-undone
+returns-in-Err-clause-undone g c =
+    let new : IsTrue c.is_new.result = search rules in
+    let none = has_no_tables (state g.S.Store c.args.conn).now (c.is_new.ensures.0 new) in
+    inr (λ clean opened. c.in-Err.ensures.undone clean none opened)
+
+pub returns-in-Err-clause-crash_refused : goal.returns-in-Err-clause-crash_refused
+returns-in-Err-clause-crash_refused g c =
+    let new : IsTrue c.is_new.result = search rules in
+    let none = has_no_tables (state g.S.Store c.args.conn).now (c.is_new.ensures.0 new) in
+    inr (survives_all (state g.S.Store c.args.conn) (state g.S.Store c.in-Err.conn) c.in-Ok.cells c.args.rows.maps c.in-Ok.ensures c.requires.good (c.in-Err.ensures.crash_refused (λ clean. none)))

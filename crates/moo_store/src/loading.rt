@@ -1,0 +1,65 @@
+//! The tables of whole worlds.
+
+ghost use Rattle.std.specs.Prelude.{◌≡◌, ◌≢◌, ◌⊎◌, ◌<◌, ◌^◌, IfOk, IfErr, IsErrAnd, IsTrue, ◌↔◌, false, true};
+ghost use Rattle.sqlite.specs.State.{HasCleanDisk, Survives};
+ghost use Rattle.sqlite.specs.Held.{state};
+ghost use Rattle.moo_world.specs.Rows.{IsGood};
+ghost use Rattle.moo_world.specs.Judge.{state_of};
+ghost use Rattle.moo_tables.specs.Tables.{no_schema};
+ghost use Rattle.moo_tables.specs.Inside.{RestsAt};
+ghost use Rattle.moo_store.specs.States.{LeavesState};
+ghost use Rattle.moo_store.specs.World.{store_of, StandsFor};
+
+use crate::fault::StoreFault;
+use crate::printing::print_all;
+use crate::world::World;
+use moo_flat::Flat;
+use moo_tables::create_in as create_tables;
+use sqlite::{Alter, Connection, Error, ErrorCode};
+use std::alloc::Global;
+
+/// The fault of a database that has tables already.
+pub(crate) const TAKEN: StoreFault = StoreFault::Store(Error::SqliteFailure(ErrorCode::NameTaken));
+
+/// Whether a database has no tables, and so nothing at all.
+pub(crate) fn is_new<S: Alter + Drop>(conn: &Connection<S>) -> bool
+    ensures { IsTrue result ↔ ((state S.Store conn.now).now.schema ≡ no_schema) }
+{
+    let schema = conn.schema();
+    schema.tables.is_empty() && schema.indexes.is_empty() && schema.views.is_empty()
+}
+
+/// Makes the tables of these rows in a database that has none, in one transaction, and answers the World over them.
+///
+/// The rows have to be good, `seq` below 2^63, and the connection in no transaction (`is_autocommit`). It comes back at each
+/// refusal. OutOfMemory: nothing was done. Store with `ErrorCode::NameTaken`: the database has a table, an index or a view
+/// already, and stays as it is. Any other Store: the store failed; its tables are those before, and a crash may leave those
+/// of the rows.
+pub fn load_in<S: Alter + Drop>(
+    alloc: Global,
+    conn: Connection<S>,
+    rows: Flat,
+) -> Result<World<S>, (StoreFault, Connection<S>)>
+    requires outside { (state S.Store conn).in_transaction ≡ false }
+    requires good { IsGood rows.maps }
+    requires limit { rows.maps.head.seq < 2 ^ 63 }
+    ensures stands { IfOk result (λ world. StandsFor S.Store true world (state_of rows.maps)) }
+    // A database that has tables is refused, and comes back as it is; so it does if memory runs out.
+    ensures refused { (state S.Store conn).now.schema ≢ no_schema → IsErrAnd result (λ e. (e.0 ≡ StoreFault.Store (Error.SqliteFailure ErrorCode.NameTaken)) × (e.1 ≡ conn)) }
+    ensures fault { IfErr result (λ e. ((e.0 ≡ StoreFault.OutOfMemory) × (e.1 ≡ conn)) ⊎ ((error : _) × (e.0 ≡ StoreFault.Store error))) }
+    ensures crash { IfOk result (λ world. Survives (state S.Store conn) (store_of S.Store world) (λ trees. LeavesState trees (state_of rows.maps))) }
+    ensures outside_refused { IfErr result (λ e. (state S.Store e.1).in_transaction ≡ false) }
+    ensures undone { IfErr result (λ e. (e.1 ≡ conn) ⊎ (HasCleanDisk (state S.Store e.1) → IsTrue (state S.Store e.1).is_open → RestsAt (state S.Store e.1) (state S.Store conn).committed)) }
+    ensures crash_refused { IfErr result (λ e. (e.1 ≡ conn) ⊎ Survives (state S.Store conn) (state S.Store e.1) (λ trees. LeavesState trees (state_of rows.maps))) }
+{
+    if !is_new(&conn) {
+        return Err((TAKEN, conn));
+    }
+    let Ok(cells) = print_all(alloc, &rows) else {
+        return Err((StoreFault::OutOfMemory, conn));
+    };
+    match create_tables(conn, &cells) {
+        Ok(connection) => Ok(World::over(alloc, connection, rows)),
+        Err((error, conn)) => Err((StoreFault::Store(error), conn)),
+    }
+}

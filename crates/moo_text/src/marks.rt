@@ -1,0 +1,70 @@
+//! The places of the lines of a batch in their text, for messages.
+
+use crate::line::{is_blank_line, is_end_line};
+use std::alloc::Global;
+
+/// Where the lines of the last batch are in their text. It serves messages alone: no contract speaks of it.
+///
+/// Without memory for a number the later lines of the batch have none.
+#[derive(Drop)]
+pub struct Marks {
+    /// So many lines were read.
+    count: u64,
+    /// The numbers of the lines of the batch that aren't blank.
+    numbers: Vec<u64>,
+    /// The batch is over: the next line belongs to another.
+    is_over: bool,
+    /// The first bad line of the batch, without its end.
+    bad: Vec<u8>,
+}
+
+impl Marks {
+    pub(crate) fn new(alloc: Global) -> Marks {
+        Marks {
+            count: 0,
+            numbers: Vec::new(alloc),
+            is_over: false,
+            bad: Vec::new(alloc),
+        }
+    }
+
+    /// One more line was read.
+    pub(crate) fn add(&mut self, line: &[u8]) {
+        self.count = self.count.saturating_add(1);
+        if self.is_over {
+            self.numbers.clear();
+            self.bad.clear();
+            self.is_over = false;
+        }
+        if is_blank_line(line) {
+            return;
+        }
+        let _added = self.numbers.push(self.count);
+        self.is_over = is_end_line(line);
+    }
+
+    /// That line is the first bad one of the batch.
+    pub(crate) fn spoil(&mut self, line: Vec<u8>) {
+        self.bad = line;
+    }
+
+    /// The line of the text that the batch begins with. The first line of a text is 1.
+    pub fn header(&self) -> Option<u64> {
+        self.numbers.first().copied()
+    }
+
+    /// The line of the text that a call of the batch is on. The first call is 1.
+    pub fn call(&self, call: u32) -> Option<u64> {
+        self.numbers.get(call as usize).copied()
+    }
+
+    /// The first bad line of the batch, without its end; no bytes if it has none. A line over its limit is cut after it.
+    pub fn bad(&self) -> &[u8] {
+        self.bad.as_slice()
+    }
+
+    /// So many lines were read.
+    pub fn count(&self) -> u64 {
+        self.count
+    }
+}
