@@ -5,14 +5,14 @@ _moo()
     local word=${COMP_WORDS[COMP_CWORD]} command=${COMP_WORDS[1]}
     COMPREPLY=()
     if [ "$COMP_CWORD" -eq 1 ]; then
-        mapfile -t COMPREPLY < <(compgen -W "init apply ask dump check serve help --help --version" -- "$word")
+        mapfile -t COMPREPLY < <(compgen -W "init apply ask dump load check serve help --help --version" -- "$word")
         return
     fi
     case $command in
-        init | apply | ask | dump | check | serve) ;;
+        init | apply | ask | dump | load | check | serve) ;;
         help)
             if [ "$COMP_CWORD" -eq 2 ]; then
-                mapfile -t COMPREPLY < <(compgen -W "init apply ask dump check serve" -- "$word")
+                mapfile -t COMPREPLY < <(compgen -W "init apply ask dump load check serve" -- "$word")
             fi
             return
             ;;
@@ -25,7 +25,7 @@ _moo()
             ;;
     esac
     case $command:$COMP_CWORD in
-        *:2 | apply:3 | ask:3) mapfile -t COMPREPLY < <(compgen -f -- "$word") ;;
+        *:2 | apply:3 | ask:3 | load:3) mapfile -t COMPREPLY < <(compgen -f -- "$word") ;;
     esac
 }
 complete -o filenames -F _moo moo

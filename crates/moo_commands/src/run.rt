@@ -59,7 +59,8 @@ fn report_usage<W: Write>(rt: &HostRuntime, usage: &Usage, output: &mut W) -> u8
 /// the writer failed, the text is too long, the port can't be listened on, or an answer is `fault` or `closed`; 3 if the file
 /// is damaged or of a newer version, or a dump shows no world; 4 if memory ran out. Words that name no task give the text of their reader: 2, or 0 for
 /// help and the version. If the store, the batches, the dump or the port failed, the cause goes to standard error, and so
-/// does a hint if a batch met a fault of the store. If a batch isn't accepted, standard error says its line and why. A connection that fails is no failure of `serve`.
+/// does a hint if a batch met a fault of the store. If a batch isn't accepted, standard error says its line and why. A connection that fails isn't a
+/// failure of `serve`.
 ///
 /// `T` is what the file of the words holds, and `B` the files of batches: it is proved for all contents, and no code reads them. What is left of the file is handed back, to be closed.
 pub fn run_words<T: Start, B: BatchFiles, R: Read + Drop, W: Write>(

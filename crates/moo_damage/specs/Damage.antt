@@ -1,4 +1,4 @@
--- What can be wrong with rows. Each kind is a test of one row, or what a chain of links comes to.
+-- What can be wrong with rows. Each kind is a test of one row, or what a chain of links leads to.
 use Rattle.std.specs.Prelude.{◌≡◌, pos, nat_lt, nat_le, int_lt, Bool, true, false, not, ◌&&◌, ◌||◌, List, Option, None, Some, is_some, unwrap_or, ◌⊎◌}
 use Rattle.std.specs.Option.{option_map}
 use Rattle.std.specs.List.{list_any}
@@ -88,7 +88,7 @@ is_clear_definer m key row = is_clear row.state && defines m key.0 key.1
 abbrev pub is_strange_verb : Maps → ObjNo × VerbId → Bool
 is_strange_verb m key = not (is_object (world_of m) key.0)
 
--- each link names an object, or nothing, which is no object
+-- each link names an object, or nothing, which isn't an object
 pub record LinksHold (link : Link) (m : Maps) : Type 0 where
   pub links : (x : ObjNo) (row : ObjRow) → get m.objects x ≡ Some row → (link_of link row ≡ nothing) ⊎ (is_some (get m.objects (link_of link row)) ≡ true)
   pub nothing : get m.objects nothing ≡ None

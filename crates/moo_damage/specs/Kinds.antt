@@ -123,7 +123,7 @@ IsLeast meets (Some key) = meets key × ((other : Key) → IsBelow other key →
 abbrev pub IsFirstMet : (Kind → Key → Type 0) → Kind → Key → Type 0
 IsFirstMet meets kind key = NoneBefore meets (place kind) × IsLeast (meets kind) (Some key)
 
--- the first that is met of the kinds before this place; none where none of them is met
+-- the first that is met of the kinds before this place; none if none of them is met
 abbrev pub IsFirstBefore : (Kind → Key → Type 0) → ℕ → Option (Kind × Key) → Type 0
 IsFirstBefore meets n None = NoneBefore meets n
 IsFirstBefore meets n (Some d) = IsFirstMet meets d.0 d.1

@@ -7,7 +7,7 @@ use Rattle.moo_damage.specs.Damage.{IsClean}
 use Rattle.moo_damage.specs.Kinds.{InRows}
 use Rattle.moo_damage.specs.Limits.{AreWithin}
 
--- rows within the limits that nothing is wrong with are sound rows of a well formed world, with petitions as they may stand beside it
+-- rows within the limits that nothing is wrong with are sound rows of a well formed world, with petitions as they may be beside it
 abbrev pub CleanRowsAreGood : Type 0
 CleanRowsAreGood = (m : Maps) → AreWithin m → IsClean m → IsGood m
 

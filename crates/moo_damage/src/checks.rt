@@ -215,7 +215,7 @@ pub(crate) fn first_lost<R: Rows>(rows: &R, link: Link) -> Option<ObjNo>
     None
 }
 
-/// The least property whose definer is no object, or none.
+/// The least property whose definer isn't an object, or none.
 pub(crate) fn first_undefined<R: Rows>(rows: &R) -> Option<PropId>
     ensures { IsLeastBad (R.held rows.now).maps.props (λ k r. lacks_definer (R.held rows.now).maps r ≡ false) (λ k r. lacks_definer (R.held rows.now).maps r ≡ true) result }
 {
@@ -287,7 +287,7 @@ fn search_clear<R: Rows>(rows: &R) -> Option<(ObjNo, PropId)>
     None
 }
 
-/// The least slot on its definer that is clear, or none: slots are looked at only where a property has such a one.
+/// The least slot on its definer that is clear, or none: slots are looked at only if a property has such a one.
 pub(crate) fn first_clear<R: Rows>(rows: &R) -> Option<(ObjNo, PropId)>
     ensures { IsLeastBad (R.held rows.now).maps.slots (λ k r. is_clear_definer (R.held rows.now).maps k r ≡ false) (λ k r. is_clear_definer (R.held rows.now).maps k r ≡ true) result }
 {
@@ -297,7 +297,7 @@ pub(crate) fn first_clear<R: Rows>(rows: &R) -> Option<(ObjNo, PropId)>
     search_clear(rows)
 }
 
-/// The least verb of what is no object, or none.
+/// The least verb of what isn't an object, or none.
 pub(crate) fn first_strange_verb<R: Rows>(rows: &R) -> Option<(ObjNo, VerbId)>
     ensures { IsLeastBad (R.held rows.now).maps.verbs (λ k r. is_strange_verb (R.held rows.now).maps k ≡ false) (λ k r. is_strange_verb (R.held rows.now).maps k ≡ true) result }
 {

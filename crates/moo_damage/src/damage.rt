@@ -39,7 +39,7 @@ fn wrong_number<R: Rows>(rows: &R) -> Option<(Kind, Key)>
     None
 }
 
-/// A link that names no object, or a chain of links without an end. An `Err` is want of memory.
+/// A link that names no object, or a chain of links without an end. An `Err` is a lack of memory.
 fn wrong_link<R: Rows>(
     alloc: Global,
     rows: &R,
@@ -100,8 +100,8 @@ fn wrong_slot<R: Rows>(rows: &R, hold: bool) -> Option<(Kind, Key)>
 }
 
 /// What is wrong with rows: the first of the kinds of damage from `PastHead` to `StrangeVerb` that is met, with its least key, where
-/// objects come before properties before slots before verbs before petitions. None where nothing is: the rows then show a well formed
-/// world, and petitions as they may stand beside it. An `Err` is want of memory.
+/// objects come before properties before slots before verbs before petitions. None if nothing is: the rows then show a well formed
+/// world, and petitions as they may be beside it. An `Err` is a lack of memory.
 ///
 /// Its time is that of going over the rows and of looking up each one's neighbours. Only rows of which a slot is wrong take longer.
 pub fn damage_of<R: Rows>(alloc: Global, rows: &R) -> Result<Option<(Kind, Key)>, AllocError>

@@ -114,7 +114,7 @@ fn petition_differing<R: Rows>(own: &R, found: &R) -> Option<PetitionId>
 }
 
 /// The first row in which two lots of rows differ, in the order head, objects, properties, slots, verbs, petitions, and in each by
-/// number: that both have with other content, or one of them alone. None where they are equal. Takes no memory.
+/// number: that both have with other content, or one of them alone. None if they are equal. Takes no memory.
 pub fn first_difference(own: &Flat, found: &Flat) -> Option<Key>
     ensures differs { IfSome result (λ key. IsFirstDifference own.now.maps found.now.maps key) }
     ensures same { IfNone result (own.now.maps ≡ found.now.maps) }

@@ -15,7 +15,7 @@ pub enum Kind {
     BadHead,
     /// A cell can't be read, or has a number outside its limits.
     BadCell,
-    /// The number of a row was never given: it lies below 0 or past that of the head.
+    /// The number of a row was never given: it is below 0 or past that of the head.
     PastHead,
     /// A parent is neither `#-1` nor an object.
     NoParent,
@@ -25,7 +25,7 @@ pub enum Kind {
     NoPlace,
     /// A chain of locations doesn't end.
     PlaceLoop,
-    /// A property's definer is no object.
+    /// A property's definer isn't an object.
     NoDefiner,
     /// Two properties have one name, on one object or on an object and its ancestor. The one of greater number is told.
     DoubleName,
@@ -35,7 +35,7 @@ pub enum Kind {
     MissingSlot,
     /// A slot is clear on the object that defines its property.
     ClearDefiner,
-    /// A verb of what is no object.
+    /// A verb of what isn't an object.
     StrangeVerb,
     /// The rows differ from those that a world holds in memory.
     Mismatch,

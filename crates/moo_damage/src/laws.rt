@@ -3,7 +3,7 @@
 ghost use Rattle.moo_damage.specs.Laws.{CleanRowsAreGood, GoodRowsAreClean, GoodRowsHaveNoDamage};
 ghost use Rattle.moo_damage.specs.Local.{HeldSlotsAreLocal, LocalSlotsHold};
 
-/// Rows within the limits that nothing is wrong with are sound, of a well formed world, with petitions as they may stand beside it.
+/// Rows within the limits that nothing is wrong with are sound, of a well formed world, with petitions as they may be beside it.
 pub fn clean_rows_are_good()
     ensures { CleanRowsAreGood }
 {}
@@ -18,7 +18,7 @@ pub fn good_rows_have_no_damage()
     ensures { GoodRowsHaveNoDamage }
 {}
 
-/// Where what each slot and its neighbours show is right, and chains end, the slots are just those that are owed.
+/// If what each slot and its neighbours show is right, and chains end, the slots are just those that are owed.
 pub fn local_slots_hold()
     ensures { LocalSlotsHold }
 {}

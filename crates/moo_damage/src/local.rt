@@ -88,7 +88,7 @@ fn any_lacks_one<R: Rows>(rows: &R) -> bool
 
 /// Whether the slots are seen to be just those that are owed, by a look at each slot, its object and the parent's slots. Those of good rows always are.
 ///
-/// No chain is climbed: along chains that end, what each object has of its parent it has of all ancestors. An `Err` is want of memory.
+/// No chain is climbed: along chains that end, what each object has of its parent it has of all ancestors. An `Err` is a lack of memory.
 pub(crate) fn slots_hold<R: Rows>(alloc: Global, rows: &R) -> Result<bool, AllocError>
     requires tree { IsTree (world_of (R.held rows.now).maps) }
     requires numbered { (id : PropId) (p : PropRow) → get (R.held rows.now).maps.props id ≡ Some p → 0 < id.0 }

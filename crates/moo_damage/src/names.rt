@@ -15,7 +15,7 @@ use moo_value::{MooStr, ObjNo};
 use std::alloc::{AllocError, Global};
 use std::collections::BTreeMap;
 
-/// Notes a property under its name, and answers whether no other was noted there. An `Err` is want of memory.
+/// Notes a property under its name, and answers whether no other was noted there. An `Err` is a lack of memory.
 fn note_name(
     alloc: Global,
     noted: &mut BTreeMap<Vec<u8>, PropId>,
@@ -32,7 +32,7 @@ fn note_name(
     }
 }
 
-/// Notes the property of a number, if there is one, and answers whether no other of its name was noted. An `Err` is want of memory.
+/// Notes the property of a number, if there is one, and answers whether no other of its name was noted. An `Err` is a lack of memory.
 fn note_prop<R: Rows>(
     alloc: Global,
     rows: &R,
@@ -47,7 +47,7 @@ fn note_prop<R: Rows>(
     }
 }
 
-/// Whether no two properties that x has slots of have one name. An `Err` is want of memory.
+/// Whether no two properties that x has slots of have one name. An `Err` is a lack of memory.
 fn names_apart_on<R: Rows>(alloc: Global, rows: &R, x: ObjNo) -> Result<bool, AllocError>
     ensures apart { IfOk result (λ apart. apart ≡ true → NamesApart (R.held rows.now).maps x) }
     ensures sound { IsSound (R.held rows.now).maps → IfOk result (λ apart. apart ≡ true) }
@@ -62,7 +62,7 @@ fn names_apart_on<R: Rows>(alloc: Global, rows: &R, x: ObjNo) -> Result<bool, Al
     Ok(true)
 }
 
-/// The same, of an object that is looked at once: those of which it's known are noted. An `Err` is want of memory.
+/// The same, of an object that is looked at once: those of which it's known are noted. An `Err` is a lack of memory.
 fn seen_apart<R: Rows>(
     alloc: Global,
     rows: &R,
@@ -85,7 +85,7 @@ fn seen_apart<R: Rows>(
     Ok(true)
 }
 
-/// Whether no two properties have one name on an object that defines a property. An `Err` is want of memory.
+/// Whether no two properties have one name on an object that defines a property. An `Err` is a lack of memory.
 pub(crate) fn names_apart<R: Rows>(alloc: Global, rows: &R) -> Result<bool, AllocError>
     ensures apart { IfOk result (λ apart. apart ≡ true → (id : PropId) (p : PropRow) → get (R.held rows.now).maps.props id ≡ Some p → NamesApart (R.held rows.now).maps p.definer) }
     ensures sound { IsSound (R.held rows.now).maps → IfOk result (λ apart. apart ≡ true) }

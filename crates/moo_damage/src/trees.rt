@@ -56,7 +56,7 @@ impl Link {
     }
 }
 
-/// How many objects there are. An `Err` is want of memory.
+/// How many objects there are. An `Err` is a lack of memory.
 fn object_count<R: Rows>(alloc: Global, rows: &R) -> Result<usize, AllocError>
     ensures { IfOk result (λ n. n ≡ length (entries (R.held rows.now).maps.objects)) }
 {
@@ -67,7 +67,7 @@ fn object_count<R: Rows>(alloc: Global, rows: &R) -> Result<usize, AllocError>
     Ok(objects.len())
 }
 
-/// The objects from x up to one that is known to end, or to the end itself; none where the chain doesn't end.
+/// The objects from x up to one that is known to end, or to the end itself; none if the chain doesn't end.
 fn climb<R: Rows>(
     alloc: Global,
     rows: &R,
@@ -112,7 +112,7 @@ fn note(known: &mut BTreeMap<ObjNo, ()>, path: &[ObjNo]) -> Result<(), AllocErro
     Ok(())
 }
 
-/// The least object whose chain of links doesn't end, or none. An `Err` is want of memory.
+/// The least object whose chain of links doesn't end, or none. An `Err` is a lack of memory.
 ///
 /// Each object is climbed over once: what is known to end is noted, and the first chain that is longer than there are
 /// objects is the answer.

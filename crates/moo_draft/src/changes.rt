@@ -66,7 +66,7 @@ pub struct Changes {
     pub petitions: ChangeList<PetitionId, PetitionRow>,
 }
 
-/// Whether a key has this row, or has none if that is none.
+/// Whether a key has this row, or has none if there is none.
 fn has_row<V: Row>(held: Option<&V>, row: &Option<V>) -> bool
     ensures { IsTrue result ↔ (option_map (λ held. held.now) held.entry ≡ row.now) }
 {

@@ -91,7 +91,7 @@ impl<'a, R: Rows> Draft<'a, R> {
         }
     }
 
-    /// The changes that make the base into the draft: a row that is put back is no change, nor is the removal of a row
+    /// The changes that make the base into the draft: a row that is put back isn't a change, nor is the removal of a row
     /// that the base doesn't have. The only error is that memory runs out.
     pub fn into_changes(self) -> Result<Changes, AllocError>
         ensures { IfOk result (λ changes. AreChanges self.entry.base self.entry.maps changes) }

@@ -15,7 +15,7 @@ ghost use Rattle.moo_files.specs.Contents.{HoldsTrees, HoldsState, HasAnyTable};
 ghost use Rattle.moo_files.specs.Remains.{IsCleanRemains, MayStopAs, KeepsSuch, StillHolds, KeepsNothingBut};
 
 use crate::making::leaves_its_state;
-use crate::remains::{Remains, open_connection};
+use crate::remains::{Remains, open_new};
 use moo_flat::Flat;
 use moo_store::{StoreFault, World, load_in};
 use sqlite::{Connection, Error, ErrorCode, FileFrom, FileStore, Start};
@@ -56,7 +56,7 @@ pub fn load_from<T: Start>(
     requires good { IsGood rows.maps }
     requires limit { rows.maps.head.seq < 2 ^ 63 }
     ensures stands { IfOk result (λ world. StandsFor over_files true world (state_of rows.maps)) }
-    // Files that hold a world are no place for another.
+    // A file that holds a world takes no other.
     ensures taken { (s : State) → HoldsState (image_at T.Start) s → IfOk result (λ world. HasCleanDisk (store_of over_files world) → ⊥) }
     ensures fault { IfErr result (λ e. IsOfStore e.0) }
     // After a refusal files that held any table hold the same database, and so does what a crash leaves. If they held no table, or
@@ -71,7 +71,7 @@ pub fn load_from<T: Start>(
     // A crash of a new World leaves it as it was made.
     ensures crash { IfOk result (λ world. HasCleanDisk (store_of over_files world) → Left (store_of over_files world) (state_of rows.maps)) }
 {
-    let conn = match open_connection(rt, path, start) {
+    let conn = match open_new(rt, path, start) {
         Ok(conn) => conn,
         Err((fault, remains)) => return Err((fault, remains)),
     };

@@ -50,7 +50,7 @@ pub fn create_from<T: Start>(
     start: T,
 ) -> Result<World<FileStore<FileFrom<T>>>, (StoreFault, Remains<T, FileFrom<T>>)>
     ensures stands { IfOk result (λ world. StandsFor over_files true world (state_of opening_maps)) }
-    // Files that hold a world are no place for another.
+    // A file that holds a world takes no other.
     ensures taken { (s : State) → HoldsState (image_at T.Start) s → IfOk result (λ world. HasCleanDisk (store_of over_files world) → ⊥) }
     ensures fault { IfErr result (λ e. IsOfStore e.0) }
     // After a refusal files that held any table hold the same database, and so does what a crash leaves. Of those that held none, or

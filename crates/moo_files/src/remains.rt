@@ -106,7 +106,7 @@ fn path_fault(error: PathError) -> StoreFault
     }
 }
 
-/// The two files at a path, as `sqlite` opens them. `:memory:` and a URI are no path.
+/// The two files at a path, as `sqlite` opens them. `:memory:` and a URI aren't paths.
 fn open_pair<T: Start>(
     rt: &HostRuntime,
     path: &str,

@@ -2,7 +2,7 @@
 use Rattle.std.proofs.Common.{◌≡◌, ℕ, ◌+◌, ◌≤◌, List, [], ◌++◌, length, Option, Some, None, refl, sym, subst, ap, ◌∙◌, append_assoc, append-nil, arith}
 use Rattle.std.proofs.lemmas.List.{length-append}
 use Rattle.std.specs.Io.KnownBytes.{Consumes}
-use Rattle.moo_http.specs.Linger.{TakesAtMost}
+use Rattle.moo_http.specs.Linger.{DrainsAtMost}
 
 consumes_none : (a : Option (List ℕ)) → Consumes a a []
 consumes_none None = tt
@@ -14,11 +14,11 @@ consumes_both (Some x) None c xs ys p q = absurd p
 consumes_both (Some x) (Some y) None xs ys p q = absurd q
 consumes_both (Some x) (Some y) (Some z) xs ys p q = p ∙ ap (λ l. xs ++ l) q ∙ sym (append_assoc xs ys z)
 
-pub takes_none : (a : Option (List ℕ)) → TakesAtMost 0 a a
+pub takes_none : (a : Option (List ℕ)) → DrainsAtMost 0 a a
 takes_none a = ([], consumes_none a, omega arith)
 
-pub takes_more : (a b c : Option (List ℕ)) (taken count : ℕ) → TakesAtMost taken a b → ((bs : List ℕ) × Consumes b c bs × (length bs ≡ count)) → TakesAtMost (taken + count) a c
+pub takes_more : (a b c : Option (List ℕ)) (taken count : ℕ) → DrainsAtMost taken a b → ((bs : List ℕ) × Consumes b c bs × (length bs ≡ count)) → DrainsAtMost (taken + count) a c
 takes_more a b c taken count (xs, p, few) (ys, q, is) = (xs ++ ys, consumes_both a b c xs ys p q, (omega (arith, length-append xs ys, few, is)))
 
-pub takes_at_most : (a b : Option (List ℕ)) (taken most : ℕ) → taken ≤ most → TakesAtMost taken a b → TakesAtMost most a b
+pub takes_at_most : (a b : Option (List ℕ)) (taken most : ℕ) → taken ≤ most → DrainsAtMost taken a b → DrainsAtMost most a b
 takes_at_most a b taken most few (xs, p, le) = (xs, p, omega (arith, few, le))

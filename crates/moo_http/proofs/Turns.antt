@@ -13,7 +13,7 @@ use Rattle.moo_http.specs.declared.fault.ServeFault.{ServeFault}
 use Rattle.moo_http.specs.declared.fault.ServeFault.TheVariants.{Read, Write, OutOfMemory}
 use Rattle.moo_http.specs.Connections.{Moves, AfterConnections, StandsAtEnd}
 use Rattle.moo_http.specs.Serves.{Gets, Serves, StandsStill, Served}
-use Rattle.moo_http.specs.Turns.{Yields, Exchanged, Visited, Turn, AfterTurns, Attended, answered_in, failed_in}
+use Rattle.moo_http.specs.Turns.{Yields, Exchanged, Visited, Visit, AfterTurns, Attended, answered_in, failed_in}
 
 -- the same end, of which something else holds
 pub ends_as : {S : Type 0} (g : Ghosts S) (known : Bool) (world : World S) (P Q : Stand → Type 0) → ((end : Stand) → P end → Q end) → StandsAtEnd g known world P → StandsAtEnd g known world Q
@@ -110,7 +110,7 @@ visit_moves false old new left rest before after (fault, it) = exchange_moves (E
 
 module _ {A R W : Type 0} (hands_out : A → Option (Connection R W) → A → Type 0) (takes_back : A → Connection R W → A → Type 0)
     (remaining : R → Option (List ℕ)) (contents : W → Option (List ℕ)) where
-  turn_moves : (answered : Bool) (from : A) (old : Stand) (to : A) (new : Stand) → Turn hands_out takes_back remaining contents answered from old to new → Moves old new
+  turn_moves : (answered : Bool) (from : A) (old : Stand) (to : A) (new : Stand) → Visit hands_out takes_back remaining contents answered from old to new → Moves old new
   turn_moves answered from old to new (inl (opened, closed, between, handed, visit, back)) =
       visit_moves answered old new (remaining opened.reader) (remaining closed.reader) (contents opened.writer) (contents closed.writer) visit
   turn_moves answered from old to new (inr (is, same, handed)) = inl same

@@ -3,5 +3,5 @@ use Rattle.std.specs.Prelude.{◌≡◌, ◌≤◌, ℕ, List, length, Option}
 use Rattle.std.specs.Io.KnownBytes.{Consumes}
 
 -- at most so many bytes are taken
-abbrev pub TakesAtMost : ℕ → Option (List ℕ) → Option (List ℕ) → Type 0
-TakesAtMost most old new = (bytes : List ℕ) × Consumes old new bytes × (length bytes ≤ most)
+abbrev pub DrainsAtMost : ℕ → Option (List ℕ) → Option (List ℕ) → Type 0
+DrainsAtMost most old new = (bytes : List ℕ) × Consumes old new bytes × (length bytes ≤ most)

@@ -46,8 +46,8 @@ failed_in (false ∷ turns) = suc (failed_in turns)
 module _ {A R W : Type 0} (hands_out : A → Option (Connection R W) → A → Type 0) (takes_back : A → Connection R W → A → Type 0)
     (remaining : R → Option (List ℕ)) (contents : W → Option (List ℕ)) where
   -- One turn, by whether a connection was answered: the source hands one out, which is visited, and takes it back; or it hands out none.
-  abbrev pub Turn : Bool → A → Stand → A → Stand → Type 0
-  Turn answered from old to new =
+  abbrev pub Visit : Bool → A → Stand → A → Stand → Type 0
+  Visit answered from old to new =
       ((opened closed : Connection R W) × (between : A) × hands_out from (Some opened) between
       × Visited answered old new (remaining opened.reader) (remaining closed.reader) (contents opened.writer) (contents closed.writer)
       × takes_back between closed to)
@@ -57,7 +57,7 @@ module _ {A R W : Type 0} (hands_out : A → Option (Connection R W) → A → T
   abbrev pub AfterTurns : List Bool → A → Stand → A → Stand → Type 0
   AfterTurns [] from old to new = (to ≡ from) × (new ≡ old)
   AfterTurns (answered ∷ earlier) from old to new =
-      (between : A) × (stand : Stand) × AfterTurns earlier from old between stand × Turn answered between stand to new
+      (between : A) × (stand : Stand) × AfterTurns earlier from old between stand × Visit answered between stand to new
 
   -- After turns of which so many were answered, and so many failed.
   abbrev pub Attended : ℕ → ℕ → A → Stand → A → Stand → Type 0

@@ -2,7 +2,7 @@
 
 ghost use Rattle.std.specs.Prelude.{◌≡◌, ◌≤◌, ℕ, List, length};
 ghost use Rattle.std.specs.Io.KnownBytes.{Consumes};
-ghost use Rattle.moo_http.specs.Linger.{TakesAtMost};
+ghost use Rattle.moo_http.specs.Linger.{DrainsAtMost};
 
 use crate::arrivals::Closing;
 use std::io::Read;
@@ -44,7 +44,7 @@ fn limit_wait<R: OpenStream, C: Clock>(reader: &R, clock: &C, start: Instant) ->
 
 /// Reads on to the end of the input, but no more than 65,536 bytes, and for no longer than a second.
 pub(crate) fn drain<R: Read + OpenStream, C: Clock>(reader: &mut R, clock: &C)
-    ensures { TakesAtMost 65536 (R.remaining reader.old) (R.remaining reader.new) }
+    ensures { DrainsAtMost 65536 (R.remaining reader.old) (R.remaining reader.new) }
 {
     let Ok(start) = Instant::now(clock) else {
         return;

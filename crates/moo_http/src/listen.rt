@@ -5,7 +5,7 @@ ghost use Rattle.sqlite.specs.State.{HasCleanDisk};
 ghost use Rattle.moo_store.specs.Stand.{Stand};
 ghost use Rattle.moo_store.specs.World.{store_of, StandsAt};
 ghost use Rattle.moo_http.specs.Connections.{Connected, StandsAtEnd};
-ghost use Rattle.moo_http.specs.Turns.{Visited, Turn, Attended};
+ghost use Rattle.moo_http.specs.Turns.{Visited, Visit, Attended};
 
 use crate::arrivals::{Arrivals, Connection};
 use crate::log::Log;
@@ -65,7 +65,7 @@ pub fn serve_next<S: Alter + Drop, A: Arrivals>(
     note: &mut Note,
 ) -> bool
     ensures turn { (known : Bool) (stand : Stand) → StandsAt S.Store known world.old stand → StandsAtEnd S.Store known world.new (λ end.
-        Turn A.hands_out A.takes_back A.Reader.remaining A.Writer.contents result arrivals.old stand arrivals.new end) }
+        Visit A.hands_out A.takes_back A.Reader.remaining A.Writer.contents result arrivals.old stand arrivals.new end) }
     ensures clean { HasCleanDisk (store_of S.Store world.new) → HasCleanDisk (store_of S.Store world.old) }
 {
     world.leaves();

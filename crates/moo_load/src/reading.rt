@@ -14,7 +14,7 @@ use moo_rows::{PropId, Rows};
 use moo_value::ObjNo;
 use std::alloc::Global;
 
-/// Puts the row of a line, if it is no slot.
+/// Puts the row of a line, if it isn't a slot.
 fn take_line(alloc: Global, line: &[u8], rows: &mut Flat) -> Result<(), LineFault>
     requires { AreRead rows.old.maps }
     ensures { OnOk result (AreRead rows.new.maps) }

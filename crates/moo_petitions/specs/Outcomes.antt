@@ -1,4 +1,4 @@
--- What a call of a batch comes to on rows.
+-- What the effect of a call of a batch is on rows.
 use Rattle.std.specs.Prelude.{◌≡◌, List, Result, Ok, Err, ⊤}
 use Rattle.moo_value.specs.declared.value.ObjNo.{ObjNo}
 use Rattle.moo_value.specs.declared.value.Value.{Value}
@@ -15,7 +15,7 @@ use Rattle.moo_call_parts.specs.declared.fault.Fault.TheVariants.{Moo, Full, Out
 abbrev pub state_in : Held → State
 state_in held = state_of held.maps
 
--- what a call answers where it has an effect: the answer, with the rows of the next state, or the error. Want of memory may leave
+-- what a call answers if this is its effect: the answer, with the rows of the next state, or the error. Out of memory may leave
 -- anything
 abbrev pub Reaches : Effect → Held → Result Value Fault → Type 0
 Reaches effect new (Ok v) = effect ≡ Answered v (state_in new)
@@ -23,7 +23,7 @@ Reaches effect new (Err (Moo code)) = effect ≡ Erred code
 Reaches effect new (Err Full) = effect ≡ NoneLeft
 Reaches effect new (Err OutOfMemory) = ⊤
 
--- where a call isn't done, and memory not the reason, the rows are as they were
+-- if a call isn't done, and not for lack of memory, the rows are as they were
 abbrev pub Stays : Held → Held → Result Value Fault → Type 0
 Stays old new (Ok v) = ⊤
 Stays old new (Err (Moo code)) = new ≡ old
@@ -37,7 +37,7 @@ ComesInTurn outcome new (Err (Moo code)) = outcome ≡ Failed code
 ComesInTurn outcome new (Err Full) = outcome ≡ none_left
 ComesInTurn outcome new (Err OutOfMemory) = ⊤
 
--- what they keep: the rows are good ones, what stands beside the world is as it was, and each of them kept numbers
+-- what they keep: the rows are good ones, what is beside the world is as it was, and each of them kept numbers
 pub record KeepInTurn (p : ObjNo) (helds : List Value) (old new : Held) : Type 0 where
   pub good : IsGood new.maps
   pub beside : beside_world new.maps ≡ beside_world old.maps

@@ -20,7 +20,7 @@ use moo_value::{Code, ObjNo, Value, ValueList};
 use moo_world::{are_few, are_named, are_shallow};
 use std::alloc::Global;
 
-/// Whether a petition may ask for these calls: E_TYPE where it isn't a list of lists that each begin with a string, else E_INVARG.
+/// Whether a petition may ask for these calls: E_TYPE if it isn't a list of lists that each begin with a string, else E_INVARG.
 fn may_be_asked(calls: &ValueList) -> Result<(), Code>
     requires { fits (a_list calls.now) ≡ true }
     ensures { result ≡ may_be_asked calls.now }
@@ -60,8 +60,8 @@ fn ask<R: Rows>(rows: &mut R, programmer: ObjNo, calls: ValueList) -> Result<Val
 
 /// `petition(calls)`: keeps the calls as a petition of the programmer's, and answers its number.
 ///
-/// E_TYPE where it isn't given a list of lists that each begin with a string; then E_INVARG where there are none or more than 64,
-/// where such a string names no call or one of petitions, or where lists nest more than 30 deep. Full where no number is left: the
+/// E_TYPE if it isn't given a list of lists that each begin with a string; then E_INVARG if there are none or more than 64,
+/// if such a string names no call or one of petitions, or if lists nest more than 30 deep. Full if no number is left: the
 /// greatest is 4,294,967,294. This server's own.
 pub(crate) fn petition<R: Rows>(
     rows: &mut R,

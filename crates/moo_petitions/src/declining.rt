@@ -23,7 +23,7 @@ fn may_decline<R: Rows>(rows: &R, programmer: ObjNo, who: ObjNo) -> bool
     who == programmer || is_wizard(rows, programmer)
 }
 
-/// `decline(number)`: takes a petition away. E_INVARG where there is none of this number; E_PERM where the programmer is neither who asks nor a
+/// `decline(number)`: takes a petition away. E_INVARG if there is none of this number; E_PERM if the programmer is neither who asks nor a
 /// wizard. It answers 0. This server's own.
 pub(crate) fn decline<R: Rows>(
     rows: &mut R,

@@ -20,7 +20,7 @@ use moo_rows::{Row, Rows};
 use moo_value::{Code, ObjNo, Value};
 use std::alloc::Global;
 
-/// One call that a petition holds, by the wizard who grants it. E_INVARG where it names no call on the world.
+/// One call that a petition holds, by the wizard who grants it. E_INVARG if it names no call on the world.
 fn held_step<R: Rows>(
     rows: &mut R,
     alloc: Global,
@@ -58,7 +58,7 @@ fn held_steps<R: Rows>(
 
 /// `grant(number)`: takes a petition away and makes its calls, one after another, on the wizard's authority. It answers 0.
 ///
-/// E_PERM where the programmer is no wizard; then E_INVARG where there is no petition of this number; then the first error or Full of its calls,
+/// E_PERM if the programmer isn't a wizard; then E_INVARG if there is no petition of this number; then the first error or Full of its calls,
 /// each of which asks first, as any call does, that the wizard is an object. The rows may then be half changed, and the caller drops
 /// them. This server's own.
 pub(crate) fn grant<R: Rows>(

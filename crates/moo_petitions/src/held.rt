@@ -12,7 +12,7 @@ ghost use Rattle.moo_world.specs.Requests.{held_call};
 use moo_value::{MooStr, Value};
 use moo_world::CallName;
 
-/// The string that values begin with, and the values behind it.
+/// The string that values begin with, and the values after it.
 fn first_text(values: &[Value]) -> Option<(&MooStr, &[Value])>
     ensures some { IfSome result (λ split. values.now ≡ Str split.0.now ∷ split.1.now) }
     ensures none { IfNone result (begins_with_text values.now ≡ false) }
@@ -23,7 +23,7 @@ fn first_text(values: &[Value]) -> Option<(&MooStr, &[Value])>
     }
 }
 
-/// The call that a name names, where it is one on the world.
+/// The call that a name names, if it is one on the world.
 fn name_of(name: &[u8]) -> Option<CallName>
     ensures { result ≡ option_and_then (λ n. if is_some (petition_call n) then None else Some n) (call_name_of name.now) }
 {
@@ -34,7 +34,7 @@ fn name_of(name: &[u8]) -> Option<CallName>
     }
 }
 
-/// The call that is held: its name, and what it is given. None where it names no call, or one of petitions.
+/// The call that is held: its name, and what it is given. None if it names no call, or one of petitions.
 pub(crate) fn held_call(held: &Value) -> Option<(CallName, &[Value])>
     ensures some { IfSome result (λ call. held_call held.now ≡ Some (record { name = call.0; args = call.1.now })) }
     ensures none { IfNone result (held_call held.now ≡ None) }

@@ -45,9 +45,9 @@ fn petition_call<R: Rows>(
     }
 }
 
-/// One call of the programmer's, of any kind. E_PERM where the programmer is no object; then E_ARGS and E_TYPE; then the errors of the
-/// call. At an error, and where a number is wanted and none is left (Full), the rows are as they were, but where a petition is granted:
-/// then they may be half changed, as they may be after want of memory, and the caller drops them.
+/// One call of the programmer's, of any kind. E_PERM if the programmer isn't an object; then E_ARGS and E_TYPE; then the errors of the
+/// call. At an error, and if a number is wanted and none is left (Full), the rows are as they were, unless a petition was to be granted:
+/// then they may be half changed, as they may be out of memory, and the caller drops them.
 #[tactic(auto, unfolding(moo_world::specs::Requests::request))]
 pub fn step<R: Rows>(
     rows: &mut R,

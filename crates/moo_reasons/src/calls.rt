@@ -1,4 +1,4 @@
-//! Why a line is no call.
+//! Why a line isn't a call.
 
 use crate::names::nearest_name;
 use crate::values::put_value_reason;
@@ -69,7 +69,7 @@ fn put_start_reason(line: &[u8], out: &mut Vec<u8>) -> Result<(), AllocError> {
     out.extend_from_slice(b" isn't a call: each line of a batch is one, and there are no comments")
 }
 
-/// Appends why a line is no call of a batch, or one too many. AllocError: memory ran out.
+/// Appends why a line isn't a call of a batch, or one too many. AllocError: memory ran out.
 pub(crate) fn call_reason(alloc: Global, line: &[u8], out: &mut Vec<u8>) -> Result<(), AllocError> {
     if !is_short(line) {
         return out.extend_from_slice(b"a line of over 262144 bytes");

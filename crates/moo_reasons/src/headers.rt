@@ -1,4 +1,4 @@
-//! Why a line is no header.
+//! Why a line isn't a header.
 
 use crate::words::put_shown;
 use moo_text::{call_in, is_end_line, is_short, next_word, object_of};
@@ -52,7 +52,7 @@ fn put_other_reason(alloc: Global, line: &[u8], out: &mut Vec<u8>) -> Result<(),
     out.extend_from_slice(FORM)
 }
 
-/// Appends why a line is no header of a batch. AllocError: memory ran out.
+/// Appends why a line isn't a header of a batch. AllocError: memory ran out.
 pub(crate) fn header_reason(
     alloc: Global,
     line: &[u8],

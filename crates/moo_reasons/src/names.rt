@@ -59,7 +59,7 @@ fn common_back(left: &[u8], right: &[u8]) -> usize {
         .count()
 }
 
-/// How many bytes lie between what two words have in common in front and at the end.
+/// How many bytes are between what two words have in common in front and at the end.
 fn distance(word: &[u8], name: &[u8]) -> usize {
     let longer = word.len().max(name.len());
     let shorter = word.len().min(name.len());

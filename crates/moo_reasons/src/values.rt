@@ -1,4 +1,4 @@
-//! Why bytes are no value.
+//! Why bytes aren't a value.
 
 use crate::words::{put_number, put_shown};
 use moo_text::{next_word, skip_blanks};

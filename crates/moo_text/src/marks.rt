@@ -1,4 +1,4 @@
-//! Where the lines of a batch are in their text, for messages.
+//! The places of the lines of a batch in their text, for messages.
 
 use crate::line::{is_blank_line, is_end_line};
 use std::alloc::Global;

@@ -11,7 +11,7 @@ use crate::value::Value;
 use std::alloc::Global;
 
 /// The value that the bytes spell from the first to the last, in any of its spellings. Blanks may stand before it, and
-/// nothing behind it.
+/// nothing after it.
 ///
 /// Errors: those of `read_literal`, and `NotALiteral` where something follows the literal in front.
 pub fn read_whole_literal(alloc: Global, bytes: &[u8]) -> Result<Value, LiteralFault>

@@ -19,7 +19,7 @@ use moo_verbs::found_verb;
 use moo_world::Desc;
 use std::alloc::Global;
 
-/// `delete_verb(x, desc)`: takes a verb out of the directory of an object and answers 0. The others keep their numbers, also where
+/// `delete_verb(x, desc)`: takes a verb out of the directory of an object and answers 0. The others keep their numbers, also if
 /// two verbs are alike.
 /// E_INVARG if x isn't an object; E_PERM if the programmer may not write x; E_VERBNF if no verb of x itself is meant.
 /// LambdaMOO Programmer's Manual, 'Operations on Verbs'.

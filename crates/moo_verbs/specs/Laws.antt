@@ -8,11 +8,11 @@ use Rattle.moo_world.specs.Objects.{Name, folded}
 use Rattle.moo_world.specs.Matching.{is_star, matches}
 use Rattle.moo_world.specs.VerbReading.{phrases, prep_of}
 
--- each phrase of a set is read as that set, so no phrase stands in two
+-- each phrase of a set is read as that set, so no phrase is in two
 abbrev pub PhrasesAreRead : Type 0
 PhrasesAreRead = (set : PrepositionSet) → map prep_of (phrases set) ≡ map (λ phrase. Some (Set set)) (phrases set)
 
--- the text before the star stands, and the rest of the word begins the text behind it, or is anything where that is empty
+-- the text before the star is there, and the rest of the word begins the text after it, or is anything where that is empty
 abbrev pub MatchesStar : Name → Name → Name → Type 0
 MatchesStar front behind word =
     (rest : Name) × (folded word ≡ folded front ++ rest) × ((behind ≡ []) ⊎ ((tail : Name) × (folded behind ≡ rest ++ tail)))

@@ -1,4 +1,4 @@
--- Where a verb of the rows stands in the directory of its object.
+-- Where a verb of the rows is in the directory of its object.
 use Rattle.std.specs.Prelude.{ℕ, Bool, length, is_some}
 use Rattle.std.specs.FinMap.{get}
 use Rattle.std.specs.List.{filter_map}

@@ -12,7 +12,7 @@ use moo_rows::{ArgSpec, Row, Rows, VerbBits, VerbId, VerbRow, each_verb_of};
 use moo_value::{MooStr, ObjNo};
 use std::alloc::{AllocError, Global};
 
-/// The names strings of the verbs of x, whole as given, in the order of the directory. The only error is want of memory.
+/// The names strings of the verbs of x, whole as given, in the order of the directory. The only error is a lack of memory.
 ///
 /// LambdaMOO Programmer's Manual, 'Operations on Verbs': `verbs`.
 pub fn list<R: Rows>(alloc: Global, rows: &R, x: ObjNo) -> Result<Vec<MooStr>, AllocError>
@@ -27,7 +27,7 @@ pub fn list<R: Rows>(alloc: Global, rows: &R, x: ObjNo) -> Result<Vec<MooStr>, A
 }
 
 /// Adds a verb to x, the last of its directory, and answers its number, which is never given again. No other verb changes. The
-/// only error is want of memory, after which the rows may be half changed.
+/// only error is a lack of memory, after which the rows may be half changed.
 ///
 /// LambdaMOO Programmer's Manual, 'Operations on Verbs': `add_verb`.
 pub fn add<R: Rows>(rows: &mut R, x: ObjNo, verb: VerbRow) -> Result<VerbId, AllocError>
@@ -53,7 +53,7 @@ pub fn add<R: Rows>(rows: &mut R, x: ObjNo, verb: VerbRow) -> Result<VerbId, All
     Ok(id)
 }
 
-/// Removes a verb of x; each other one keeps its number. The only error is want of memory.
+/// Removes a verb of x; each other one keeps its number. The only error is a lack of memory.
 ///
 /// LambdaMOO Programmer's Manual, 'Operations on Verbs': `delete_verb`.
 pub fn delete<R: Rows>(rows: &mut R, x: ObjNo, id: VerbId) -> Result<(), AllocError>
@@ -69,7 +69,7 @@ pub fn delete<R: Rows>(rows: &mut R, x: ObjNo, id: VerbId) -> Result<(), AllocEr
     Ok(())
 }
 
-/// Changes the owner, the rights and the names of a verb of x. The only error is want of memory.
+/// Changes the owner, the rights and the names of a verb of x. The only error is a lack of memory.
 ///
 /// LambdaMOO Programmer's Manual, 'Operations on Verbs': `set_verb_info`.
 pub fn set_info<R: Rows>(
@@ -105,7 +105,7 @@ pub fn set_info<R: Rows>(
     Ok(())
 }
 
-/// Changes the arguments of a verb of x. The only error is want of memory.
+/// Changes the arguments of a verb of x. The only error is a lack of memory.
 ///
 /// LambdaMOO Programmer's Manual, 'Operations on Verbs': `set_verb_args`.
 pub fn set_args<R: Rows>(

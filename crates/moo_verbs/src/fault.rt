@@ -7,6 +7,6 @@ pub enum VerbFault {
     BadNames,
     /// A letter of the rights is none of `r`, `w`, `x` and `d`.
     BadBits,
-    /// An argument is none that a verb may have.
+    /// An argument isn't one that a verb may have.
     BadArgs,
 }

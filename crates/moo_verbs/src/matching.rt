@@ -12,7 +12,7 @@ pub(crate) fn same_name(a: &[u8], b: &[u8]) -> bool
     a.eq_ignore_ascii_case(b)
 }
 
-/// Where a byte stands first in a text.
+/// Where a byte is first in a text.
 pub(crate) fn first(text: &[u8], byte: u8) -> Option<usize>
     ensures place { result ≡ position (λ b. b == byte) text.now }
     ensures within { IfSome result (λ i. i < length text.now) }
@@ -49,7 +49,7 @@ fn begins_with(text: &[u8], front: &[u8]) -> bool
     same_name(front_of(text, front), front)
 }
 
-/// Whether the front stands in a word whose rest begins the text behind the star, or that text is empty.
+/// Whether the front is in a word whose rest begins the text after the star, or that text is empty.
 fn matches_around(front: &[u8], behind: &[u8], word: &[u8]) -> bool
     ensures { result ≡ matches_around front.now behind.now word.now }
 {
@@ -59,8 +59,8 @@ fn matches_around(front: &[u8], behind: &[u8], word: &[u8]) -> bool
     behind.is_empty() || begins_with(behind, past_front(word, front))
 }
 
-/// Whether a name of a verb matches a word, in any case. A name without a star matches itself alone. Where it has one, the
-/// text before the first star must stand, and the rest of the word begins the text behind that star, or is anything where
+/// Whether a name of a verb matches a word, in any case. A name without a star matches itself alone. If it has one, the
+/// text before the first star must stand, and the rest of the word begins the text after that star, or is anything where
 /// that text is empty. So `foo*bar` matches `foo`, `foob`, `fooba` and `foobar`.
 ///
 /// LambdaMOO Programmer's Manual, 'Verbs on Objects' in the chapter on the database.
@@ -73,7 +73,7 @@ pub fn matches(name: &[u8], word: &[u8]) -> bool
     }
 }
 
-/// Whether one of the names, which stand between spaces, matches a word.
+/// Whether one of the names, which are between spaces, matches a word.
 pub fn one_matches(names: &[u8], word: &[u8]) -> bool
     ensures { result ≡ one_matches names.now word.now }
 {

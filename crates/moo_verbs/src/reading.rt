@@ -13,14 +13,14 @@ use crate::prep::{print_place, set_text};
 use moo_rows::{ArgSpec, Place, Preposition, PrepositionSet, VerbBits};
 use moo_value::MooStr;
 
-/// Whether some byte of the names is no space.
+/// Whether some byte of the names isn't a space.
 fn has_word(names: &[u8]) -> bool
     ensures { result ≡ has_word names.now }
 {
     names.iter().any(|byte| *byte != b' ')
 }
 
-/// Refuses the names of a verb that are empty or all spaces. Any other text is taken; a tab is no space.
+/// Refuses the names of a verb that are empty or all spaces. Any other text is taken; a tab isn't a space.
 ///
 /// LambdaMOO Programmer's Manual, 'Operations on Verbs': `add_verb`.
 pub fn check_names(names: &MooStr) -> Result<(), VerbFault>
@@ -90,7 +90,7 @@ fn first_with(sets: &[PrepositionSet], phrase: &[u8]) -> Option<PrepositionSet>
     sets.iter().copied().find(|set| has_phrase(*set, phrase))
 }
 
-/// What stands before the first slash of a text.
+/// What is before the first slash of a text.
 fn before_slash(text: &[u8]) -> &[u8]
     ensures { result.now ≡ before_first is_slash text.now }
 {
@@ -133,7 +133,7 @@ fn args_named(dobj: &[u8], prep: &[u8], iobj: &[u8]) -> Option<ArgSpec>
 }
 
 /// The preposition that a text names, in any case: `none`, `any`, or one phrase of a set, with single spaces between its
-/// words. A slash and all behind it are dropped from a phrase, so that `in/inside/into` names the set of `in`; `none` and
+/// words. A slash and all after it are dropped from a phrase, so that `in/inside/into` names the set of `in`; `none` and
 /// `any` stand alone. Anything else is BadArgs.
 ///
 /// LambdaMOO Programmer's Manual, 'Operations on Verbs': `set_verb_args`.

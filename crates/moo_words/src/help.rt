@@ -1,6 +1,6 @@
 //! What help says.
 
-pub(crate) const VERSION: &str = "0.9.0";
+pub(crate) const VERSION: &str = "1.0.0";
 
 pub(crate) const FILE: &str =
     "A database file (FILE-wal is a part of it), or :memory: for a new world that is gone at the end";
@@ -144,7 +144,7 @@ failed, or the last line is `moo: store fault`, `moo: read fault` or `moo: input
 Example:
   printf 'batch as #3\\ncreate(#1)\\nset(#4, \"name\", \"Lantern\")\\nend\\n' | moo apply world.db -";
 
-pub(crate) const ASK: &str = "Print what the batches of a text would come to, and change nothing";
+pub(crate) const ASK: &str = "Print what the batches of a text would answer, and change nothing";
 
 pub(crate) const ASK_MORE: &str =
     "Standard output: the replies of `moo apply`. Each batch is judged on the world as it is: no batch sees what
@@ -219,7 +219,7 @@ pub(crate) const SERVE_MORE: &str =
     "Standard output: `listening 127.0.0.1:PORT` once FILE is open and the port is bound; at the end, after COUNT
 connections, `served A failed F`.
 
-POST /batch runs a batch, POST /ask says what it would come to. The body is JSON, with calls as in a text:
+POST /batch runs a batch, POST /ask says what it would answer. The body is JSON, with calls as in a text:
   {\"as\":\"#3\",\"calls\":[\"create(#1)\"]}, and \"at\":17, a bare number, to act only on a world with number 17
 Other keys are ignored: a mistyped \"at\" guards nothing. GET /seq answers the number, and GET /object/5 the
 built-in properties of #5, its children and its contents. Answers are JSON:

@@ -23,7 +23,7 @@ pub enum Task<'a> {
         file: &'a str,
         batches: &'a str,
     },
-    /// Say what the batches of a text would come to.
+    /// Say what the batches of a text would answer.
     Ask {
         file: &'a str,
         batches: &'a str,

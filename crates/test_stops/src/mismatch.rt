@@ -8,8 +8,8 @@ ghost use Rattle.moo_world.specs.Rows.{IsGood};
 use moo_cells::read_cells;
 use moo_flat::Flat;
 use moo_store::{World, apply_text, create_in};
-use moo_text::NoNotes;
 use moo_tables::{Version, are_listed, read_tables};
+use moo_text::NoNotes;
 use sqlite::{Connection, MemStore};
 use std::alloc::Global;
 use std::process::Abort;
@@ -27,7 +27,13 @@ fn tables_after(alloc: Global, call: &str) -> Result<Connection<MemStore>, Fail>
     if !call.is_empty() {
         let text = format!(in alloc; "batch as #3\n{call}\nend\n")?;
         let mut written = Vec::new(alloc);
-        apply_text(alloc, text.as_bytes(), &mut written, &mut world, &mut NoNotes)?;
+        apply_text(
+            alloc,
+            text.as_bytes(),
+            &mut written,
+            &mut world,
+            &mut NoNotes,
+        )?;
     }
     Ok(world.into_connection())
 }

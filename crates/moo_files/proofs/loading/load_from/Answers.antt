@@ -1,4 +1,4 @@
-use Rattle.std.proofs.Common.{◌≡◌, ◌⊎◌, inl, inr, sym, subst}
+use Rattle.std.proofs.Common.{◌≡◌, ◌⊎◌, inl, sym, subst}
 use Rattle.sqlite.specs.Tree.{Trees}
 use Rattle.sqlite.specs.Files.{over_files, file_state, IsEmpty}
 use Rattle.sqlite.specs.WalFiles.{image_at}
@@ -6,7 +6,7 @@ use Rattle.moo_rows.specs.Maps.{Maps}
 use Rattle.moo_world.specs.Judge.{state_of}
 use Rattle.moo_store.specs.States.{LeavesState}
 use Rattle.moo_store.specs.World.{store_of}
-use Rattle.moo_files.proofs.ContentsLemmas.{was_clean, clean_either, shows_held, left_held, left_only, left_none, has_tables, any_table, or_committed}
+use Rattle.moo_files.proofs.ContentsLemmas.{was_clean, clean_either, shows_held, left_held, left_only, left_new, finds_held, has_tables, any_table, or_committed}
 use Rattle.moo_files.proofs.RemainsLemmas.{keeps_more, blank_more}
 use Rattle.moo_files.proofs.loading.load_from.Goals as goal
 
@@ -18,7 +18,7 @@ returns-in-Ok-load_files-clause-taken g c s holds clean =
     let conn = c.in-Ok.conn in
     let early = was_clean (file_state conn) (store_of over_files c.in-Ok-load_files.world) (Made c.args.rows.maps) c.in-Ok-load_files.ensures.crash clean in
     let opened = c.in-Ok.ensures.opened early in
-    c.in-Ok-load_files.ensures.refused (has_tables (file_state conn) s (shows_held (image_at g.T.Start) (file_state conn) s opened.0 opened.1 (c.in-Ok.ensures.found early) holds))
+    c.in-Ok-load_files.ensures.refused (has_tables (file_state conn) s (shows_held (image_at g.T.Start) (file_state conn) s opened.0 opened.1 (finds_held (image_at g.T.Start) (file_state conn) holds.trees (c.in-Ok.ensures.found early) holds.holds) holds))
 
 pub returns-in-Ok-load_files-clause-crash : goal.returns-in-Ok-load_files-clause-crash
 returns-in-Ok-load_files-clause-crash g c = c.leaves_its_state.ensures (state_of c.args.rows.maps) c.in-Ok-load_files.ensures.stands
@@ -32,7 +32,7 @@ returns-in-Err-load_files-clause-kept g c trees holds any clean =
     let image = image_at g.T.Start in
     let early = clean_either conn last (Made c.args.rows.maps) c.in-Err-load_files.ensures.crash_refused clean in
     let opened = c.in-Ok.ensures.opened early in
-    let found = c.in-Ok.ensures.found early in
+    let found = finds_held image (file_state conn) trees (c.in-Ok.ensures.found early) holds in
     let same = (c.in-Err-load_files.ensures.refused (any_table image (file_state conn) trees opened.0 opened.1 found holds any)).1 in
     λ left lies. left_only image (file_state conn) trees opened.0 found c.in-Ok.ensures.left holds left (subst (λ h. (file_state h).may_leave left) same lies)
 
@@ -43,7 +43,7 @@ returns-in-Err-load_files-clause-trees g c trees holds clean =
     let early = clean_either conn last (Made c.args.rows.maps) c.in-Err-load_files.ensures.crash_refused clean in
     let opened = c.in-Ok.ensures.opened early in
     or_committed conn last (Made c.args.rows.maps) (λ left. left ≡ trees) c.in-Err-load_files.ensures.crash_refused clean
-    (left_only (image_at g.T.Start) (file_state conn) trees opened.0 (c.in-Ok.ensures.found early) c.in-Ok.ensures.left holds)
+    (left_only (image_at g.T.Start) (file_state conn) trees opened.0 (finds_held (image_at g.T.Start) (file_state conn) trees (c.in-Ok.ensures.found early) holds) c.in-Ok.ensures.left holds)
 
 pub returns-in-Err-load_files-clause-blank : goal.returns-in-Err-load_files-clause-blank
 returns-in-Err-load_files-clause-blank g c nothing clean =
@@ -52,7 +52,7 @@ returns-in-Err-load_files-clause-blank g c nothing clean =
     let early = clean_either conn last (Made c.args.rows.maps) c.in-Err-load_files.ensures.crash_refused clean in
     let opened = c.in-Ok.ensures.opened early in
     or_committed conn last (Made c.args.rows.maps) IsEmpty c.in-Err-load_files.ensures.crash_refused clean
-    (left_none (image_at g.T.Start) (file_state conn) opened.0 (c.in-Ok.ensures.found early) c.in-Ok.ensures.left nothing)
+    (left_new (image_at g.T.Start) (file_state conn) opened.0 (c.in-Ok.ensures.found early) c.in-Ok.ensures.left nothing)
 
 pub returns-in-Err-load_files-clause-refused : goal.returns-in-Err-load_files-clause-refused
 returns-in-Err-load_files-clause-refused g c s holds clean =
@@ -61,7 +61,7 @@ returns-in-Err-load_files-clause-refused g c s holds clean =
     let image = image_at g.T.Start in
     let early = clean_either conn last (Made c.args.rows.maps) c.in-Err-load_files.ensures.crash_refused clean in
     let opened = c.in-Ok.ensures.opened early in
-    let found = c.in-Ok.ensures.found early in
+    let found = finds_held image (file_state conn) holds.trees (c.in-Ok.ensures.found early) holds.holds in
     let same = (c.in-Err-load_files.ensures.refused (has_tables (file_state conn) s (shows_held image (file_state conn) s opened.0 opened.1 found holds))).1 in
     λ left lies. left_held image (file_state conn) s opened.0 found c.in-Ok.ensures.left holds left (subst (λ h. (file_state h).may_leave left) same lies)
 

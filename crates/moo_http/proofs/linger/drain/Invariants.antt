@@ -1,10 +1,10 @@
 use Rattle.std.proofs.Common.{◌-◌, ◌≤◌}
-use Rattle.moo_http.specs.Linger.{TakesAtMost}
+use Rattle.moo_http.specs.Linger.{DrainsAtMost}
 use Rattle.moo_http.proofs.linger.drain.Given as goal
 
 abbrev pub invariant-pieces : goal.invariant-pieces
 invariant-pieces g l = record {
-  takes : TakesAtMost l.taken (g.R.Read.remaining l.fn.reader) (g.R.Read.remaining l.reader);
+  takes : DrainsAtMost l.taken (g.R.Read.remaining l.fn.reader) (g.R.Read.remaining l.reader);
   few : l.taken ≤ 65536;
 }
 

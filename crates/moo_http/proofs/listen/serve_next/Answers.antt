@@ -1,5 +1,5 @@
 use Rattle.std.proofs.Common.{false, inl, inr, refl}
-use Rattle.moo_http.specs.Turns.{Visited, Turn}
+use Rattle.moo_http.specs.Turns.{Visited, Visit}
 use Rattle.moo_http.proofs.Connections.{stood}
 use Rattle.moo_http.proofs.Turns.{ends_as}
 use Rattle.moo_http.proofs.listen.serve_next.Goals as goal
@@ -10,12 +10,12 @@ returns-clause-turn g c known stand at =
     let opened = c.in-Some.connection in
     ends_as g.S.Store known served.new.world
     (λ end. Visited served.result stand end (g.A.Reader.Read.remaining opened.reader) (g.A.Reader.Read.remaining served.new.reader) (g.A.Writer.Write.contents opened.writer) (g.A.Writer.Write.contents served.new.writer))
-    (λ end. Turn g.A.Arrivals.hands_out g.A.Arrivals.takes_back g.A.Reader.Read.remaining g.A.Writer.Write.contents served.result c.args.arrivals.now stand c.close.new.self end)
+    (λ end. Visit g.A.Arrivals.hands_out g.A.Arrivals.takes_back g.A.Reader.Read.remaining g.A.Writer.Write.contents served.result c.args.arrivals.now stand c.close.new.self end)
     (λ end visit. inl (opened, record { reader = served.new.reader; writer = served.new.writer; is_limited = opened.is_limited }, c.accept.new.self, c.in-Some.ensures, visit, c.close.ensures)) (served.ensures.visited known stand at)
 
 -- if no connection came the World stands as it did
 pub returns-in_default-clause-turn : goal.returns-in_default-clause-turn
 returns-in_default-clause-turn g c known stand at =
     stood g.S.Store known stand c.args.world.now
-    (λ end. Turn g.A.Arrivals.hands_out g.A.Arrivals.takes_back g.A.Reader.Read.remaining g.A.Writer.Write.contents false c.args.arrivals.now stand c.accept.new.self end) at (c.leaves.ensures known stand at)
+    (λ end. Visit g.A.Arrivals.hands_out g.A.Arrivals.takes_back g.A.Reader.Read.remaining g.A.Writer.Write.contents false c.args.arrivals.now stand c.accept.new.self end) at (c.leaves.ensures known stand at)
     (inr (refl, refl, c.in_default.ensures))

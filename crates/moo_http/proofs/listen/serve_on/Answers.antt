@@ -1,6 +1,6 @@
 use Rattle.std.proofs.Common.{◌≡◌, ◌+◌, ◌∷◌, [], refl, sym, subst, rules}
 use Rattle.moo_http.specs.declared.listen.Served.{Served}
-use Rattle.moo_http.specs.Turns.{Turn, AfterTurns, Attended}
+use Rattle.moo_http.specs.Turns.{Visit, AfterTurns, Attended}
 use Rattle.moo_http.proofs.Turns.{Counted, none_counted, one_answered, one_failed, ends_as, leads_nowhere, leads_on}
 use Rattle.moo_http.proofs.listen.serve_on.Goals as goal
 use Rattle.moo_http.proofs.listen.serve_on.Goals.{then-serve_next, else-serve_next}
@@ -25,7 +25,7 @@ loop-preserved g c =
       ];
       leads = leads_on g.S.Store c.args.world.now c.loop.world c.serve_next.new.world
           (λ old new. AfterTurns g.A.Arrivals.hands_out g.A.Arrivals.takes_back g.A.Reader.Read.remaining g.A.Writer.Write.contents before.turns c.args.arrivals.now old c.loop.arrivals new)
-          (λ old new. Turn g.A.Arrivals.hands_out g.A.Arrivals.takes_back g.A.Reader.Read.remaining g.A.Writer.Write.contents result c.loop.arrivals old c.serve_next.new.arrivals new)
+          (λ old new. Visit g.A.Arrivals.hands_out g.A.Arrivals.takes_back g.A.Reader.Read.remaining g.A.Writer.Write.contents result c.loop.arrivals old c.serve_next.new.arrivals new)
           (λ old new. AfterTurns g.A.Arrivals.hands_out g.A.Arrivals.takes_back g.A.Reader.Read.remaining g.A.Writer.Write.contents (result ∷ before.turns) c.args.arrivals.now old c.serve_next.new.arrivals new)
           (λ old mid new earlier turn. (c.loop.arrivals, mid, earlier, turn)) before.leads c.serve_next.ensures.turn c.serve_next.ensures.clean;
     }
