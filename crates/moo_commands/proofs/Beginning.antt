@@ -9,9 +9,9 @@ use Rattle.sqlite_wal.specs.Recovery.{Image}
 use Rattle.sqlite.specs.Tree.{Trees}
 use Rattle.moo_store.specs.Stand.{Stand}
 use Rattle.moo_store.specs.States.{LeavesState}
-use Rattle.moo_files.specs.Remains.{KeepsSuch}
+use Rattle.moo_files.specs.Remains.{KeepsSuch, KeepsNothingBut}
 use Rattle.moo_files.specs.declared.remains.Remains.{Remains}
-use Rattle.moo_files.proofs.RemainsLemmas.{keeps_more}
+use Rattle.moo_files.proofs.RemainsLemmas.{keeps_more, blank_more}
 use Rattle.moo_words.specs.declared.task.Task.{Task}
 use Rattle.moo_words.specs.declared.task.Task.TheVariants.{Init, Apply, Ask, Dump, Load, Check, Serve}
 use Rattle.moo_commands.specs.Run.{Texts, begins_anew, is_load, dump_word, IsDumpedAs, BeginsWith, RunsFrom, RunsUnseen, FailsAtOnce, FailsToBegin, RunsNew}
@@ -70,6 +70,12 @@ pub unmade_begins : {T D : Type 0} {g : Ghosts D} (task : Task) (texts : Texts) 
 unmade_begins task texts s begins trees image remains =
     keeps_more (λ found. (found ≡ trees) ⊎ LeavesState found s) (λ found. (found ≡ trees) ⊎ ((t : State) × BeginsWith task texts t × LeavesState found t))
     (λ found kept. elim kept [ inl same ↦ inl same | inr leaves ↦ inr (s, begins, leaves) ]) image remains
+
+-- and of files that held nothing
+pub fresh_begins : {T D : Type 0} {g : Ghosts D} (task : Task) (texts : Texts) (s : State) → BeginsWith task texts s → (image : Image) (remains : Remains T D g)
+    → KeepsNothingBut (λ found. LeavesState found s) image remains → KeepsNothingBut (λ found. (t : State) × BeginsWith task texts t × LeavesState found t) image remains
+fresh_begins task texts s begins image remains =
+    blank_more (λ found. LeavesState found s) (λ found. (t : State) × BeginsWith task texts t × LeavesState found t) (λ found leaves. (s, begins, leaves)) image remains
 
 -- a task that begins with a new world isn't one that takes up its file
 pub never_other : {A : Type 0} (task : Task) → is_load task ≡ true → begins_anew task ≡ false → A

@@ -69,6 +69,9 @@ module _ {T D : Type 0} {g : Ghosts D} where
     pub spared : (trees : Trees) → begins_anew task ≡ true → HoldsTrees image trees → HasAnyTable trees → MatchFile ends (λ conn. ⊤) (λ remains. IsCleanRemains remains → KeepsSuch (λ found. found ≡ trees) image remains)
     pub unmade : (trees : Trees) → begins_anew task ≡ true → HoldsTrees image trees → MatchFile ends (λ conn. ⊤)
         (λ remains. IsCleanRemains remains → KeepsSuch (λ found. (found ≡ trees) ⊎ ((s : State) × BeginsWith task texts s × LeavesState found s)) image remains)
+    -- Of files that held nothing a new world that can't be made leaves nothing, or that world, whole.
+    pub fresh : begins_anew task ≡ true → IsNothing image → MatchFile ends (λ conn. ⊤)
+        (λ remains. IsCleanRemains remains → KeepsNothingBut (λ found. (s : State) × BeginsWith task texts s × LeavesState found s) image remains)
     pub blank : begins_anew task ≡ false → IsNothing image → MatchFile ends (λ conn. ⊤) (λ remains. IsCleanRemains remains → KeepsNothingBut (λ _. ⊥) image remains)
     -- if no file was opened, the line tells why, or why a dump shows no world
     pub told : MatchFile ends (λ conn. ⊤) (λ remains. ((fault : StoreFault) × MayStopAs fault remains × Reports (store_failure fault) old new status) ⊎ (IsTrue (is_load task) × FailsToBegin task old new status))

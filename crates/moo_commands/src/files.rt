@@ -105,6 +105,7 @@ fn world_of<T: Start>(
     ensures trees { begins_anew task.entry ≡ false → (trees : Trees) → HoldsTrees (image_at T.Start) trees → IfErr result (λ e. IsCleanRemains e.1 → StillHoldsTrees (image_at T.Start) e.1 trees) }
     ensures spared { begins_anew task.entry ≡ true → (trees : Trees) → HoldsTrees (image_at T.Start) trees → HasAnyTable trees → IfErr result (λ e. IsCleanRemains e.1 → KeepsSuch (λ found. found ≡ trees) (image_at T.Start) e.1) }
     ensures unmade { begins_anew task.entry ≡ true → (trees : Trees) → HoldsTrees (image_at T.Start) trees → IfErr result (λ e. IsCleanRemains e.1 → KeepsSuch (λ found. (found ≡ trees) ⊎ LeavesState found (state_of opening_maps)) (image_at T.Start) e.1) }
+    ensures fresh { begins_anew task.entry ≡ true → IsNothing (image_at T.Start) → IfErr result (λ e. IsCleanRemains e.1 → KeepsNothingBut (λ found. LeavesState found (state_of opening_maps)) (image_at T.Start) e.1) }
     ensures blank { begins_anew task.entry ≡ false → IsNothing (image_at T.Start) → IfErr result (λ e. IsCleanRemains e.1 → KeepsNothingBut (λ _. ⊥) (image_at T.Start) e.1) }
     ensures stopped { IfErr result (λ e. MayStopAs e.0 e.1) }
     ensures left { (s : State) → HoldsState (image_at T.Start) s → IfErr result (λ e. IsCleanRemains e.1 → StillHolds (image_at T.Start) e.1 s) }

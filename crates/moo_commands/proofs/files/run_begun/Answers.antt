@@ -2,7 +2,7 @@ use Rattle.std.proofs.Common.{inl, true, false}
 use Rattle.sqlite.specs.WalFiles.{image_at}
 use Rattle.moo_rows.specs.Opening.{opening_maps}
 use Rattle.moo_world.specs.Judge.{state_of}
-use Rattle.moo_commands.proofs.Beginning.{begins_opening, fails_to_begin, unmade_begins}
+use Rattle.moo_commands.proofs.Beginning.{begins_opening, fails_to_begin, unmade_begins, fresh_begins}
 use Rattle.moo_commands.proofs.Connections.{surely, unseen}
 use Rattle.moo_commands.proofs.Refusals.{fails_at_once, refuses_file, tells_fault}
 use Rattle.moo_commands.proofs.files.run_begun.Goals as goal
@@ -30,6 +30,7 @@ returns-in-Ok g c =
       trees = λ trees other holds. tt;
       spared = λ trees anew holds any. tt;
       unmade = λ trees anew holds. tt;
+      fresh = λ anew none. tt;
       blank = λ other none. tt;
       told = tt;
     }
@@ -53,6 +54,8 @@ returns-in-Err g c =
       spared = λ trees anew holds any. c.in-Err.ensures.spared anew trees holds any;
       unmade = λ trees anew holds clean.
           unmade_begins c.args.task _ (state_of opening_maps) (begins_opening c.args.task _ c.requires.load) trees (image_at g.T.Start) c.in-Err.remains (c.in-Err.ensures.unmade anew trees holds clean);
+      fresh = λ anew none clean.
+          fresh_begins c.args.task _ (state_of opening_maps) (begins_opening c.args.task _ c.requires.load) (image_at g.T.Start) c.in-Err.remains (c.in-Err.ensures.fresh anew none clean);
       blank = λ other none. c.in-Err.ensures.blank other none;
       told = inl (fault, c.in-Err.ensures.stopped, reports);
     }

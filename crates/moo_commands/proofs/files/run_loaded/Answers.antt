@@ -1,11 +1,31 @@
-use Rattle.std.proofs.Common.{inl, true}
+use Rattle.std.proofs.Common.{inl, inr, refl, true}
 use Rattle.sqlite.specs.WalFiles.{image_at}
 use Rattle.moo_world.specs.Judge.{state_of}
 use Rattle.moo_commands.specs.Run.{texts_by}
-use Rattle.moo_commands.proofs.Beginning.{begins_dumped, of_other_texts, fails_to_begin, unmade_begins, never_other}
+use Rattle.moo_commands.proofs.Beginning.{begins_dumped, of_other_texts, fails_to_begin, unmade_begins, fresh_begins, never_other}
 use Rattle.moo_commands.proofs.Connections.{surely}
 use Rattle.moo_commands.proofs.Refusals.{fails_at_once, tells_fault}
 use Rattle.moo_commands.proofs.files.run_loaded.Goals as goal
+
+-- the dump shows no world, and the file isn't opened
+pub returns-in-Err : goal.returns-in-Err
+returns-in-Err g c =
+    record {
+      anew = λ anew. (c.in-Err.failure, inr (c.requires.load, c.in-Err.ensures.failure), c.report.ensures);
+      taken = λ s anew holds. tt;
+      kept = λ s other holds. never_other c.args.task c.requires.load other;
+      only = λ tables other holds. never_other c.args.task c.requires.load other;
+      nothing = λ other none. tt;
+      other = λ trees other holds others. tt;
+      opened = λ other. never_other c.args.task c.requires.load other;
+      left = λ s holds clean. holds;
+      trees = λ trees other holds. never_other c.args.task c.requires.load other;
+      spared = λ trees anew holds any clean. record { trees = trees; holds = holds; such = refl };
+      unmade = λ trees anew holds clean. record { trees = trees; holds = holds; such = inl refl };
+      fresh = λ anew none clean. inl none;
+      blank = λ other none. never_other c.args.task c.requires.load other;
+      told = inr (c.requires.load, (c.in-Err.failure, inr (c.requires.load, c.in-Err.ensures.failure), c.report.ensures));
+    }
 
 pub returns-in-Ok-load_from : goal.returns-in-Ok-load_from
 returns-in-Ok-load_from g c =
@@ -29,6 +49,7 @@ returns-in-Ok-load_from g c =
       trees = λ trees other holds. tt;
       spared = λ trees anew holds any. tt;
       unmade = λ trees anew holds. tt;
+      fresh = λ anew none. tt;
       blank = λ other none. tt;
       told = tt;
     }
@@ -56,6 +77,7 @@ returns-in-Err-load_from g c =
       trees = λ trees other holds. never_other c.args.task c.requires.load other;
       spared = λ trees anew holds any. c.in-Err-load_from.ensures.kept trees holds any;
       unmade = λ trees anew holds clean. unmade_begins c.args.task texts s begins trees image c.in-Err-load_from.remains (c.in-Err-load_from.ensures.trees trees holds clean);
+      fresh = λ anew none clean. fresh_begins c.args.task texts s begins image c.in-Err-load_from.remains (c.in-Err-load_from.ensures.blank none clean);
       blank = λ other none. never_other c.args.task c.requires.load other;
       told = inl (fault, c.in-Err-load_from.ensures.stopped, reports);
     }
