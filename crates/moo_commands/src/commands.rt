@@ -81,7 +81,7 @@ fn apply<B: BatchFiles, R: Read + Drop, W: Write, S: Alter + Drop>(
     }
 }
 
-/// Says what the batches of a text would come to, that of this path if it isn't the input's. Standard error says why a batch isn't accepted.
+/// Says what the batches of a text would answer, that of this path if it isn't the input's. Standard error says why a batch isn't accepted.
 fn ask_batches<R: Read + Drop, W: Write, S: Alter + Drop>(
     rt: &HostRuntime,
     world: &World<S>,
