@@ -48,14 +48,16 @@ fn run_text<R: Read + Drop, W: Write, S: Alter + Drop>(
         (fault : TextFault) × (failure ≡ text_failure fault) × Halts RunsBatch (Works s) end (R.remaining text) (W.contents output.old) (W.contents output.new) fault)) }
 {
     let mut notes = StandardNotes::new(rt, rt.alloc(), path);
-    let ran = apply_text(rt.alloc(), text, output, world, &mut notes);
-    notes.finish();
-    match ran {
+    match apply_text(rt.alloc(), text, output, world, &mut notes) {
         Ok(tally) => {
+            notes.finish();
             explain_lost(rt, tally);
             Ok(status_after(tally))
         }
-        Err(fault) => Err(Failure::from(fault)),
+        Err(fault) => {
+            notes.finish();
+            Err(Failure::from(fault))
+        }
     }
 }
 
@@ -94,11 +96,15 @@ fn ask_batches<R: Read + Drop, W: Write, S: Alter + Drop>(
         (fault : TextFault) × (failure ≡ text_failure fault) × Halts AsksBatch (Works s) (Works s) (R.remaining text) (W.contents output.old) (W.contents output.new) fault) }
 {
     let mut notes = StandardNotes::new(rt, rt.alloc(), path);
-    let asked = ask_text(rt.alloc(), text, output, world, &mut notes);
-    notes.finish();
-    match asked {
-        Ok(tally) => Ok(status_after(tally)),
-        Err(fault) => Err(Failure::from(fault)),
+    match ask_text(rt.alloc(), text, output, world, &mut notes) {
+        Ok(tally) => {
+            notes.finish();
+            Ok(status_after(tally))
+        }
+        Err(fault) => {
+            notes.finish();
+            Err(Failure::from(fault))
+        }
     }
 }
 
