@@ -792,7 +792,7 @@ class Scripts(Temporary):
         self.assertIn("verbs without a program: 2,", said)
 
     def test_the_session(self):
-        """The commands of docs/LAMBDAMOO.md print what is written there."""
+        """The commands of docs/LAMBDAMOO.md print what is written there, and examples/minimal.sh prints the same."""
         document = (TOP / "docs/LAMBDAMOO.md").read_text()
         session = document[document.index("## A session") : document.index("## Bringing a MOO in")]
         lines = [line[4:] for line in session.splitlines() if line.startswith("    ")]
@@ -804,6 +804,11 @@ class Scripts(Temporary):
             words = {"shell": True, "cwd": self.folder, "env": path, "stdout": subprocess.PIPE, "stderr": subprocess.STDOUT}
             printed += [f"$ {command}", *subprocess.run(command, timeout=SECONDS, **words).stdout.decode().splitlines()]
         self.assertEqual(printed, lines)
+        for part in self.folder.glob("world.db*"):
+            part.unlink()
+        words = {"env": {**path, "MOO": MOO}, "cwd": self.folder, "stdout": subprocess.PIPE, "stderr": subprocess.STDOUT}
+        ended = subprocess.run(["sh", str(TOP / "examples/minimal.sh")], timeout=SECONDS, **words)
+        self.assertEqual((ended.returncode, ended.stdout.decode().splitlines()), (0, lines))
 
     def test_help(self):
         for script, word in (("from_lambdamoo.py", "--floats"), ("to_lambdamoo.py", "--programs")):
