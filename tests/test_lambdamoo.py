@@ -1,7 +1,7 @@
 """The converters from and to database files of LambdaMOO.
 
-What they write is compared with texts that tests/support/lambdamoo_worlds.py writes and reads by itself, and with what moo dumps. The
-variable MOO names the program. LAMBDAMOO_OBJECTS is how many objects the large world has, and LAMBDAMOO_WORLDS how many random worlds are
+What they write is compared with texts that tests/support/lambdamoo_worlds.py writes and reads by itself. Dumps go through moo: it loads
+them, and what it dumps then goes back. The variable MOO names the program. LAMBDAMOO_OBJECTS is how many objects the large world has, and LAMBDAMOO_WORLDS how many random worlds are
 tried: 100000 and 1000 are the full sizes.
 """
 
@@ -32,7 +32,6 @@ from tests.support.lambdamoo_worlds import (
     database_text,
     dump_text,
     literal,
-    put_into_tables,
     random_value,
     random_world,
     read_database,
@@ -41,7 +40,7 @@ from tests.support.lambdamoo_worlds import (
 
 TOP = pathlib.Path(__file__).resolve().parent.parent
 TOOLS = TOP / "tools"
-MOO = os.environ.get("MOO", str(TOP / "crates/moo/out/moo"))
+MOO = str(pathlib.Path(os.environ.get("MOO", TOP / "crates/moo/out/moo")).resolve())
 EXAMPLE = (TOP / "examples/minimal.db").read_text()
 EXAMPLE_DUMP = (TOP / "examples/minimal.dump").read_text()
 LARGE = int(os.environ.get("LAMBDAMOO_OBJECTS", "2000"))
@@ -89,6 +88,20 @@ def run_moo(*words, text=""):
     streams = {"stdout": subprocess.PIPE, "stderr": subprocess.DEVNULL}
     ended = subprocess.run([MOO, *words], input=text.encode(), timeout=SECONDS, check=True, **streams)
     return ended.stdout.decode()
+
+
+def moo_load(text, file=":memory:"):
+    """The status of moo when it loads a text, and what it writes."""
+    ended = subprocess.run([MOO, "load", file, "-"], input=text.encode("latin-1"), timeout=SECONDS, stdout=subprocess.PIPE, stderr=subprocess.DEVNULL)
+    return ended.returncode, ended.stdout.decode()
+
+
+def piped(first, second, folder):
+    """The statuses of two commands with a pipe between them, run in a folder."""
+    with subprocess.Popen(first, cwd=folder, stdout=subprocess.PIPE, stderr=subprocess.DEVNULL) as giving:
+        taken = subprocess.run(second, cwd=folder, stdin=giving.stdout, stderr=subprocess.DEVNULL, timeout=SECONDS)
+        giving.stdout.close()
+        return giving.wait(timeout=SECONDS), taken.returncode
 
 
 def edited(text, line, *lines):
@@ -141,9 +154,21 @@ class Temporary(unittest.TestCase):
         path.write_bytes(text.encode("latin-1"))
         return str(path)
 
+    def through_moo(self, dump):
+        """What moo dumps of the world that it loads from a dump: the same text. It says that it loaded a whole world."""
+        file = self.folder / "through.db"
+        counts = f"{dump[: dump.index(chr(10))]} objects {dump.count(chr(10) + 'object {')}\n"
+        self.assertEqual(moo_load(dump, str(file)), (0, f"loaded {counts}"))
+        self.assertEqual(run_moo("check", str(file)), f"ok {counts}")
+        dumped = run_moo("dump", str(file))
+        self.assertEqual(dumped, dump)
+        for part in self.folder.glob("through.db*"):
+            part.unlink()
+        return dumped
 
-class Values(unittest.TestCase):
-    """Each type of value, in both directions."""
+
+class Values(Temporary):
+    """Each type of value, in both directions and through moo."""
 
     CASES = [
         (["0", "0"], "0"),
@@ -158,7 +183,7 @@ class Values(unittest.TestCase):
         (["4", "0"], "{}"),
         (["4", "2", "0", "1", "4", "1", "2", "x, {"], '{1, {"x, {"}}'),
         (["4", "3", "4", "0", "4", "0", "1", "5"], "{{}, {}, #5}"),
-        nested(32),
+        nested(31),
     ]
 
     def test_each_type(self):
@@ -166,13 +191,13 @@ class Values(unittest.TestCase):
         for lines, text in cases:
             with self.subTest(text):
                 self.assertEqual(from_database(of_value(*lines)), (0, value_dump(text), ""))
-                self.assertEqual(to_database(value_dump(text)), (0, of_value(*lines), ""))
+                self.assertEqual(to_database(self.through_moo(value_dump(text))), (0, of_value(*lines), ""))
 
     def test_integers_of_64_bits(self):
         for number in ("9223372036854775807", "-9223372036854775808", "2147483648"):
             with self.subTest(number):
                 self.assertEqual(from_database(of_value("0", number)), (0, value_dump(number), ""))
-                status, text, said = to_database(value_dump(number))
+                status, text, said = to_database(self.through_moo(value_dump(number)))
                 self.assertEqual((status, text), (0, of_value("0", number)))
                 self.assertIn("integers over 32 bits", said)
         status, text, said = from_database(of_value("0", "9223372036854775808"))
@@ -185,7 +210,7 @@ class Values(unittest.TestCase):
         self.assertIn("--floats text", said)
         self.assertIn(": 1, first at #0, line 22", said)
         status, text, said = from_database(of_value("4", "2", "9", "2.5", "9", "1e+50"), "--floats", "text")
-        self.assertEqual((status, text), (0, value_dump('{"2.5", "1e+50"}')))
+        self.assertEqual((status, self.through_moo(text)), (0, value_dump('{"2.5", "1e+50"}')))
         self.assertIn("floats, written as strings: 2, first at #0, line 24", said)
 
     def test_bytes(self):
@@ -193,20 +218,23 @@ class Values(unittest.TestCase):
         self.assertEqual((status, text), (1, ""))
         self.assertIn("--bytes escape", said)
         status, text, said = from_database(of_value("2", "caf\xe9 ~\x00\r"), "--bytes", "escape")
-        self.assertEqual((status, text), (0, value_dump('"caf~E9 ~7E~00~0D"')))
+        self.assertEqual((status, self.through_moo(text)), (0, value_dump('"caf~E9 ~7E~00~0D"')))
         self.assertIn("written as ~XX: 1, first at #0, line 22", said)
 
     def test_strings_over_the_limit(self):
         self.assertEqual(from_database(of_value("2", "x" * 65535))[1], value_dump('"' + "x" * 65535 + '"'))
         status, text, said = from_database(of_value("2", "x" * 65536))
-        self.assertEqual((status, text), (0, value_dump('"' + "x" * 65535 + '"')))
+        self.assertEqual((status, self.through_moo(text)), (0, value_dump('"' + "x" * 65535 + '"')))
         self.assertIn("strings over 65,535 bytes, cut there: 1,", said)
 
     def test_lists_over_the_limit(self):
-        for depth in (33, 34, 50000):
+        for depth in (32, 33, 50000):
             status, text, said = from_database(of_value(*nested(depth)[0]))
-            self.assertEqual((status, text), (0, value_dump("{" * 32 + "E_MAXREC" + "}" * 32)))
-            self.assertIn("lists over 32 deep, replaced by E_MAXREC: 1,", said)
+            self.assertEqual((status, text), (0, value_dump("{" * 31 + "E_MAXREC" + "}" * 31)))
+            self.assertRegex(said, r"lists over 31 deep, replaced by E_MAXREC: 1, first at #0, line \d+\n")
+            self.through_moo(text)
+        # What moo dumps may be 32 deep.
+        self.assertEqual(to_database(value_dump(nested(32)[1])), (0, of_value(*nested(32)[0]), ""))
         self.assertEqual(to_database(value_dump(nested(33)[1]))[0], 1)
 
     def test_types_that_are_none(self):
@@ -227,14 +255,14 @@ class Values(unittest.TestCase):
             self.assertIn("line 5:", to_database(value_dump(text))[2])
 
 
-class Objects(unittest.TestCase):
-    """What an object has beside its values."""
+class Objects(Temporary):
+    """What an object has beside its values, through moo."""
 
     def both_ways(self, world):
-        """The world's database is read as its dump, and the other way round."""
+        """The world's database is read as its dump, which moo loads, and what moo dumps then is written as the database."""
         status, text, _ = from_database(database_text(world, random.Random(1)))
         self.assertEqual((status, text), (0, dump_text(world)))
-        status, text, _ = to_database(dump_text(world))
+        status, text, _ = to_database(self.through_moo(text))
         self.assertEqual(status, 0)
         self.assertEqual(read_database(text), world.without_programs())
 
@@ -312,7 +340,7 @@ class Programs(Temporary):
         """The programs that verbs of these names get from a database, and what is told."""
         file = self.file("programs.db", database_text(database, random.Random(1)))
         dump = dump_text(self.world(names, [None] * len(names)))
-        status, text, said = to_database(dump, "--programs", file)
+        status, text, said = to_database(self.through_moo(dump), "--programs", file)
         self.assertEqual(status, 0)
         return [verb.program for verb in read_database(text).things[0].verbs], said
 
@@ -356,7 +384,7 @@ class Losses(Temporary):
         strict = from_database(text, "--strict")
         self.assertEqual(strict[:2], (1, ""))
         self.assertIn("no dump was written", strict[2])
-        return dump
+        return self.through_moo(dump)
 
     def test_old_handles(self):
         self.assertEqual(self.told(edited(EXAMPLE, 10, "handle"), "old handles, left out", "#0, line 10"), EXAMPLE_DUMP)
@@ -476,6 +504,15 @@ class Broken(Temporary):
         self.assertEqual(status, 0)
         self.assertIn("or one that was cut short", said)
 
+    def test_pipes_of_files_that_are_cut(self):
+        """Of a database that is cut nothing goes to moo, which makes no file. Nor does a fault of moo's become a database."""
+        for words in (["from_lambdamoo.py", self.file("cut.db", EXAMPLE[:500])], ["from_lambdamoo.py", self.file("empty.db")]):
+            first = [sys.executable, str(TOOLS / words[0]), words[1]]
+            self.assertEqual(piped(first, [MOO, "load", "world.db", "-"], self.folder), (1, 3))
+            self.assertFalse((self.folder / "world.db").exists())
+        self.assertEqual(moo_load(""), (3, "moo: not a dump, line 1\n"))
+        self.broken(to_database("moo: store fault\n"), 1)
+
     def test_databases_that_are_cut_within_a_line(self):
         ends = [place for place, letter in enumerate(EXAMPLE) if letter == "\n"]
         for line, end in enumerate(ends, 1):
@@ -487,7 +524,9 @@ class Broken(Temporary):
         ends = [place for place, letter in enumerate(EXAMPLE_DUMP) if letter == "\n"]
         for end in [0, 1, *ends, *(end - 3 for end in ends), *(end + 1 for end in ends[:-1])]:
             front = EXAMPLE_DUMP[:end]
-            self.broken(to_database(front), front.count("\n") + 1)
+            line = front.count("\n") + 1
+            self.broken(to_database(front), line)
+            self.assertEqual(moo_load(front), (3, f"moo: not a dump, line {line}\n"))
 
     def test_programs_that_are_cut(self):
         status, output, said = to_database(EXAMPLE_DUMP, "--programs", self.file("cut.db", EXAMPLE[:500]))
@@ -620,7 +659,7 @@ class Broken(Temporary):
         self.broken(to_database(inserted(EXAMPLE_DUMP, 3, petition)), 4)
 
     def test_any_line_changed(self):
-        """Whatever is changed, the text is converted or refused with a line, and the dump of a database goes back."""
+        """Whatever is changed, the text is converted or refused with a line. What is written loads and goes back, and moo judges a dump alike."""
         for seed in range(4 * WORLDS):
             chance = random.Random(seed)
             world = random_world(chance, chance.choice([1, 3, 6]))
@@ -634,39 +673,26 @@ class Broken(Temporary):
                     self.assertEqual((status, output), (1, ""))
                     self.assertRegex(said, r"(line \d+: |refused)")
                 elif convert is from_database:
-                    self.assertEqual(to_database(output)[0], 0)
+                    self.assertEqual(to_database(self.through_moo(output))[0], 0)
+                if convert is to_database:
+                    self.assertEqual(moo_load("\n".join(lines))[0] == 0, status == 0, seed)
 
 
 class RoundTrips(Temporary):
     """Worlds that go from one text to the other and back."""
 
     def test_random_worlds(self):
+        """The dump of a database is loaded, moo dumps it byte for byte, and it goes back with the same programs."""
         for seed in range(WORLDS):
             chance = random.Random(seed)
-            world = random_world(chance, chance.choice([0, 1, 2, 5, 20, 40]))
+            world = random_world(chance, chance.choice([0, 1, 2, 5, 20, 40, 80]))
             database = database_text(world, chance)
             status, dump, _ = from_database(database)
             self.assertEqual((status, dump), (0, dump_text(world)), seed)
             self.assertEqual(read_dump(dump), world.without_programs(), seed)
-            status, back, _ = to_database(dump, "--programs", self.file("programs.db", database))
+            dumped = self.through_moo(dump)
+            status, back, _ = to_database(dumped, "--programs", self.file("programs.db", database))
             self.assertEqual((status, read_database(back)), (0, world), seed)
-
-    def test_worlds_in_tables(self):
-        """The world of a database is one that moo calls whole, and moo dumps it byte for byte as the converter does."""
-        for seed in range(max(5, WORLDS // 20)):
-            chance = random.Random(seed)
-            world = random_world(chance, chance.choice([0, 3, 40, 80]))
-            file = str(self.folder / f"{seed}.db")
-            run_moo("init", file)
-            database = database_text(world, chance)
-            status, dump, _ = from_database(database)
-            self.assertEqual(status, 0)
-            put_into_tables(read_dump(dump), file)
-            self.assertEqual(run_moo("check", file), f"ok seq 0 objects {len(world.things)}\n")
-            dumped = run_moo("dump", file)
-            self.assertEqual(dumped, dump, seed)
-            back = to_database(dumped, "--programs", self.file("programs.db", database))[1]
-            self.assertEqual(read_database(back), world, seed)
 
     def test_worlds_of_moo(self):
         """What moo dumps comes back byte for byte, but for its seq, accept lists and petitions."""
@@ -679,24 +705,29 @@ class RoundTrips(Temporary):
             status, database, _ = to_database(dump)
             self.assertEqual((status, read_database(database)), (0, read_dump(dump)))
             self.assertEqual(from_database(database)[:2], (0, without_own_parts(dump)), seed)
+            self.through_moo(dump)
+            self.through_moo(without_own_parts(dump))
 
     def test_a_large_world(self):
+        """The commands of docs/LAMBDAMOO.md, in pipes. The world goes round within the limit of time."""
         started = time.monotonic()
         chance = random.Random(1)
         world = random_world(chance, LARGE)
-        database, dump, back = (self.file(name) for name in ("large.db", "large.dump", "back.db"))
-        pathlib.Path(database).write_text(database_text(world, chance), encoding="latin-1")
+        self.file("core.db", database_text(world, chance))
         made = time.monotonic()
-        for script, words, output in (
-            ("from_lambdamoo.py", [database], dump),
-            ("to_lambdamoo.py", [dump, "--programs", database], back),
-        ):
-            with open(output, "wb") as written:
-                words = [sys.executable, str(TOOLS / script), *words]
-                subprocess.run(words, stdout=written, stderr=subprocess.DEVNULL, timeout=SECONDS, check=True)
-        self.assertLess(time.monotonic() - made, SECONDS, f"after {made - started:.0f} s to make the world")
-        self.assertEqual(pathlib.Path(dump).read_text(), dump_text(world))
-        self.assertEqual(read_database(pathlib.Path(back).read_text(encoding="latin-1")), world)
+        reader = [sys.executable, str(TOOLS / "from_lambdamoo.py"), "core.db"]
+        self.assertEqual(piped(reader, [MOO, "load", "world.db", "-"], self.folder), (0, 0))
+        loaded = time.monotonic()
+        with open(self.folder / "new.db", "wb") as written:
+            writer = f"{shlex.quote(MOO)} dump world.db | {shlex.quote(sys.executable)} {TOOLS}/to_lambdamoo.py - --programs core.db"
+            words = {"shell": True, "cwd": self.folder, "stdout": written, "stderr": subprocess.DEVNULL}
+            subprocess.run(writer, timeout=2 * SECONDS, check=True, **words)
+        ended = time.monotonic()
+        if LARGE >= 100000:
+            print(f"{len(world.things)} objects: in {loaded - made:.1f} s, back {ended - loaded:.1f} s", flush=True)
+        self.assertLess(ended - made, SECONDS, f"after {made - started:.0f} s to make the world")
+        self.assertEqual(run_moo("dump", str(self.folder / "world.db")), dump_text(world))
+        self.assertEqual(read_database((self.folder / "new.db").read_text(encoding="latin-1")), world)
 
 
 def random_batches(chance):
@@ -761,17 +792,23 @@ class Scripts(Temporary):
         self.assertIn("verbs without a program: 2,", said)
 
     def test_the_session(self):
-        """The commands of docs/LAMBDAMOO.md print what is written there."""
+        """The commands of docs/LAMBDAMOO.md print what is written there, and examples/minimal.sh prints the same."""
         document = (TOP / "docs/LAMBDAMOO.md").read_text()
         session = document[document.index("## A session") : document.index("## Bringing a MOO in")]
         lines = [line[4:] for line in session.splitlines() if line.startswith("    ")]
-        for name in ("tools", "examples"):
-            (self.folder / name).symlink_to(TOP / name)
+        for name, target in (("tools", TOP / "tools"), ("examples", TOP / "examples"), ("moo", MOO)):
+            (self.folder / name).symlink_to(target)
+        path = {**os.environ, "PATH": f"{self.folder}:{os.environ['PATH']}"}
         printed = []
         for command in (line[2:] for line in lines if line.startswith("$ ")):
-            words = {"shell": True, "cwd": self.folder, "stdout": subprocess.PIPE, "stderr": subprocess.STDOUT, "timeout": SECONDS}
-            printed += [f"$ {command}", *subprocess.run(command, **words).stdout.decode().splitlines()]
+            words = {"shell": True, "cwd": self.folder, "env": path, "stdout": subprocess.PIPE, "stderr": subprocess.STDOUT}
+            printed += [f"$ {command}", *subprocess.run(command, timeout=SECONDS, **words).stdout.decode().splitlines()]
         self.assertEqual(printed, lines)
+        for part in self.folder.glob("world.db*"):
+            part.unlink()
+        words = {"env": {**path, "MOO": MOO}, "cwd": self.folder, "stdout": subprocess.PIPE, "stderr": subprocess.STDOUT}
+        ended = subprocess.run(["sh", str(TOP / "examples/minimal.sh")], timeout=SECONDS, **words)
+        self.assertEqual((ended.returncode, ended.stdout.decode().splitlines()), (0, lines))
 
     def test_help(self):
         for script, word in (("from_lambdamoo.py", "--floats"), ("to_lambdamoo.py", "--programs")):

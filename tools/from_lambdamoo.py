@@ -41,6 +41,7 @@ file, from which to_lambdamoo.py takes them again. Nothing is written unless
 the whole file was read.
 """
 ENDING = """\
+  from_lambdamoo.py core.db | moo load world.db -
   from_lambdamoo.py core.db >core.dump
   from_lambdamoo.py --floats text --bytes escape core.db >core.dump
 

@@ -5,7 +5,6 @@ Nothing here uses the converters.
 
 import dataclasses
 import re
-import sqlite3
 import typing
 
 ERRORS = ["E_NONE", "E_TYPE", "E_DIV", "E_PERM", "E_PROPNF", "E_VERBNF", "E_VARNF", "E_INVIND"] + [
@@ -105,8 +104,8 @@ CODE = ["return 1;", "", "  if (x)", "..", "#0:0", '"a string";', "0 clocks", " 
 
 
 def random_value(random, depth=0):
-    """A value of any type. Lists nest at most 32 deep."""
-    kind = random.randrange(6 if depth < 32 else 4)
+    """A value of any type. Lists nest at most 31 deep, as moo load reads them."""
+    kind = random.randrange(6 if depth < 31 else 4)
     if kind == 0:
         return random.choice([0, 1, -1, 7, 2**31 - 1, -(2**31), random.randrange(-1000, 1000)])
     if kind == 1:
@@ -441,33 +440,3 @@ def read_dump(text):
         elif word == "verb":
             world.things[number].verbs.append(Verb(values[1], values[2].number, values[3], tuple(values[4:7])))
     return world
-
-
-# ---- as tables of moo
-
-
-def put_into_tables(world, file):
-    """Makes the tables of a new file of moo show this world."""
-    numbers = {}
-    slots, verbs = [], []
-    for number, thing in world.things.items():
-        for name in thing.defines:
-            numbers[number, name] = len(numbers) + 1
-    for number, thing in world.things.items():
-        for key, slot in zip(world.owed(number), thing.slots):
-            rights = sum({"r": 4, "w": 2, "c": 1}[letter] for letter in slot.letters)
-            slots.append((number, numbers[key], slot.owner, rights, "" if slot.value is CLEAR else literal(slot.value)))
-        for verb in thing.verbs:
-            verbs.append((number, len(verbs) + 1, verb.names, verb.owner, verb.letters, *verb.places))
-    connection = sqlite3.connect(file)
-    connection.execute("delete from object")
-    for number, thing in world.things.items():
-        flags = [int(flag in thing.flags) for flag in FLAGS]
-        row = number, thing.name, thing.owner, thing.parent, thing.location, *flags, ""
-        connection.execute(f"insert into object values ({', '.join('?' * len(row))})", row)
-    connection.executemany("insert into prop values (?, ?, ?)", [(place, *key) for key, place in numbers.items()])
-    connection.executemany("insert into slot2 values (?, ?, ?, ?, ?)", slots)
-    connection.executemany("insert into verb values (?, ?, ?, ?, ?, ?, ?, ?)", verbs)
-    connection.execute("update head set top = ?, next_prop = ?, next_verb = ?", (world.top, len(numbers) + 1, len(verbs) + 1))
-    connection.commit()
-    connection.close()
