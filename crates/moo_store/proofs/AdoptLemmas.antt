@@ -159,6 +159,7 @@ module _ {S : Type 0} (g : Ghosts S) (old new : Held S) (world : World S) (rows 
           tables = λ _ _. subst (λ h. KeepsState (state g h) s) (sym is) (record { rows = rows; good = good; state = is_state; keeps = kept });
           rows = λ _. ap state_of same_rows ∙ is_state;
           shown = λ _ _ _. subst₂ (λ h m. KeepsRows (state g h) m) (sym is) (sym same_rows) kept;
+          good = λ _. subst IsGood (sym same_rows) good;
         };
       }
 

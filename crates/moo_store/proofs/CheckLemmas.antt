@@ -74,6 +74,7 @@ stands_on g known old conn failed s it works clean stays late =
         tables = λ sure _. let k = it.is_at.tables sure (clean late) in record { rows = k.rows; good = k.good; state = k.state; keeps = over k.rows k.keeps };
         rows = λ _. it.is_at.rows it.works;
         shown = λ sure _ _. over old.rows.maps (it.is_at.shown sure it.works (clean late));
+        good = λ _. it.is_at.good it.works;
       };
     }
 

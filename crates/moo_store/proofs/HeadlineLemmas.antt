@@ -5,11 +5,21 @@ use Rattle.sqlite.specs.State.{State as Database, HasCleanDisk, Opens}
 use Rattle.sqlite.specs.Effect.{IsDatabase}
 use Rattle.sqlite.specs.Store.{Ghosts}
 use Rattle.moo_world.specs.declared.call.Batch.{Batch}
-use Rattle.moo_world.specs.Judge.{State, judge, left_by, after}
+use Rattle.moo_world.specs.Judge.{State, judge, left_by, after, state_of}
 use Rattle.moo_text.specs.declared.reply.Reply.{Reply}
-use Rattle.moo_tables.specs.Inside.{MayOpenAs}
+use Rattle.moo_tables.specs.Inside.{MayOpenAs, Rests}
 use Rattle.moo_tables.proofs.ReopenLemmas.{opened}
-use Rattle.moo_store.specs.States.{ShowsState, LeavesState}
+use Rattle.moo_rows.specs.Maps.{Maps}
+use Rattle.moo_world.specs.Numbers.{NumbersStay}
+use Rattle.moo_world.specs.Requests.{PetitionsStay}
+use Rattle.moo_world.specs.Rows.{IsGood}
+use Rattle.moo_tables.specs.Tables.{Tables}
+use Rattle.moo_cells.specs.Shows.{ShowsRows}
+use Rattle.moo_cells.proofs.CellsLemmas.{one_good}
+use Rattle.moo_cells.proofs.GoodRows.{good_within}
+use Rattle.moo_store.specs.Led.{LeavesLed}
+use Rattle.moo_store.proofs.Numbered.{led_stay, led_keep_petitions}
+use Rattle.moo_store.specs.States.{ShowsState, LeavesRows, LeavesState}
 use Rattle.moo_store.specs.Answered.{acknowledged}
 use Rattle.moo_store.specs.Kept.{World}
 use Rattle.moo_store.specs.World.{store_of, IsAt, StandsFor, Left, LeftOrNext, MatchStore}
@@ -58,6 +68,23 @@ found crashed again s batches replies left may =
 pub holds : {T : Type 0} (g : Ghosts T) (again : Database) (world : World T) (s : State) (batches : List Batch) (replies : List Reply) (it : Found again s batches replies)
     → StandsFor g true world (after s (acknowledged batches replies ++ take it.more (drop (length replies) batches))) → HoldsAcknowledged g world s batches replies
 holds g again world s batches replies it stands = record { more = it.more; at_most_one = it.at_most_one; stands = stands }
+
+-- ---- the rows that are found
+
+-- good rows that a crash left are those that the next open shows
+pub rows_found : {T : Type 0} (g : Ghosts T) (again : Database) (world : World T) (rows : Maps) → Opens again → IsDatabase again.now → LeavesRows again.now.trees rows → IsGood rows
+    → ((tables : Tables) → Rests again tables → ShowsRows tables world.rows.maps × IsGood world.rows.maps) → rows ≡ world.rows.maps
+rows_found g again world rows opens sound it good shown =
+    let found = shown it.tables (opened again it.tables opens sound it.leaves) in
+    one_good it.tables rows world.rows.maps it.shows (good_within rows good) found.0 found.1
+
+pub numbers_found : {T : Type 0} (g : Ghosts T) (crashed again : Database) (world : World T) (rows : Maps) (batches others : List Batch) → LeavesLed crashed rows batches others → MayOpenAs crashed again
+    → ((tables : Tables) → Rests again tables → ShowsRows tables world.rows.maps × IsGood world.rows.maps) → NumbersStay rows world.rows.maps × PetitionsStay (state_of rows) (state_of world.rows.maps)
+numbers_found g crashed again world rows batches others left may shown =
+    let it = left again.now.trees may.found in
+    let same = rows_found g again world it.2 may.opens may.sound it.5 it.3 shown in
+    let led = batches ++ take it.0 others in
+    subst (λ m. NumbersStay rows m × PetitionsStay (state_of rows) (state_of m)) same (led_stay rows led it.2 it.4, led_keep_petitions rows led it.2 it.4)
 
 -- ---- several parts
 

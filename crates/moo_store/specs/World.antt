@@ -6,6 +6,7 @@ use Rattle.sqlite.specs.Tree.{Trees}
 use Rattle.sqlite.specs.Store.{Ghosts}
 use Rattle.sqlite.specs.Held.{state}
 use Rattle.moo_world.specs.declared.call.Batch.{Batch}
+use Rattle.moo_world.specs.Rows.{IsGood}
 use Rattle.moo_world.specs.Judge.{State, state_of, after}
 use Rattle.moo_store.specs.States.{KeepsRows, KeepsState, LeavesState}
 use Rattle.moo_store.specs.Stand.{Stand, Works, Failed, StoreFailed, MayLeave}
@@ -21,7 +22,7 @@ store_of g world = state g world.connection
 abbrev pub ShowsItsRows : {S : Type 0} (g : Ghosts S) → World S → Type 0
 ShowsItsRows g world = HasCleanDisk (store_of g world) → KeepsRows (store_of g world) world.rows.maps
 
--- The tables of the World show s, and so do its rows while it works. A failed World may be at a state too.
+-- The tables of the World show s, and so do its rows while it works, which are good then. A failed World may be at a state too.
 --
 -- `known` says whether its tables are known to show s. Anybody may have written a file, and no query tells in which order its
 -- trees hold the rows: then nothing can be said of what a change leaves of them. What is said of the rows holds all the same.
@@ -29,6 +30,7 @@ pub record IsAt {S : Type 0} (g : Ghosts S) (known : Bool) (world : World S) (s 
   pub tables : IsTrue known → HasCleanDisk (store_of g world) → KeepsState (store_of g world) s
   pub rows : world.failed ≡ false → state_of world.rows.maps ≡ s
   pub shown : IsTrue known → world.failed ≡ false → ShowsItsRows g world
+  pub good : world.failed ≡ false → IsGood world.rows.maps
 
 -- the World works, and is at s
 pub record StandsFor {S : Type 0} (g : Ghosts S) (known : Bool) (world : World S) (s : State) : Type 0 where

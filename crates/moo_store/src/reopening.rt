@@ -5,6 +5,8 @@ ghost use Rattle.sqlite.specs.State.{HasCleanDisk};
 ghost use Rattle.sqlite.specs.Held.{state};
 ghost use Rattle.moo_world.specs.declared.call.Batch.{Batch};
 ghost use Rattle.moo_world.specs.Judge.{State, after};
+ghost use Rattle.moo_world.specs.Numbers.{NumbersStay};
+ghost use Rattle.moo_world.specs.Requests.{PetitionsStay, state_of};
 ghost use Rattle.moo_text.specs.declared.reply.Reply.{Reply};
 ghost use Rattle.moo_tables.specs.Inside.{MayOpenAs};
 ghost use Rattle.moo_store.specs.Answered.{added};
@@ -36,6 +38,9 @@ pub fn run_and_reopen<S: Alter + Drop, T: Alter + Drop>(
     requires outside { (state T.Store found).in_transaction ≡ false }
     ensures reopened { (s : _) → StandsFor S.Store true world.old s → MayOpenAs (store_of S.Store world.new) (state T.Store found) →
         IfOk result (λ again. HasCleanDisk (store_of T.Store again) → HoldsAcknowledged T.Store again s batches.now (added replies.old.items replies.new.items)) }
+    // No number of a property, a verb or a petition is given again over the stop.
+    ensures numbers { (s : _) → StandsFor S.Store true world.old s → MayOpenAs (store_of S.Store world.new) (state T.Store found) →
+        IfOk result (λ again. HasCleanDisk (store_of T.Store again) → NumbersStay world.old.rows.maps again.rows.maps × PetitionsStay (state_of world.old.rows.maps) (state_of again.rows.maps)) }
     ensures refused { (s : _) → StandsFor S.Store true world.old s → MayOpenAs (store_of S.Store world.new) (state T.Store found) →
         IfErr result (λ e. HasCleanDisk (state T.Store e.1) → IsOfStore e.0) }
 {

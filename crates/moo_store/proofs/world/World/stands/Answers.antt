@@ -12,5 +12,5 @@ returns g c =
     subst (λ (w : World _). (known : Bool) → w.failed ≡ false → (IsTrue known → ShowsItsRows g.S.Store w) → StandsFor g.S.Store known w (state_of w.rows.maps)) c.self.view_is
     (λ known works shown. record {
       works = works;
-      is_at = record { tables = λ sure clean. keeps_state (state g.S.Store c.self.inside.connection) rows (state_of rows) (c.self.invariant.1 works) refl (shown sure clean); rows = λ e. refl; shown = λ sure e. shown sure };
+      is_at = record { tables = λ sure clean. keeps_state (state g.S.Store c.self.inside.connection) rows (state_of rows) (c.self.invariant.1 works) refl (shown sure clean); rows = λ e. refl; shown = λ sure e. shown sure; good = λ e. c.self.invariant.1 works };
     })
