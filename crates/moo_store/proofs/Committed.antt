@@ -1,11 +1,11 @@
 -- Tables of some rows, changed, are those of the next ones.
-use Rattle.std.proofs.Common.{◌≡◌, ◌⊎◌, inl, inr, Bool, true, false, Result, Ok, Err, OnOk, refl, subst, arith}
+use Rattle.std.proofs.Common.{ℕ, ◌≡◌, ◌⊎◌, inl, inr, Bool, true, false, Result, Ok, Err, OnOk, refl, subst, arith}
 use Rattle.sqlite.specs.State.{State as Database, HasCleanDisk, Survives}
 use Rattle.sqlite.specs.Tree.{Trees}
 use Rattle.sqlite_trees.specs.View.{doubt}
 use Rattle.moo_rows.specs.Maps.{Maps}
 use Rattle.moo_tables.specs.Tables.{Tables}
-use Rattle.moo_tables.specs.Cells.{tables_with}
+use Rattle.moo_tables.specs.Cells.{tables_with, with_counter, HasCounter}
 use Rattle.moo_tables.specs.Inside.{Rests, Leaves, IsCurrent, no_tables}
 use Rattle.moo_tables.specs.declared.cells.CellChanges.{CellChanges}
 use Rattle.moo_tables.proofs.InsideLemmas.{clean_before}
@@ -15,27 +15,31 @@ use Rattle.moo_cells.specs.Shows.{ShowsRows}
 use Rattle.moo_store.specs.Printed.{Prints}
 use Rattle.moo_store.specs.States.{KeepsRows, LeavesRows}
 use Rattle.moo_store.specs.Untouched.{KeepsCells}
-use Rattle.moo_store.proofs.Shown.{shows-written, keeps-written, counts_alone}
+use Rattle.moo_store.proofs.Shown.{shows-written, keeps-written, counts_alone, counts_here}
 use Rattle.moo_store.proofs.Versions.{one_tables}
 
-module _ (cells : CellChanges) (changes : Changes) (base next : Maps) (printed : Prints cells changes) (exact : AreChanges base next changes) where
+-- tables that show rows have their number of the next petition
+has_number : (last : ℕ) (t : Tables) (base : Maps) → IsCurrent t → base.head.next_petition ≡ last → ShowsRows t base → HasCounter last t
+has_number last t base current same shows = subst (λ n. HasCounter n t) same (counts_here t.version base.head.next_petition t.petition_head current shows.counter)
+
+module _ (last : ℕ) (cells : CellChanges) (changes : Changes) (base next : Maps) (printed : Prints cells changes) (exact : AreChanges base next changes) (same : base.head.next_petition ≡ last) where
   pub shows_next : (t : Tables) → IsCurrent t → ShowsRows t base → ShowsRows (tables_with cells t) next
   shows_next t current shows = shows-written cells changes base next t printed exact current shows.no_head (counts_alone t.version base.head.next_petition t.petition_head current shows.counter) shows.maps
 
-  pub keeps_next : (old new : Database) → ((t : Tables) → Rests old t → IsCurrent t → Rests new (tables_with cells t)) → KeepsRows old base → KeepsRows new next
-  keeps_next old new rests it = record { tables = tables_with cells it.tables; rests = rests it.tables it.rests it.current; current = it.current; shows = shows_next it.tables it.current it.shows }
+  pub keeps_next : (old new : Database) → ((t : Tables) → Rests old t → IsCurrent t → HasCounter last t → Rests new (tables_with cells t)) → KeepsRows old base → KeepsRows new next
+  keeps_next old new rests it = record { tables = tables_with cells it.tables; rests = rests it.tables it.rests it.current (has_number last it.tables base it.current same it.shows); current = it.current; shows = shows_next it.tables it.current it.shows }
 
-pub at_written : {E : Type 0} (old new : Database) (cells : CellChanges) (r : Result (Unit {0}) E)
-    → OnOk r ((t : Tables) → Rests old t → IsCurrent t → Rests new (tables_with cells t))
-    → OnOk r ((changes : Changes) (base next : Maps) → Prints cells changes → AreChanges base next changes → KeepsRows old base → KeepsRows new next)
-at_written old new cells (Ok x) f = λ changes base next printed exact it. keeps_next cells changes base next printed exact old new f it
-at_written old new cells (Err e) f = tt
+pub at_written : {E : Type 0} (old new : Database) (last : ℕ) (cells : CellChanges) (r : Result (Unit {0}) E)
+    → OnOk r ((t : Tables) → Rests old t → IsCurrent t → HasCounter last t → Rests new (tables_with cells t))
+    → OnOk r ((changes : Changes) (base next : Maps) → Prints cells changes → AreChanges base next changes → base.head.next_petition ≡ last → KeepsRows old base → KeepsRows new next)
+at_written old new last cells (Ok x) f = λ changes base next printed exact same it. keeps_next last cells changes base next printed exact same old new f it
+at_written old new last cells (Err e) f = tt
 
-pub at_kept : {E : Type 0} (old new : Database) (cells : CellChanges) (r : Result (Unit {0}) E)
-    → OnOk r ((t : Tables) → Rests old t → IsCurrent t → Rests new (tables_with cells t))
-    → OnOk r ((changes : Changes) (base next : Maps) (t : Tables) → Prints cells changes → AreChanges base next changes → Rests old t → IsCurrent t → ShowsRows t base → (after : Tables) × Rests new after × KeepsCells base next t after)
-at_kept old new cells (Ok x) f = λ changes base next t printed exact rests current shown. (tables_with cells t, f t rests current, keeps-written cells changes base next t printed exact current shown)
-at_kept old new cells (Err e) f = tt
+pub at_kept : {E : Type 0} (old new : Database) (last : ℕ) (cells : CellChanges) (r : Result (Unit {0}) E)
+    → OnOk r ((t : Tables) → Rests old t → IsCurrent t → HasCounter last t → Rests new (tables_with cells t))
+    → OnOk r ((changes : Changes) (base next : Maps) (t : Tables) → Prints cells changes → AreChanges base next changes → base.head.next_petition ≡ last → Rests old t → IsCurrent t → ShowsRows t base → (after : Tables) × Rests new after × KeepsCells base next t after)
+at_kept old new last cells (Ok x) f = λ changes base next t printed exact same rests current shown. (tables_with cells t, f t rests current (has_number last t base current same shown), keeps-written cells changes base next t printed exact current shown)
+at_kept old new last cells (Err e) f = tt
 
 -- no two tables rest in one store, so that any that do show its rows, and are of the present version
 pub shown_by : (store : Database) (rows : Maps) (t : Tables) → KeepsRows store rows → Rests store t → ShowsRows t rows
@@ -59,20 +63,24 @@ unfolding doubt
 in_doubt true = inl refl
 in_doubt false = inr (λ e. omega (arith, e))
 
+-- no rows but that of the number of the next petition
+only_number : ℕ → Tables
+only_number last = with_counter last no_tables
+
 -- A disk that returns what was written did so before, whatever tables it had.
-pub clean_at_commit : (old new : Database) (P : Tables → Trees → Type 0) → ((t : Tables) → (HasCleanDisk old → Rests old t) → IsCurrent t → Survives old new (P t)) → HasCleanDisk new → HasCleanDisk old
-clean_at_commit old new P survives clean = elim (in_doubt old.is_clean) [
+pub clean_at_commit : (old new : Database) (last : ℕ) (P : Tables → Trees → Type 0) → ((t : Tables) → (HasCleanDisk old → Rests old t) → IsCurrent t → HasCounter last t → Survives old new (P t)) → HasCleanDisk new → HasCleanDisk old
+clean_at_commit old new last P survives clean = elim (in_doubt old.is_clean) [
   | inl was ↦ was
-  | inr failed ↦ clean_before old new (P no_tables) (survives no_tables (λ was. absurd (failed was)) refl) clean
+  | inr failed ↦ clean_before old new (P (only_number last)) (survives (only_number last) (λ was. absurd (failed was)) refl refl) clean
 ]
 
 -- The tables are known only of a clean disk, so the clean and the failed disk are told apart.
-pub survives_next : (old new : Database) (cells : CellChanges) (changes : Changes) (base next : Maps) → Prints cells changes → AreChanges base next changes
-    → ((t : Tables) → (HasCleanDisk old → Rests old t) → IsCurrent t → Survives old new (λ trees. Leaves trees (tables_with cells t)))
+pub survives_next : (old new : Database) (last : ℕ) (cells : CellChanges) (changes : Changes) (base next : Maps) → Prints cells changes → AreChanges base next changes → base.head.next_petition ≡ last
+    → ((t : Tables) → (HasCleanDisk old → Rests old t) → IsCurrent t → HasCounter last t → Survives old new (λ trees. Leaves trees (tables_with cells t)))
     → (HasCleanDisk old → KeepsRows old base) → Survives old new (λ trees. LeavesRows trees next)
-survives_next old new cells changes base next printed exact survives keeps = elim (in_doubt old.is_clean) [
-  | inl clean ↦ (let it = keeps clean in survives-map old new (λ trees. Leaves trees (tables_with cells it.tables)) (λ trees. LeavesRows trees next) (survives it.tables (λ _. it.rests) it.current)
-      (λ _ trees lies. record { tables = tables_with cells it.tables; leaves = lies; shows = shows_next cells changes base next printed exact it.tables it.current it.shows }))
-  | inr failed ↦ survives-map old new (λ trees. Leaves trees (tables_with cells no_tables)) (λ trees. LeavesRows trees next) (survives no_tables (λ clean. absurd (failed clean)) refl)
+survives_next old new last cells changes base next printed exact same survives keeps = elim (in_doubt old.is_clean) [
+  | inl clean ↦ (let it = keeps clean in survives-map old new (λ trees. Leaves trees (tables_with cells it.tables)) (λ trees. LeavesRows trees next) (survives it.tables (λ _. it.rests) it.current (has_number last it.tables base it.current same it.shows))
+      (λ _ trees lies. record { tables = tables_with cells it.tables; leaves = lies; shows = shows_next last cells changes base next printed exact same it.tables it.current it.shows }))
+  | inr failed ↦ survives-map old new (λ trees. Leaves trees (tables_with cells (only_number last))) (λ trees. LeavesRows trees next) (survives (only_number last) (λ clean. absurd (failed clean)) refl refl)
       (λ clean trees lies. absurd (failed clean))
 ]

@@ -117,6 +117,10 @@ counts_written version next table current alone = subst (λ v. ShowsCounter v (n
 pub counts_alone : (version : Version) (next : ℕ) (table : ℤ → Option Row) → version ≡ Second → ShowsCounter version table next → (n : ℤ) → n ≢ pos 1 → table n ≡ None
 counts_alone version next table current shows = (subst (λ v. ShowsCounter v table next) current shows).1
 
+-- and that row is there
+pub counts_here : (version : Version) (next : ℕ) (table : ℤ → Option Row) → version ≡ Second → ShowsCounter version table next → table (pos 1) ≡ Some (petition_head_cells next)
+counts_here version next table current shows = (subst (λ v. ShowsCounter v table next) current shows).0
+
 pub shows-written : (cells : CellChanges) (changes : Changes) (base new : Maps) (t : Tables) → Prints cells changes → AreChanges base new changes → IsCurrent t → ((n : ℤ) → n ≢ pos 1 → t.head n ≡ None) → ((n : ℤ) → n ≢ pos 1 → t.petition_head n ≡ None) → ShowsMaps t base → ShowsRows (tables_with cells t) new
 shows-written cells changes base new t p c current alone counter_alone shows = record {
   head = ap (λ b. cond b (Some (head_cells Second cells.head)) (t.head (pos 1))) ((same_number-Decides (pos 1) (pos 1)).1 refl) ∙ ap (λ h. Some (head_cells Second h)) (p.head ∙ c.head) ∙ ap (λ v. Some (head_cells v new.head)) (sym current);

@@ -99,7 +99,8 @@ impl<S: Alter + Drop> World<S> {
         ensures failed { OnErr result (self.new.failed ≡ true) }
         ensures crash { OnErr result ((next : Maps) → ShowsItsRows S.Store self.old → AreChanges self.old.rows.maps next changes → IsGood next → HasCleanDisk (store_of S.Store self.new) → (trees : _) → (store_of S.Store self.new).may_leave trees → LeavesState trees (state_of self.old.rows.maps) ⊎ LeavesState trees (state_of next)) }
     {
-        if let Err(error) = commit_cells(&mut self.connection, cells) {
+        let last = self.rows.head().next_petition;
+        if let Err(error) = commit_cells(&mut self.connection, cells, last) {
             self.failed = true;
             return Err(StoreFault::Store(error));
         }

@@ -43,15 +43,15 @@ table_of name tree columns key primary uniques orders = record {
 abbrev pub numbered : List ℕ → ℕ → List Column → Table
 numbered name tree columns = table_of name tree columns (Some 0) (0 ∷ []) [] []
 
--- the first two columns are the key, which the tree behind it has as an index
+-- the first two columns are the key, of which the next tree is the index
 abbrev pub paired : List ℕ → ℕ → List Column → Table
 paired name tree columns = table_of name tree columns None (1 ∷ 2 ∷ []) ((1 ∷ 2 ∷ []) ∷ []) (plain ∷ [])
 
--- A row of a tree begins with its number. Where that is the first column, the column itself is kept empty.
+-- A row of a tree begins with its number. If that is the first column, the column itself is kept empty.
 abbrev pub cells_at : List ℕ → Row → Row
 cells_at places row = map (column row) places
 
--- where the cells of a row stand in its tree
+-- the places of a row's cells in its tree
 abbrev pub number_places : Table → List ℕ
 number_places t = 0 ∷ range_with_len 2 (length t.columns - 1)
 

@@ -1,4 +1,4 @@
-//! The tables that the second version has beside those of the first.
+//! The tables that the second version has besides those of the first.
 
 ghost use Rattle.std.specs.Prelude.{◌≡◌, OnOk};
 ghost use Rattle.sqlite.specs.Held.{state};

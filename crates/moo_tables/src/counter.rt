@@ -4,7 +4,7 @@ ghost use Rattle.std.specs.Prelude.{◌≡◌, ◌↔◌, ◌∷◌, [], IsTrue,
 ghost use Rattle.sqlite.specs.Held.{state};
 ghost use Rattle.sqlite.specs.State.{HasCleanDisk};
 ghost use Rattle.sqlite.specs.Values.{bound};
-ghost use Rattle.moo_tables.specs.Cells.{with_counter};
+ghost use Rattle.moo_tables.specs.Cells.{with_counter, is_counted, with_new_counter};
 ghost use Rattle.moo_tables.specs.Head.{petition_head_table, petition_head_cells};
 ghost use Rattle.moo_tables.specs.Inside.{StaysInside, Changes, Holds, Sees, Rests, ReadsTables, FailsToRead, IsGrown, KeepsSlot, grown};
 ghost use Rattle.moo_tables.specs.Listing.{ListsNumbers};
@@ -36,7 +36,7 @@ fn counter_values(next: u32) -> [ValueRef<'static>; 2]
     [ValueRef::Int(1), counter_value(next)]
 }
 
-/// Puts the number of the next petition, in place of the one that is there. Where that is the same nothing is written.
+/// Puts the number of the next petition, in place of the one that is there. If that is the same, the statement writes nothing.
 pub(crate) fn put_counter<S: Alter>(tx: &mut Transaction<'_, S>, next: u32) -> Result<usize, Error>
     ensures same_reference { tx.new.conn.ghost_name ≡ tx.old.conn.ghost_name }
     ensures inside { StaysInside (state S.Store tx.old.conn.now) (state S.Store tx.new.conn.now) }
@@ -47,6 +47,32 @@ pub(crate) fn put_counter<S: Alter>(tx: &mut Transaction<'_, S>, next: u32) -> R
         "INSERT INTO petition_head VALUES (?1, ?2) ON CONFLICT (id) DO UPDATE SET next_petition = ?2 WHERE next_petition <> ?2",
     )?;
     run_prepared(tx, &put, &counter_values(next))
+}
+
+/// Whether a table that has this number, if it has one, has the next one already.
+fn is_counted(last: Option<u32>, next: u32) -> bool
+    ensures { result ≡ is_counted last next }
+{
+    match last {
+        None => false,
+        Some(last) => last == next,
+    }
+}
+
+/// Puts the number of the next petition, unless the table has it already. `last` is the number that the table has, if that is known.
+pub(crate) fn put_new_counter<S: Alter>(
+    tx: &mut Transaction<'_, S>,
+    last: Option<u32>,
+    next: u32,
+) -> Result<usize, Error>
+    ensures same_reference { tx.new.conn.ghost_name ≡ tx.old.conn.ghost_name }
+    ensures inside { StaysInside (state S.Store tx.old.conn.now) (state S.Store tx.new.conn.now) }
+    ensures put { OnOk result (Changes (with_new_counter last next) (state S.Store tx.old.conn.now) (state S.Store tx.new.conn.now)) }
+{
+    if is_counted(last, next) {
+        return Ok(0);
+    }
+    put_counter(tx, next)
 }
 
 /// The row of `petition_head`. The first version has no such table.

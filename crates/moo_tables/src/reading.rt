@@ -34,7 +34,7 @@ pub struct CellLists {
     pub petition_head: Vec<Row>,
 }
 
-/// The rows of `petition` and of `petition_head`, of both none in the first version, where nothing is asked.
+/// The rows of `petition` and of `petition_head`. In the first version both have none, and no query is made.
 fn both_petition_cells_of<S: Alter>(
     alloc: Global,
     conn: &mut Connection<S>,

@@ -6,7 +6,7 @@ ghost use Rattle.moo_tables.specs.Version.{version_number};
 /// Which tables a database has.
 ///
 /// The first layout has the five tables `head`, `object`, `prop`, `slot` and `verb`. The second has three more: `slot2`,
-/// which stands in place of `slot`, and `petition` and `petition_head`. Only tables of the second are written.
+/// which replaces `slot`, and `petition` and `petition_head`. Only tables of the second are written.
 #[derive(Clone, Copy)]
 pub enum Version {
     First,

@@ -10,7 +10,7 @@ use crate::statement::{RowStatements, prepare_rows};
 use crate::table_row::TableRow;
 use sqlite::{Alter, Error, Transaction};
 
-/// Puts the new row, or deletes the old one where there is no new one.
+/// Puts the new row, or deletes the old one if there is no new one.
 fn write_row<S: Alter, R: TableRow>(
     tx: &mut Transaction<'_, S>,
     statements: &RowStatements,
