@@ -132,7 +132,7 @@ class RequestCuts(RequestTest):
         for name, request, wanted in LEFT:
             with service.peer() as peer:
                 peer.sendall(request)
-                self.case(f"there is one answer, and left is {name}", heard_to_the_end(peer), (wanted, "reset"))
+                self.case(f"there is one answer, and left is {name}", heard_to_the_end(peer), (wanted, "closed"))
         self.case("what was left changed nothing", said(service, SEQ_QUESTION), seq(7))
         self.case("all that have more are served", service.end(), (0, f"served {8 + len(LEFT)} failed 0\n"))
 
