@@ -47,7 +47,7 @@ SILENT = [
 ]
 
 
-# More follows these than is wanted. Bytes that the service hasn't read are why the system resets the connection.
+# More follows these than is wanted. The service reads what is left before it closes, so that the connection is not reset.
 LEFT = [
     ("a second request behind a body", posted("/ask", b'{"as":"#3","at":7,"calls":["create(#1)"]}' + b" " * 3000) + SEQ_QUESTION, accepted(7, "#4")),
     ("one byte behind a body", posted("/ask", b'{"as":"#3","at":7,"calls":["create(#1)"]}' + b" " * 3000) + b"x", accepted(7, "#4")),
