@@ -47,7 +47,7 @@ SILENT = [
 ]
 
 
-# More follows these than is wanted. Bytes that the service hasn't read are why the system resets the connection.
+# More follows these than is wanted. The service reads what is left before it closes, so that the connection is not reset.
 LEFT = [
     ("a second request behind a body", posted("/ask", b'{"as":"#3","at":7,"calls":["create(#1)"]}' + b" " * 3000) + SEQ_QUESTION, accepted(7, "#4")),
     ("one byte behind a body", posted("/ask", b'{"as":"#3","at":7,"calls":["create(#1)"]}' + b" " * 3000) + b"x", accepted(7, "#4")),
@@ -132,7 +132,7 @@ class RequestCuts(RequestTest):
         for name, request, wanted in LEFT:
             with service.peer() as peer:
                 peer.sendall(request)
-                self.case(f"there is one answer, and left is {name}", heard_to_the_end(peer), (wanted, "reset"))
+                self.case(f"there is one answer, and left is {name}", heard_to_the_end(peer), (wanted, "closed"))
         self.case("what was left changed nothing", said(service, SEQ_QUESTION), seq(7))
         self.case("all that have more are served", service.end(), (0, f"served {8 + len(LEFT)} failed 0\n"))
 

@@ -252,7 +252,9 @@ class Shipped(unittest.TestCase):
 
     def test_interrupt_leaves_nothing_running(self):
         self.stand_in_for_rt(GOES_ON)
-        run = subprocess.Popen([".ci/build"], cwd=self.top, env=self.environment(), stdout=subprocess.PIPE, text=True)
+        # A shell that runs the tests in the background has them ignore Ctrl-C, which this process would pass on.
+        heeds = lambda: signal.signal(signal.SIGINT, signal.SIG_DFL)
+        run = subprocess.Popen([".ci/build"], cwd=self.top, env=self.environment(), stdout=subprocess.PIPE, text=True, preexec_fn=heeds)
         self.addCleanup(run.stdout.close)
         until = time.monotonic() + SECONDS
         while not (self.group.exists() and self.group.read_text().strip()) and time.monotonic() < until:
