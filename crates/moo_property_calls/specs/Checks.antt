@@ -10,14 +10,14 @@ use Rattle.moo_world.specs.Codes.{E_PERM, E_PROPNF, E_INVARG}
 use Rattle.moo_world.specs.Outcomes.{Outcome, require◌else◌, ◌>>◌, ◌or_else◌, ◌>>=◌}
 use Rattle.moo_world.specs.Rights.{may_read_slot, may_write_slot}
 
--- x has a property of the name, and the programmer may read it by its slot on x
+-- the object has a property of the name, and the programmer may read it by its slot on that object
 abbrev pub reading_slot : World → ObjNo → ObjNo → Name → (Slot → Outcome) → Outcome
 reading_slot world programmer object name then = do
   slot ← slot_of world object (folded name) or_else E_PROPNF
   require may_read_slot world programmer slot else E_PERM
   then slot
 
--- x has a property of the name, and the programmer may write it by its slot on x
+-- the object has a property of the name, and the programmer may write it by its slot on that object
 abbrev pub writing_slot : World → ObjNo → ObjNo → Name → (Slot → Outcome) → Outcome
 writing_slot world programmer object name then = do
   slot ← slot_of world object (folded name) or_else E_PROPNF
@@ -26,7 +26,7 @@ writing_slot world programmer object name then = do
 
 -- the owner is an object, and the rights have the letters of a property's alone
 abbrev pub taking_property_info : World → Info → (Bits → Outcome) → Outcome
-taking_property_info world info then = do
-  require is_object world info.0 else E_INVARG
-  bits ← bits_of info.1 or_else E_INVARG
+taking_property_info world (owner, perms) then = do
+  require is_object world owner else E_INVARG
+  bits ← bits_of perms or_else E_INVARG
   then bits

@@ -131,8 +131,8 @@ info_and_name_in other = None
 
 -- what add_property takes
 abbrev pub new_property : List Value → Result (ObjNo × (Name × Value × Info)) Code
-new_property (Obj object ∷ Str name ∷ value ∷ a_list info ∷ []) = beside_object object (option_map (λ info. (name, value, info)) (info_in (spread info)))
-new_property (a ∷ b ∷ c ∷ named_verb ∷ []) = Err E_TYPE
+new_property (Obj object ∷ Str name ∷ value ∷ a_list info ∷ []) = beside_object object (option_map (λ read. (name, value, read)) (info_in (spread info)))
+new_property (a ∷ b ∷ c ∷ d ∷ []) = Err E_TYPE
 new_property args = Err E_ARGS
 
 -- what set_property_info takes
@@ -144,7 +144,7 @@ pub record NewPropertyInfo : Type 0 where
 
 abbrev pub new_property_info : List Value → Result NewPropertyInfo Code
 new_property_info (Obj object ∷ Str name ∷ a_list info ∷ []) =
-    ok_or (option_map (λ given. record { object = object; name = name; info = given.0; new_name = given.1 }) (info_and_name_in (spread info))) E_TYPE
+    ok_or (option_map (λ (info, new_name). record { object = object; name = name; info = info; new_name = new_name }) (info_and_name_in (spread info))) E_TYPE
 new_property_info (a ∷ b ∷ c ∷ []) = Err E_TYPE
 new_property_info args = Err E_ARGS
 
@@ -175,7 +175,7 @@ object_and_desc args = Err E_ARGS
 -- both, or none
 abbrev pub both : {A B : Type 0} → Option A → Option B → Option (A × B)
 both None second = None
-both (Some first) second = option_map (λ other. (first, other)) second
+both (Some first) second = option_map (λ found. (first, found)) second
 
 -- what add_verb takes
 abbrev pub new_verb : List Value → Result (ObjNo × ((Info × Name) × (Name × Name × Name))) Code

@@ -14,7 +14,7 @@ next_object world = if int_lt world.top (pos 2147483647) then Some (record { 0 =
 abbrev pub owner_or_self : ObjNo → ObjNo → ObjNo
 owner_or_self object owner = if same_object nothing owner then object else owner
 
--- a new object under q
+-- a new object under a parent
 abbrev pub born : ObjNo → ObjNo → Record
 born parent owner = record {
   row = plain_row [] owner parent;

@@ -12,7 +12,7 @@ use Rattle.moo_world.specs.World.{World, with_record, directory_of}
 abbrev pub verb_at : World → ObjNo → ℕ → Option VerbRow
 verb_at world object place = slice_get (directory_of world object) place
 
--- the directory of x changed
+-- the directory of an object changed
 abbrev pub with_verbs : World → ObjNo → (List VerbRow → List VerbRow) → World
 with_verbs world object change = with_record world object (λ entry. record entry { verbs = change entry.verbs })
 

@@ -22,14 +22,14 @@ changed (Writable on) row = record row { w = on }
 changed (Fertile on) row = record row { f = on }
 changed (Accept list) row = record row { accept = list }
 
--- w with the row of x changed
+-- the world with the row of an object changed
 abbrev pub with_row : World → ObjNo → (ObjRow → ObjRow) → World
 with_row world object change = with_record world object (λ entry. record entry { row = change entry.row })
 
 abbrev pub field_changed : World → ObjNo → Change → World
 field_changed world object change = with_row world object (changed change)
 
--- the change leaves a well formed world: a place is an object outside x, or nothing, a name is a text, and owners and what an
+-- the change leaves a well formed world: a place is an object outside the one that is moved, or nothing, a name is a text, and owners and what an
 -- accept list names, at most 1,000 objects, are numbers of 32 bits
 abbrev pub is_allowed_change : World → ObjNo → Change → Bool
 is_allowed_change world object (Name name) = is_text name

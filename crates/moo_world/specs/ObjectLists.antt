@@ -18,7 +18,7 @@ children_of world object = filter (has_parent world object) (objects_of world)
 abbrev pub lies_in : World → ObjNo → ObjNo → Bool
 lies_in world object other = row_passes (λ row. same_object object row.location) world other
 
--- what is in x itself
+-- what is in the object itself
 abbrev pub contents_of : World → ObjNo → List ObjNo
 contents_of world object = filter (lies_in world object) (objects_of world)
 
@@ -28,7 +28,7 @@ has_player_bit world object = row_passes (λ row. row.player) world object
 abbrev pub players_of : World → List ObjNo
 players_of world = filter (has_player_bit world) (objects_of world)
 
--- x and its descendants
+-- an object and its descendants
 abbrev pub subtree_of : World → ObjNo → List ObjNo
 subtree_of world object = filter (λ other. is_among object (chain world other)) (objects_of world)
 

@@ -26,11 +26,11 @@ SameRights world next object =
     × (row_passes (λ row. row.programmer) next object ≡ row_passes (λ row. row.programmer) world object)
     × (row_passes (λ row. row.wizard) next object ≡ row_passes (λ row. row.wizard) world object)
 
--- the folded name that a slot of y has after x's property of one name was given another
+-- the folded name that a slot of another object has after the object's property of one name was given a new one
 abbrev pub name_changed : World → ObjNo → Name → Name → ObjNo → Name → Name
 name_changed world object old_name new_name other slot_name = if is_among object (chain world other) && same_text (folded old_name) slot_name then folded new_name else slot_name
 
--- the folded name that a slot of y has after x's property got the new name, if any
+-- the same after the property got the new name, if any
 abbrev pub name_given : World → ObjNo → Name → Option Name → ObjNo → Name → Name
 name_given world object old_name None other slot_name = slot_name
 name_given world object old_name (Some new_name) other slot_name = name_changed world object old_name new_name other slot_name

@@ -121,7 +121,7 @@ set world programmer object name value = do
 abbrev pub defines_name : World → ObjNo → Name → Bool
 defines_name world object name = list_any (λ defined. same_text (folded defined) (folded name)) (names_of world object)
 
--- the name may be given to a new property of x
+-- the name may be given to a new property of the object
 abbrev pub may_define : World → ObjNo → Name → Bool
 may_define world object name = is_property_name name && not (clashes world object name)
 
@@ -143,7 +143,7 @@ delete_property world programmer object name = do
   require defines_name world object name else E_PROPNF
   Done zero (undefined world object name)
 
--- a property that x itself defines may have a name that a new property of x might have
+-- a property that the object itself defines may have a name that a new property of it might have
 abbrev pub may_rename : World → ObjNo → Name → Option Name → Bool
 may_rename world object name None = true
 may_rename world object name (Some new_name) = defines_name world object name && may_define world object new_name

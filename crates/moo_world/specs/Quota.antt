@@ -24,9 +24,9 @@ abbrev pub quota_of : World → ObjNo → Option ℤ
 quota_of world owner = quota_in (read_of world owner quota_name)
 
 abbrev pub set_slot : Name → SlotState → Record → Record
-set_slot name state entry = record entry { slot = λ other. if same_text name other then option_map (λ (slot : Slot). record slot { state = state }) (entry.slot other) else entry.slot other }
+set_slot name state entry = record entry { slot = λ slot_name. if same_text name slot_name then option_map (λ (slot : Slot). record slot { state = state }) (entry.slot slot_name) else entry.slot slot_name }
 
--- the quota of o is set to k more; the slot's owner and bits stay
+-- the quota of an owner is set to so much more; the slot's owner and bits stay
 abbrev pub quota_moved : World → ObjNo → ℤ → World
 quota_moved world owner amount = elim (quota_of world owner) [ None ↦ world | Some had ↦ with_record world owner (set_slot quota_name (Set (Int (had +ℤ amount)))) ]
 

@@ -6,7 +6,8 @@ use Rattle.moo_value.specs.declared.value.ObjNo.{ObjNo}
 use Rattle.moo_world.specs.Objects.{nothing, same_object}
 use Rattle.moo_world.specs.World.{World, Record, parent_of, rebuilt}
 
--- a record whose object x is gone: its parent is x's parent if it was x, its location nothing if it was x
+-- another object's record after the object is gone: if its parent was the object it is the object's parent, and if its location was
+-- the object it is nothing
 abbrev pub released : ObjNo → ObjNo → Record → Record
 released object parent entry = record entry {
   row = record entry.row {
