@@ -14,7 +14,7 @@ use Rattle.moo_world.specs.Rights.{may_read_verb}
 use Rattle.moo_world.specs.Descriptors.{found_verb}
 
 -- it is an object, a verb of that object itself is meant, and the programmer may read it
-abbrev pub reading_verb : World → ObjNo → ObjNo → Desc → (VerbRow → Outcome) → Outcome
+abbrev pub reading_verb : World → ObjNo → ObjNo → Desc → (VerbRow → Outcome World) → Outcome World
 reading_verb world programmer object descriptor then = do
   require is_object world object else E_INVARG
   (place, verb) ← found_verb world object descriptor or_else E_VERBNF
@@ -22,7 +22,7 @@ reading_verb world programmer object descriptor then = do
   then verb
 
 -- the owner is an object, the rights have the letters of a verb's alone, and the names have a word
-abbrev pub taking_verb_info : World → Info → Name → (VerbBits → Outcome) → Outcome
+abbrev pub taking_verb_info : World → Info → Name → (VerbBits → Outcome World) → Outcome World
 taking_verb_info world (owner, perms) names then = do
   require is_object world owner else E_INVARG
   bits ← verb_bits_of perms or_else E_INVARG

@@ -30,28 +30,28 @@ use Rattle.moo_world.specs.Codes.{E_PERM, E_INVARG, E_RECMOVE, E_NACC, E_QUOTA}
 
 -- ---- the calls that only read
 
-abbrev pub valid : World → ObjNo → Outcome
+abbrev pub valid : World → ObjNo → Outcome World
 valid world object = Done (flag (is_object world object)) world
 
-abbrev pub parent : World → ObjNo → Outcome
+abbrev pub parent : World → ObjNo → Outcome World
 parent world object = do
   require is_object world object else E_INVARG
   Done (Obj (unwrap_or (parent_of world object) nothing)) world
 
-abbrev pub children : World → ObjNo → Outcome
+abbrev pub children : World → ObjNo → Outcome World
 children world object = do
   require is_object world object else E_INVARG
   Done (object_list (children_of world object)) world
 
-abbrev pub is_player : World → ObjNo → Outcome
+abbrev pub is_player : World → ObjNo → Outcome World
 is_player world object = do
   require is_object world object else E_INVARG
   Done (flag (row_passes (λ row. row.player) world object)) world
 
-abbrev pub players : World → Outcome
+abbrev pub players : World → Outcome World
 players world = Done (object_list (players_of world)) world
 
-abbrev pub max_object : World → Outcome
+abbrev pub max_object : World → Outcome World
 max_object world = Done (Obj (record { 0 = world.top })) world
 
 -- the list, or 0 if none is held
@@ -59,14 +59,14 @@ abbrev pub accept_value : Option (List ObjNo) → Value
 accept_value None = zero
 accept_value (Some objects) = object_list objects
 
-abbrev pub accept_list : World → ObjNo → Outcome
+abbrev pub accept_list : World → ObjNo → Outcome World
 accept_list world object = do
   require is_object world object else E_INVARG
   Done (accept_value (option_and_then (λ row. row.accept) (row_of world object))) world
 
 -- ---- the calls that change something
 
-abbrev pub create : World → ObjNo → ObjNo → ObjNo → Outcome
+abbrev pub create : World → ObjNo → ObjNo → ObjNo → Outcome World
 create world programmer parent owner = do
   require may_be_parent world programmer parent else E_PERM
   require may_own world programmer owner else E_PERM
@@ -75,7 +75,7 @@ create world programmer parent owner = do
   object ← with_next (next_object world)
   Done (Obj object) (charged (created world object parent (owner_or_self object owner)) owner)
 
-abbrev pub chparent : World → ObjNo → ObjNo → ObjNo → Outcome
+abbrev pub chparent : World → ObjNo → ObjNo → ObjNo → Outcome World
 chparent world programmer object new_parent = do
   require is_object world object else E_INVARG
   require is_object world new_parent || same_object nothing new_parent else E_INVARG
@@ -86,13 +86,13 @@ chparent world programmer object new_parent = do
   Done zero (reparented world object new_parent)
 
 -- the quota of the former owner is read when the object is gone
-abbrev pub recycle : World → ObjNo → ObjNo → Outcome
+abbrev pub recycle : World → ObjNo → ObjNo → Outcome World
 recycle world programmer object = do
   require is_object world object else E_INVARG
   require controls world programmer object else E_PERM
   Done zero (quota_returned (recycled world object) (owner_of world object))
 
-abbrev pub move : World → ObjNo → ObjNo → ObjNo → Outcome
+abbrev pub move : World → ObjNo → ObjNo → ObjNo → Outcome World
 move world programmer object destination = do
   require is_object world object else E_INVARG
   require is_object world destination || same_object nothing destination else E_INVARG
@@ -101,13 +101,13 @@ move world programmer object destination = do
   require not (is_within world destination object) else E_RECMOVE
   Done zero (field_changed world object (to.Location destination))
 
-abbrev pub set_player_flag : World → ObjNo → ObjNo → Value → Outcome
+abbrev pub set_player_flag : World → ObjNo → ObjNo → Value → Outcome World
 set_player_flag world programmer object value = do
   require is_object world object else E_INVARG
   require is_wizard world programmer else E_PERM
   Done zero (field_changed world object (to.Player (is_true value)))
 
-abbrev pub set_accept : World → ObjNo → ObjNo → Option (List ObjNo) → Outcome
+abbrev pub set_accept : World → ObjNo → ObjNo → Option (List ObjNo) → Outcome World
 set_accept world programmer object list = do
   require is_object world object else E_INVARG
   require controls world programmer object else E_PERM
@@ -117,7 +117,7 @@ set_accept world programmer object list = do
 -- ---- each call by its name
 
 -- each call by its name, with what it is given
-abbrev pub named_call : World → ObjNo → CallName → List Value → Outcome
+abbrev pub named_call : World → ObjNo → CallName → List Value → Outcome World
 named_call world programmer Valid args = given (one_object args) (valid world)
 named_call world programmer Parent args = given (one_object args) (parent world)
 named_call world programmer Children args = given (one_object args) (children world)
@@ -154,7 +154,7 @@ named_call world programmer Grant args = Failed E_INVARG
 named_call world programmer Decline args = Failed E_INVARG
 
 -- the programmer has to be an object
-unfoldable pub step : World → ObjNo → Call → Outcome
+unfoldable pub step : World → ObjNo → Call → Outcome World
 step world programmer call = do
   require is_object world programmer else E_PERM
   named_call world programmer call.name call.args

@@ -11,7 +11,7 @@ use Rattle.moo_world.specs.declared.call.Call.{Call}
 use Rattle.moo_world.specs.Arguments.{is_text, fits}
 use Rattle.moo_world.specs.Judge.{after}
 use Rattle.moo_world.specs.Outcomes.{Done}
-use Rattle.moo_world.specs.Requests.{State, Answered, IsFormed, request}
+use Rattle.moo_world.specs.Requests.{State, IsFormed, request}
 use Rattle.moo_world.specs.Calls.{step}
 use Rattle.moo_world.specs.World.{World, IsWellFormed}
 
@@ -25,7 +25,7 @@ CallsKeepForm = (world next : World) (programmer : ObjNo) (call : Call) (answer 
 
 -- and so are the world and the petitions that any call of a batch leaves, those of petitions among them
 abbrev pub RequestsKeepForm : Type 0
-RequestsKeepForm = (state next : State) (programmer : ObjNo) (call : Call) (answer : Value) → IsFormed state → arguments_fit call ≡ true → request state programmer call ≡ Answered answer next → IsFormed next
+RequestsKeepForm = (state next : State) (programmer : ObjNo) (call : Call) (answer : Value) → IsFormed state → arguments_fit call ≡ true → request state programmer call ≡ Done answer next → IsFormed next
 
 -- after any batches, accepted or not, a world and petitions that were well formed are well formed
 abbrev pub RunsKeepForm : Type 0

@@ -15,7 +15,7 @@ use Rattle.moo_world.specs.Quota.{quota_of}
 use Rattle.moo_world.specs.Recycling.{recycled}
 use Rattle.moo_world.specs.Rights.{is_wizard}
 use Rattle.moo_world.specs.Names.{petition_call}
-use Rattle.moo_world.specs.Requests.{State, Answered, request}
+use Rattle.moo_world.specs.Requests.{State, request}
 use Rattle.moo_world.specs.Calls.{step}
 
 -- owner, player flag, programmer and wizard bits
@@ -56,7 +56,7 @@ NoWizardKeepsOwnership = (world next : World) (programmer : ObjNo) (call : Call)
 
 -- and the calls of petitions change no world, unless a wizard grants
 abbrev pub PetitionsLeaveTheWorld : Type 0
-PetitionsLeaveTheWorld = (state next : State) (programmer : ObjNo) (call : Call) (answer : Value) → is_wizard state.world programmer ≡ false → is_some (petition_call call.name) ≡ true → request state programmer call ≡ Answered answer next → next.world ≡ state.world
+PetitionsLeaveTheWorld = (state next : State) (programmer : ObjNo) (call : Call) (answer : Value) → is_wizard state.world programmer ≡ false → is_some (petition_call call.name) ≡ true → request state programmer call ≡ Done answer next → next.world ≡ state.world
 
 -- an accepted create lowers the quota of the intended owner by one, and makes one object, of that owner, and no other
 abbrev pub CreateTakesOne : Type 0

@@ -27,30 +27,30 @@ use Rattle.moo_world.specs.Fields.{field_changed}
 use Rattle.moo_world.specs.Codes.{Code, E_PERM, E_INVARG, E_PROPNF, E_INVIND, E_TYPE}
 
 -- the outcome for a built-in property, or for any other
-abbrev pub by_field : Option BuiltIn → (BuiltIn → Outcome) → Outcome → Outcome
+abbrev pub by_field : Option BuiltIn → (BuiltIn → Outcome World) → Outcome World → Outcome World
 by_field None field other = other
 by_field (Some f) field other = field f
 
 -- ---- reading
 
-abbrev pub get_property : World → ObjNo → ObjNo → Name → Outcome
+abbrev pub get_property : World → ObjNo → ObjNo → Name → Outcome World
 get_property world programmer object name = do
   slot ← slot_of world object (folded name) or_else E_PROPNF
   require may_read_slot world programmer slot else E_PERM
   Done (unwrap_or (read_of world object (folded name)) zero) world
 
-abbrev pub get : World → ObjNo → ObjNo → Name → Outcome
+abbrev pub get : World → ObjNo → ObjNo → Name → Outcome World
 get world programmer object name = do
   require is_object world object else E_INVIND
   by_field (built_in name) (λ field. Done (field_of world object field) world) (get_property world programmer object name)
 
-abbrev pub properties : World → ObjNo → ObjNo → Outcome
+abbrev pub properties : World → ObjNo → ObjNo → Outcome World
 properties world programmer object = do
   require is_object world object else E_INVARG
   require may_read_object world programmer object else E_PERM
   Done (text_list (names_of world object)) world
 
-abbrev pub property_info : World → ObjNo → ObjNo → Name → Outcome
+abbrev pub property_info : World → ObjNo → ObjNo → Name → Outcome World
 property_info world programmer object name = do
   require is_object world object else E_INVARG
   slot ← slot_of world object (folded name) or_else E_PROPNF
@@ -61,7 +61,7 @@ abbrev pub is_clear : SlotState → Bool
 is_clear Clear = true
 is_clear (Set value) = false
 
-abbrev pub is_clear_property : World → ObjNo → ObjNo → Name → Outcome
+abbrev pub is_clear_property : World → ObjNo → ObjNo → Name → Outcome World
 is_clear_property world programmer object name = do
   require is_object world object else E_INVARG
   slot ← slot_of world object (folded name) or_else E_PROPNF
@@ -97,20 +97,20 @@ abbrev pub names_object : World → Change → Bool
 names_object world (to.Owner owner) = is_object world owner
 names_object world change = true
 
-abbrev pub set_built_in : World → ObjNo → ObjNo → BuiltIn → Value → Outcome
+abbrev pub set_built_in : World → ObjNo → ObjNo → BuiltIn → Value → Outcome World
 set_built_in world programmer object field value = do
   change ← given (change_of field value)
   require may_set world programmer object field else E_PERM
   require names_object world change else E_INVARG
   Done zero (field_changed world object change)
 
-abbrev pub set_property : World → ObjNo → ObjNo → Name → Value → Outcome
+abbrev pub set_property : World → ObjNo → ObjNo → Name → Value → Outcome World
 set_property world programmer object name value = do
   slot ← slot_of world object (folded name) or_else E_PROPNF
   require may_write_slot world programmer slot else E_PERM
   Done zero (value_set world object name value)
 
-abbrev pub set : World → ObjNo → ObjNo → Name → Value → Outcome
+abbrev pub set : World → ObjNo → ObjNo → Name → Value → Outcome World
 set world programmer object name value = do
   require is_object world object else E_INVIND
   by_field (built_in name) (λ field. set_built_in world programmer object field value) (set_property world programmer object name value)
@@ -125,7 +125,7 @@ defines_name world object name = list_any (λ defined. same_text (folded defined
 abbrev pub may_define : World → ObjNo → Name → Bool
 may_define world object name = is_property_name name && not (clashes world object name)
 
-abbrev pub add_property : World → ObjNo → ObjNo → Name → Value → Info → Outcome
+abbrev pub add_property : World → ObjNo → ObjNo → Name → Value → Info → Outcome World
 add_property world programmer object name value (owner, perms) = do
   require is_object world object else E_INVARG
   require is_object world owner else E_INVARG
@@ -136,7 +136,7 @@ add_property world programmer object name value (owner, perms) = do
   require_room (nat_lt world.next_prop 4294967295)
   Done zero (defined world object name (record { definer = object; owner = owner; bits = bits; state = Set value }))
 
-abbrev pub delete_property : World → ObjNo → ObjNo → Name → Outcome
+abbrev pub delete_property : World → ObjNo → ObjNo → Name → Outcome World
 delete_property world programmer object name = do
   require is_object world object else E_INVARG
   require may_write_object world programmer object else E_PERM
@@ -152,7 +152,7 @@ abbrev pub renamed_to : World → ObjNo → Name → Option Name → World
 renamed_to world object name None = world
 renamed_to world object name (Some new_name) = renamed world object name new_name
 
-abbrev pub set_property_info : World → ObjNo → ObjNo → Name → Info → Option Name → Outcome
+abbrev pub set_property_info : World → ObjNo → ObjNo → Name → Info → Option Name → Outcome World
 set_property_info world programmer object name (owner, perms) new_name = do
   require is_object world object else E_INVARG
   slot ← slot_of world object (folded name) or_else E_PROPNF
@@ -163,7 +163,7 @@ set_property_info world programmer object name (owner, perms) new_name = do
   require may_rename world object name new_name else E_INVARG
   Done zero (renamed_to (info_set world object name owner bits) object name new_name)
 
-abbrev pub clear_property : World → ObjNo → ObjNo → Name → Outcome
+abbrev pub clear_property : World → ObjNo → ObjNo → Name → Outcome World
 clear_property world programmer object name = do
   require is_object world object else E_INVARG
   slot ← slot_of world object (folded name) or_else E_PROPNF

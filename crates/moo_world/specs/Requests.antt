@@ -18,11 +18,11 @@ use Rattle.moo_world.specs.Answers.{zero, list_of}
 use Rattle.moo_world.specs.Arguments.{no_values}
 use Rattle.moo_world.specs.Names.{petition_call, call_name_of}
 use Rattle.moo_world.specs.Objects.{same_object}
-use Rattle.moo_world.specs.Outcomes.{Outcome, Done, Failed, Full, ◌>>◌, ◌>>=◌}
+use Rattle.moo_world.specs.Outcomes.{Outcome, Done, Failed, Full, given, require◌else◌, require_room, ◌>>◌, ◌or_else◌, ◌>>=◌}
 use Rattle.moo_world.specs.Petitions.{is_named, are_few, are_shallow, PetitionsStand}
 use Rattle.moo_world.specs.Rights.{is_wizard}
 use Rattle.moo_world.specs.Rows.{world_of}
-use Rattle.moo_world.specs.Calls.{step}
+use Rattle.moo_world.specs.Calls.{step, named_call}
 use Rattle.moo_world.specs.World.{World, is_object, IsWellFormed}
 use Rattle.moo_world.specs.Codes.{Code, E_PERM, E_INVARG, E_TYPE, E_ARGS}
 
@@ -42,30 +42,11 @@ pub record IsFormed (state : State) : Type 0 where
   pub world : IsWellFormed state.world
   pub petitions : PetitionsStand state.petitions state.next_petition
 
--- the outcome of a call of a batch: an answer and the next state, an error, or no number left
-pub data Effect : Type 0 where
-  Answered : Value → State → Effect
-  Erred : Code → Effect
-  NoneLeft : Effect
-
--- the check has to hold, or the call has this effect
-abbrev pub unless_fails : Bool → Code → Effect → Effect
-unless_fails true code rest = rest
-unless_fails false code rest = Erred code
-
-infix 5 require◌else◌
-abbrev pub require◌else◌ : Bool → Code → Effect → Effect
-require b else code = unless_fails b code
-
-abbrev pub taking : {A : Type 0} → Result A Code → (A → Effect) → Effect
-taking (Ok arguments) rest = rest arguments
-taking (Err code) rest = Erred code
-
 -- what is done in the world alone
-abbrev pub in_world : State → Outcome → Effect
-in_world state (Done answer next) = Answered answer (record state { world = next })
-in_world state (Failed code) = Erred code
-in_world state Full = NoneLeft
+abbrev pub in_world : State → Outcome World → Outcome State
+in_world state (Done answer next) = Done answer (record state { world = next })
+in_world state (Failed code) = Failed code
+in_world state Full = Full
 
 -- ---- what the calls take
 
@@ -78,11 +59,6 @@ abbrev pub one_integer : List Value → Result ℤ Code
 one_integer (Int number ∷ []) = Ok number
 one_integer (other ∷ []) = Err E_TYPE
 one_integer args = Err E_ARGS
-
--- what is done with the petition that is there, or the error that there is none
-abbrev pub found_petition : Option (PetitionId × PetitionRow) → (PetitionId × PetitionRow → Effect) → Effect
-found_petition None rest = Erred E_INVARG
-found_petition (Some found) rest = rest found
 
 -- ---- petitions by number
 
@@ -110,11 +86,11 @@ held_call (a_list values) = call_in (spread values)
 held_call other = None
 
 -- one of them, by the wizard who grants it. One that names no call is in no petition that a call has made
-abbrev pub held_step : World → ObjNo → Value → Outcome
+abbrev pub held_step : World → ObjNo → Value → Outcome World
 held_step world programmer held = elim (held_call held) [ None ↦ Failed E_INVARG | Some call ↦ step world programmer call ]
 
 -- all of them, one after another, up to the first that isn't done
-abbrev pub held_steps : World → ObjNo → List Value → Outcome
+abbrev pub held_steps : World → ObjNo → List Value → Outcome World
 held_steps world programmer [] = Done zero world
 held_steps world programmer (held ∷ rest) = elim (held_step world programmer held) [ Done answer next ↦ held_steps next programmer rest | Failed code ↦ Failed code | Full ↦ Full ]
 
@@ -128,54 +104,64 @@ last_petition = 4294967295
 abbrev pub asked : State → ObjNo → Values → State
 asked state programmer calls = record state { petitions = insert state.petitions (petition_id state.next_petition) (record { who = programmer; calls = calls }); next_petition = state.next_petition + 1 }
 
--- what a petition may ask for: calls on the world, each a list that begins with its name, few and not too deep
-abbrev pub may_be_asked : Values → Result (Unit {0}) Code
-may_be_asked calls =
-    if list_all is_named (spread calls)
-    then (if are_few calls && (list_all (λ held. is_some (held_call held)) (spread calls) && are_shallow calls) then Ok tt else Err E_INVARG)
-    else Err E_TYPE
+-- each of the calls is one on the world
+abbrev pub are_on_world : Values → Bool
+are_on_world calls = list_all (λ held. is_some (held_call held)) (spread calls)
 
 -- one petition more, if a number is left
-abbrev pub ask : State → ObjNo → Values → Effect
-ask state programmer calls = if nat_lt state.next_petition last_petition then Answered (Int (pos state.next_petition)) (asked state programmer calls) else NoneLeft
+abbrev pub ask : State → ObjNo → Values → Outcome State
+ask state programmer calls = do
+  require_room (nat_lt state.next_petition last_petition)
+  Done (Int (pos state.next_petition)) (asked state programmer calls)
 
-abbrev pub petition : State → ObjNo → Values → Effect
-petition state programmer calls = taking (may_be_asked calls) (λ _. ask state programmer calls)
+-- a petition may ask for calls on the world, each a list that begins with its name, few and not too deep
+abbrev pub petition : State → ObjNo → Values → Outcome State
+petition state programmer calls = do
+  require list_all is_named (spread calls) else E_TYPE
+  require are_few calls else E_INVARG
+  require are_on_world calls else E_INVARG
+  require are_shallow calls else E_INVARG
+  ask state programmer calls
 
 -- a petition as it is listed: {number, who, calls}
 abbrev pub listed : PetitionId × PetitionRow → Value
 listed (id, row) = list_of (Int (pos id.0) ∷ Obj row.who ∷ a_list row.calls ∷ [])
 
 -- all of them for a wizard, else the programmer's own
-abbrev pub petitions : State → ObjNo → Effect
-petitions state programmer = Answered (list_of (map listed (filter (λ (id, row). is_wizard state.world programmer || same_object row.who programmer) (entries state.petitions)))) state
+abbrev pub petitions : State → ObjNo → Outcome State
+petitions state programmer = Done (list_of (map listed (filter (λ (id, row). is_wizard state.world programmer || same_object row.who programmer) (entries state.petitions)))) state
 
 -- the petition goes, and then its calls are made on the wizard's authority
-abbrev pub grant : State → ObjNo → ℤ → Effect
+abbrev pub grant : State → ObjNo → ℤ → Outcome State
 grant state programmer number = do
   require is_wizard state.world programmer else E_PERM
-  (id, row) ← found_petition (petition_at state number)
+  (id, row) ← petition_at state number or_else E_INVARG
   in_world (without id state) (held_steps state.world programmer (spread row.calls))
 
-abbrev pub decline : State → ObjNo → ℤ → Effect
+abbrev pub decline : State → ObjNo → ℤ → Outcome State
 decline state programmer number = do
-  (id, row) ← found_petition (petition_at state number)
+  (id, row) ← petition_at state number or_else E_INVARG
   require same_object row.who programmer || is_wizard state.world programmer else E_PERM
-  Answered zero (without id state)
+  Done zero (without id state)
 
-abbrev pub petition_call_by : State → ObjNo → PetitionCall → List Value → Effect
-petition_call_by state programmer to_petition args = taking (one_list args) (petition state programmer)
-petition_call_by state programmer to_list args = taking (no_values args) (λ _. petitions state programmer)
-petition_call_by state programmer to_grant args = taking (one_integer args) (grant state programmer)
-petition_call_by state programmer to_decline args = taking (one_integer args) (decline state programmer)
+abbrev pub petition_call_by : State → ObjNo → PetitionCall → List Value → Outcome State
+petition_call_by state programmer to_petition args = given (one_list args) (petition state programmer)
+petition_call_by state programmer to_list args = given (no_values args) (λ _. petitions state programmer)
+petition_call_by state programmer to_grant args = given (one_integer args) (grant state programmer)
+petition_call_by state programmer to_decline args = given (one_integer args) (decline state programmer)
 
--- any call, by its name: the programmer has to be an object
-unfoldable pub request : State → ObjNo → Call → Effect
-request state programmer call =
-    elim (petition_call call.name) [
-      | None ↦ in_world state (step state.world programmer call)
-      | Some petition_name ↦ unless_fails (is_object state.world programmer) E_PERM (petition_call_by state programmer petition_name call.args)
-    ]
+-- a call by its name: one on the world leaves the petitions as they are
+abbrev pub call_by_name : State → ObjNo → Call → Outcome State
+call_by_name state programmer call = elim (petition_call call.name) [
+  | None ↦ in_world state (named_call state.world programmer call.name call.args)
+  | Some of_petitions ↦ petition_call_by state programmer of_petitions call.args
+]
+
+-- any call: the programmer has to be an object
+unfoldable pub request : State → ObjNo → Call → Outcome State
+request state programmer call = do
+  require is_object state.world programmer else E_PERM
+  call_by_name state programmer call
 
 -- ---- numbers of petitions
 

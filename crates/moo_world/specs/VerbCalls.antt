@@ -20,20 +20,20 @@ use Rattle.moo_world.specs.Codes.{E_PERM, E_INVARG, E_VERBNF}
 
 -- ---- reading
 
-abbrev pub verbs : World → ObjNo → ObjNo → Outcome
+abbrev pub verbs : World → ObjNo → ObjNo → Outcome World
 verbs world programmer object = do
   require is_object world object else E_INVARG
   require may_read_object world programmer object else E_PERM
   Done (text_list (map (λ verb. verb.names) (directory_of world object))) world
 
-abbrev pub verb_info : World → ObjNo → ObjNo → Desc → Outcome
+abbrev pub verb_info : World → ObjNo → ObjNo → Desc → Outcome World
 verb_info world programmer object descriptor = do
   require is_object world object else E_INVARG
   (place, verb) ← found_verb world object descriptor or_else E_VERBNF
   require may_read_verb world programmer verb else E_PERM
   Done (list_of (Obj verb.owner ∷ Str (verb_letters_of verb.bits) ∷ Str verb.names ∷ [])) world
 
-abbrev pub verb_args : World → ObjNo → ObjNo → Desc → Outcome
+abbrev pub verb_args : World → ObjNo → ObjNo → Desc → Outcome World
 verb_args world programmer object descriptor = do
   require is_object world object else E_INVARG
   (place, verb) ← found_verb world object descriptor or_else E_VERBNF
@@ -42,7 +42,7 @@ verb_args world programmer object descriptor = do
 
 -- ---- changing
 
-abbrev pub add_verb : World → ObjNo → ObjNo → Info → Name → Name × Name × Name → Outcome
+abbrev pub add_verb : World → ObjNo → ObjNo → Info → Name → Name × Name × Name → Outcome World
 add_verb world programmer object (owner, perms) names (dobj, prep, iobj) = do
   require is_object world object else E_INVARG
   require is_object world owner else E_INVARG
@@ -54,14 +54,14 @@ add_verb world programmer object (owner, perms) names (dobj, prep, iobj) = do
   require_room (nat_lt world.next_verb 4294967295)
   Done zero (verb_added world object (record { names = names; owner = owner; bits = bits; args = args }))
 
-abbrev pub delete_verb : World → ObjNo → ObjNo → Desc → Outcome
+abbrev pub delete_verb : World → ObjNo → ObjNo → Desc → Outcome World
 delete_verb world programmer object descriptor = do
   require is_object world object else E_INVARG
   require may_write_object world programmer object else E_PERM
   (place, verb) ← found_verb world object descriptor or_else E_VERBNF
   Done zero (verb_removed world object place)
 
-abbrev pub set_verb_info : World → ObjNo → ObjNo → Desc → Info → Name → Outcome
+abbrev pub set_verb_info : World → ObjNo → ObjNo → Desc → Info → Name → Outcome World
 set_verb_info world programmer object descriptor (owner, perms) names = do
   require is_object world object else E_INVARG
   (place, verb) ← found_verb world object descriptor or_else E_VERBNF
@@ -72,7 +72,7 @@ set_verb_info world programmer object descriptor (owner, perms) names = do
   require may_own world programmer owner else E_PERM
   Done zero (verb_info_set world object place owner bits names)
 
-abbrev pub set_verb_args : World → ObjNo → ObjNo → Desc → Name × Name × Name → Outcome
+abbrev pub set_verb_args : World → ObjNo → ObjNo → Desc → Name × Name × Name → Outcome World
 set_verb_args world programmer object descriptor (dobj, prep, iobj) = do
   require is_object world object else E_INVARG
   (place, verb) ← found_verb world object descriptor or_else E_VERBNF
