@@ -93,7 +93,7 @@ module _ {before : Held} {p : ObjNo} {all : List Value} {now : Held} where
 pub granted-reaches : (s : State) (p : ObjNo) (helds : List Value) (mid new : Held) (o : Outcome World) (r : Result Value Fault)
     → state_in mid ≡ s → ComesInTurn o new r → OnOk r (KeepInTurn p helds mid new) → Reaches (in_world s o) new r
 granted-reaches s p helds mid new o (Ok v) is comes kept =
-    ap (in_world s) comes ∙ ap (λ t. Done v (record t { world = world_in new })) (sym is) ∙ ap (Done v) (with_world mid new kept.beside)
+    ap (in_world s) comes ∙ ap (λ (t : State). Done v (record t { world = world_in new })) (sym is) ∙ ap (Done v) (with_world mid new kept.beside)
 granted-reaches s p helds mid new o (Err (Moo code)) is comes kept = ap (in_world s) comes
 granted-reaches s p helds mid new o (Err none_left) is comes kept = ap (in_world s) comes
 granted-reaches s p helds mid new o (Err OutOfMemory) is comes kept = tt
