@@ -14,14 +14,14 @@ world_in held = world_of held.maps
 
 -- what a call answers if this is its outcome: the answer, with the rows of the next world, or the error, with the rows
 -- as they were. Out of memory may leave anything
-abbrev pub ComesTo : Outcome → Held → Held → Result Value Fault → Type 0
+abbrev pub ComesTo : Outcome World → Held → Held → Result Value Fault → Type 0
 ComesTo outcome old new (Ok v) = outcome ≡ Done v (world_in new)
 ComesTo outcome old new (Err (Moo code)) = (outcome ≡ Failed code) × (new ≡ old)
 ComesTo outcome old new (Err NoneLeft) = (outcome ≡ Full) × (new ≡ old)
 ComesTo outcome old new (Err OutOfMemory) = ⊤
 
 -- the same of a call that only reads
-abbrev pub Answers : Outcome → Held → Result Value Fault → Type 0
+abbrev pub Answers : Outcome World → Held → Result Value Fault → Type 0
 Answers outcome rows result = ComesTo outcome rows rows result
 
 -- what is read from what a call is given, or its error; or out of memory

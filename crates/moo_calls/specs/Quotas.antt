@@ -8,8 +8,8 @@ use Rattle.moo_world.specs.World.{World}
 
 -- the quota of the owner given; none if #-1 was given
 abbrev pub quota_given : World → ObjNo → Option ℤ
-quota_given w owner = if same_object nothing owner then None else quota_of w owner
+quota_given world owner = if same_object nothing owner then None else quota_of world owner
 
 -- whether a quota, if there is one, has one left
 abbrev pub has_one_left : Option ℤ → Bool
-has_one_left quota = unwrap_or (option_map (λ k. int_lt (pos 0) k) quota) true
+has_one_left quota = unwrap_or (option_map (λ number. int_lt (pos 0) number) quota) true

@@ -16,9 +16,11 @@ use Rattle.moo_world.specs.Keeps.{Keeps, beside_world}
 use Rattle.moo_world.specs.Names.{grants, is_grant, petition_call}
 use Rattle.moo_world.specs.Numbers.{KeepsNumbers}
 use Rattle.moo_world.specs.Outcomes.{Outcome, Done, Failed, Full}
-use Rattle.moo_world.specs.Requests.{State, Answered, in_world, held_step, held_steps, one_integer, petition_at}
+use Rattle.moo_world.specs.Requests.{State, in_world, held_step, held_steps, one_integer, petition_at, request}
 use Rattle.moo_world.specs.Rows.{IsGood}
 use Rattle.moo_world.specs.World.{World}
+use Rattle.moo_world.specs.Calls.{step}
+use Rattle.moo_world.proofs.Batches.Requested.{request_steps}
 use Rattle.moo_call_parts.specs.declared.fault.Fault.{Fault}
 use Rattle.moo_call_parts.specs.declared.fault.Fault.TheVariants.{Moo, Full as none_left, OutOfMemory}
 use Rattle.moo_call_parts.specs.Outcomes.{world_in, ComesTo}
@@ -48,10 +50,10 @@ with_world : (mid new : Held) → beside_world new.maps ≡ beside_world mid.map
 with_world mid new same = ap (λ b. record { world = world_in new; petitions = b.1.1; next_petition = b.1.0; seq = b.0 }) (sym same)
 
 -- what the first of some calls makes of them
-first_of : ObjNo → List Value → Outcome → Outcome
+first_of : ObjNo → List Value → Outcome World → Outcome World
 first_of p left o = elim o [ Done v next ↦ held_steps next p left | Failed code ↦ Failed code | Full ↦ Full ]
 
-first_is : (w : World) (p : ObjNo) (held : Value) (left : List Value) (o : Outcome) → held_step w p held ≡ o → held_steps w p (held ∷ left) ≡ first_of p left o
+first_is : (w : World) (p : ObjNo) (held : Value) (left : List Value) (o : Outcome World) → held_step w p held ≡ o → held_steps w p (held ∷ left) ≡ first_of p left o
 unfolding first_of
 first_is w p held left o e = ap (first_of p left) e
 
@@ -64,7 +66,7 @@ module _ {before : Held} {p : ObjNo} {all : List Value} {now : Held} where
     good = kept.good;
     beside = kept.beside ∙ h.beside;
     base = kept.base ∙ h.base;
-    numbers = λ last lead. h.numbers last (v, next.maps, ap (in_world (state_in now)) done ∙ ap (Answered v) (with_world now next kept.beside), kept.good, kept.numbers, lead);
+    numbers = λ last lead. h.numbers last (v, next.maps, ap (in_world (state_in now)) done ∙ ap (Done v) (with_world now next kept.beside), kept.good, kept.numbers, lead);
     fit = (and_parts (fits held) (list_all fits left) h.fit).1;
   }
 
@@ -88,10 +90,10 @@ module _ {before : Held} {p : ObjNo} {all : List Value} {now : Held} where
 -- ---- a petition that is granted
 
 -- the calls were made behind the removal of the petition
-pub granted-reaches : (s : State) (p : ObjNo) (helds : List Value) (mid new : Held) (o : Outcome) (r : Result Value Fault)
+pub granted-reaches : (s : State) (p : ObjNo) (helds : List Value) (mid new : Held) (o : Outcome World) (r : Result Value Fault)
     → state_in mid ≡ s → ComesInTurn o new r → OnOk r (KeepInTurn p helds mid new) → Reaches (in_world s o) new r
 granted-reaches s p helds mid new o (Ok v) is comes kept =
-    ap (in_world s) comes ∙ ap (λ t. Answered v (record t { world = world_in new })) (sym is) ∙ ap (Answered v) (with_world mid new kept.beside)
+    ap (in_world s) comes ∙ ap (λ (t : State). Done v (record t { world = world_in new })) (sym is) ∙ ap (Done v) (with_world mid new kept.beside)
 granted-reaches s p helds mid new o (Err (Moo code)) is comes kept = ap (in_world s) comes
 granted-reaches s p helds mid new o (Err none_left) is comes kept = ap (in_world s) comes
 granted-reaches s p helds mid new o (Err OutOfMemory) is comes kept = tt
@@ -111,6 +113,14 @@ module _ (p : ObjNo) (args : List Value) (n : ℤ) (e : PetitionId × PetitionRo
 pub on_ok : {A E P Q : Type 0} (r : Result A E) → (P → Q) → OnOk r P → OnOk r Q
 on_ok (Ok a) f h = f h
 on_ok (Err e) f h = tt
+
+-- what a call on the world comes to, beside the petitions
+pub stepped-reaches : (call : Call) (p : ObjNo) (old new : Held) (r : Result Value Fault) → petition_call call.name ≡ None
+    → ComesTo (step (world_in old) p call) old new r → OnOk r (Keeps old new) → Reaches (request (state_in old) p call) new r
+stepped-reaches call p old new (Ok v) on_world comes kept = request_steps (state_in old) p call on_world ∙ ap (in_world (state_in old)) comes ∙ ap (Done v) (with_world old new kept.beside)
+stepped-reaches call p old new (Err (Moo code)) on_world comes kept = request_steps (state_in old) p call on_world ∙ ap (in_world (state_in old)) comes.0
+stepped-reaches call p old new (Err none_left) on_world comes kept = request_steps (state_in old) p call on_world ∙ ap (in_world (state_in old)) comes.0
+stepped-reaches call p old new (Err OutOfMemory) on_world comes kept = tt
 
 -- a call on the world grants nothing
 world-keeps : (grants : Bool) (p : ObjNo) (args : List Value) (old new : Held) → grants ≡ false → Keeps old new → KeepsGoodRows (CallKeepsNumbers grants p args) old new

@@ -1,4 +1,4 @@
--- What the effect of a call of a batch is on rows.
+-- What the outcome of any call of a batch is on rows.
 use Rattle.std.specs.Prelude.{◌≡◌, List, Result, Ok, Err, ⊤}
 use Rattle.moo_value.specs.declared.value.ObjNo.{ObjNo}
 use Rattle.moo_value.specs.declared.value.Value.{Value}
@@ -6,8 +6,9 @@ use Rattle.moo_rows.specs.Maps.{Maps, Held}
 use Rattle.moo_world.specs.Between.{HeldCallsLead}
 use Rattle.moo_world.specs.Keeps.{beside_world}
 use Rattle.moo_world.specs.Outcomes.{Outcome, Done, Failed, Full as none_left}
-use Rattle.moo_world.specs.Requests.{State, Effect, Answered, Erred, NoneLeft, state_of}
+use Rattle.moo_world.specs.Requests.{State, state_of}
 use Rattle.moo_world.specs.Rows.{IsGood}
+use Rattle.moo_world.specs.World.{World}
 use Rattle.moo_call_parts.specs.Outcomes.{world_in}
 use Rattle.moo_call_parts.specs.declared.fault.Fault.{Fault}
 use Rattle.moo_call_parts.specs.declared.fault.Fault.TheVariants.{Moo, Full, OutOfMemory}
@@ -15,13 +16,13 @@ use Rattle.moo_call_parts.specs.declared.fault.Fault.TheVariants.{Moo, Full, Out
 abbrev pub state_in : Held → State
 state_in held = state_of held.maps
 
--- what a call answers if this is its effect: the answer, with the rows of the next state, or the error. Out of memory may leave
+-- what a call answers if this is its outcome: the answer, with the rows of the next state, or the error. Out of memory may leave
 -- anything
-abbrev pub Reaches : Effect → Held → Result Value Fault → Type 0
-Reaches effect new (Ok v) = effect ≡ Answered v (state_in new)
-Reaches effect new (Err (Moo code)) = effect ≡ Erred code
-Reaches effect new (Err Full) = effect ≡ NoneLeft
-Reaches effect new (Err OutOfMemory) = ⊤
+abbrev pub Reaches : Outcome State → Held → Result Value Fault → Type 0
+Reaches outcome new (Ok v) = outcome ≡ Done v (state_in new)
+Reaches outcome new (Err (Moo code)) = outcome ≡ Failed code
+Reaches outcome new (Err Full) = outcome ≡ none_left
+Reaches outcome new (Err OutOfMemory) = ⊤
 
 -- if a call isn't done, and not for lack of memory, the rows are as they were
 abbrev pub Stays : Held → Held → Result Value Fault → Type 0
@@ -31,7 +32,7 @@ Stays old new (Err Full) = new ≡ old
 Stays old new (Err OutOfMemory) = ⊤
 
 -- the same of calls on the world that are made one after another, of which some may have been done before one wasn't
-abbrev pub ComesInTurn : Outcome → Held → Result Value Fault → Type 0
+abbrev pub ComesInTurn : Outcome World → Held → Result Value Fault → Type 0
 ComesInTurn outcome new (Ok v) = outcome ≡ Done v (world_in new)
 ComesInTurn outcome new (Err (Moo code)) = outcome ≡ Failed code
 ComesInTurn outcome new (Err Full) = outcome ≡ none_left

@@ -1,15 +1,18 @@
 //! `petition`.
 
-ghost use Rattle.std.specs.Prelude.{◌≡◌, true, false, OnOk};
+ghost use Rattle.std.specs.Prelude.{◌≡◌, true, false, OnOk, IfErr};
 ghost use Rattle.std.specs.List.{list_all};
+ghost use Rattle.moo_value.specs.Value.{spread};
 ghost use Rattle.moo_value.specs.declared.value.Value.TheVariants.{List as a_list};
 ghost use Rattle.moo_world.specs.Arguments.{fits};
 ghost use Rattle.moo_world.specs.Numbers.{KeepsNumbers};
-ghost use Rattle.moo_world.specs.Petitions.{petition_fits};
-ghost use Rattle.moo_world.specs.Requests.{ask, may_be_asked, one_list, petition, taking};
+ghost use Rattle.moo_world.specs.Petitions.{is_named, are_few, are_shallow, petition_fits};
+ghost use Rattle.moo_world.specs.Outcomes.{Outcome, Failed, given};
+ghost use Rattle.moo_world.specs.Requests.{State, are_on_world, ask, one_list, petition};
 ghost use Rattle.moo_world.specs.Rows.{IsGood};
 ghost use Rattle.moo_world.specs.World.{is_object};
 ghost use Rattle.moo_call_parts.specs.Outcomes.{world_in};
+ghost use Rattle.moo_petitions.specs.Checks.{taking_calls};
 ghost use Rattle.moo_petitions.specs.Outcomes.{state_in, KeepsGoodRows, Reaches, Stays};
 
 use crate::args::one_list;
@@ -23,16 +26,25 @@ use std::alloc::Global;
 /// Whether a petition may ask for these calls: E_TYPE if it isn't a list of lists that each begin with a string, else E_INVARG.
 fn may_be_asked(calls: &ValueList) -> Result<(), Code>
     requires { fits (a_list calls.now) ≡ true }
-    ensures { result ≡ may_be_asked calls.now }
+    ensures named { OnOk result (list_all is_named (spread calls.now) ≡ true) }
+    ensures few { OnOk result (are_few calls.now ≡ true) }
+    ensures on_world { OnOk result (are_on_world calls.now ≡ true) }
+    ensures shallow { OnOk result (are_shallow calls.now ≡ true) }
+    ensures err { IfErr result (λ code. (then : Outcome State) → taking_calls calls.now then ≡ Failed code) }
 {
     if !are_named(calls.items()) {
         return Err(Code::Type);
     }
-    if are_few(calls) && are_calls(calls.items()) && are_shallow(calls) {
-        Ok(())
-    } else {
-        Err(Code::InvalidArgument)
+    if !are_few(calls) {
+        return Err(Code::InvalidArgument);
     }
+    if !are_calls(calls.items()) {
+        return Err(Code::InvalidArgument);
+    }
+    if !are_shallow(calls) {
+        return Err(Code::InvalidArgument);
+    }
+    Ok(())
 }
 
 /// Keeps the calls as a petition of the programmer's.
@@ -71,7 +83,7 @@ pub(crate) fn petition<R: Rows>(
     requires good { IsGood (R.held rows.old).maps }
     requires there { is_object (world_in (R.held rows.old)) programmer ≡ true }
     requires fit { list_all fits args.now ≡ true }
-    ensures reaches { Reaches (taking (one_list args.now) (petition (state_in (R.held rows.old)) programmer)) (R.held rows.new) result }
+    ensures reaches { Reaches (given (one_list args.now) (petition (state_in (R.held rows.old)) programmer)) (R.held rows.new) result }
     ensures stays { Stays (R.held rows.old) (R.held rows.new) result }
     ensures kept { OnOk result (KeepsGoodRows KeepsNumbers (R.held rows.old) (R.held rows.new)) }
 {

@@ -3,7 +3,8 @@
 ghost use Rattle.std.specs.Prelude.{◌≡◌, ◌||◌, false, OnOk};
 ghost use Rattle.moo_world.specs.Numbers.{KeepsNumbers};
 ghost use Rattle.moo_world.specs.Objects.{same_object};
-ghost use Rattle.moo_world.specs.Requests.{decline, one_integer, taking};
+ghost use Rattle.moo_world.specs.Outcomes.{given};
+ghost use Rattle.moo_world.specs.Requests.{decline, one_integer};
 ghost use Rattle.moo_world.specs.Rights.{is_wizard};
 ghost use Rattle.moo_world.specs.Rows.{IsGood};
 ghost use Rattle.moo_call_parts.specs.Outcomes.{world_in};
@@ -31,7 +32,7 @@ pub(crate) fn decline<R: Rows>(
     args: &[Value],
 ) -> Result<Value, Fault>
     requires good { IsGood (R.held rows.old).maps }
-    ensures reaches { Reaches (taking (one_integer args.now) (decline (state_in (R.held rows.old)) programmer)) (R.held rows.new) result }
+    ensures reaches { Reaches (given (one_integer args.now) (decline (state_in (R.held rows.old)) programmer)) (R.held rows.new) result }
     ensures stays { Stays (R.held rows.old) (R.held rows.new) result }
     ensures kept { OnOk result (KeepsGoodRows KeepsNumbers (R.held rows.old) (R.held rows.new)) }
 {

@@ -5,7 +5,8 @@ ghost use Rattle.std.specs.List.{list_all};
 ghost use Rattle.moo_world.specs.Arguments.{fits};
 ghost use Rattle.moo_world.specs.Between.{GrantLeads};
 ghost use Rattle.moo_world.specs.Keeps.{Keeps};
-ghost use Rattle.moo_world.specs.Requests.{grant, held_step, held_steps, one_integer, taking};
+ghost use Rattle.moo_world.specs.Outcomes.{given};
+ghost use Rattle.moo_world.specs.Requests.{grant, held_step, held_steps, one_integer};
 ghost use Rattle.moo_world.specs.Rows.{IsGood};
 ghost use Rattle.moo_call_parts.specs.Outcomes.{world_in, ComesTo};
 ghost use Rattle.moo_petitions.specs.Outcomes.{state_in, ComesInTurn, KeepInTurn, KeepsGoodRows, Reaches};
@@ -68,7 +69,7 @@ pub(crate) fn grant<R: Rows>(
     args: &[Value],
 ) -> Result<Value, Fault>
     requires good { IsGood (R.held rows.old).maps }
-    ensures reaches { Reaches (taking (one_integer args.now) (grant (state_in (R.held rows.old)) programmer)) (R.held rows.new) result }
+    ensures reaches { Reaches (given (one_integer args.now) (grant (state_in (R.held rows.old)) programmer)) (R.held rows.new) result }
     ensures kept { OnOk result (KeepsGoodRows (GrantLeads programmer args.now) (R.held rows.old) (R.held rows.new)) }
 {
     let number = one_integer(args)?;

@@ -6,7 +6,8 @@ ghost use Rattle.std.specs.FinMap.{entries};
 ghost use Rattle.moo_world.specs.Arguments.{no_values};
 ghost use Rattle.moo_world.specs.Numbers.{KeepsNumbers};
 ghost use Rattle.moo_world.specs.Objects.{same_object};
-ghost use Rattle.moo_world.specs.Requests.{listed, petitions, taking};
+ghost use Rattle.moo_world.specs.Outcomes.{given};
+ghost use Rattle.moo_world.specs.Requests.{listed, petitions};
 ghost use Rattle.moo_world.specs.Rights.{is_wizard};
 ghost use Rattle.moo_world.specs.Rows.{IsGood};
 ghost use Rattle.moo_call_parts.specs.Outcomes.{world_in};
@@ -54,7 +55,7 @@ pub(crate) fn petitions<R: Rows>(
     args: &[Value],
 ) -> Result<Value, Fault>
     requires good { IsGood (R.held rows.now).maps }
-    ensures reaches { Reaches (taking (no_values args.now) (λ _. petitions (state_in (R.held rows.now)) programmer)) (R.held rows.now) result }
+    ensures reaches { Reaches (given (no_values args.now) (λ _. petitions (state_in (R.held rows.now)) programmer)) (R.held rows.now) result }
     ensures kept { OnOk result (KeepsGoodRows KeepsNumbers (R.held rows.now) (R.held rows.now)) }
 {
     no_values(args)?;

@@ -10,23 +10,23 @@ use Rattle.moo_world.specs.Codes.{E_PERM, E_PROPNF, E_INVARG}
 use Rattle.moo_world.specs.Outcomes.{Outcome, require◌else◌, ◌>>◌, ◌or_else◌, ◌>>=◌}
 use Rattle.moo_world.specs.Rights.{may_read_slot, may_write_slot}
 
--- x has a property of the name, and the programmer may read it by its slot on x
-abbrev pub reading_slot : World → ObjNo → ObjNo → Name → (Slot → Outcome) → Outcome
-reading_slot w p x n then = do
-  s ← slot_of w x (folded n) or_else E_PROPNF
-  require may_read_slot w p s else E_PERM
-  then s
+-- the object has a property of the name, and the programmer may read it by its slot on that object
+abbrev pub reading_slot : World → ObjNo → ObjNo → Name → (Slot → Outcome World) → Outcome World
+reading_slot world programmer object name then = do
+  slot ← slot_of world object (folded name) or_else E_PROPNF
+  require may_read_slot world programmer slot else E_PERM
+  then slot
 
--- x has a property of the name, and the programmer may write it by its slot on x
-abbrev pub writing_slot : World → ObjNo → ObjNo → Name → (Slot → Outcome) → Outcome
-writing_slot w p x n then = do
-  s ← slot_of w x (folded n) or_else E_PROPNF
-  require may_write_slot w p s else E_PERM
-  then s
+-- the object has a property of the name, and the programmer may write it by its slot on that object
+abbrev pub writing_slot : World → ObjNo → ObjNo → Name → (Slot → Outcome World) → Outcome World
+writing_slot world programmer object name then = do
+  slot ← slot_of world object (folded name) or_else E_PROPNF
+  require may_write_slot world programmer slot else E_PERM
+  then slot
 
 -- the owner is an object, and the rights have the letters of a property's alone
-abbrev pub taking_property_info : World → Info → (Bits → Outcome) → Outcome
-taking_property_info w info then = do
-  require is_object w info.0 else E_INVARG
-  bits ← bits_of info.1 or_else E_INVARG
+abbrev pub taking_property_info : World → Info → (Bits → Outcome World) → Outcome World
+taking_property_info world (owner, perms) then = do
+  require is_object world owner else E_INVARG
+  bits ← bits_of perms or_else E_INVARG
   then bits

@@ -13,7 +13,7 @@ ghost use Rattle.moo_world.specs.Objects.{folded};
 ghost use Rattle.moo_world.specs.Answers.{zero};
 ghost use Rattle.moo_world.specs.Changes.{defined};
 ghost use Rattle.moo_world.specs.Outcomes.{Outcome, Done, Failed};
-ghost use Rattle.moo_world.specs.World.{is_object, is_property_name};
+ghost use Rattle.moo_world.specs.World.{World, is_object, is_property_name};
 ghost use Rattle.moo_props.specs.Names.{defines as defines_property, name_of};
 ghost use Rattle.moo_call_parts.specs.Outcomes.{world_in, ComesTo, Answers};
 ghost use Rattle.moo_property_calls.specs.Checks.{taking_property_info};
@@ -76,7 +76,7 @@ pub(crate) fn defines<R: Rows>(rows: &R, x: ObjNo, name: &MooStr) -> bool
 pub(crate) fn bits_taken<R: Rows>(rows: &R, info: Info<'_>) -> Result<Bits, Code>
     ensures owner { OnOk result (is_object (world_in (R.held rows.now)) info.entry.owner ≡ true) }
     ensures bits { IfOk result (λ bits. bits_of info.entry.perms.now ≡ Some bits) }
-    ensures err { IfErr result (λ code. (then : Bits → Outcome) → taking_property_info (world_in (R.held rows.now)) (info.entry.owner, info.entry.perms.now) then ≡ Failed code) }
+    ensures err { IfErr result (λ code. (then : Bits → Outcome World) → taking_property_info (world_in (R.held rows.now)) (info.entry.owner, info.entry.perms.now) then ≡ Failed code) }
 {
     if !valid(rows, info.owner) {
         return Err(Code::InvalidArgument);

@@ -6,7 +6,7 @@ ghost use Rattle.moo_world.specs.Objects.{folded};
 ghost use Rattle.moo_world.specs.Outcomes.{Outcome, Failed};
 ghost use Rattle.moo_world.specs.Rights.{may_read_slot, may_write_slot};
 ghost use Rattle.moo_world.specs.Rows.{slot_seen, IsGood};
-ghost use Rattle.moo_world.specs.World.{Slot, slot_of};
+ghost use Rattle.moo_world.specs.World.{World, Slot, slot_of};
 ghost use Rattle.moo_props.specs.Names.{name_of};
 ghost use Rattle.moo_call_parts.specs.Outcomes.{world_in};
 ghost use Rattle.moo_property_calls.specs.Checks.{reading_slot, writing_slot};
@@ -39,8 +39,8 @@ pub(crate) fn readable_slot<'a, R: Rows>(
     name: &MooStr,
 ) -> Result<Found<'a>, Code>
     requires { IsGood (R.held rows.now).maps }
-    ensures ok { IfOk result (λ found. (then : Slot → Outcome) → reading_slot (world_in (R.held rows.now)) programmer x name.now then ≡ then (slot_seen found.definer found.slot.now)) }
-    ensures err { IfErr result (λ code. (then : Slot → Outcome) → reading_slot (world_in (R.held rows.now)) programmer x name.now then ≡ Failed code) }
+    ensures ok { IfOk result (λ found. (then : Slot → Outcome World) → reading_slot (world_in (R.held rows.now)) programmer x name.now then ≡ then (slot_seen found.definer found.slot.now)) }
+    ensures err { IfErr result (λ code. (then : Slot → Outcome World) → reading_slot (world_in (R.held rows.now)) programmer x name.now then ≡ Failed code) }
     ensures held { IfOk result (λ found. is_some (get (R.held rows.now).maps.slots (x, found.id)) ≡ true) }
     ensures named { IfOk result (λ found. name_of (R.held rows.now).maps found.id ≡ folded name.now) }
 {
@@ -64,7 +64,7 @@ pub(crate) fn writable_slot<'a, R: Rows>(
     requires { IsGood (R.held rows.now).maps }
     ensures slot { IfOk result (λ found. slot_of (world_in (R.held rows.now)) x (folded name.now) ≡ Some (slot_seen found.definer found.slot.now)) }
     ensures may { IfOk result (λ found. may_write_slot (world_in (R.held rows.now)) programmer (slot_seen found.definer found.slot.now) ≡ true) }
-    ensures err { IfErr result (λ code. (then : Slot → Outcome) → writing_slot (world_in (R.held rows.now)) programmer x name.now then ≡ Failed code) }
+    ensures err { IfErr result (λ code. (then : Slot → Outcome World) → writing_slot (world_in (R.held rows.now)) programmer x name.now then ≡ Failed code) }
     ensures held { IfOk result (λ found. is_some (get (R.held rows.now).maps.slots (x, found.id)) ≡ true) }
     ensures named { IfOk result (λ found. name_of (R.held rows.now).maps found.id ≡ folded name.now) }
 {

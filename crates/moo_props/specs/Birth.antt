@@ -6,10 +6,10 @@ use Rattle.moo_rows.specs.declared.row.ObjRow.{ObjRow}
 use Rattle.moo_rows.specs.Maps.{Held, wrote}
 use Rattle.moo_rows.specs.PlainRow.{plain_row}
 
--- the row of a new object under q
+-- the row of a new object under a parent
 abbrev pub new_row : ObjNo → ObjNo → ObjRow
-new_row q owner = plain_row [] owner q
+new_row parent owner = plain_row [] owner parent
 
 -- what is held once its row is put
 abbrev pub with_new_row : ObjNo → ObjNo → ObjNo → Held → Held
-with_new_row x q owner held = wrote held (record (held.maps) { head = record (held.maps.head) { top = x.0 }; objects = insert held.maps.objects x (new_row q owner) })
+with_new_row object parent owner held = wrote held (record (held.maps) { head = record (held.maps.head) { top = object.0 }; objects = insert held.maps.objects object (new_row parent owner) })

@@ -5,6 +5,6 @@ use Rattle.moo_value.specs.declared.value.ObjNo.{ObjNo}
 use Rattle.moo_world.specs.Objects.{folded}
 use Rattle.moo_world.specs.World.{World, chain, names_of, owed_by, pair_named}
 
--- y itself defines a property of a name that new or an ancestor of new defines
+-- the object itself defines a property of a name that the new parent or an ancestor of it defines
 abbrev pub meets_on : World → ObjNo → ObjNo → Bool
-meets_on w new y = list_any (λ m. is_some (pair_named (owed_by w (chain w new)) (folded m))) (names_of w y)
+meets_on world new_parent object = list_any (λ name. is_some (pair_named (owed_by world (chain world new_parent)) (folded name))) (names_of world object)

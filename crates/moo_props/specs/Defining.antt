@@ -10,13 +10,13 @@ use Rattle.moo_props.specs.Slots.{with_fresh}
 
 -- what is held once each of these objects, with its owner, has a fresh slot
 abbrev pub fresh_over : Origin → List (ObjNo × ObjNo) → Held → Held
-fresh_over o [] held = held
-fresh_over o (e ∷ es) held = fresh_over o es (with_fresh e.0 e.1 (o ∷ []) held)
+fresh_over origin [] held = held
+fresh_over origin (pair ∷ pairs) held = fresh_over origin pairs (with_fresh pair.0 pair.1 (origin ∷ []) held)
 
--- what is held once x defines a property of the next number
+-- what is held once the object defines a property of the next number
 abbrev pub with_definition : ObjNo → Name → Held → Held
-with_definition x name held =
+with_definition object name held =
     wrote held (record (held.maps) {
       head = record (held.maps.head) { next_prop = held.maps.head.next_prop + 1 };
-      props = insert held.maps.props (prop_id held.maps.head.next_prop) (record { definer = x; name = name });
+      props = insert held.maps.props (prop_id held.maps.head.next_prop) (record { definer = object; name = name });
     })

@@ -9,40 +9,40 @@ use Rattle.moo_world.specs.Objects.{nothing, same_object}
 use Rattle.moo_world.specs.Rows.{world_of}
 use Rattle.moo_world.specs.World.{chain, numbers_to}
 
--- the children of y past one
+-- the children of an object past one of them
 abbrev pub children_past : Maps → ObjNo → ObjNo → List ObjNo
-children_past t y from = map (λ e. e.0) (linked_left (ChildOf y) from t)
+children_past maps object from = map (λ pair. pair.0) (linked_left (ChildOf object) from maps)
 
--- what is below y, so many levels deep
+-- what is below an object, so many levels deep
 abbrev pub below : ℕ → Maps → ObjNo → List ObjNo
-below zero t y = []
-below (suc n) t y = flat_map (λ c. c ∷ below n t c) (children_past t y nothing)
+below zero maps object = []
+below (suc levels) maps object = flat_map (λ child. child ∷ below levels maps child) (children_past maps object nothing)
 
--- how many levels there may be below y
+-- how many levels there may be below an object
 abbrev pub levels_below : Maps → ObjNo → ℕ
-levels_below t y = numbers_to (world_of t).top - length (chain (world_of t) y)
+levels_below maps object = numbers_to (world_of maps).top - length (chain (world_of maps) object)
 
--- all that is below y
+-- all that is below an object
 abbrev pub descendants : Maps → ObjNo → List ObjNo
-descendants t y = below (levels_below t y) t y
+descendants maps object = below (levels_below maps object) maps object
 
 -- objects, each with all that is below it
 abbrev pub branches : Maps → List ObjNo → List ObjNo
-branches t l = flat_map (λ c. c ∷ descendants t c) l
+branches maps objects = flat_map (λ object. object ∷ descendants maps object) objects
 
--- what comes after y and all that is below it, up to the end of x's subtree, by the ancestors of y
+-- what comes after an object and all that is below it, up to the end of the subtree of the top, by the ancestors of the object
 abbrev pub after_branch : Maps → ObjNo → ObjNo → List ObjNo → List ObjNo
-after_branch t x y [] = []
-after_branch t x y (parent ∷ l) = if same_object x y then [] else branches t (children_past t parent y) ++ after_branch t x parent l
+after_branch maps top object [] = []
+after_branch maps top object (parent ∷ ancestors) = if same_object top object then [] else branches maps (children_past maps parent object) ++ after_branch maps top parent ancestors
 
 abbrev pub after_below : Maps → ObjNo → ObjNo → List ObjNo
-after_below t x y = after_branch t x y (drop 1 (chain (world_of t) y))
+after_below maps top object = after_branch maps top object (drop 1 (chain (world_of maps) object))
 
--- what comes after y in x's subtree
+-- what comes after an object in the subtree of the top
 abbrev pub walk_after : Maps → ObjNo → ObjNo → List ObjNo
-walk_after t x y = descendants t y ++ after_below t x y
+walk_after maps top object = descendants maps object ++ after_below maps top object
 
 -- the walk from an object on, or its end
 abbrev pub from_here : Maps → ObjNo → Option ObjNo → List ObjNo
-from_here t x None = []
-from_here t x (Some y) = y ∷ walk_after t x y
+from_here maps top None = []
+from_here maps top (Some object) = object ∷ walk_after maps top object

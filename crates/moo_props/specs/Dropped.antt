@@ -17,29 +17,29 @@ use Rattle.moo_world.specs.Rows.{world_of}
 use Rattle.moo_props.specs.Dropping.{released_row}
 use Rattle.moo_props.specs.Names.{defines}
 
--- the slot goes with x: it is on x, or it is on a descendant and of a property that x defines
+-- the slot goes with the object: it is on it, or it is on a descendant and of a property that the object defines
 abbrev pub goes_with : Maps → ObjNo → ObjNo × PropId → Bool
-goes_with t x key = same_object x key.0 || (is_among x (chain (world_of t) key.0) && defines t x key.1)
+goes_with maps object key = same_object object key.0 || (is_among object (chain (world_of maps) key.0) && defines maps object key.1)
 
 -- the keys of the slots that go, ascending
 abbrev pub dropped_keys : Maps → ObjNo → List (ObjNo × PropId)
-dropped_keys t x = map (λ e. e.0) (filter (λ e. goes_with t x e.0) (entries t.slots))
+dropped_keys maps object = map (λ pair. pair.0) (filter (λ pair. goes_with maps object pair.0) (entries maps.slots))
 
 -- ---- the rows that are left
 
 abbrev pub slot_left : Maps → ObjNo → ObjNo × PropId → Option SlotRow
-slot_left t x key = if goes_with t x key then None else get t.slots key
+slot_left maps object key = if goes_with maps object key then None else get maps.slots key
 
 abbrev pub prop_left : Maps → ObjNo → PropId → Option PropRow
-prop_left t x id = if defines t x id then None else get t.props id
+prop_left maps object id = if defines maps object id then None else get maps.props id
 
 abbrev pub verb_left : Maps → ObjNo → ObjNo × VerbId → Option VerbRow
-verb_left t x key = if same_object x key.0 then None else get t.verbs key
+verb_left maps object key = if same_object object key.0 then None else get maps.verbs key
 
--- the parent that the children of x get
+-- the parent that the children of the object get
 abbrev pub heir : Maps → ObjNo → ObjNo
-heir t x = unwrap_or (option_map (λ r. r.parent) (get t.objects x)) nothing
+heir maps object = unwrap_or (option_map (λ row. row.parent) (get maps.objects object)) nothing
 
--- x is gone; if the parent was x it is that of x, and if the place was x it is nothing
+-- the object is gone; in another's row it is replaced as parent by its own parent, and as place by nothing
 abbrev pub row_left : Maps → ObjNo → ObjNo → Option ObjRow
-row_left t x y = if same_object x y then None else option_map (released_row x (heir t x)) (get t.objects y)
+row_left maps object other = if same_object object other then None else option_map (released_row object (heir maps object)) (get maps.objects other)

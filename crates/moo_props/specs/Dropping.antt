@@ -16,44 +16,44 @@ use Rattle.moo_props.specs.Slots.{keys_on, without_on}
 
 -- ---- who is concerned
 
--- the object's parent or place is x
+-- the row's parent or place is the object
 abbrev pub links_to : ObjNo → ObjRow → Bool
-links_to x r = same_object x r.parent || same_object x r.location
+links_to object row = same_object object row.parent || same_object object row.location
 
--- there is a row, and its parent or place is x
+-- there is a row, and its parent or place is the object
 abbrev pub row_linked : ObjNo → Option ObjRow → Bool
-row_linked x row = unwrap_or (option_map (links_to x) row) false
+row_linked object row = unwrap_or (option_map (links_to object) row) false
 
--- the objects of these entries whose parent or place is x
+-- of these entries, those whose parent or place is the object
 abbrev pub linked_among : ObjNo → List (ObjNo × ObjRow) → List ObjNo
-linked_among x es = map (λ e. e.0) (filter (λ e. links_to x e.1) es)
+linked_among object pairs = map (λ pair. pair.0) (filter (λ pair. links_to object pair.1) pairs)
 
--- the verbs of x, of these entries
+-- the verbs of the object, of these entries
 abbrev pub verbs_among : ObjNo → List ((ObjNo × VerbId) × VerbRow) → List (ObjNo × VerbId)
-verbs_among x es = map (λ e. e.0) (filter (λ e. int_eq e.0.0.0 x.0) es)
+verbs_among object pairs = map (λ pair. pair.0) (filter (λ pair. int_eq pair.0.0.0 object.0) pairs)
 
 -- the properties of these slots
 abbrev pub ids_among : List ((ObjNo × PropId) × SlotRow) → List PropId
-ids_among es = map (λ e. e.0.1) es
+ids_among pairs = map (λ pair. pair.0.1) pairs
 
--- all properties for x itself, and its own for a descendant
+-- all properties for the object itself, and its own for a descendant
 abbrev pub ids_for : ObjNo → List PropId → List PropId → ObjNo → List PropId
-ids_for x all own y = if same_object x y then all else own
+ids_for object all own other = if same_object object other then all else own
 
 -- on each of these objects the keys of those properties
 abbrev pub dropped_over : ObjNo → List PropId → List PropId → List (ObjNo × ObjNo) → List (ObjNo × PropId)
-dropped_over x all own [] = []
-dropped_over x all own (e ∷ es) = keys_on e.0 (ids_for x all own e.0) ++ dropped_over x all own es
+dropped_over object all own [] = []
+dropped_over object all own (pair ∷ pairs) = keys_on pair.0 (ids_for object all own pair.0) ++ dropped_over object all own pairs
 
--- the row of an object that has x as parent or place no more
+-- a row that has the object as parent or place no more
 abbrev pub released_row : ObjNo → ObjNo → ObjRow → ObjRow
-released_row x parent r = record r { parent = if same_object x r.parent then parent else r.parent; location = if same_object x r.location then nothing else r.location }
+released_row object parent row = record row { parent = if same_object object row.parent then parent else row.parent; location = if same_object object row.location then nothing else row.location }
 
 -- ---- what is held after each step
 
 abbrev pub slots_dropped : ObjNo → List PropId → List PropId → List (ObjNo × ObjNo) → Held → Held
-slots_dropped x all own [] held = held
-slots_dropped x all own (e ∷ es) held = slots_dropped x all own es (without_on e.0 (ids_for x all own e.0) held)
+slots_dropped object all own [] held = held
+slots_dropped object all own (pair ∷ pairs) held = slots_dropped object all own pairs (without_on pair.0 (ids_for object all own pair.0) held)
 
 abbrev pub props_removed : List PropId → Held → Held
 props_removed [] held = held
@@ -63,14 +63,14 @@ abbrev pub verbs_removed : List (ObjNo × VerbId) → Held → Held
 verbs_removed [] held = held
 verbs_removed (key ∷ keys) held = verbs_removed keys (wrote held (record (held.maps) { verbs = remove held.maps.verbs key }))
 
--- with y's row released, if it has one
+-- with the other's row released, if it has one
 abbrev pub with_released : ObjNo → ObjNo → ObjNo → Held → Option ObjRow → Held
-with_released x parent y held None = held
-with_released x parent y held (Some row) = wrote held (record (held.maps) { objects = insert held.maps.objects y (released_row x parent row) })
+with_released object parent other held None = held
+with_released object parent other held (Some row) = wrote held (record (held.maps) { objects = insert held.maps.objects other (released_row object parent row) })
 
 abbrev pub row_released : ObjNo → ObjNo → ObjNo → Held → Held
-row_released x parent y held = with_released x parent y held (get held.maps.objects y)
+row_released object parent other held = with_released object parent other held (get held.maps.objects other)
 
 abbrev pub rows_released : ObjNo → ObjNo → List ObjNo → Held → Held
-rows_released x parent [] held = held
-rows_released x parent (y ∷ ys) held = rows_released x parent ys (row_released x parent y held)
+rows_released object parent [] held = held
+rows_released object parent (other ∷ others) held = rows_released object parent others (row_released object parent other held)

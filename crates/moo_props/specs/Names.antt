@@ -9,16 +9,16 @@ use Rattle.moo_world.specs.Objects.{Name, same_object, same_text, folded}
 
 -- the folded name of a property
 abbrev pub name_of : Maps → PropId → Name
-name_of t id = unwrap_or (option_map (λ p. folded p.name) (get t.props id)) []
+name_of maps id = unwrap_or (option_map (λ row. folded row.name) (get maps.props id)) []
 
 -- the name of a property, as it is spelled
 abbrev pub spelling_of : Maps → PropId → Name
-spelling_of t id = unwrap_or (option_map (λ p. p.name) (get t.props id)) []
+spelling_of maps id = unwrap_or (option_map (λ row. row.name) (get maps.props id)) []
 
 -- the property has this folded name
 abbrev pub is_called : Maps → Name → PropId → Bool
-is_called t n id = unwrap_or (option_map (λ p. same_text (folded p.name) n) (get t.props id)) false
+is_called maps name id = unwrap_or (option_map (λ row. same_text (folded row.name) name) (get maps.props id)) false
 
 -- the object defines the property
 abbrev pub defines : Maps → ObjNo → PropId → Bool
-defines t x id = unwrap_or (option_map (λ p. same_object p.definer x) (get t.props id)) false
+defines maps object id = unwrap_or (option_map (λ row. same_object row.definer object) (get maps.props id)) false

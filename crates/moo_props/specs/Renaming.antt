@@ -5,6 +5,6 @@ use Rattle.moo_rows.specs.declared.row.PropId.{PropId}
 use Rattle.moo_rows.specs.Maps.{Held, wrote}
 use Rattle.moo_world.specs.Objects.{Name}
 
--- what is held once a property that x defines has the name
+-- what is held once a property that the object defines has the name
 abbrev pub with_name : ObjNo → PropId → Name → Held → Held
-with_name x id name held = wrote held (record (held.maps) { props = insert held.maps.props id (record { definer = x; name = name }) })
+with_name object id name held = wrote held (record (held.maps) { props = insert held.maps.props id (record { definer = object; name = name }) })

@@ -16,28 +16,28 @@ use Rattle.moo_props.specs.Slots.{without_on, with_fresh}
 
 -- the object is of the first list and not of the second
 abbrev pub is_only_of : List ObjNo → List ObjNo → ObjNo → Bool
-is_only_of these others d = is_among d these && not (is_among d others)
+is_only_of these others definer = is_among definer these && not (is_among definer others)
 
 -- the properties of these entries whose definer is of the first list and not of the second
 abbrev pub props_only_of : List ObjNo → List ObjNo → List (PropId × PropRow) → List PropId
-props_only_of these others es = map (λ e. e.0) (filter (λ e. is_only_of these others e.1.definer) es)
+props_only_of these others pairs = map (λ pair. pair.0) (filter (λ pair. is_only_of these others pair.1.definer) pairs)
 
 -- an object of the first list, and not of the second, defines the property
 abbrev pub is_defined_only : List ObjNo → List ObjNo → Maps → PropId → Bool
-is_defined_only these others t id = unwrap_or (option_map (λ p. is_only_of these others p.definer) (get t.props id)) false
+is_defined_only these others maps id = unwrap_or (option_map (λ row. is_only_of these others row.definer) (get maps.props id)) false
 
 -- ---- what is held after each step
 
 -- on each of these objects without the slots of some properties, and with fresh ones
 abbrev pub slots_moved : List PropId → List Origin → List (ObjNo × ObjNo) → Held → Held
 slots_moved lost gained [] held = held
-slots_moved lost gained (e ∷ es) held = slots_moved lost gained es (with_fresh e.0 e.1 gained (without_on e.0 lost held))
+slots_moved lost gained (pair ∷ pairs) held = slots_moved lost gained pairs (with_fresh pair.0 pair.1 gained (without_on pair.0 lost held))
 
 -- ---- the parent link
 
--- the row of x with another parent is put, unless it is its parent
+-- the object's row with the new parent is put, unless that is its parent
 abbrev pub relinked : ObjNo → ObjRow → ObjNo → Held → Held
-relinked x row q held = if same_object row.parent q then held else wrote held (record (held.maps) { objects = insert held.maps.objects x (record row { parent = q }) })
+relinked object row new_parent held = if same_object row.parent new_parent then held else wrote held (record (held.maps) { objects = insert held.maps.objects object (record row { parent = new_parent }) })
 
 abbrev pub relinked_list : ObjNo → ObjRow → ObjNo → List ObjNo
-relinked_list x row q = if same_object row.parent q then [] else x ∷ []
+relinked_list object row new_parent = if same_object row.parent new_parent then [] else object ∷ []

@@ -17,56 +17,56 @@ use Rattle.moo_props.specs.declared.slots.Origin.{Origin}
 
 -- the row of a slot, which doesn't say who defines the property
 abbrev pub row_of_slot : Slot → SlotRow
-row_of_slot s = record { owner = s.owner; bits = s.bits; state = s.state }
+row_of_slot slot = record { owner = slot.owner; bits = slot.bits; state = slot.state }
 
 -- a fresh slot, as a world has it, on an object of this owner: whoever defines the property, the row is the same
 abbrev pub fresh_row : ObjNo → SlotRow → SlotRow
-fresh_row owner s = row_of_slot (fresh owner (slot_seen nothing s))
+fresh_row owner row = row_of_slot (fresh owner (slot_seen nothing row))
 
 -- the same of what fresh slots are made from
 abbrev pub fresh_of : ObjNo → Origin → SlotRow
-fresh_of owner o = fresh_row owner (record { owner = o.owner; bits = o.bits; state = Clear })
+fresh_of owner origin = fresh_row owner (record { owner = origin.owner; bits = origin.bits; state = Clear })
 
 -- ---- what they are made from
 
 abbrev pub id_of : Origin → PropId
-id_of o = o.id
+id_of origin = origin.id
 
 abbrev pub origin_of : PropId → SlotRow → Origin
-origin_of id s = record { id = id; owner = s.owner; bits = s.bits }
+origin_of id row = record { id = id; owner = row.owner; bits = row.bits }
 
 -- what these slots are the origins of
 abbrev pub origins_among : List ((ObjNo × PropId) × SlotRow) → List Origin
-origins_among es = map (λ e. origin_of e.0.1 e.1) es
+origins_among pairs = map (λ pair. origin_of pair.0.1 pair.1) pairs
 
--- those of these properties that q has, each with the slot of it on q
+-- those of these properties that the parent has, each with its slot there
 abbrev pub origins : FinMap slot_cmp SlotRow → ObjNo → List PropId → List Origin
-origins slots q ids = filter_map (λ id. option_map (origin_of id) (get slots (q, id))) ids
+origins slots parent ids = filter_map (λ id. option_map (origin_of id) (get slots (parent, id))) ids
 
 -- ---- what is held after each step
 
 abbrev pub slot_removed : ObjNo → PropId → Held → Held
-slot_removed y id held = wrote held (record (held.maps) { slots = remove held.maps.slots (y, id) })
+slot_removed object id held = wrote held (record (held.maps) { slots = remove held.maps.slots (object, id) })
 
 abbrev pub slot_put : ObjNo → PropId → SlotRow → Held → Held
-slot_put y id row held = wrote held (record (held.maps) { slots = insert held.maps.slots (y, id) row })
+slot_put object id row held = wrote held (record (held.maps) { slots = insert held.maps.slots (object, id) row })
 
--- without y's slots of these properties
+-- without the object's slots of these properties
 abbrev pub without_on : ObjNo → List PropId → Held → Held
-without_on y [] held = held
-without_on y (id ∷ ids) held = without_on y ids (slot_removed y id held)
+without_on object [] held = held
+without_on object (id ∷ ids) held = without_on object ids (slot_removed object id held)
 
--- with fresh slots on y, which has this owner
+-- with fresh slots on the object, which has this owner
 abbrev pub with_fresh : ObjNo → ObjNo → List Origin → Held → Held
-with_fresh y owner [] held = held
-with_fresh y owner (o ∷ os) held = with_fresh y owner os (slot_put y o.id (fresh_of owner o) held)
+with_fresh object owner [] held = held
+with_fresh object owner (origin ∷ others) held = with_fresh object owner others (slot_put object origin.id (fresh_of owner origin) held)
 
 -- ---- keys
 
 abbrev pub keys_on : ObjNo → List PropId → List (ObjNo × PropId)
-keys_on y ids = map (λ id. (y, id)) ids
+keys_on object ids = map (λ id. (object, id)) ids
 
 -- each of these properties on each of these objects
 abbrev pub keys_over : List PropId → List (ObjNo × ObjNo) → List (ObjNo × PropId)
 keys_over ids [] = []
-keys_over ids (e ∷ es) = keys_on e.0 ids ++ keys_over ids es
+keys_over ids (pair ∷ pairs) = keys_on pair.0 ids ++ keys_over ids pairs

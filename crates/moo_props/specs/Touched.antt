@@ -19,42 +19,42 @@ use Rattle.moo_props.specs.Slots.{fresh_row, keys_over}
 
 -- the properties of these entries that objects of a list define
 abbrev pub props_among : List ObjNo → List (PropId × PropRow) → List PropId
-props_among definers es = map (λ e. e.0) (filter (λ e. is_among e.1.definer definers) es)
+props_among definers pairs = map (λ pair. pair.0) (filter (λ pair. is_among pair.1.definer definers) pairs)
 
 -- the properties that objects of a list define, ascending
 abbrev pub props_of : List ObjNo → FinMap prop_cmp PropRow → List PropId
 props_of definers props = props_among definers (entries props)
 
--- on each object under x, the properties of the definers between x and the nearest common ancestor, ascending
+-- on the object and each descendant, the properties of the definers between it and the nearest common ancestor, ascending
 abbrev pub removed_keys : Maps → ObjNo → ObjNo → List (ObjNo × PropId)
-removed_keys t x q = keys_over (props_of (lost (world_of t) x q) t.props) (owners_under t x)
+removed_keys maps object new_parent = keys_over (props_of (lost (world_of maps) object new_parent) maps.props) (owners_under maps object)
 
--- on each object under x, the properties of the definers between q and that ancestor, ascending
+-- on the object and each descendant, the properties of the definers between the new parent and that ancestor, ascending
 abbrev pub added_keys : Maps → ObjNo → ObjNo → List (ObjNo × PropId)
-added_keys t x q = keys_over (props_of (gained (world_of t) x q) t.props) (owners_under t x)
+added_keys maps object new_parent = keys_over (props_of (gained (world_of maps) object new_parent) maps.props) (owners_under maps object)
 
--- x, if q isn't its parent
+-- the object, if the new parent isn't its parent
 abbrev pub relinked_objects : Maps → ObjNo → ObjNo → List ObjNo
-relinked_objects t x q = unwrap_or (option_map (λ row. relinked_list x row q) (get t.objects x)) []
+relinked_objects maps object new_parent = unwrap_or (option_map (λ row. relinked_list object row new_parent) (get maps.objects object)) []
 
 -- an object of the list defines the property
 abbrev pub is_defined_among : List ObjNo → Maps → PropId → Bool
-is_defined_among definers t id = unwrap_or (option_map (λ p. is_among p.definer definers) (get t.props id)) false
+is_defined_among definers maps id = unwrap_or (option_map (λ row. is_among row.definer definers) (get maps.props id)) false
 
--- the slot of a key after x is put under q
+-- the slot of a key after the object is put under the new parent
 abbrev pub slot_after : Maps → ObjNo → ObjNo → ObjNo × PropId → Option SlotRow
-slot_after t x q key =
-    let w = world_of t in
-    if is_among x (chain w key.0)
-    then (if is_defined_among (gained w x q) t key.1
-    then option_map (fresh_row (owner_of w key.0)) (get t.slots (q, key.1))
-    else (if is_defined_among (lost w x q) t key.1 then None else get t.slots key))
-    else get t.slots key
+slot_after maps object new_parent key =
+    let world = world_of maps in
+    if is_among object (chain world key.0)
+    then (if is_defined_among (gained world object new_parent) maps key.1
+    then option_map (fresh_row (owner_of world key.0)) (get maps.slots (new_parent, key.1))
+    else (if is_defined_among (lost world object new_parent) maps key.1 then None else get maps.slots key))
+    else get maps.slots key
 
--- the row of an object after x is put under q
+-- the row of another object after the object is put under the new parent
 abbrev pub row_after : Maps → ObjNo → ObjNo → ObjNo → Option ObjRow
-row_after t x q y = option_map (λ row. if same_object x y then record row { parent = q } else row) (get t.objects y)
+row_after maps object new_parent other = option_map (λ row. if same_object object other then record row { parent = new_parent } else row) (get maps.objects other)
 
 -- the head, the properties, the verbs and the petitions are as they were
 abbrev pub IsSameButSlotsAndObjects : Maps → Maps → Type 0
-IsSameButSlotsAndObjects a b = b ≡ record a { objects = b.objects; slots = b.slots }
+IsSameButSlotsAndObjects old new = new ≡ record old { objects = new.objects; slots = new.slots }

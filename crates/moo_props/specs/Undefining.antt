@@ -8,4 +8,4 @@ use Rattle.moo_props.specs.Slots.{slot_removed}
 -- what is held once these objects have no slot of the property
 abbrev pub less_over : PropId → List (ObjNo × ObjNo) → Held → Held
 less_over id [] held = held
-less_over id (e ∷ es) held = less_over id es (slot_removed e.0 id held)
+less_over id (pair ∷ pairs) held = less_over id pairs (slot_removed pair.0 id held)

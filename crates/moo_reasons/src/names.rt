@@ -5,43 +5,6 @@ use moo_world::CallName;
 /// So many bytes may differ between a word and the name that it meant.
 const MOST_CHANGED: usize = 2;
 
-/// The names that a word is compared with: each call.
-const NAMES: [CallName; 33] = [
-    CallName::Valid,
-    CallName::Parent,
-    CallName::Children,
-    CallName::IsPlayer,
-    CallName::Players,
-    CallName::MaxObject,
-    CallName::Get,
-    CallName::Properties,
-    CallName::PropertyInfo,
-    CallName::IsClearProperty,
-    CallName::Verbs,
-    CallName::VerbInfo,
-    CallName::VerbArgs,
-    CallName::AcceptList,
-    CallName::Create,
-    CallName::Chparent,
-    CallName::Recycle,
-    CallName::Move,
-    CallName::SetPlayerFlag,
-    CallName::Set,
-    CallName::AddProperty,
-    CallName::DeleteProperty,
-    CallName::SetPropertyInfo,
-    CallName::ClearProperty,
-    CallName::AddVerb,
-    CallName::DeleteVerb,
-    CallName::SetVerbInfo,
-    CallName::SetVerbArgs,
-    CallName::SetAccept,
-    CallName::Petition,
-    CallName::Petitions,
-    CallName::Grant,
-    CallName::Decline,
-];
-
 /// How many bytes in front two words have in common, in any case of letters.
 fn common_front(left: &[u8], right: &[u8]) -> usize {
     left.iter()
@@ -72,7 +35,7 @@ fn distance(word: &[u8], name: &[u8]) -> usize {
 pub(crate) fn nearest_name(word: &[u8]) -> Option<CallName> {
     let mut nearest = None;
     let mut least = MOST_CHANGED.saturating_add(1);
-    for name in NAMES.iter() {
+    for name in CallName::all().iter() {
         let distance = distance(word, name.spelling());
         if distance < least {
             nearest = Some(*name);

@@ -39,7 +39,8 @@ pub record GivesSparingly (old new : Option (List ℕ)) (given : List ℕ) : Typ
   pub known : Consumes old new given
   pub sparing : IsSparing given
 
--- The reader gave some bytes, and this is received of them. Behind a head stand fewer than the 1,024 bytes of a piece, but for its body.
+-- The reader gave some bytes, and this is received of them. After a head come at most 1,023 bytes, or as many as
+-- its body has if these are more.
 pub record Takes (old new : Option (List ℕ)) (received : Received) : Type 0 where
   pub given : List ℕ
   pub gives : GivesSparingly old new given

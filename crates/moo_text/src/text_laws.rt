@@ -38,7 +38,7 @@ pub fn one_cut()
 {}
 
 /// The items that are read one after another are those of all bytes that were given meanwhile; if the reader tells its bytes, these are
-/// all of them once it has ended. Behind a fault the items that were read stay the first ones.
+/// all of them once it has ended. After a fault the items that were read stay the first ones.
 pub fn items_are_joined()
     ensures none { (a : Side) → ReadsItems a a [] }
     ensures more { (a b c : Side) (done : List Next) (item : Next) → ReadsItems a b done → ReadsNext b c item → item ≢ End → ReadsItems a c (done ++ item ∷ []) }

@@ -13,18 +13,18 @@ use Rattle.moo_world.specs.Outcomes.{Outcome, require◌else◌, ◌>>◌, ◌or
 use Rattle.moo_world.specs.Rights.{may_read_verb}
 use Rattle.moo_world.specs.Descriptors.{found_verb}
 
--- x is an object, a verb of x itself is meant, and the programmer may read it
-abbrev pub reading_verb : World → ObjNo → ObjNo → Desc → (VerbRow → Outcome) → Outcome
-reading_verb w p x desc then = do
-  require is_object w x else E_INVARG
-  found ← found_verb w x desc or_else E_VERBNF
-  require may_read_verb w p found.1 else E_PERM
-  then found.1
+-- it is an object, a verb of that object itself is meant, and the programmer may read it
+abbrev pub reading_verb : World → ObjNo → ObjNo → Desc → (VerbRow → Outcome World) → Outcome World
+reading_verb world programmer object descriptor then = do
+  require is_object world object else E_INVARG
+  (place, verb) ← found_verb world object descriptor or_else E_VERBNF
+  require may_read_verb world programmer verb else E_PERM
+  then verb
 
 -- the owner is an object, the rights have the letters of a verb's alone, and the names have a word
-abbrev pub taking_verb_info : World → Info → Name → (VerbBits → Outcome) → Outcome
-taking_verb_info w info names then = do
-  require is_object w info.0 else E_INVARG
-  bits ← verb_bits_of info.1 or_else E_INVARG
+abbrev pub taking_verb_info : World → Info → Name → (VerbBits → Outcome World) → Outcome World
+taking_verb_info world (owner, perms) names then = do
+  require is_object world owner else E_INVARG
+  bits ← verb_bits_of perms or_else E_INVARG
   require has_word names else E_INVARG
   then bits

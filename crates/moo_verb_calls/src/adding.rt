@@ -4,7 +4,7 @@ ghost use Rattle.std.specs.Prelude.{◌≡◌, true, nat_lt, Some, Err, OnOk, If
 ghost use Rattle.moo_rows.specs.Bits.{verb_bits_of};
 ghost use Rattle.moo_rows.specs.declared.row.VerbBits.{VerbBits};
 ghost use Rattle.moo_world.specs.Rows.{IsGood};
-ghost use Rattle.moo_world.specs.World.{is_object, has_word};
+ghost use Rattle.moo_world.specs.World.{World, is_object, has_word};
 ghost use Rattle.moo_world.specs.Answers.{zero};
 ghost use Rattle.moo_world.specs.Directories.{verb_added};
 ghost use Rattle.moo_world.specs.Outcomes.{Outcome, Done, Failed};
@@ -34,7 +34,7 @@ pub(crate) fn bits_taken<R: Rows>(rows: &R, verb: VerbInfo<'_>) -> Result<VerbBi
     ensures owner { OnOk result (is_object (world_in (R.held rows.now)) verb.entry.info.owner ≡ true) }
     ensures bits { IfOk result (λ bits. verb_bits_of verb.entry.info.perms.now ≡ Some bits) }
     ensures names { OnOk result (has_word verb.entry.names.now ≡ true) }
-    ensures err { IfErr result (λ code. (then : VerbBits → Outcome) → taking_verb_info (world_in (R.held rows.now)) (verb.entry.info.owner, verb.entry.info.perms.now) verb.entry.names.now then ≡ Failed code) }
+    ensures err { IfErr result (λ code. (then : VerbBits → Outcome World) → taking_verb_info (world_in (R.held rows.now)) (verb.entry.info.owner, verb.entry.info.perms.now) verb.entry.names.now then ≡ Failed code) }
 {
     if !valid(rows, verb.info.owner) {
         return Err(Code::InvalidArgument);

@@ -8,6 +8,7 @@ ghost use Rattle.moo_rows.specs.declared.row.VerbRow.{VerbRow};
 ghost use Rattle.moo_world.specs.Rows.{IsGood};
 ghost use Rattle.moo_world.specs.Answers.{list_of};
 ghost use Rattle.moo_world.specs.Outcomes.{Outcome, Failed};
+ghost use Rattle.moo_world.specs.World.{World};
 ghost use Rattle.moo_world.specs.Prepositions.{prep_text, place_text};
 ghost use Rattle.moo_world.specs.VerbCalls.{verbs, verb_info, verb_args};
 ghost use Rattle.moo_call_parts.specs.Outcomes.{world_in, Answers};
@@ -62,8 +63,8 @@ fn readable_verb<'a, R: Rows>(
     desc: &Desc,
 ) -> Result<&'a VerbRow, Code>
     requires { IsGood (R.held rows.now).maps }
-    ensures ok { IfOk result (λ verb. (then : VerbRow → Outcome) → reading_verb (world_in (R.held rows.now)) programmer x desc.now then ≡ then verb.now) }
-    ensures err { IfErr result (λ code. (then : VerbRow → Outcome) → reading_verb (world_in (R.held rows.now)) programmer x desc.now then ≡ Failed code) }
+    ensures ok { IfOk result (λ verb. (then : VerbRow → Outcome World) → reading_verb (world_in (R.held rows.now)) programmer x desc.now then ≡ then verb.now) }
+    ensures err { IfErr result (λ code. (then : VerbRow → Outcome World) → reading_verb (world_in (R.held rows.now)) programmer x desc.now then ≡ Failed code) }
 {
     if !valid(rows, x) {
         return Err(Code::InvalidArgument);

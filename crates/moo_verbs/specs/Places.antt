@@ -8,11 +8,11 @@ use Rattle.moo_rows.specs.Maps.{Maps}
 use Rattle.moo_world.specs.Rows.{LookUps, look_ups, numbers_below}
 
 abbrev pub has_verb : Maps → ObjNo → VerbId → Bool
-has_verb m x id = is_some (get m.verbs (x, id))
+has_verb maps object id = is_some (get maps.verbs (object, id))
 
--- how many verbs of x have a lower number
+-- how many verbs of the object have a lower number
 abbrev pub verbs_before : LookUps → ObjNo → ℕ → ℕ
-verbs_before m x id = length (filter_map (m.verb x) (numbers_below id))
+verbs_before rows object id = length (filter_map (rows.verb object) (numbers_below id))
 
 abbrev pub verb_place : Maps → ObjNo → VerbId → ℕ
-verb_place m x id = verbs_before (look_ups m) x id.0
+verb_place maps object id = verbs_before (look_ups maps) object id.0

@@ -11,30 +11,31 @@ use Rattle.moo_world.specs.declared.call.Call.{Call}
 use Rattle.moo_world.specs.declared.call.Batch.{Batch}
 use Rattle.moo_world.specs.Numbers.{KeepsNumbers, NumbersStay}
 use Rattle.moo_world.specs.Names.{is_grant}
-use Rattle.moo_world.specs.Requests.{Answered, held_step, in_world, one_integer, petition_at, request, state_of, PetitionsStay}
+use Rattle.moo_world.specs.Outcomes.{Done}
+use Rattle.moo_world.specs.Requests.{held_step, in_world, one_integer, petition_at, request, state_of, PetitionsStay}
 use Rattle.moo_world.specs.Rows.{IsGood, world_of}
 
 -- the calls that a petition holds lead from rows to rows: each is done, leaves good rows, and keeps numbers
 abbrev pub HeldCallsLead : ObjNo → List Value → Maps → Maps → Type 0
-HeldCallsLead p [] old new = new ≡ old
-HeldCallsLead p (held ∷ helds) old new =
-    (answer : Value) × (mid : Maps) × (in_world (state_of old) (held_step (world_of old) p held) ≡ Answered answer (state_of mid)) × IsGood mid × KeepsNumbers old mid × HeldCallsLead p helds mid new
+HeldCallsLead programmer [] old new = new ≡ old
+HeldCallsLead programmer (held ∷ helds) old new =
+    (answer : Value) × (mid : Maps) × (in_world (state_of old) (held_step (world_of old) programmer held) ≡ Done answer (state_of mid)) × IsGood mid × KeepsNumbers old mid × HeldCallsLead programmer helds mid new
 
 -- the petition goes that is granted, and then the calls that it holds lead on
 abbrev pub GrantLeads : ObjNo → List Value → Maps → Maps → Type 0
-GrantLeads p args old new =
-    (n : ℤ) × (e : PetitionId × PetitionRow) × (one_integer args ≡ Ok n) × (petition_at (state_of old) n ≡ Some e) × HeldCallsLead p (spread e.1.calls) (record old { petitions = remove old.petitions e.0 }) new
+GrantLeads programmer args old new =
+    (number : ℤ) × (found : PetitionId × PetitionRow) × (one_integer args ≡ Ok number) × (petition_at (state_of old) number ≡ Some found) × HeldCallsLead programmer (spread found.1.calls) (record old { petitions = remove old.petitions found.0 }) new
 
 -- what a call does to numbers: one change, or, if it grants a petition, one for each call that the petition holds
 abbrev pub CallKeepsNumbers : Bool → ObjNo → List Value → Maps → Maps → Type 0
-CallKeepsNumbers true p args = GrantLeads p args
-CallKeepsNumbers false p args = KeepsNumbers
+CallKeepsNumbers true programmer args = GrantLeads programmer args
+CallKeepsNumbers false programmer args = KeepsNumbers
 
 -- the calls lead from rows to rows: each is done, leaves good rows, and keeps numbers
 abbrev pub CallsLead : ObjNo → List Call → Maps → Maps → Type 0
-CallsLead p [] old new = new ≡ old
-CallsLead p (call ∷ calls) old new =
-    (answer : Value) × (mid : Maps) × (request (state_of old) p call ≡ Answered answer (state_of mid)) × IsGood mid × CallKeepsNumbers (is_grant call.name) p call.args old mid × CallsLead p calls mid new
+CallsLead programmer [] old new = new ≡ old
+CallsLead programmer (call ∷ calls) old new =
+    (answer : Value) × (mid : Maps) × (request (state_of old) programmer call ≡ Done answer (state_of mid)) × IsGood mid × CallKeepsNumbers (is_grant call.name) programmer call.args old mid × CallsLead programmer calls mid new
 
 -- the calls of the batch do, and the batch is counted
 abbrev pub BatchLeads : Batch → Maps → Maps → Type 0

@@ -30,131 +30,131 @@ use Rattle.moo_world.specs.Codes.{E_PERM, E_INVARG, E_RECMOVE, E_NACC, E_QUOTA}
 
 -- ---- the calls that only read
 
-abbrev pub valid : World → ObjNo → Outcome
-valid w x = Done (flag (is_object w x)) w
+abbrev pub valid : World → ObjNo → Outcome World
+valid world object = Done (flag (is_object world object)) world
 
-abbrev pub parent : World → ObjNo → Outcome
-parent w x = do
-  require is_object w x else E_INVARG
-  Done (Obj (unwrap_or (parent_of w x) nothing)) w
+abbrev pub parent : World → ObjNo → Outcome World
+parent world object = do
+  require is_object world object else E_INVARG
+  Done (Obj (unwrap_or (parent_of world object) nothing)) world
 
-abbrev pub children : World → ObjNo → Outcome
-children w x = do
-  require is_object w x else E_INVARG
-  Done (object_list (children_of w x)) w
+abbrev pub children : World → ObjNo → Outcome World
+children world object = do
+  require is_object world object else E_INVARG
+  Done (object_list (children_of world object)) world
 
-abbrev pub is_player : World → ObjNo → Outcome
-is_player w x = do
-  require is_object w x else E_INVARG
-  Done (flag (row_passes (λ r. r.player) w x)) w
+abbrev pub is_player : World → ObjNo → Outcome World
+is_player world object = do
+  require is_object world object else E_INVARG
+  Done (flag (row_passes (λ row. row.player) world object)) world
 
-abbrev pub players : World → Outcome
-players w = Done (object_list (players_of w)) w
+abbrev pub players : World → Outcome World
+players world = Done (object_list (players_of world)) world
 
-abbrev pub max_object : World → Outcome
-max_object w = Done (Obj (record { 0 = w.top })) w
+abbrev pub max_object : World → Outcome World
+max_object world = Done (Obj (record { 0 = world.top })) world
 
 -- the list, or 0 if none is held
 abbrev pub accept_value : Option (List ObjNo) → Value
 accept_value None = zero
 accept_value (Some objects) = object_list objects
 
-abbrev pub accept_list : World → ObjNo → Outcome
-accept_list w x = do
-  require is_object w x else E_INVARG
-  Done (accept_value (option_and_then (λ r. r.accept) (row_of w x))) w
+abbrev pub accept_list : World → ObjNo → Outcome World
+accept_list world object = do
+  require is_object world object else E_INVARG
+  Done (accept_value (option_and_then (λ row. row.accept) (row_of world object))) world
 
 -- ---- the calls that change something
 
-abbrev pub create : World → ObjNo → ObjNo → ObjNo → Outcome
-create w p q owner = do
-  require may_be_parent w p q else E_PERM
-  require may_own w p owner else E_PERM
-  require is_object w owner || same_object nothing owner else E_INVARG
-  require may_afford w owner else E_QUOTA
-  x ← with_next (next_object w)
-  Done (Obj x) (charged (created w x q (owner_or_self x owner)) owner)
+abbrev pub create : World → ObjNo → ObjNo → ObjNo → Outcome World
+create world programmer parent owner = do
+  require may_be_parent world programmer parent else E_PERM
+  require may_own world programmer owner else E_PERM
+  require is_object world owner || same_object nothing owner else E_INVARG
+  require may_afford world owner else E_QUOTA
+  object ← with_next (next_object world)
+  Done (Obj object) (charged (created world object parent (owner_or_self object owner)) owner)
 
-abbrev pub chparent : World → ObjNo → ObjNo → ObjNo → Outcome
-chparent w p x new = do
-  require is_object w x else E_INVARG
-  require is_object w new || same_object nothing new else E_INVARG
-  require controls w p x else E_PERM
-  require may_be_parent w p new else E_PERM
-  require not (is_among x (chain w new)) else E_RECMOVE
-  require not (meets w x new) else E_INVARG
-  Done zero (reparented w x new)
+abbrev pub chparent : World → ObjNo → ObjNo → ObjNo → Outcome World
+chparent world programmer object new_parent = do
+  require is_object world object else E_INVARG
+  require is_object world new_parent || same_object nothing new_parent else E_INVARG
+  require controls world programmer object else E_PERM
+  require may_be_parent world programmer new_parent else E_PERM
+  require not (is_among object (chain world new_parent)) else E_RECMOVE
+  require not (meets world object new_parent) else E_INVARG
+  Done zero (reparented world object new_parent)
 
 -- the quota of the former owner is read when the object is gone
-abbrev pub recycle : World → ObjNo → ObjNo → Outcome
-recycle w p x = do
-  require is_object w x else E_INVARG
-  require controls w p x else E_PERM
-  Done zero (quota_returned (recycled w x) (owner_of w x))
+abbrev pub recycle : World → ObjNo → ObjNo → Outcome World
+recycle world programmer object = do
+  require is_object world object else E_INVARG
+  require controls world programmer object else E_PERM
+  Done zero (quota_returned (recycled world object) (owner_of world object))
 
-abbrev pub move : World → ObjNo → ObjNo → ObjNo → Outcome
-move w p x destination = do
-  require is_object w x else E_INVARG
-  require is_object w destination || same_object nothing destination else E_INVARG
-  require controls w p x else E_PERM
-  require is_wizard w p || accepts w destination x else E_NACC
-  require not (is_within w destination x) else E_RECMOVE
-  Done zero (field_changed w x (to.Location destination))
+abbrev pub move : World → ObjNo → ObjNo → ObjNo → Outcome World
+move world programmer object destination = do
+  require is_object world object else E_INVARG
+  require is_object world destination || same_object nothing destination else E_INVARG
+  require controls world programmer object else E_PERM
+  require is_wizard world programmer || accepts world destination object else E_NACC
+  require not (is_within world destination object) else E_RECMOVE
+  Done zero (field_changed world object (to.Location destination))
 
-abbrev pub set_player_flag : World → ObjNo → ObjNo → Value → Outcome
-set_player_flag w p x v = do
-  require is_object w x else E_INVARG
-  require is_wizard w p else E_PERM
-  Done zero (field_changed w x (to.Player (is_true v)))
+abbrev pub set_player_flag : World → ObjNo → ObjNo → Value → Outcome World
+set_player_flag world programmer object value = do
+  require is_object world object else E_INVARG
+  require is_wizard world programmer else E_PERM
+  Done zero (field_changed world object (to.Player (is_true value)))
 
-abbrev pub set_accept : World → ObjNo → ObjNo → Option (List ObjNo) → Outcome
-set_accept w p x list = do
-  require is_object w x else E_INVARG
-  require controls w p x else E_PERM
+abbrev pub set_accept : World → ObjNo → ObjNo → Option (List ObjNo) → Outcome World
+set_accept world programmer object list = do
+  require is_object world object else E_INVARG
+  require controls world programmer object else E_PERM
   require nat_le (length (unwrap_or list [])) 1000 else E_INVARG
-  Done zero (field_changed w x (to.Accept list))
+  Done zero (field_changed world object (to.Accept list))
 
 -- ---- each call by its name
 
 -- each call by its name, with what it is given
-abbrev pub named_call : World → ObjNo → CallName → List Value → Outcome
-named_call w p Valid args = given (one_object args) (valid w)
-named_call w p Parent args = given (one_object args) (parent w)
-named_call w p Children args = given (one_object args) (children w)
-named_call w p IsPlayer args = given (one_object args) (is_player w)
-named_call w p Players args = given (no_values args) (λ _. players w)
-named_call w p MaxObject args = given (no_values args) (λ _. max_object w)
-named_call w p Get args = given (object_and_text args) λ (x, name). get w p x name
-named_call w p Properties args = given (one_object args) (properties w p)
-named_call w p PropertyInfo args = given (object_and_text args) λ (x, name). property_info w p x name
-named_call w p IsClearProperty args = given (object_and_text args) λ (x, name). is_clear_property w p x name
-named_call w p Verbs args = given (one_object args) (verbs w p)
-named_call w p VerbInfo args = given (object_and_desc args) λ (x, desc). verb_info w p x desc
-named_call w p VerbArgs args = given (object_and_desc args) λ (x, desc). verb_args w p x desc
-named_call w p AcceptList args = given (one_object args) (accept_list w)
-named_call w p Create args = given (parent_and_owner p args) λ (parent, owner). create w p parent owner
-named_call w p Chparent args = given (two_objects args) λ (x, new). chparent w p x new
-named_call w p Recycle args = given (one_object args) (recycle w p)
-named_call w p Move args = given (two_objects args) λ (x, destination). move w p x destination
-named_call w p SetPlayerFlag args = given (object_and_value args) λ (x, v). set_player_flag w p x v
-named_call w p Set args = given (object_text_and_value args) λ (x, name, v). set w p x name v
-named_call w p AddProperty args = given (new_property args) λ (x, (name, v, info)). add_property w p x name v info
-named_call w p DeleteProperty args = given (object_and_text args) λ (x, name). delete_property w p x name
-named_call w p SetPropertyInfo args = given (new_property_info args) λ a. set_property_info w p a.object a.name a.info a.new_name
-named_call w p ClearProperty args = given (object_and_text args) λ (x, name). clear_property w p x name
-named_call w p AddVerb args = given (new_verb args) λ (x, ((info, names), verb_args)). add_verb w p x info names verb_args
-named_call w p DeleteVerb args = given (object_and_desc args) λ (x, desc). delete_verb w p x desc
-named_call w p SetVerbInfo args = given (new_verb_info args) λ (x, (desc, (info, names))). set_verb_info w p x desc info names
-named_call w p SetVerbArgs args = given (new_verb_args args) λ (x, (desc, verb_args)). set_verb_args w p x desc verb_args
-named_call w p SetAccept args = given (object_and_accept args) λ (x, list). set_accept w p x list
+abbrev pub named_call : World → ObjNo → CallName → List Value → Outcome World
+named_call world programmer Valid args = given (one_object args) (valid world)
+named_call world programmer Parent args = given (one_object args) (parent world)
+named_call world programmer Children args = given (one_object args) (children world)
+named_call world programmer IsPlayer args = given (one_object args) (is_player world)
+named_call world programmer Players args = given (no_values args) (λ _. players world)
+named_call world programmer MaxObject args = given (no_values args) (λ _. max_object world)
+named_call world programmer Get args = given (object_and_text args) λ (object, name). get world programmer object name
+named_call world programmer Properties args = given (one_object args) (properties world programmer)
+named_call world programmer PropertyInfo args = given (object_and_text args) λ (object, name). property_info world programmer object name
+named_call world programmer IsClearProperty args = given (object_and_text args) λ (object, name). is_clear_property world programmer object name
+named_call world programmer Verbs args = given (one_object args) (verbs world programmer)
+named_call world programmer VerbInfo args = given (object_and_desc args) λ (object, descriptor). verb_info world programmer object descriptor
+named_call world programmer VerbArgs args = given (object_and_desc args) λ (object, descriptor). verb_args world programmer object descriptor
+named_call world programmer AcceptList args = given (one_object args) (accept_list world)
+named_call world programmer Create args = given (parent_and_owner programmer args) λ (parent, owner). create world programmer parent owner
+named_call world programmer Chparent args = given (two_objects args) λ (object, new_parent). chparent world programmer object new_parent
+named_call world programmer Recycle args = given (one_object args) (recycle world programmer)
+named_call world programmer Move args = given (two_objects args) λ (object, destination). move world programmer object destination
+named_call world programmer SetPlayerFlag args = given (object_and_value args) λ (object, value). set_player_flag world programmer object value
+named_call world programmer Set args = given (object_text_and_value args) λ (object, name, value). set world programmer object name value
+named_call world programmer AddProperty args = given (new_property args) λ (object, (name, value, info)). add_property world programmer object name value info
+named_call world programmer DeleteProperty args = given (object_and_text args) λ (object, name). delete_property world programmer object name
+named_call world programmer SetPropertyInfo args = given (new_property_info args) λ arguments. set_property_info world programmer arguments.object arguments.name arguments.info arguments.new_name
+named_call world programmer ClearProperty args = given (object_and_text args) λ (object, name). clear_property world programmer object name
+named_call world programmer AddVerb args = given (new_verb args) λ (object, ((info, names), verb_args)). add_verb world programmer object info names verb_args
+named_call world programmer DeleteVerb args = given (object_and_desc args) λ (object, descriptor). delete_verb world programmer object descriptor
+named_call world programmer SetVerbInfo args = given (new_verb_info args) λ (object, (descriptor, (info, names))). set_verb_info world programmer object descriptor info names
+named_call world programmer SetVerbArgs args = given (new_verb_args args) λ (object, (descriptor, verb_args)). set_verb_args world programmer object descriptor verb_args
+named_call world programmer SetAccept args = given (object_and_accept args) λ (object, list). set_accept world programmer object list
 -- petitions are beside the world: `request` says what their calls answer, and asks for no step of theirs
-named_call w p Petition args = Failed E_INVARG
-named_call w p Petitions args = Failed E_INVARG
-named_call w p Grant args = Failed E_INVARG
-named_call w p Decline args = Failed E_INVARG
+named_call world programmer Petition args = Failed E_INVARG
+named_call world programmer Petitions args = Failed E_INVARG
+named_call world programmer Grant args = Failed E_INVARG
+named_call world programmer Decline args = Failed E_INVARG
 
 -- the programmer has to be an object
-unfoldable pub step : World → ObjNo → Call → Outcome
-step w p call = do
-  require is_object w p else E_PERM
-  named_call w p call.name call.args
+unfoldable pub step : World → ObjNo → Call → Outcome World
+step world programmer call = do
+  require is_object world programmer else E_PERM
+  named_call world programmer call.name call.args

@@ -8,23 +8,23 @@ use Rattle.moo_world.specs.World.{World, Record, rebuilt}
 
 -- the number of the next object, if one is left
 abbrev pub next_object : World → Option ObjNo
-next_object w = if int_lt w.top (pos 2147483647) then Some (record { 0 = w.top +ℤ pos 1 }) else None
+next_object world = if int_lt world.top (pos 2147483647) then Some (record { 0 = world.top +ℤ pos 1 }) else None
 
 -- an object owns itself if #-1 was given as owner
 abbrev pub owner_or_self : ObjNo → ObjNo → ObjNo
-owner_or_self x owner = if same_object nothing owner then x else owner
+owner_or_self object owner = if same_object nothing owner then object else owner
 
--- a new object under q
+-- a new object under a parent
 abbrev pub born : ObjNo → ObjNo → Record
-born q owner = record {
-  row = plain_row [] owner q;
+born parent owner = record {
+  row = plain_row [] owner parent;
   defines = [];
-  slot = λ n. None;
+  slot = λ name. None;
   verbs = [];
 }
 
 abbrev pub with_new_record : World → ObjNo → Record → World
-with_new_record w x r = record w { object = λ y. if same_object x y then Some r else w.object y; top = x.0 }
+with_new_record world object entry = record world { object = λ other. if same_object object other then Some entry else world.object other; top = object.0 }
 
 abbrev pub created : World → ObjNo → ObjNo → ObjNo → World
-created w x q owner = rebuilt w (with_new_record w x (born q owner)) q
+created world object parent owner = rebuilt world (with_new_record world object (born parent owner)) parent

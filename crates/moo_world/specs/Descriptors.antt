@@ -18,23 +18,23 @@ use Rattle.moo_world.specs.Matching.{one_matches}
 abbrev pub place_numbered : ℤ → Option ℕ
 place_numbered (pos (suc place)) = Some place
 place_numbered (pos zero) = None
-place_numbered (negsuc n) = None
+place_numbered (negsuc number) = None
 
 -- a place within the directory
 abbrev pub place_within : World → ObjNo → ℕ → Option ℕ
-place_within w x place = if nat_lt place (length (directory_of w x)) then Some place else None
+place_within world object place = if nat_lt place (length (directory_of world object)) then Some place else None
 
 abbrev pub verb_by_number : World → ObjNo → ℤ → Option ℕ
-verb_by_number w x number = option_and_then (place_within w x) (place_numbered number)
+verb_by_number world object number = option_and_then (place_within world object) (place_numbered number)
 
 abbrev pub verb_by_word : World → ObjNo → Name → Option ℕ
-verb_by_word w x word = position (λ v. one_matches v.names word) (directory_of w x)
+verb_by_word world object word = position (λ verb. one_matches verb.names word) (directory_of world object)
 
 -- the place of the verb that a descriptor names
 abbrev pub described : World → ObjNo → Desc → Option ℕ
-described w x (Index number) = verb_by_number w x number
-described w x (a_word word) = verb_by_word w x word
+described world object (Index number) = verb_by_number world object number
+described world object (a_word word) = verb_by_word world object word
 
 -- the verb, with its place
 abbrev pub found_verb : World → ObjNo → Desc → Option (ℕ × VerbRow)
-found_verb w x desc = option_and_then (λ place. option_map (λ v. (place, v)) (verb_at w x place)) (described w x desc)
+found_verb world object desc = option_and_then (λ place. option_map (λ verb. (place, verb)) (verb_at world object place)) (described world object desc)

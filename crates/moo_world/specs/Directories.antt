@@ -10,30 +10,30 @@ use Rattle.moo_world.specs.Objects.{Name}
 use Rattle.moo_world.specs.World.{World, with_record, directory_of}
 
 abbrev pub verb_at : World → ObjNo → ℕ → Option VerbRow
-verb_at w x place = slice_get (directory_of w x) place
+verb_at world object place = slice_get (directory_of world object) place
 
--- the directory of x changed
+-- the directory of an object changed
 abbrev pub with_verbs : World → ObjNo → (List VerbRow → List VerbRow) → World
-with_verbs w x change = with_record w x (λ r. record r { verbs = change r.verbs })
+with_verbs world object change = with_record world object (λ entry. record entry { verbs = change entry.verbs })
 
 -- one more, put last
 abbrev pub verb_added : World → ObjNo → VerbRow → World
-verb_added w x v = record (with_verbs w x (λ verbs. verbs ++ v ∷ [])) { next_verb = w.next_verb + 1 }
+verb_added world object verb = record (with_verbs world object (λ verbs. verbs ++ verb ∷ [])) { next_verb = world.next_verb + 1 }
 
 abbrev pub verb_removed : World → ObjNo → ℕ → World
-verb_removed w x place = with_verbs w x (λ verbs. remove verbs place)
+verb_removed world object place = with_verbs world object (λ verbs. remove verbs place)
 
 -- the list with the verb at a place changed
 abbrev pub changed_at : ℕ → (VerbRow → VerbRow) → List VerbRow → List VerbRow
 changed_at place change [] = []
-changed_at zero change (v ∷ verbs) = change v ∷ verbs
-changed_at (suc place) change (v ∷ verbs) = v ∷ changed_at place change verbs
+changed_at zero change (verb ∷ verbs) = change verb ∷ verbs
+changed_at (suc place) change (verb ∷ verbs) = verb ∷ changed_at place change verbs
 
 abbrev pub verb_changed : World → ObjNo → ℕ → (VerbRow → VerbRow) → World
-verb_changed w x place change = with_verbs w x (changed_at place change)
+verb_changed world object place change = with_verbs world object (changed_at place change)
 
 abbrev pub verb_info_set : World → ObjNo → ℕ → ObjNo → VerbBits → Name → World
-verb_info_set w x place owner bits names = verb_changed w x place (λ v. record v { owner = owner; bits = bits; names = names })
+verb_info_set world object place owner bits names = verb_changed world object place (λ verb. record verb { owner = owner; bits = bits; names = names })
 
 abbrev pub verb_args_set : World → ObjNo → ℕ → ArgSpec → World
-verb_args_set w x place args = verb_changed w x place (λ v. record v { args = args })
+verb_args_set world object place args = verb_changed world object place (λ verb. record verb { args = args })

@@ -11,29 +11,29 @@ use Rattle.moo_world.specs.World.{World, is_object, with_record, accept_fits}
 
 -- a row with one field changed
 abbrev pub changed : Change → ObjRow → ObjRow
-changed (Name name) r = record r { name = name }
-changed (Owner owner) r = record r { owner = owner }
-changed (Location to) r = record r { location = to }
-changed (Player on) r = record r { player = on }
-changed (Programmer on) r = record r { programmer = on }
-changed (Wizard on) r = record r { wizard = on }
-changed (Readable on) r = record r { r = on }
-changed (Writable on) r = record r { w = on }
-changed (Fertile on) r = record r { f = on }
-changed (Accept list) r = record r { accept = list }
+changed (Name name) row = record row { name = name }
+changed (Owner owner) row = record row { owner = owner }
+changed (Location destination) row = record row { location = destination }
+changed (Player on) row = record row { player = on }
+changed (Programmer on) row = record row { programmer = on }
+changed (Wizard on) row = record row { wizard = on }
+changed (Readable on) row = record row { r = on }
+changed (Writable on) row = record row { w = on }
+changed (Fertile on) row = record row { f = on }
+changed (Accept list) row = record row { accept = list }
 
--- w with the row of x changed
+-- the world with the row of an object changed
 abbrev pub with_row : World → ObjNo → (ObjRow → ObjRow) → World
-with_row w x change = with_record w x (λ r. record r { row = change r.row })
+with_row world object change = with_record world object (λ entry. record entry { row = change entry.row })
 
 abbrev pub field_changed : World → ObjNo → Change → World
-field_changed w x change = with_row w x (changed change)
+field_changed world object change = with_row world object (changed change)
 
--- the change leaves a well formed world: a place is an object outside x, or nothing, a name is a text, and owners and what an
+-- the change leaves a well formed world: a place is an object outside the one that is moved, or nothing, a name is a text, and owners and what an
 -- accept list names, at most 1,000 objects, are numbers of 32 bits
 abbrev pub is_allowed_change : World → ObjNo → Change → Bool
-is_allowed_change w x (Name name) = is_text name
-is_allowed_change w x (Owner owner) = is_number owner
-is_allowed_change w x (Location to) = (is_object w to || same_object nothing to) && not (is_within w to x)
-is_allowed_change w x (Accept list) = accept_fits list
-is_allowed_change w x change = true
+is_allowed_change world object (Name name) = is_text name
+is_allowed_change world object (Owner owner) = is_number owner
+is_allowed_change world object (Location destination) = (is_object world destination || same_object nothing destination) && not (is_within world destination object)
+is_allowed_change world object (Accept list) = accept_fits list
+is_allowed_change world object change = true

@@ -11,7 +11,7 @@ use Rattle.moo_world.specs.declared.call.Call.{Call}
 use Rattle.moo_world.specs.Arguments.{is_text, fits}
 use Rattle.moo_world.specs.Judge.{after}
 use Rattle.moo_world.specs.Outcomes.{Done}
-use Rattle.moo_world.specs.Requests.{State, Answered, IsFormed, request}
+use Rattle.moo_world.specs.Requests.{State, IsFormed, request}
 use Rattle.moo_world.specs.Calls.{step}
 use Rattle.moo_world.specs.World.{World, IsWellFormed}
 
@@ -21,22 +21,22 @@ arguments_fit call = list_all fits call.args
 
 -- if a call is answered in a well formed world, the world that it leaves is well formed
 abbrev pub CallsKeepForm : Type 0
-CallsKeepForm = (w next : World) (p : ObjNo) (call : Call) (v : Value) → IsWellFormed w → arguments_fit call ≡ true → step w p call ≡ Done v next → IsWellFormed next
+CallsKeepForm = (world next : World) (programmer : ObjNo) (call : Call) (answer : Value) → IsWellFormed world → arguments_fit call ≡ true → step world programmer call ≡ Done answer next → IsWellFormed next
 
 -- and so are the world and the petitions that any call of a batch leaves, those of petitions among them
 abbrev pub RequestsKeepForm : Type 0
-RequestsKeepForm = (s next : State) (p : ObjNo) (call : Call) (v : Value) → IsFormed s → arguments_fit call ≡ true → request s p call ≡ Answered v next → IsFormed next
+RequestsKeepForm = (state next : State) (programmer : ObjNo) (call : Call) (answer : Value) → IsFormed state → arguments_fit call ≡ true → request state programmer call ≡ Done answer next → IsFormed next
 
 -- after any batches, accepted or not, a world and petitions that were well formed are well formed
 abbrev pub RunsKeepForm : Type 0
-RunsKeepForm = (s : State) (batches : List Batch) → IsFormed s → list_all (λ batch. list_all arguments_fit batch.calls) batches ≡ true → IsFormed (after s batches)
+RunsKeepForm = (state : State) (batches : List Batch) → IsFormed state → list_all (λ batch. list_all arguments_fit batch.calls) batches ≡ true → IsFormed (after state batches)
 
 -- ---- what is given
 
 -- the test of strings is the rule that their type keeps
 abbrev pub TextIsTested : Type 0
-TextIsTested = (s : List ℕ) → Decides (is_text s) (IsText s)
+TextIsTested = (text : List ℕ) → Decides (is_text text) (IsText text)
 
 -- a value fits if it is one within the limits of literals
 abbrev pub FitsIsTested : Type 0
-FitsIsTested = (v : Value) → Decides (fits v) (Fits v)
+FitsIsTested = (value : Value) → Decides (fits value) (Fits value)

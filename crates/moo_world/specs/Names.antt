@@ -1,6 +1,6 @@
 -- The names of the calls.
 use Rattle.std.specs.Prelude.{ℕ, Bool, true, false, cond, List, [], ◌∷◌, Option, Some, None, codes, ◌≡◌, ◌↔◌, refl}
-use Rattle.std.specs.List.{find}
+use Rattle.std.specs.List.{find, filter}
 use Rattle.std.proofs.Common.{ap, subst, ◌∙◌}
 use Rattle.std.proofs.lemmas.Option.{none-some, same_Some}
 use Rattle.moo_world.specs.Objects.{same_text, same_text-Decides, folded}
@@ -110,6 +110,46 @@ spelled-spelling Decline = refl
 
 pub spelled_is : (bytes : List ℕ) (name : CallName) → (spelled bytes ≡ Some name) ↔ (bytes ≡ spelling name)
 spelled_is bytes name = (λ e. (same_text-Decides bytes (spelling name)).0 (find_passes (λ n. same_text bytes (spelling n)) all_names name e), λ e. ap spelled e ∙ spelled-spelling name)
+
+-- the names that are spelled as this one
+abbrev pub spelled_alike : CallName → List CallName
+spelled_alike name = filter (λ other. same_text (spelling name) (spelling other)) all_names
+
+pub spelled_alike_is : (name : CallName) → spelled_alike name ≡ name ∷ []
+unfolding same_text
+spelled_alike_is Valid = refl
+spelled_alike_is Parent = refl
+spelled_alike_is Children = refl
+spelled_alike_is IsPlayer = refl
+spelled_alike_is Players = refl
+spelled_alike_is MaxObject = refl
+spelled_alike_is Get = refl
+spelled_alike_is Properties = refl
+spelled_alike_is PropertyInfo = refl
+spelled_alike_is IsClearProperty = refl
+spelled_alike_is Verbs = refl
+spelled_alike_is VerbInfo = refl
+spelled_alike_is VerbArgs = refl
+spelled_alike_is AcceptList = refl
+spelled_alike_is Create = refl
+spelled_alike_is Chparent = refl
+spelled_alike_is Recycle = refl
+spelled_alike_is Move = refl
+spelled_alike_is SetPlayerFlag = refl
+spelled_alike_is Set = refl
+spelled_alike_is AddProperty = refl
+spelled_alike_is DeleteProperty = refl
+spelled_alike_is SetPropertyInfo = refl
+spelled_alike_is ClearProperty = refl
+spelled_alike_is AddVerb = refl
+spelled_alike_is DeleteVerb = refl
+spelled_alike_is SetVerbInfo = refl
+spelled_alike_is SetVerbArgs = refl
+spelled_alike_is SetAccept = refl
+spelled_alike_is Petition = refl
+spelled_alike_is Petitions = refl
+spelled_alike_is Grant = refl
+spelled_alike_is Decline = refl
 
 -- ---- petitions
 

@@ -7,31 +7,31 @@ use Rattle.moo_world.specs.World.{World, is_object, row_passes, chain, owed_by, 
 use Rattle.moo_world.specs.Rows.{numbers_below}
 
 abbrev pub objects_of : World → List ObjNo
-objects_of w = filter (is_object w) (map object_at (numbers_below (numbers_to w.top)))
+objects_of world = filter (is_object world) (map object_at (numbers_below (numbers_to world.top)))
 
 abbrev pub has_parent : World → ObjNo → ObjNo → Bool
-has_parent w x y = row_passes (λ r. same_object x r.parent) w y
+has_parent world object other = row_passes (λ row. same_object object row.parent) world other
 
 abbrev pub children_of : World → ObjNo → List ObjNo
-children_of w x = filter (has_parent w x) (objects_of w)
+children_of world object = filter (has_parent world object) (objects_of world)
 
 abbrev pub lies_in : World → ObjNo → ObjNo → Bool
-lies_in w x y = row_passes (λ r. same_object x r.location) w y
+lies_in world object other = row_passes (λ row. same_object object row.location) world other
 
--- what is in x itself
+-- what is in the object itself
 abbrev pub contents_of : World → ObjNo → List ObjNo
-contents_of w x = filter (lies_in w x) (objects_of w)
+contents_of world object = filter (lies_in world object) (objects_of world)
 
 abbrev pub has_player_bit : World → ObjNo → Bool
-has_player_bit w x = row_passes (λ r. r.player) w x
+has_player_bit world object = row_passes (λ row. row.player) world object
 
 abbrev pub players_of : World → List ObjNo
-players_of w = filter (has_player_bit w) (objects_of w)
+players_of world = filter (has_player_bit world) (objects_of world)
 
--- x and its descendants
+-- an object and its descendants
 abbrev pub subtree_of : World → ObjNo → List ObjNo
-subtree_of w x = filter (λ y. is_among x (chain w y)) (objects_of w)
+subtree_of world object = filter (λ other. is_among object (chain world other)) (objects_of world)
 
 -- a name of the object or of a descendant is one that new or an ancestor of new defines
 abbrev pub meets : World → ObjNo → ObjNo → Bool
-meets w x new = list_any (λ (p : Pair). is_some (pair_named (owed_by w (chain w new)) (folded p.1))) (owed_by w (subtree_of w x))
+meets world object new_parent = list_any (λ (pair : Pair). is_some (pair_named (owed_by world (chain world new_parent)) (folded pair.1))) (owed_by world (subtree_of world object))

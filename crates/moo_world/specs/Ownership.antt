@@ -15,61 +15,61 @@ use Rattle.moo_world.specs.Quota.{quota_of}
 use Rattle.moo_world.specs.Recycling.{recycled}
 use Rattle.moo_world.specs.Rights.{is_wizard}
 use Rattle.moo_world.specs.Names.{petition_call}
-use Rattle.moo_world.specs.Requests.{State, Answered, request}
+use Rattle.moo_world.specs.Requests.{State, request}
 use Rattle.moo_world.specs.Calls.{step}
 
 -- owner, player flag, programmer and wizard bits
 abbrev pub SameRights : World → World → ObjNo → Type 0
-SameRights w next y =
-    (owner_of next y ≡ owner_of w y)
-    × (row_passes (λ r. r.player) next y ≡ row_passes (λ r. r.player) w y)
-    × (row_passes (λ r. r.programmer) next y ≡ row_passes (λ r. r.programmer) w y)
-    × (row_passes (λ r. r.wizard) next y ≡ row_passes (λ r. r.wizard) w y)
+SameRights world next object =
+    (owner_of next object ≡ owner_of world object)
+    × (row_passes (λ row. row.player) next object ≡ row_passes (λ row. row.player) world object)
+    × (row_passes (λ row. row.programmer) next object ≡ row_passes (λ row. row.programmer) world object)
+    × (row_passes (λ row. row.wizard) next object ≡ row_passes (λ row. row.wizard) world object)
 
--- the folded name that a slot of y has after x's property of one name was given another
+-- the folded name that a slot of another object has after the object's property of one name was given a new one
 abbrev pub name_changed : World → ObjNo → Name → Name → ObjNo → Name → Name
-name_changed w x old new y n = if is_among x (chain w y) && same_text (folded old) n then folded new else n
+name_changed world object old_name new_name other slot_name = if is_among object (chain world other) && same_text (folded old_name) slot_name then folded new_name else slot_name
 
--- the folded name that a slot of y has after x's property got the new name, if any
+-- the same after the property got the new name, if any
 abbrev pub name_given : World → ObjNo → Name → Option Name → ObjNo → Name → Name
-name_given w x old None y n = n
-name_given w x old (Some new) y n = name_changed w x old new y n
+name_given world object old_name None other slot_name = slot_name
+name_given world object old_name (Some new_name) other slot_name = name_changed world object old_name new_name other slot_name
 
 abbrev pub name_by : World → Result NewPropertyInfo Code → ObjNo → Name → Name
-name_by w (Ok a) y n = name_given w a.object a.name a.new_name y n
-name_by w (Err code) y n = n
+name_by world (Ok arguments) other slot_name = name_given world arguments.object arguments.name arguments.new_name other slot_name
+name_by world (Err code) other slot_name = slot_name
 
 -- the same after a call: set_property_info alone gives other names
 abbrev pub name_after : World → Call → ObjNo → Name → Name
-name_after w call y n = elim call.name [ SetPropertyInfo ↦ name_by w (new_property_info call.args) y n | _ ↦ n ]
+name_after world call other slot_name = elim call.name [ SetPropertyInfo ↦ name_by world (new_property_info call.args) other slot_name | _ ↦ slot_name ]
 
 -- no rights of an object that stays have changed and no owner of a slot that stays, by its new name; and what is made is the
 -- programmer's, with none of the bits
-pub record KeepsOwnership (w next : World) (p : ObjNo) (renamed : ObjNo → Name → Name) : Type 0 where
-  pub rights : (y : ObjNo) → is_object w y ≡ true → is_object next y ≡ true → SameRights w next y
-  pub slots : (y : ObjNo) (n : Name) (s t : Slot) → slot_of w y n ≡ Some s → slot_of next y (renamed y n) ≡ Some t → s.definer ≡ t.definer → t.owner ≡ s.owner
-  pub made : (y : ObjNo) → is_object w y ≡ false → is_object next y ≡ true → (owner_of next y ≡ p) × (row_passes (λ r. r.player) next y ≡ false) × (row_passes (λ r. r.programmer) next y ≡ false) × (row_passes (λ r. r.wizard) next y ≡ false)
+pub record KeepsOwnership (world next : World) (programmer : ObjNo) (renamed : ObjNo → Name → Name) : Type 0 where
+  pub rights : (object : ObjNo) → is_object world object ≡ true → is_object next object ≡ true → SameRights world next object
+  pub slots : (object : ObjNo) (name : Name) (slot slot_after : Slot) → slot_of world object name ≡ Some slot → slot_of next object (renamed object name) ≡ Some slot_after → slot.definer ≡ slot_after.definer → slot_after.owner ≡ slot.owner
+  pub made : (object : ObjNo) → is_object world object ≡ false → is_object next object ≡ true → (owner_of next object ≡ programmer) × (row_passes (λ row. row.player) next object ≡ false) × (row_passes (λ row. row.programmer) next object ≡ false) × (row_passes (λ row. row.wizard) next object ≡ false)
 
 -- a call of a programmer who isn't a wizard
 abbrev pub NoWizardKeepsOwnership : Type 0
-NoWizardKeepsOwnership = (w next : World) (p : ObjNo) (call : Call) (v : Value) → IsWellFormed w → is_wizard w p ≡ false → step w p call ≡ Done v next → KeepsOwnership w next p (name_after w call)
+NoWizardKeepsOwnership = (world next : World) (programmer : ObjNo) (call : Call) (answer : Value) → IsWellFormed world → is_wizard world programmer ≡ false → step world programmer call ≡ Done answer next → KeepsOwnership world next programmer (name_after world call)
 
 -- and the calls of petitions change no world, unless a wizard grants
 abbrev pub PetitionsLeaveTheWorld : Type 0
-PetitionsLeaveTheWorld = (s next : State) (p : ObjNo) (call : Call) (v : Value) → is_wizard s.world p ≡ false → is_some (petition_call call.name) ≡ true → request s p call ≡ Answered v next → next.world ≡ s.world
+PetitionsLeaveTheWorld = (state next : State) (programmer : ObjNo) (call : Call) (answer : Value) → is_wizard state.world programmer ≡ false → is_some (petition_call call.name) ≡ true → request state programmer call ≡ Done answer next → next.world ≡ state.world
 
 -- an accepted create lowers the quota of the intended owner by one, and makes one object, of that owner, and no other
 abbrev pub CreateTakesOne : Type 0
 CreateTakesOne =
-    (w next : World) (p q owner : ObjNo) (v : Value) (k : ℤ) → IsWellFormed w → same_object nothing owner ≡ false → quota_of w owner ≡ Some k → create w p q owner ≡ Done v next →
-    (quota_of next owner ≡ Some (k +ℤ -1))
-    × ((x : ObjNo) × (v ≡ Obj x) × (is_object w x ≡ false) × (owner_of next x ≡ owner)
-    × ((y : ObjNo) → is_object next y ≡ (same_object x y || is_object w y))
-    × ((y : ObjNo) → is_object w y ≡ true → owner_of next y ≡ owner_of w y))
+    (world next : World) (programmer parent owner : ObjNo) (answer : Value) (quota : ℤ) → IsWellFormed world → same_object nothing owner ≡ false → quota_of world owner ≡ Some quota → create world programmer parent owner ≡ Done answer next →
+    (quota_of next owner ≡ Some (quota +ℤ -1))
+    × ((object : ObjNo) × (answer ≡ Obj object) × (is_object world object ≡ false) × (owner_of next object ≡ owner)
+    × ((other : ObjNo) → is_object next other ≡ (same_object object other || is_object world other))
+    × ((other : ObjNo) → is_object world other ≡ true → owner_of next other ≡ owner_of world other))
 
 -- an accepted recycle gives one back to the former owner, whose quota is read when the object is gone
 abbrev pub RecycleGivesOne : Type 0
 RecycleGivesOne =
-    (w next : World) (p x : ObjNo) (v : Value) (k : ℤ) → IsWellFormed w → recycle w p x ≡ Done v next →
-    quota_of (recycled w x) (owner_of w x) ≡ Some k → int_lt k (pos 9223372036854775807) ≡ true →
-    quota_of next (owner_of w x) ≡ Some (k +ℤ pos 1)
+    (world next : World) (programmer object : ObjNo) (answer : Value) (quota : ℤ) → IsWellFormed world → recycle world programmer object ≡ Done answer next →
+    quota_of (recycled world object) (owner_of world object) ≡ Some quota → int_lt quota (pos 9223372036854775807) ≡ true →
+    quota_of next (owner_of world object) ≡ Some (quota +ℤ pos 1)

@@ -12,7 +12,7 @@ use Rattle.moo_rows.specs.Bits.{bits_of, letters_of}
 use Rattle.moo_rows.specs.declared.row.SlotState.{SlotState}
 use Rattle.moo_rows.specs.declared.row.SlotState.TheVariants.{Clear, Set}
 use Rattle.moo_world.specs.declared.built_in.BuiltIn.{BuiltIn}
-use Rattle.moo_world.specs.declared.built_in.BuiltIn.TheVariants.{Name as name, Owner, Location, Contents, Programmer, Wizard, R, W, F}
+use Rattle.moo_world.specs.declared.built_in.BuiltIn.TheVariants.{Name as NameField, Owner, Location, Contents, Programmer, Wizard, R, W, F}
 use Rattle.moo_world.specs.declared.change.Change.{Change}
 use Rattle.moo_world.specs.declared.change.Change.TheVariants as to
 use Rattle.moo_world.specs.Objects.{Name, same_object, same_text, folded}
@@ -27,146 +27,146 @@ use Rattle.moo_world.specs.Fields.{field_changed}
 use Rattle.moo_world.specs.Codes.{Code, E_PERM, E_INVARG, E_PROPNF, E_INVIND, E_TYPE}
 
 -- the outcome for a built-in property, or for any other
-abbrev pub by_field : Option BuiltIn → (BuiltIn → Outcome) → Outcome → Outcome
+abbrev pub by_field : Option BuiltIn → (BuiltIn → Outcome World) → Outcome World → Outcome World
 by_field None field other = other
 by_field (Some f) field other = field f
 
 -- ---- reading
 
-abbrev pub get_property : World → ObjNo → ObjNo → Name → Outcome
-get_property w p x n = do
-  s ← slot_of w x (folded n) or_else E_PROPNF
-  require may_read_slot w p s else E_PERM
-  Done (unwrap_or (read_of w x (folded n)) zero) w
+abbrev pub get_property : World → ObjNo → ObjNo → Name → Outcome World
+get_property world programmer object name = do
+  slot ← slot_of world object (folded name) or_else E_PROPNF
+  require may_read_slot world programmer slot else E_PERM
+  Done (unwrap_or (read_of world object (folded name)) zero) world
 
-abbrev pub get : World → ObjNo → ObjNo → Name → Outcome
-get w p x n = do
-  require is_object w x else E_INVIND
-  by_field (built_in n) (λ field. Done (field_of w x field) w) (get_property w p x n)
+abbrev pub get : World → ObjNo → ObjNo → Name → Outcome World
+get world programmer object name = do
+  require is_object world object else E_INVIND
+  by_field (built_in name) (λ field. Done (field_of world object field) world) (get_property world programmer object name)
 
-abbrev pub properties : World → ObjNo → ObjNo → Outcome
-properties w p x = do
-  require is_object w x else E_INVARG
-  require may_read_object w p x else E_PERM
-  Done (text_list (names_of w x)) w
+abbrev pub properties : World → ObjNo → ObjNo → Outcome World
+properties world programmer object = do
+  require is_object world object else E_INVARG
+  require may_read_object world programmer object else E_PERM
+  Done (text_list (names_of world object)) world
 
-abbrev pub property_info : World → ObjNo → ObjNo → Name → Outcome
-property_info w p x n = do
-  require is_object w x else E_INVARG
-  s ← slot_of w x (folded n) or_else E_PROPNF
-  require may_read_slot w p s else E_PERM
-  Done (list_of (Obj s.owner ∷ Str (letters_of s.bits) ∷ [])) w
+abbrev pub property_info : World → ObjNo → ObjNo → Name → Outcome World
+property_info world programmer object name = do
+  require is_object world object else E_INVARG
+  slot ← slot_of world object (folded name) or_else E_PROPNF
+  require may_read_slot world programmer slot else E_PERM
+  Done (list_of (Obj slot.owner ∷ Str (letters_of slot.bits) ∷ [])) world
 
 abbrev pub is_clear : SlotState → Bool
 is_clear Clear = true
-is_clear (Set v) = false
+is_clear (Set value) = false
 
-abbrev pub is_clear_property : World → ObjNo → ObjNo → Name → Outcome
-is_clear_property w p x n = do
-  require is_object w x else E_INVARG
-  s ← slot_of w x (folded n) or_else E_PROPNF
-  require may_read_slot w p s else E_PERM
-  Done (flag (is_clear s.state)) w
+abbrev pub is_clear_property : World → ObjNo → ObjNo → Name → Outcome World
+is_clear_property world programmer object name = do
+  require is_object world object else E_INVARG
+  slot ← slot_of world object (folded name) or_else E_PROPNF
+  require may_read_slot world programmer slot else E_PERM
+  Done (flag (is_clear slot.state)) world
 
 -- ---- setting
 
 -- the change that a value is for a field, or the error. What isn't a flag takes the truth of the value
 abbrev pub change_of : BuiltIn → Value → Result Change Code
-change_of Location v = Err E_PERM
-change_of Contents v = Err E_PERM
-change_of name (Str s) = Ok (to.Name s)
-change_of name v = Err E_TYPE
+change_of Location value = Err E_PERM
+change_of Contents value = Err E_PERM
+change_of NameField (Str text) = Ok (to.Name text)
+change_of NameField value = Err E_TYPE
 change_of Owner (Obj owner) = Ok (to.Owner owner)
-change_of Owner v = Err E_TYPE
-change_of Programmer v = Ok (to.Programmer (is_true v))
-change_of Wizard v = Ok (to.Wizard (is_true v))
-change_of R v = Ok (to.Readable (is_true v))
-change_of W v = Ok (to.Writable (is_true v))
-change_of F v = Ok (to.Fertile (is_true v))
+change_of Owner value = Err E_TYPE
+change_of Programmer value = Ok (to.Programmer (is_true value))
+change_of Wizard value = Ok (to.Wizard (is_true value))
+change_of R value = Ok (to.Readable (is_true value))
+change_of W value = Ok (to.Writable (is_true value))
+change_of F value = Ok (to.Fertile (is_true value))
 
 -- r, w and f are set by the owner or a wizard, the others but the name by a wizard only
 abbrev pub may_set : World → ObjNo → ObjNo → BuiltIn → Bool
-may_set w p x name = may_name w p x
-may_set w p x R = controls w p x
-may_set w p x W = controls w p x
-may_set w p x F = controls w p x
-may_set w p x field = is_wizard w p
+may_set world programmer object NameField = may_name world programmer object
+may_set world programmer object R = controls world programmer object
+may_set world programmer object W = controls world programmer object
+may_set world programmer object F = controls world programmer object
+may_set world programmer object field = is_wizard world programmer
 
 -- a new owner is an object
 abbrev pub names_object : World → Change → Bool
-names_object w (to.Owner owner) = is_object w owner
-names_object w change = true
+names_object world (to.Owner owner) = is_object world owner
+names_object world change = true
 
-abbrev pub set_built_in : World → ObjNo → ObjNo → BuiltIn → Value → Outcome
-set_built_in w p x field v = do
-  change ← given (change_of field v)
-  require may_set w p x field else E_PERM
-  require names_object w change else E_INVARG
-  Done zero (field_changed w x change)
+abbrev pub set_built_in : World → ObjNo → ObjNo → BuiltIn → Value → Outcome World
+set_built_in world programmer object field value = do
+  change ← given (change_of field value)
+  require may_set world programmer object field else E_PERM
+  require names_object world change else E_INVARG
+  Done zero (field_changed world object change)
 
-abbrev pub set_property : World → ObjNo → ObjNo → Name → Value → Outcome
-set_property w p x n v = do
-  s ← slot_of w x (folded n) or_else E_PROPNF
-  require may_write_slot w p s else E_PERM
-  Done zero (value_set w x n v)
+abbrev pub set_property : World → ObjNo → ObjNo → Name → Value → Outcome World
+set_property world programmer object name value = do
+  slot ← slot_of world object (folded name) or_else E_PROPNF
+  require may_write_slot world programmer slot else E_PERM
+  Done zero (value_set world object name value)
 
-abbrev pub set : World → ObjNo → ObjNo → Name → Value → Outcome
-set w p x n v = do
-  require is_object w x else E_INVIND
-  by_field (built_in n) (λ field. set_built_in w p x field v) (set_property w p x n v)
+abbrev pub set : World → ObjNo → ObjNo → Name → Value → Outcome World
+set world programmer object name value = do
+  require is_object world object else E_INVIND
+  by_field (built_in name) (λ field. set_built_in world programmer object field value) (set_property world programmer object name value)
 
 -- ---- definitions
 
 -- the object itself defines a property of the name
 abbrev pub defines_name : World → ObjNo → Name → Bool
-defines_name w x n = list_any (λ m. same_text (folded m) (folded n)) (names_of w x)
+defines_name world object name = list_any (λ defined. same_text (folded defined) (folded name)) (names_of world object)
 
--- the name may be given to a new property of x
+-- the name may be given to a new property of the object
 abbrev pub may_define : World → ObjNo → Name → Bool
-may_define w x n = is_property_name n && not (clashes w x n)
+may_define world object name = is_property_name name && not (clashes world object name)
 
-abbrev pub add_property : World → ObjNo → ObjNo → Name → Value → Info → Outcome
-add_property w p x n v info = do
-  require is_object w x else E_INVARG
-  require is_object w info.0 else E_INVARG
-  bits ← bits_of info.1 or_else E_INVARG
-  require may_write_object w p x else E_PERM
-  require may_own w p info.0 else E_PERM
-  require may_define w x n else E_INVARG
-  require_room (nat_lt w.next_prop 4294967295)
-  Done zero (defined w x n (record { definer = x; owner = info.0; bits = bits; state = Set v }))
+abbrev pub add_property : World → ObjNo → ObjNo → Name → Value → Info → Outcome World
+add_property world programmer object name value (owner, perms) = do
+  require is_object world object else E_INVARG
+  require is_object world owner else E_INVARG
+  bits ← bits_of perms or_else E_INVARG
+  require may_write_object world programmer object else E_PERM
+  require may_own world programmer owner else E_PERM
+  require may_define world object name else E_INVARG
+  require_room (nat_lt world.next_prop 4294967295)
+  Done zero (defined world object name (record { definer = object; owner = owner; bits = bits; state = Set value }))
 
-abbrev pub delete_property : World → ObjNo → ObjNo → Name → Outcome
-delete_property w p x n = do
-  require is_object w x else E_INVARG
-  require may_write_object w p x else E_PERM
-  require defines_name w x n else E_PROPNF
-  Done zero (undefined w x n)
+abbrev pub delete_property : World → ObjNo → ObjNo → Name → Outcome World
+delete_property world programmer object name = do
+  require is_object world object else E_INVARG
+  require may_write_object world programmer object else E_PERM
+  require defines_name world object name else E_PROPNF
+  Done zero (undefined world object name)
 
--- a property that x itself defines may have a name that a new property of x might have
+-- a property that the object itself defines may have a name that a new property of it might have
 abbrev pub may_rename : World → ObjNo → Name → Option Name → Bool
-may_rename w x n None = true
-may_rename w x n (Some new) = defines_name w x n && may_define w x new
+may_rename world object name None = true
+may_rename world object name (Some new_name) = defines_name world object name && may_define world object new_name
 
 abbrev pub renamed_to : World → ObjNo → Name → Option Name → World
-renamed_to w x n None = w
-renamed_to w x n (Some new) = renamed w x n new
+renamed_to world object name None = world
+renamed_to world object name (Some new_name) = renamed world object name new_name
 
-abbrev pub set_property_info : World → ObjNo → ObjNo → Name → Info → Option Name → Outcome
-set_property_info w p x n info new = do
-  require is_object w x else E_INVARG
-  s ← slot_of w x (folded n) or_else E_PROPNF
-  require is_object w info.0 else E_INVARG
-  bits ← bits_of info.1 or_else E_INVARG
-  require may_write_slot w p s else E_PERM
-  require same_object info.0 s.owner || is_wizard w p else E_PERM
-  require may_rename w x n new else E_INVARG
-  Done zero (renamed_to (info_set w x n info.0 bits) x n new)
+abbrev pub set_property_info : World → ObjNo → ObjNo → Name → Info → Option Name → Outcome World
+set_property_info world programmer object name (owner, perms) new_name = do
+  require is_object world object else E_INVARG
+  slot ← slot_of world object (folded name) or_else E_PROPNF
+  require is_object world owner else E_INVARG
+  bits ← bits_of perms or_else E_INVARG
+  require may_write_slot world programmer slot else E_PERM
+  require same_object owner slot.owner || is_wizard world programmer else E_PERM
+  require may_rename world object name new_name else E_INVARG
+  Done zero (renamed_to (info_set world object name owner bits) object name new_name)
 
-abbrev pub clear_property : World → ObjNo → ObjNo → Name → Outcome
-clear_property w p x n = do
-  require is_object w x else E_INVARG
-  s ← slot_of w x (folded n) or_else E_PROPNF
-  require may_write_slot w p s else E_PERM
-  require not (same_object s.definer x) else E_INVARG
-  Done zero (cleared w x n)
+abbrev pub clear_property : World → ObjNo → ObjNo → Name → Outcome World
+clear_property world programmer object name = do
+  require is_object world object else E_INVARG
+  slot ← slot_of world object (folded name) or_else E_PROPNF
+  require may_write_slot world programmer slot else E_PERM
+  require not (same_object slot.definer object) else E_INVARG
+  Done zero (cleared world object name)

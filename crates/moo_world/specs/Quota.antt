@@ -17,29 +17,29 @@ quota_name = codes "ownership_quota"
 
 -- the integer that an object reads as its quota
 abbrev pub quota_in : Option Value → Option ℤ
-quota_in (Some (Int k)) = Some k
-quota_in v = None
+quota_in (Some (Int quota)) = Some quota
+quota_in other = None
 
 abbrev pub quota_of : World → ObjNo → Option ℤ
-quota_of w o = quota_in (read_of w o quota_name)
+quota_of world owner = quota_in (read_of world owner quota_name)
 
 abbrev pub set_slot : Name → SlotState → Record → Record
-set_slot n state r = record r { slot = λ m. if same_text n m then option_map (λ (s : Slot). record s { state = state }) (r.slot m) else r.slot m }
+set_slot name state entry = record entry { slot = λ slot_name. if same_text name slot_name then option_map (λ (slot : Slot). record slot { state = state }) (entry.slot slot_name) else entry.slot slot_name }
 
--- the quota of o is set to k more; the slot's owner and bits stay
+-- the quota of an owner is set to so much more; the slot's owner and bits stay
 abbrev pub quota_moved : World → ObjNo → ℤ → World
-quota_moved w o k = elim (quota_of w o) [ None ↦ w | Some had ↦ with_record w o (set_slot quota_name (Set (Int (had +ℤ k)))) ]
+quota_moved world owner amount = elim (quota_of world owner) [ None ↦ world | Some had ↦ with_record world owner (set_slot quota_name (Set (Int (had +ℤ amount)))) ]
 
 abbrev pub has_quota_left : World → ObjNo → Bool
-has_quota_left w o = unwrap_or (option_map (λ k. int_lt (pos 0) k) (quota_of w o)) true
+has_quota_left world owner = unwrap_or (option_map (λ quota. int_lt (pos 0) quota) (quota_of world owner)) true
 
 -- no quota is consulted if #-1 was given as owner
 abbrev pub may_afford : World → ObjNo → Bool
-may_afford w owner = same_object nothing owner || has_quota_left w owner
+may_afford world owner = same_object nothing owner || has_quota_left world owner
 
 abbrev pub charged : World → ObjNo → World
-charged w owner = if same_object nothing owner then w else quota_moved w owner -1
+charged world owner = if same_object nothing owner then world else quota_moved world owner -1
 
 -- a quota at the greatest integer stays
 abbrev pub quota_returned : World → ObjNo → World
-quota_returned w o = if unwrap_or (option_map (λ k. int_lt k (pos 9223372036854775807)) (quota_of w o)) false then quota_moved w o (pos 1) else w
+quota_returned world owner = if unwrap_or (option_map (λ quota. int_lt quota (pos 9223372036854775807)) (quota_of world owner)) false then quota_moved world owner (pos 1) else world

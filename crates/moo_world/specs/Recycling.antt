@@ -6,17 +6,18 @@ use Rattle.moo_value.specs.declared.value.ObjNo.{ObjNo}
 use Rattle.moo_world.specs.Objects.{nothing, same_object}
 use Rattle.moo_world.specs.World.{World, Record, parent_of, rebuilt}
 
--- a record whose object x is gone: its parent is x's parent if it was x, its location nothing if it was x
+-- another object's record after the object is gone: if its parent was the object it is the object's parent, and if its location was
+-- the object it is nothing
 abbrev pub released : ObjNo → ObjNo → Record → Record
-released x parent r = record r {
-  row = record r.row {
-    parent = if same_object x r.row.parent then parent else r.row.parent;
-    location = if same_object x r.row.location then nothing else r.row.location;
+released object parent entry = record entry {
+  row = record entry.row {
+    parent = if same_object object entry.row.parent then parent else entry.row.parent;
+    location = if same_object object entry.row.location then nothing else entry.row.location;
   };
 }
 
 abbrev pub without_record : World → ObjNo → World
-without_record w x = record w { object = λ y. if same_object x y then None else option_map (released x (unwrap_or (parent_of w x) nothing)) (w.object y) }
+without_record world object = record world { object = λ other. if same_object object other then None else option_map (released object (unwrap_or (parent_of world object) nothing)) (world.object other) }
 
 abbrev pub recycled : World → ObjNo → World
-recycled w x = rebuilt w (without_record w x) nothing
+recycled world object = rebuilt world (without_record world object) nothing

@@ -18,11 +18,11 @@ use Rattle.moo_world.specs.Answers.{zero, list_of}
 use Rattle.moo_world.specs.Arguments.{no_values}
 use Rattle.moo_world.specs.Names.{petition_call, call_name_of}
 use Rattle.moo_world.specs.Objects.{same_object}
-use Rattle.moo_world.specs.Outcomes.{Outcome, Done, Failed, Full, ◌>>◌, ◌>>=◌}
+use Rattle.moo_world.specs.Outcomes.{Outcome, Done, Failed, Full, given, require◌else◌, require_room, ◌>>◌, ◌or_else◌, ◌>>=◌}
 use Rattle.moo_world.specs.Petitions.{is_named, are_few, are_shallow, PetitionsStand}
 use Rattle.moo_world.specs.Rights.{is_wizard}
 use Rattle.moo_world.specs.Rows.{world_of}
-use Rattle.moo_world.specs.Calls.{step}
+use Rattle.moo_world.specs.Calls.{step, named_call}
 use Rattle.moo_world.specs.World.{World, is_object, IsWellFormed}
 use Rattle.moo_world.specs.Codes.{Code, E_PERM, E_INVARG, E_TYPE, E_ARGS}
 
@@ -35,88 +35,64 @@ pub record State : Type 0 where
 
 -- what rows show
 abbrev pub state_of : Maps → State
-state_of m = record { world = world_of m; petitions = m.petitions; next_petition = m.head.next_petition; seq = m.head.seq }
+state_of rows = record { world = world_of rows; petitions = rows.petitions; next_petition = rows.head.next_petition; seq = rows.head.seq }
 
 -- a well formed world, and petitions as they may be beside it
-pub record IsFormed (s : State) : Type 0 where
-  pub world : IsWellFormed s.world
-  pub petitions : PetitionsStand s.petitions s.next_petition
-
--- the outcome of a call of a batch: an answer and the next state, an error, or no number left
-pub data Effect : Type 0 where
-  Answered : Value → State → Effect
-  Erred : Code → Effect
-  NoneLeft : Effect
-
--- the check has to hold, or the call has this effect
-abbrev pub unless_fails : Bool → Code → Effect → Effect
-unless_fails true code rest = rest
-unless_fails false code rest = Erred code
-
-infix 5 require◌else◌
-abbrev pub require◌else◌ : Bool → Code → Effect → Effect
-require b else code = unless_fails b code
-
-abbrev pub taking : {A : Type 0} → Result A Code → (A → Effect) → Effect
-taking (Ok a) rest = rest a
-taking (Err code) rest = Erred code
+pub record IsFormed (state : State) : Type 0 where
+  pub world : IsWellFormed state.world
+  pub petitions : PetitionsStand state.petitions state.next_petition
 
 -- what is done in the world alone
-abbrev pub in_world : State → Outcome → Effect
-in_world s (Done v w) = Answered v (record s { world = w })
-in_world s (Failed code) = Erred code
-in_world s Full = NoneLeft
+abbrev pub in_world : State → Outcome World → Outcome State
+in_world state (Done answer next) = Done answer (record state { world = next })
+in_world state (Failed code) = Failed code
+in_world state Full = Full
 
 -- ---- what the calls take
 
 abbrev pub one_list : List Value → Result Values Code
 one_list (a_list values ∷ []) = Ok values
-one_list (v ∷ []) = Err E_TYPE
+one_list (other ∷ []) = Err E_TYPE
 one_list args = Err E_ARGS
 
 abbrev pub one_integer : List Value → Result ℤ Code
-one_integer (Int n ∷ []) = Ok n
-one_integer (v ∷ []) = Err E_TYPE
+one_integer (Int number ∷ []) = Ok number
+one_integer (other ∷ []) = Err E_TYPE
 one_integer args = Err E_ARGS
-
--- what is done with the petition that is there, or the error that there is none
-abbrev pub found_petition : Option (PetitionId × PetitionRow) → (PetitionId × PetitionRow → Effect) → Effect
-found_petition None rest = Erred E_INVARG
-found_petition (Some e) rest = rest e
 
 -- ---- petitions by number
 
 abbrev pub petition_id : ℕ → PetitionId
-petition_id n = record { 0 = n }
+petition_id number = record { 0 = number }
 
 -- the petition of a number, if there is one
 abbrev pub petition_at : State → ℤ → Option (PetitionId × PetitionRow)
-petition_at s (pos n) = option_map (λ row. (petition_id n, row)) (get s.petitions (petition_id n))
-petition_at s (negsuc n) = None
+petition_at state (pos number) = option_map (λ row. (petition_id number, row)) (get state.petitions (petition_id number))
+petition_at state (negsuc number) = None
 
 abbrev pub without : PetitionId → State → State
-without id s = record s { petitions = remove s.petitions id }
+without id state = record state { petitions = remove state.petitions id }
 
 -- ---- the calls that a petition holds
 
 -- the name of a call and what it is given, of a name that names a call, and none of those of petitions
 abbrev pub call_in : List Value → Option Call
-call_in (Str name ∷ args) = option_and_then (λ n. if is_some (petition_call n) then None else Some (record { name = n; args = args })) (call_name_of name)
+call_in (Str name ∷ args) = option_and_then (λ call_name. if is_some (petition_call call_name) then None else Some (record { name = call_name; args = args })) (call_name_of name)
 call_in values = None
 
 -- the call that a petition holds
 abbrev pub held_call : Value → Option Call
 held_call (a_list values) = call_in (spread values)
-held_call v = None
+held_call other = None
 
 -- one of them, by the wizard who grants it. One that names no call is in no petition that a call has made
-abbrev pub held_step : World → ObjNo → Value → Outcome
-held_step w p held = elim (held_call held) [ None ↦ Failed E_INVARG | Some call ↦ step w p call ]
+abbrev pub held_step : World → ObjNo → Value → Outcome World
+held_step world programmer held = elim (held_call held) [ None ↦ Failed E_INVARG | Some call ↦ step world programmer call ]
 
 -- all of them, one after another, up to the first that isn't done
-abbrev pub held_steps : World → ObjNo → List Value → Outcome
-held_steps w p [] = Done zero w
-held_steps w p (held ∷ rest) = elim (held_step w p held) [ Done v next ↦ held_steps next p rest | Failed code ↦ Failed code | Full ↦ Full ]
+abbrev pub held_steps : World → ObjNo → List Value → Outcome World
+held_steps world programmer [] = Done zero world
+held_steps world programmer (held ∷ rest) = elim (held_step world programmer held) [ Done answer next ↦ held_steps next programmer rest | Failed code ↦ Failed code | Full ↦ Full ]
 
 -- ---- the calls of petitions
 
@@ -126,56 +102,66 @@ last_petition = 4294967295
 
 -- with one petition more
 abbrev pub asked : State → ObjNo → Values → State
-asked s p calls = record s { petitions = insert s.petitions (petition_id s.next_petition) (record { who = p; calls = calls }); next_petition = s.next_petition + 1 }
+asked state programmer calls = record state { petitions = insert state.petitions (petition_id state.next_petition) (record { who = programmer; calls = calls }); next_petition = state.next_petition + 1 }
 
--- what a petition may ask for: calls on the world, each a list that begins with its name, few and not too deep
-abbrev pub may_be_asked : Values → Result (Unit {0}) Code
-may_be_asked calls =
-    if list_all is_named (spread calls)
-    then (if are_few calls && (list_all (λ held. is_some (held_call held)) (spread calls) && are_shallow calls) then Ok tt else Err E_INVARG)
-    else Err E_TYPE
+-- each of the calls is one on the world
+abbrev pub are_on_world : Values → Bool
+are_on_world calls = list_all (λ held. is_some (held_call held)) (spread calls)
 
 -- one petition more, if a number is left
-abbrev pub ask : State → ObjNo → Values → Effect
-ask s p calls = if nat_lt s.next_petition last_petition then Answered (Int (pos s.next_petition)) (asked s p calls) else NoneLeft
+abbrev pub ask : State → ObjNo → Values → Outcome State
+ask state programmer calls = do
+  require_room (nat_lt state.next_petition last_petition)
+  Done (Int (pos state.next_petition)) (asked state programmer calls)
 
-abbrev pub petition : State → ObjNo → Values → Effect
-petition s p calls = taking (may_be_asked calls) (λ _. ask s p calls)
+-- a petition may ask for calls on the world, each a list that begins with its name, few and not too deep
+abbrev pub petition : State → ObjNo → Values → Outcome State
+petition state programmer calls = do
+  require list_all is_named (spread calls) else E_TYPE
+  require are_few calls else E_INVARG
+  require are_on_world calls else E_INVARG
+  require are_shallow calls else E_INVARG
+  ask state programmer calls
 
 -- a petition as it is listed: {number, who, calls}
 abbrev pub listed : PetitionId × PetitionRow → Value
-listed e = list_of (Int (pos e.0.0) ∷ Obj e.1.who ∷ a_list e.1.calls ∷ [])
+listed (id, row) = list_of (Int (pos id.0) ∷ Obj row.who ∷ a_list row.calls ∷ [])
 
 -- all of them for a wizard, else the programmer's own
-abbrev pub petitions : State → ObjNo → Effect
-petitions s p = Answered (list_of (map listed (filter (λ e. is_wizard s.world p || same_object e.1.who p) (entries s.petitions)))) s
+abbrev pub petitions : State → ObjNo → Outcome State
+petitions state programmer = Done (list_of (map listed (filter (λ (id, row). is_wizard state.world programmer || same_object row.who programmer) (entries state.petitions)))) state
 
 -- the petition goes, and then its calls are made on the wizard's authority
-abbrev pub grant : State → ObjNo → ℤ → Effect
-grant s p n = do
-  require is_wizard s.world p else E_PERM
-  e ← found_petition (petition_at s n)
-  in_world (without e.0 s) (held_steps s.world p (spread e.1.calls))
+abbrev pub grant : State → ObjNo → ℤ → Outcome State
+grant state programmer number = do
+  require is_wizard state.world programmer else E_PERM
+  (id, row) ← petition_at state number or_else E_INVARG
+  in_world (without id state) (held_steps state.world programmer (spread row.calls))
 
-abbrev pub decline : State → ObjNo → ℤ → Effect
-decline s p n = do
-  e ← found_petition (petition_at s n)
-  require same_object e.1.who p || is_wizard s.world p else E_PERM
-  Answered zero (without e.0 s)
+abbrev pub decline : State → ObjNo → ℤ → Outcome State
+decline state programmer number = do
+  (id, row) ← petition_at state number or_else E_INVARG
+  require same_object row.who programmer || is_wizard state.world programmer else E_PERM
+  Done zero (without id state)
 
-abbrev pub petition_call_by : State → ObjNo → PetitionCall → List Value → Effect
-petition_call_by s p to_petition args = taking (one_list args) (petition s p)
-petition_call_by s p to_list args = taking (no_values args) (λ _. petitions s p)
-petition_call_by s p to_grant args = taking (one_integer args) (grant s p)
-petition_call_by s p to_decline args = taking (one_integer args) (decline s p)
+abbrev pub petition_call_by : State → ObjNo → PetitionCall → List Value → Outcome State
+petition_call_by state programmer to_petition args = given (one_list args) (petition state programmer)
+petition_call_by state programmer to_list args = given (no_values args) (λ _. petitions state programmer)
+petition_call_by state programmer to_grant args = given (one_integer args) (grant state programmer)
+petition_call_by state programmer to_decline args = given (one_integer args) (decline state programmer)
 
--- any call, by its name: the programmer has to be an object
-unfoldable pub request : State → ObjNo → Call → Effect
-request s p call =
-    elim (petition_call call.name) [
-      | None ↦ in_world s (step s.world p call)
-      | Some c ↦ unless_fails (is_object s.world p) E_PERM (petition_call_by s p c call.args)
-    ]
+-- a call by its name: one on the world leaves the petitions as they are
+abbrev pub call_by_name : State → ObjNo → Call → Outcome State
+call_by_name state programmer call = elim (petition_call call.name) [
+  | None ↦ in_world state (named_call state.world programmer call.name call.args)
+  | Some of_petitions ↦ petition_call_by state programmer of_petitions call.args
+]
+
+-- any call: the programmer has to be an object
+unfoldable pub request : State → ObjNo → Call → Outcome State
+request state programmer call = do
+  require is_object state.world programmer else E_PERM
+  call_by_name state programmer call
 
 -- ---- numbers of petitions
 

@@ -20,62 +20,62 @@ use Rattle.moo_world.specs.Codes.{E_PERM, E_INVARG, E_VERBNF}
 
 -- ---- reading
 
-abbrev pub verbs : World → ObjNo → ObjNo → Outcome
-verbs w p x = do
-  require is_object w x else E_INVARG
-  require may_read_object w p x else E_PERM
-  Done (text_list (map (λ v. v.names) (directory_of w x))) w
+abbrev pub verbs : World → ObjNo → ObjNo → Outcome World
+verbs world programmer object = do
+  require is_object world object else E_INVARG
+  require may_read_object world programmer object else E_PERM
+  Done (text_list (map (λ verb. verb.names) (directory_of world object))) world
 
-abbrev pub verb_info : World → ObjNo → ObjNo → Desc → Outcome
-verb_info w p x desc = do
-  require is_object w x else E_INVARG
-  found ← found_verb w x desc or_else E_VERBNF
-  require may_read_verb w p found.1 else E_PERM
-  Done (list_of (Obj found.1.owner ∷ Str (verb_letters_of found.1.bits) ∷ Str found.1.names ∷ [])) w
+abbrev pub verb_info : World → ObjNo → ObjNo → Desc → Outcome World
+verb_info world programmer object descriptor = do
+  require is_object world object else E_INVARG
+  (place, verb) ← found_verb world object descriptor or_else E_VERBNF
+  require may_read_verb world programmer verb else E_PERM
+  Done (list_of (Obj verb.owner ∷ Str (verb_letters_of verb.bits) ∷ Str verb.names ∷ [])) world
 
-abbrev pub verb_args : World → ObjNo → ObjNo → Desc → Outcome
-verb_args w p x desc = do
-  require is_object w x else E_INVARG
-  found ← found_verb w x desc or_else E_VERBNF
-  require may_read_verb w p found.1 else E_PERM
-  Done (list_of (Str (place_text found.1.args.dobj) ∷ Str (prep_text found.1.args.prep) ∷ Str (place_text found.1.args.iobj) ∷ [])) w
+abbrev pub verb_args : World → ObjNo → ObjNo → Desc → Outcome World
+verb_args world programmer object descriptor = do
+  require is_object world object else E_INVARG
+  (place, verb) ← found_verb world object descriptor or_else E_VERBNF
+  require may_read_verb world programmer verb else E_PERM
+  Done (list_of (Str (place_text verb.args.dobj) ∷ Str (prep_text verb.args.prep) ∷ Str (place_text verb.args.iobj) ∷ [])) world
 
 -- ---- changing
 
-abbrev pub add_verb : World → ObjNo → ObjNo → Info → Name → Name × Name × Name → Outcome
-add_verb w p x info names args = do
-  require is_object w x else E_INVARG
-  require is_object w info.0 else E_INVARG
-  bits ← verb_bits_of info.1 or_else E_INVARG
+abbrev pub add_verb : World → ObjNo → ObjNo → Info → Name → Name × Name × Name → Outcome World
+add_verb world programmer object (owner, perms) names (dobj, prep, iobj) = do
+  require is_object world object else E_INVARG
+  require is_object world owner else E_INVARG
+  bits ← verb_bits_of perms or_else E_INVARG
   require has_word names else E_INVARG
-  spec ← args_of args.0 args.1 args.2 or_else E_INVARG
-  require may_write_object w p x else E_PERM
-  require may_own w p info.0 else E_PERM
-  require_room (nat_lt w.next_verb 4294967295)
-  Done zero (verb_added w x (record { names = names; owner = info.0; bits = bits; args = spec }))
+  args ← args_of dobj prep iobj or_else E_INVARG
+  require may_write_object world programmer object else E_PERM
+  require may_own world programmer owner else E_PERM
+  require_room (nat_lt world.next_verb 4294967295)
+  Done zero (verb_added world object (record { names = names; owner = owner; bits = bits; args = args }))
 
-abbrev pub delete_verb : World → ObjNo → ObjNo → Desc → Outcome
-delete_verb w p x desc = do
-  require is_object w x else E_INVARG
-  require may_write_object w p x else E_PERM
-  found ← found_verb w x desc or_else E_VERBNF
-  Done zero (verb_removed w x found.0)
+abbrev pub delete_verb : World → ObjNo → ObjNo → Desc → Outcome World
+delete_verb world programmer object descriptor = do
+  require is_object world object else E_INVARG
+  require may_write_object world programmer object else E_PERM
+  (place, verb) ← found_verb world object descriptor or_else E_VERBNF
+  Done zero (verb_removed world object place)
 
-abbrev pub set_verb_info : World → ObjNo → ObjNo → Desc → Info → Name → Outcome
-set_verb_info w p x desc info names = do
-  require is_object w x else E_INVARG
-  found ← found_verb w x desc or_else E_VERBNF
-  require is_object w info.0 else E_INVARG
-  bits ← verb_bits_of info.1 or_else E_INVARG
+abbrev pub set_verb_info : World → ObjNo → ObjNo → Desc → Info → Name → Outcome World
+set_verb_info world programmer object descriptor (owner, perms) names = do
+  require is_object world object else E_INVARG
+  (place, verb) ← found_verb world object descriptor or_else E_VERBNF
+  require is_object world owner else E_INVARG
+  bits ← verb_bits_of perms or_else E_INVARG
   require has_word names else E_INVARG
-  require may_write_verb w p found.1 else E_PERM
-  require may_own w p info.0 else E_PERM
-  Done zero (verb_info_set w x found.0 info.0 bits names)
+  require may_write_verb world programmer verb else E_PERM
+  require may_own world programmer owner else E_PERM
+  Done zero (verb_info_set world object place owner bits names)
 
-abbrev pub set_verb_args : World → ObjNo → ObjNo → Desc → Name × Name × Name → Outcome
-set_verb_args w p x desc args = do
-  require is_object w x else E_INVARG
-  found ← found_verb w x desc or_else E_VERBNF
-  spec ← args_of args.0 args.1 args.2 or_else E_INVARG
-  require may_write_verb w p found.1 else E_PERM
-  Done zero (verb_args_set w x found.0 spec)
+abbrev pub set_verb_args : World → ObjNo → ObjNo → Desc → Name × Name × Name → Outcome World
+set_verb_args world programmer object descriptor (dobj, prep, iobj) = do
+  require is_object world object else E_INVARG
+  (place, verb) ← found_verb world object descriptor or_else E_VERBNF
+  args ← args_of dobj prep iobj or_else E_INVARG
+  require may_write_verb world programmer verb else E_PERM
+  Done zero (verb_args_set world object place args)

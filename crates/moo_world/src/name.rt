@@ -1,6 +1,7 @@
 //! The names of the calls.
 
-ghost use Rattle.std.specs.Prelude.{◌≡◌, ◌↔◌, Some};
+ghost use Rattle.std.specs.Prelude.{◌≡◌, ◌↔◌, Some, [], ◌∷◌};
+ghost use Rattle.std.specs.List.{filter};
 ghost use Rattle.moo_world.specs.Objects.{same_text, folded};
 ghost use Rattle.moo_world.specs.Names.{spelling, all_names, call_name_of, petition_call};
 
@@ -89,6 +90,14 @@ const ALL: [CallName; 33] = [
 ];
 
 impl CallName {
+    /// Every call once, in the order of the enum.
+    pub fn all() -> &'static [CallName]
+        ensures all { result.now ≡ all_names }
+        ensures once { (name : CallName) → filter (λ other. same_text (spelling name) (spelling other)) result.now ≡ name ∷ [] }
+    {
+        &ALL
+    }
+
     /// The name of the call, in lower case.
     pub fn spelling(self) -> &'static [u8]
         ensures { result.now ≡ spelling self }

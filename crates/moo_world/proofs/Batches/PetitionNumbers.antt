@@ -10,9 +10,10 @@ use Rattle.moo_rows.specs.declared.row.PetitionRow.{PetitionRow}
 use Rattle.moo_rows.specs.Exact.{petition_exact}
 use Rattle.moo_rows.proofs.Orders.{petition_total}
 use Rattle.moo_world.specs.declared.call.Call.{Call}
-use Rattle.moo_world.specs.Requests.{State, Answered, PetitionsStay, petition_id, without, asked, request}
+use Rattle.moo_world.specs.Outcomes.{Done}
+use Rattle.moo_world.specs.Requests.{State, PetitionsStay, petition_id, without, asked, request}
 use Rattle.moo_world.specs.World.{World}
-use Rattle.moo_world.proofs.Batches.Requested.{Led, of_answered, request_leaves}
+use Rattle.moo_world.proofs.Batches.Requested.{Led, of_done, request_leaves}
 use Rattle.moo_world.proofs.Shown.OneKey.{put_or_old, none_or_old}
 
 no_less : (n : ℕ) → n ≤ n
@@ -50,8 +51,8 @@ one_gone s gone w = record {
     by id row h (inl e) = absurd (none-some row (sym e ∙ h))
     by id row h (inr e) = sym e ∙ h
 
-pub petitions_kept : (s next : State) (p : ObjNo) (call : Call) (v : Value) → request s p call ≡ Answered v next → PetitionsStay s next
-petitions_kept s next p call v e = of_answered (PetitionsStay s) (request s p call) v next (request_leaves (PetitionsStay s) s p call led) e
+pub petitions_kept : (s next : State) (p : ObjNo) (call : Call) (v : Value) → request s p call ≡ Done v next → PetitionsStay s next
+petitions_kept s next p call v e = of_done (PetitionsStay s) (request s p call) v next (request_leaves (PetitionsStay s) s p call led) e
   where
     led : Led (PetitionsStay s) s p call
     led = record {

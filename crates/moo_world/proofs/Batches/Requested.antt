@@ -1,13 +1,13 @@
 -- What any call of a batch leaves, along its checks.
 use Rattle.std.proofs.Common.{◌≡◌, ℕ, ℤ, pos, negsuc, Bool, true, false, List, [], ◌∷◌, refl, sym, ap, ◌∙◌, subst, Option, Some, None, Result, Ok, Err}
-use Rattle.std.specs.Prelude.{nat_lt, if◌then◌else◌, is_some, ◌||◌, ◌&&◌}
+use Rattle.std.specs.Prelude.{nat_lt, ◌||◌}
 use Rattle.std.specs.Option.{option_map}
 use Rattle.std.specs.List.{list_all}
 use Rattle.std.specs.FinMap.{get}
 use Rattle.std.proofs.lemmas.Bool.{false≢true}
 use Rattle.std.proofs.lemmas.Option.{none-some, same_Some}
 use Rattle.moo_value.specs.declared.code.Code.{Code}
-use Rattle.moo_value.specs.declared.code.Code.TheVariants.{«Type» as wrong_type, Permission, InvalidArgument}
+use Rattle.moo_value.specs.declared.code.Code.TheVariants.{Permission}
 use Rattle.moo_value.specs.declared.value.ObjNo.{ObjNo}
 use Rattle.moo_value.specs.declared.value.Value.{Value}
 use Rattle.moo_value.specs.declared.value.Value.TheVariants.{Int, Obj, Str, Error, List as a_list}
@@ -22,53 +22,53 @@ use Rattle.moo_world.specs.Answers.{zero}
 use Rattle.moo_world.specs.Arguments.{no_values}
 use Rattle.moo_world.specs.Names.{petition_call}
 use Rattle.moo_world.specs.Objects.{same_object}
-use Rattle.moo_world.specs.Outcomes.{Outcome, Done, Failed, Full}
+use Rattle.moo_world.specs.Outcomes.{Outcome, Done, Failed, Full, check, given, found_or}
 use Rattle.moo_world.specs.Petitions.{is_named, are_few, are_shallow}
-use Rattle.moo_world.specs.Requests.{State, Effect, Answered, Erred, NoneLeft, unless_fails, taking, in_world, found_petition, one_list, one_integer, petition_id, petition_at, without, held_call, held_steps, last_petition, asked, may_be_asked, petition, grant, decline, petition_call_by, request}
+use Rattle.moo_world.specs.Requests.{State, in_world, one_list, one_integer, petition_id, petition_at, without, held_steps, last_petition, asked, are_on_world, petition_call_by, request}
 use Rattle.moo_world.specs.Rights.{is_wizard}
-use Rattle.moo_world.specs.Calls.{step}
+use Rattle.moo_world.specs.Calls.{step, named_call}
 use Rattle.moo_world.specs.World.{World, is_object}
 
 -- an answered call leaves a state that is so; an error leaves none
-unfoldable pub Leaves : (State → Type 0) → Effect → Type 0
-Leaves P (Answered v next) = P next
-Leaves P (Erred code) = Unit {0}
-Leaves P NoneLeft = Unit {0}
+unfoldable pub Leaves : (State → Type 0) → Outcome State → Type 0
+Leaves P (Done v next) = P next
+Leaves P (Failed code) = Unit {0}
+Leaves P Full = Unit {0}
 
-pub of_answered : (P : State → Type 0) (e : Effect) (v : Value) (next : State) → Leaves P e → e ≡ Answered v next → P next
+pub of_done : (P : State → Type 0) (o : Outcome State) (v : Value) (next : State) → Leaves P o → o ≡ Done v next → P next
 unfolding Leaves
-of_answered P e v next h is = subst (Leaves P) is h
+of_done P o v next h is = subst (Leaves P) is h
 
 module _ (P : State → Type 0) where
-  pub on_check : (b : Bool) (code : Code) (rest : Effect) → (b ≡ true → Leaves P rest) → Leaves P (unless_fails b code rest)
+  pub on_check : (b : Bool) (code : Code) (rest : Outcome State) → (b ≡ true → Leaves P rest) → Leaves P (check b (Failed code) rest)
   unfolding Leaves
   on_check true code rest h = h refl
   on_check false code rest h = tt
 
-  pub on_taken : {A : Type 0} (r : Result A Code) (rest : A → Effect) → ((a : A) → r ≡ Ok a → Leaves P (rest a)) → Leaves P (taking r rest)
+  pub on_room : (b : Bool) (rest : Outcome State) → (b ≡ true → Leaves P rest) → Leaves P (check b Full rest)
   unfolding Leaves
-  on_taken (Ok a) rest h = h a refl
-  on_taken (Err code) rest h = tt
+  on_room true rest h = h refl
+  on_room false rest h = tt
 
-  pub on_left : (b : Bool) (v : Value) (next : State) → (b ≡ true → P next) → Leaves P (if b then Answered v next else NoneLeft)
+  pub on_given : {A : Type 0} (r : Result A Code) (rest : A → Outcome State) → ((a : A) → r ≡ Ok a → Leaves P (rest a)) → Leaves P (given r rest)
   unfolding Leaves
-  on_left true v next h = h refl
-  on_left false v next h = tt
+  on_given (Ok a) rest h = h a refl
+  on_given (Err code) rest h = tt
 
-  on_world : (s : State) (o : Outcome) → ((v : Value) (w : World) → o ≡ Done v w → P (record s { world = w })) → Leaves P (in_world s o)
+  pub on_found : {A : Type 0} (o : Option A) (code : Code) (rest : A → Outcome State) → ((a : A) → o ≡ Some a → Leaves P (rest a)) → Leaves P (found_or o code rest)
+  unfolding Leaves
+  on_found None code rest h = tt
+  on_found (Some a) code rest h = h a refl
+
+  on_world : (s : State) (o : Outcome World) → ((v : Value) (w : World) → o ≡ Done v w → P (record s { world = w })) → Leaves P (in_world s o)
   unfolding Leaves
   on_world s (Done v w) h = h v w refl
   on_world s (Failed code) h = tt
   on_world s Full h = tt
 
-  pub on_answer : (v : Value) (next : State) → P next → Leaves P (Answered v next)
+  pub on_answer : (v : Value) (next : State) → P next → Leaves P (Done v next)
   unfolding Leaves
   on_answer v next h = h
-
-  pub on_petition : (o : Option (PetitionId × PetitionRow)) (rest : PetitionId × PetitionRow → Effect) → ((e : PetitionId × PetitionRow) → o ≡ Some e → Leaves P (rest e)) → Leaves P (found_petition o rest)
-  unfolding Leaves
-  on_petition None rest h = tt
-  on_petition (Some e) rest h = h e refl
 
 -- the petition that is found is there
 pub found_there : (s : State) (n : ℤ) (e : PetitionId × PetitionRow) → petition_at s n ≡ Some e → get s.petitions e.0 ≡ Some e.1
@@ -108,42 +108,46 @@ given_list (Error c ∷ []) calls e = absurd (false≢true (ap is_read e))
 given_list (a_list values ∷ v ∷ rest) calls e = absurd (false≢true (ap is_read e))
 given_list (u ∷ v ∷ rest) calls e = absurd (false≢true (ap is_read e))
 
--- what may be asked for has passed its tests
-asked_for : (calls : Values) (u : Unit {0}) → may_be_asked calls ≡ Ok u → (list_all is_named (spread calls) ≡ true) × (are_few calls ≡ true) × (are_shallow calls ≡ true)
-asked_for calls u e = by (list_all is_named (spread calls)) (are_few calls) (list_all (λ held. is_some (held_call held)) (spread calls)) (are_shallow calls) e
-  where
-    may : Result (Unit {0}) Code → Bool
-    may (Ok u) = true
-    may (Err code) = false
+-- a call on the world, by a programmer who is an object, is the step of that name
+named_step : (s : State) (p : ObjNo) (call : Call) → is_object s.world p ≡ true → step s.world p call ≡ named_call s.world p call.name call.args
+unfolding step
+named_step s p call po = ap (λ b. check b (Failed Permission) (named_call s.world p call.name call.args)) po
 
-    by : (named few on_world shallow : Bool) → (if named then (if few && (on_world && shallow) then Ok tt else Err InvalidArgument) else Err wrong_type) ≡ Ok u → (named ≡ true) × (few ≡ true) × (shallow ≡ true)
-    by true true true true e = (refl, refl, refl)
-    by true true true false e = absurd (false≢true (ap may e))
-    by true true false shallow e = absurd (false≢true (ap may e))
-    by true false on_world shallow e = absurd (false≢true (ap may e))
-    by false few on_world shallow e = absurd (false≢true (ap may e))
+-- any call on the world is a step of it
+pub request_steps : (s : State) (p : ObjNo) (call : Call) → petition_call call.name ≡ None → request s p call ≡ in_world s (step s.world p call)
+unfolding request step
+request_steps s p call on_world =
+    ap (λ o. check (is_object s.world p) (Failed Permission) (elim o [ None ↦ in_world s (named_call s.world p call.name call.args) | Some c ↦ petition_call_by s p c call.args ])) on_world
+    ∙ by (is_object s.world p) (named_call s.world p call.name call.args)
+  where
+    by : (b : Bool) (o : Outcome World) → check b (Failed Permission) (in_world s o) ≡ in_world s (check b (Failed Permission) o)
+    by true o = refl
+    by false o = refl
 
 pub request_leaves : (P : State → Type 0) (s : State) (p : ObjNo) (call : Call) → Led P s p call → Leaves P (request s p call)
 unfolding request
-request_leaves P s p call led = by (petition_call call.name)
+request_leaves P s p call led = on_check P (is_object s.world p) _ _ (λ po. by po (petition_call call.name))
   where
     one : (c : PetitionCall) → is_object s.world p ≡ true → Leaves P (petition_call_by s p c call.args)
     one to_petition po =
-        on_taken P (one_list call.args) _ (λ calls e.
-        on_taken P (may_be_asked calls) _ (λ u f.
-        let may = asked_for calls u f in
-        on_left P (nat_lt s.next_petition last_petition) _ _ (λ left. led.asked calls (given_list call.args calls e) po may.0 may.1 may.2 left)))
-    one to_list po = on_taken P (no_values call.args) _ (λ a e. on_answer P _ s led.same)
+        on_given P (one_list call.args) _ (λ calls e.
+        on_check P (list_all is_named (spread calls)) _ _ (λ named.
+        on_check P (are_few calls) _ _ (λ few.
+        on_check P (are_on_world calls) _ _ (λ world.
+        on_check P (are_shallow calls) _ _ (λ shallow.
+        on_room P (nat_lt s.next_petition last_petition) _ (λ left.
+        on_answer P _ _ (led.asked calls (given_list call.args calls e) po named few shallow left)))))))
+    one to_list po = on_given P (no_values call.args) _ (λ a e. on_answer P _ s led.same)
     one to_grant po =
-        on_taken P (one_integer call.args) _ (λ n e.
+        on_given P (one_integer call.args) _ (λ n e.
         on_check P (is_wizard s.world p) _ _ (λ wizard.
-        on_petition P (petition_at s n) _ (λ found f.
+        on_found P (petition_at s n) _ _ (λ found f.
         on_world P (without found.0 s) _ (λ v w done. led.granted found.0 found.1 (found_there s n found f) v w done))))
     one to_decline po =
-        on_taken P (one_integer call.args) _ (λ n e.
-        on_petition P (petition_at s n) _ (λ found f.
+        on_given P (one_integer call.args) _ (λ n e.
+        on_found P (petition_at s n) _ _ (λ found f.
         on_check P (same_object found.1.who p || is_wizard s.world p) _ _ (λ may. on_answer P _ _ (led.declined found.0))))
 
-    by : (c : Option PetitionCall) → Leaves P (elim c [ None ↦ in_world s (step s.world p call) | Some c ↦ unless_fails (is_object s.world p) Permission (petition_call_by s p c call.args) ])
-    by None = on_world P s _ led.stepped
-    by (Some c) = on_check P (is_object s.world p) _ _ (λ po. one c po)
+    by : is_object s.world p ≡ true → (c : Option PetitionCall) → Leaves P (elim c [ None ↦ in_world s (named_call s.world p call.name call.args) | Some c ↦ petition_call_by s p c call.args ])
+    by po None = on_world P s _ (λ v w done. led.stepped v w (named_step s p call po ∙ done))
+    by po (Some c) = one c po

@@ -100,7 +100,7 @@ module _ (w : World) (p : ObjNo) (values : List Value) (wf : IsWellFormed w) (po
   abbrev Passes : World → Type 0
   Passes next = CallKeeps w p values (λ y n. n) next
 
-  abbrev Kept : Outcome → Type 0
+  abbrev Kept : Outcome World → Type 0
   Kept o = Holds (λ v next. Passes next) o
 
   abbrev Fit : Type 0

@@ -24,10 +24,10 @@ use Rattle.moo_world.specs.KeptForm.{arguments_fit, RequestsKeepForm}
 use Rattle.moo_world.specs.Names.{call_name_of, petition_call}
 use Rattle.moo_world.specs.Outcomes.{Outcome, Done, Failed, Full}
 use Rattle.moo_world.specs.Petitions.{PetitionsStand, petition_fits, is_named, are_few, are_shallow}
-use Rattle.moo_world.specs.Requests.{State, Answered, IsFormed, petition_id, without, call_in, held_call, held_step, held_steps, last_petition, asked, request}
+use Rattle.moo_world.specs.Requests.{State, IsFormed, petition_id, without, call_in, held_call, held_step, held_steps, last_petition, asked, request}
 use Rattle.moo_world.specs.Calls.{step}
 use Rattle.moo_world.specs.World.{World, IsWellFormed, is_object}
-use Rattle.moo_world.proofs.Batches.Requested.{Led, of_answered, request_leaves}
+use Rattle.moo_world.proofs.Batches.Requested.{Led, of_done, request_leaves}
 use Rattle.moo_world.proofs.Form.Calls.{calls_keep_form}
 use Rattle.moo_world.proofs.Form.Limits.{object_numbered}
 use Rattle.moo_world.proofs.Shown.OneKey.{put_or_old, none_or_old}
@@ -107,7 +107,7 @@ held_args_fit (Error c) call e h = absurd (none-some call e)
 
 -- ---- the calls of a petition that is granted
 
-failed_done : (v : Value) (w : World) (o : Outcome) → (o ≡ Failed InvalidArgument) → o ≡ Done v w → ⊥
+failed_done : (v : Value) (w : World) (o : Outcome World) → (o ≡ Failed InvalidArgument) → o ≡ Done v w → ⊥
 failed_done v w o e f = let g = sym e ∙ f in cc
 
 held_step_keeps : (w next : World) (p : ObjNo) (held : Value) (v : Value) → IsWellFormed w → fits held ≡ true → held_step w p held ≡ Done v next → IsWellFormed next
@@ -120,7 +120,7 @@ held_step_keeps w next p held v wf fit e = by (held_call held) refl e
 held_steps_keep : (w next : World) (p : ObjNo) (helds : List Value) (v : Value) → IsWellFormed w → list_all fits helds ≡ true → held_steps w p helds ≡ Done v next → IsWellFormed next
 held_steps_keep w next p [] v wf fit e = subst IsWellFormed (same_done e) wf
   where
-    left : World → Outcome → World
+    left : World → Outcome World → World
     left other (Done v w) = w
     left other (Failed code) = other
     left other Full = other
@@ -132,7 +132,7 @@ held_steps_keep w next p (held ∷ rest) v wf fit e = by (held_step w p held) re
     parts : (fits held ≡ true) × (list_all fits rest ≡ true)
     parts = and_parts (fits held) (list_all fits rest) fit
 
-    by : (o : Outcome) → held_step w p held ≡ o → elim o [ Done u mid ↦ held_steps mid p rest | Failed code ↦ Failed code | Full ↦ Full ] ≡ Done v next
+    by : (o : Outcome World) → held_step w p held ≡ o → elim o [ Done u mid ↦ held_steps mid p rest | Failed code ↦ Failed code | Full ↦ Full ] ≡ Done v next
         → ((mid : World) → IsWellFormed mid → list_all fits rest ≡ true → held_steps mid p rest ≡ Done v next → IsWellFormed next) → IsWellFormed next
     by (Done u mid) h e onward = onward mid (held_step_keeps w mid p held u wf parts.0 h) parts.1 e
     by (Failed code) h e onward = cc
@@ -195,7 +195,7 @@ asked_fits s p calls formed there call_name_of few shallow fit =
     both _ _ (object_numbered s.world formed.world p there) (both _ _ call_name_of (both _ _ few (both _ _ shallow within)))
 
 pub requests_keep_form : RequestsKeepForm
-requests_keep_form s next p call v formed fit e = of_answered IsFormed (request s p call) v next (request_leaves IsFormed s p call led) e
+requests_keep_form s next p call v formed fit e = of_done IsFormed (request s p call) v next (request_leaves IsFormed s p call led) e
   where
     led : Led IsFormed s p call
     led = record {

@@ -9,7 +9,8 @@ use Rattle.moo_world.specs.declared.call.Batch.{Batch}
 use Rattle.moo_world.specs.declared.call.Call.{Call}
 use Rattle.moo_world.specs.Judge.{Ran, Through, FailedAt, FullAt, NoRoom, Stale, after_one, run_calls, is_due, last_seq, verdict_of, judge, left_by}
 use Rattle.moo_world.specs.KeptForm.{arguments_fit, RunsKeepForm}
-use Rattle.moo_world.specs.Requests.{State, Effect, Answered, Erred, NoneLeft, IsFormed, request}
+use Rattle.moo_world.specs.Outcomes.{Outcome, Done, Failed, Full}
+use Rattle.moo_world.specs.Requests.{State, IsFormed, request}
 use Rattle.moo_world.proofs.Form.Petitions.{requests_keep_form}
 
 -- calls that were all done leave them so
@@ -30,11 +31,11 @@ calls_leave s p (call ∷ calls) formed fit = by (request s p call) refl (λ nex
     parts : (arguments_fit call ≡ true) × (list_all arguments_fit calls ≡ true)
     parts = and_parts (arguments_fit call) (list_all arguments_fit calls) fit
 
-    by : (e : Effect) → request s p call ≡ e → ((next : State) → IsFormed next → list_all arguments_fit calls ≡ true → LeavesForm (run_calls next p calls))
-        → LeavesForm (elim e [ Answered v next ↦ after_one v (run_calls next p calls) | Erred code ↦ FailedAt 1 code | NoneLeft ↦ FullAt 1 ])
-    by (Answered v next) e rest = one_more v (run_calls next p calls) (rest next (requests_keep_form s next p call v formed parts.0 e) parts.1)
-    by (Erred code) e rest = tt
-    by NoneLeft e rest = tt
+    by : (e : Outcome State) → request s p call ≡ e → ((next : State) → IsFormed next → list_all arguments_fit calls ≡ true → LeavesForm (run_calls next p calls))
+        → LeavesForm (elim e [ Done v next ↦ after_one v (run_calls next p calls) | Failed code ↦ FailedAt 1 code | Full ↦ FullAt 1 ])
+    by (Done v next) e rest = one_more v (run_calls next p calls) (rest next (requests_keep_form s next p call v formed parts.0 e) parts.1)
+    by (Failed code) e rest = tt
+    by Full e rest = tt
 
 verdict_leaves : (s : State) (r : Ran) → IsFormed s → LeavesForm r → IsFormed (left_by s (verdict_of s.seq r))
 verdict_leaves s (Through vs t) formed h = record { world = h.world; petitions = h.petitions }

@@ -1,5 +1,10 @@
-use Rattle.std.proofs.Common.{◌≡◌, Ok, sym, ap, ◌∙◌, subst, rules}
-use Rattle.moo_world.specs.Requests.{ask, may_be_asked, petition, taking}
+use Rattle.std.proofs.Common.{◌≡◌, true, sym, ap, ◌∙◌, subst, rules}
+use Rattle.std.specs.List.{list_all}
+use Rattle.moo_value.specs.Value.{spread}
+use Rattle.moo_world.specs.Outcomes.{given as given_to}
+use Rattle.moo_world.specs.Petitions.{is_named, are_few, are_shallow}
+use Rattle.moo_world.specs.Requests.{are_on_world, ask, petition}
+use Rattle.moo_call_parts.proofs.Passed.{check_passed}
 use Rattle.moo_petitions.specs.Outcomes.{state_in, Reaches}
 use Rattle.moo_petitions.proofs.asking.petition.Goals as goal
 
@@ -7,8 +12,17 @@ pub returns-clause-reaches : goal.returns-clause-reaches
 returns-clause-reaches g c =
     let s = state_in (g.R.Rows.held c.args.rows.now) in
     let p = c.args.programmer in
-    let may : may_be_asked c.in_ok-calls.calls.now ≡ Ok tt = search rules in
-    let same : c.in_ok-calls-2.calls ≡ c.in_ok-calls.calls.now = search rules in
-    subst (λ effect. Reaches effect (g.R.Rows.held c.ask.new.rows) c.ask.result)
-    (sym (ap (λ given. taking given (petition s p)) c.in_ok-calls.ensures.ok ∙ ap (λ checked. taking checked (λ _. ask s p c.in_ok-calls.calls.now)) may ∙ ap (ask s p) (sym same)))
+    let calls = c.in_ok-calls.calls.now in
+    let named : list_all is_named (spread calls) ≡ true = search rules in
+    let few : are_few calls ≡ true = search rules in
+    let on_world : are_on_world calls ≡ true = search rules in
+    let shallow : are_shallow calls ≡ true = search rules in
+    let same : c.in_ok-calls-2.calls ≡ calls = search rules in
+    subst (λ outcome. Reaches outcome (g.R.Rows.held c.ask.new.rows) c.ask.result)
+    (sym (ap (λ given. given_to given (petition s p)) c.in_ok-calls.ensures.ok
+    ∙ check_passed (list_all is_named (spread calls)) _ _ named
+    ∙ check_passed (are_few calls) _ _ few
+    ∙ check_passed (are_on_world calls) _ _ on_world
+    ∙ check_passed (are_shallow calls) _ _ shallow
+    ∙ ap (ask s p) (sym same)))
     c.ask.ensures.reaches

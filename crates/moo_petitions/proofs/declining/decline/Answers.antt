@@ -1,9 +1,10 @@
 use Rattle.std.proofs.Common.{◌≡◌, true, Ok, Some, sym, ap, ◌∙◌, rules}
 use Rattle.std.specs.Prelude.{◌||◌}
-use Rattle.moo_value.specs.declared.code.Code.TheVariants.{Permission}
+use Rattle.moo_value.specs.declared.code.Code.TheVariants.{Permission, InvalidArgument}
 use Rattle.moo_world.specs.Answers.{zero}
 use Rattle.moo_world.specs.Objects.{same_object}
-use Rattle.moo_world.specs.Requests.{Answered, decline, found_petition, one_integer, petition_at, taking, unless_fails, without}
+use Rattle.moo_world.specs.Outcomes.{Done, Failed, check, found_or, given as given_to}
+use Rattle.moo_world.specs.Requests.{decline, one_integer, petition_at, without}
 use Rattle.moo_world.specs.Rights.{is_wizard}
 use Rattle.moo_petitions.specs.Outcomes.{state_in}
 use Rattle.moo_petitions.proofs.Beside.{removed-keeps, removed-state}
@@ -17,10 +18,10 @@ returns-clause-reaches g c =
     let given : one_integer c.args.args.now ≡ Ok n = search rules in
     let found : petition_at s n ≡ Some (c.in-Some.id, c.in-Some.row.now) = search rules in
     let may : (same_object c.in-Some.row.now.who p || is_wizard s.world p) ≡ true = search rules in
-    ap (λ r. taking r (decline s p)) given
-    ∙ ap (λ o. found_petition o (λ e. unless_fails (same_object e.1.who p || is_wizard s.world p) Permission (Answered zero (without e.0 s)))) found
-    ∙ ap (λ b. unless_fails b Permission (Answered zero (without c.in-Some.id s))) may
-    ∙ ap (Answered zero) (sym (removed-state (g.R.Rows.held c.args.rows.now) (g.R.Rows.held c.remove_petition.new.self) c.in-Some.id c.in_ok-remove_petition.ensures.ok))
+    ap (λ r. given_to r (decline s p)) given
+    ∙ ap (λ o. found_or o InvalidArgument (λ e. check (same_object e.1.who p || is_wizard s.world p) (Failed Permission) (Done zero (without e.0 s)))) found
+    ∙ ap (λ b. check b (Failed Permission) (Done zero (without c.in-Some.id s))) may
+    ∙ ap (Done zero) (sym (removed-state (g.R.Rows.held c.args.rows.now) (g.R.Rows.held c.remove_petition.new.self) c.in-Some.id c.in_ok-remove_petition.ensures.ok))
 
 pub returns-clause-kept : goal.returns-clause-kept
 returns-clause-kept g c = removed-keeps (g.R.Rows.held c.args.rows.now) (g.R.Rows.held c.remove_petition.new.self) c.in-Some.id c.in_ok-remove_petition.ensures.ok c.requires.good

@@ -1,12 +1,13 @@
 use Rattle.std.proofs.Common.{◌≡◌, true, Ok, Some, List, sym, ap, ◌∙◌, subst, rules}
 use Rattle.std.specs.List.{list_all}
-use Rattle.moo_value.specs.declared.code.Code.TheVariants.{Permission}
+use Rattle.moo_value.specs.declared.code.Code.TheVariants.{Permission, InvalidArgument}
 use Rattle.moo_value.specs.declared.value.Value.{Value}
 use Rattle.moo_value.specs.Value.{spread}
 use Rattle.moo_rows.specs.declared.row.PetitionId.{PetitionId}
 use Rattle.moo_rows.specs.declared.row.PetitionRow.{PetitionRow}
 use Rattle.moo_world.specs.Arguments.{fits}
-use Rattle.moo_world.specs.Requests.{State, found_petition, grant, held_steps, in_world, one_integer, petition_at, taking, unless_fails, without}
+use Rattle.moo_world.specs.Outcomes.{Failed, check, found_or, given as given_to}
+use Rattle.moo_world.specs.Requests.{State, grant, held_steps, in_world, one_integer, petition_at, without}
 use Rattle.moo_world.specs.Rights.{is_wizard}
 use Rattle.moo_world.specs.World.{World}
 use Rattle.moo_world.proofs.Batches.Requested.{found_there}
@@ -44,9 +45,9 @@ returns-clause-reaches g c =
     let comes = subst (λ (w : World). ComesInTurn (held_steps w p (spread c.in-Some.row.now.calls)) new c.held_steps.result) (ap (λ (t : State). t.world) is)
     (subst (λ (l : List Value). ComesInTurn (held_steps (world_in mid) p l) new c.held_steps.result) helds c.held_steps.ensures.comes) in
     subst (λ effect. Reaches effect new c.held_steps.result)
-    (sym (ap (λ r. taking r (grant s p)) given
-    ∙ ap (λ b. unless_fails b Permission (found_petition (petition_at s n) (λ e. in_world (without e.0 s) (held_steps s.world p (spread e.1.calls))))) wizard
-    ∙ ap (λ o. found_petition o (λ e. in_world (without e.0 s) (held_steps s.world p (spread e.1.calls)))) found))
+    (sym (ap (λ r. given_to r (grant s p)) given
+    ∙ ap (λ b. check b (Failed Permission) (found_or (petition_at s n) InvalidArgument (λ e. in_world (without e.0 s) (held_steps s.world p (spread e.1.calls))))) wizard
+    ∙ ap (λ o. found_or o InvalidArgument (λ e. in_world (without e.0 s) (held_steps s.world p (spread e.1.calls)))) found))
     (granted-reaches (without c.in-Some.id s) p c.items.result.now mid new (held_steps s.world p (spread c.in-Some.row.now.calls)) c.held_steps.result is comes c.held_steps.ensures.kept)
 
 pub returns-clause-kept : goal.returns-clause-kept
