@@ -1,5 +1,5 @@
 -- The calls of petitions, and the outcome of any call of a batch. Petitions are this server's own: LambdaMOO has none.
-use Rattle.std.specs.Prelude.{◌≡◌, ℕ, ◌+◌, ◌<◌, ◌≤◌, ℤ, pos, negsuc, nat_lt, Bool, true, false, ◌&&◌, ◌||◌, List, [], ◌∷◌, map, Option, Some, None, is_some, Result, Ok, Err, if◌then◌else◌}
+use Rattle.std.specs.Prelude.{◌≡◌, ℕ, ◌+◌, ◌<◌, ◌≤◌, ℤ, pos, negsuc, nat_lt, Bool, ◌||◌, List, [], ◌∷◌, map, Option, Some, None, is_some, Result, Ok, Err, if◌then◌else◌}
 use Rattle.std.specs.Option.{option_map, option_and_then}
 use Rattle.std.specs.List.{filter, list_all}
 use Rattle.std.specs.FinMap.{FinMap, get, insert, remove, entries}
