@@ -64,8 +64,8 @@ abbrev pub ReadsAsOurs : Image → Type 0
 ReadsAsOurs image = (trees : Trees) × ReadsAs image trees × (¬ HasOtherTables trees)
 
 -- they hold half a first page, or nothing, or they read as a database without tables
-abbrev pub HasRoom : Image → Type 0
-HasRoom image = IsBlank image ⊎ (IsNothing image ⊎ ((trees : Trees) × ReadsAs image trees × (¬ HasAnyTable trees)))
+abbrev pub HoldsNoTable : Image → Type 0
+HoldsNoTable image = IsBlank image ⊎ (IsNothing image ⊎ ((trees : Trees) × ReadsAs image trees × (¬ HasAnyTable trees)))
 
 -- Tables of the first version have become others that show the same world. If they show none they don't become others.
 pub record IsMigrated (old new : Trees) : Type 0 where

@@ -38,11 +38,11 @@ module _ {T D : Type 0} {g : Ghosts D} where
   IsCleanRemains (remains.Connection conn) = HasCleanDisk (file_state conn)
 
   -- no file was opened
-  abbrev pub IsUnread : Remains T D g → Type 0
-  IsUnread (remains.Untouched start) = ⊤
-  IsUnread (remains.NotOpened seal) = ⊤
-  IsUnread (remains.Leftover left) = ⊥
-  IsUnread (remains.Connection conn) = ⊥
+  abbrev pub IsUnopened : Remains T D g → Type 0
+  IsUnopened (remains.Untouched start) = ⊤
+  IsUnopened (remains.NotOpened seal) = ⊤
+  IsUnopened (remains.Leftover left) = ⊥
+  IsUnopened (remains.Connection conn) = ⊥
 
   -- If no file was opened, the fault is one of these: before `sqlite` was asked, that the file can't be opened or is empty; from
   -- `sqlite`, that the files can't be opened, are open elsewhere, or memory ran out.

@@ -12,7 +12,7 @@ ghost use Rattle.moo_store.specs.States.{LeavesState};
 ghost use Rattle.moo_store.specs.Opening.{IsOfStore};
 ghost use Rattle.moo_store.specs.World.{store_of, StandsFor, Left};
 ghost use Rattle.moo_files.specs.Blank.{IsBlank};
-ghost use Rattle.moo_files.specs.Contents.{HoldsTrees, HoldsState, HasAnyTable, HasRoom};
+ghost use Rattle.moo_files.specs.Contents.{HoldsTrees, HoldsState, HasAnyTable, HoldsNoTable};
 ghost use Rattle.moo_files.specs.Remains.{IsCleanRemains, MayStopAs, KeepsSuch, StillHolds, KeepsNothingBut, Spares};
 
 use crate::remains::{Remains, open_new};
@@ -55,7 +55,7 @@ pub fn create_from<T: Start>(
     ensures taken { (s : State) → HoldsState (image_at T.Start) s → IfOk result (λ world. HasCleanDisk (store_of over_files world) → ⊥) }
     // Nor does one that holds any table, whether that shows a world or not. A World is made only in files that have room for it.
     ensures occupied { (trees : Trees) → HoldsTrees (image_at T.Start) trees → HasAnyTable trees → IfOk result (λ world. HasCleanDisk (store_of over_files world) → ⊥) }
-    ensures room { IfOk result (λ world. HasCleanDisk (store_of over_files world) → HasRoom (image_at T.Start)) }
+    ensures room { IfOk result (λ world. HasCleanDisk (store_of over_files world) → HoldsNoTable (image_at T.Start)) }
     ensures fault { IfErr result (λ e. IsOfStore e.0) }
     // After a refusal files that held any table hold the same database, and so does what a crash leaves. Of those that held none, or
     // nothing, a crash leaves nothing else than the opening world.

@@ -11,7 +11,7 @@ ghost use Rattle.sqlite.specs.WalFiles.{image_at};
 ghost use Rattle.sqlite_wal.specs.Recovery.{Image};
 ghost use Rattle.moo_store.specs.Opening.{IsOfStore};
 ghost use Rattle.moo_files.specs.Contents.{HoldsTrees, ReadsAs};
-ghost use Rattle.moo_files.specs.Remains.{cannot_open, busy, IsCleanRemains, IsUnread, MayStopAs, KeepsSuch, StillHolds, StillHoldsTrees, KeepsNothingBut, Spares};
+ghost use Rattle.moo_files.specs.Remains.{cannot_open, busy, IsCleanRemains, IsUnopened, MayStopAs, KeepsSuch, StillHolds, StillHoldsTrees, KeepsNothingBut, Spares};
 ghost use Rattle.moo_world.specs.Judge.{State};
 ghost use Rattle.moo_files.specs.Closing.{IsClosedFrom};
 
@@ -111,7 +111,7 @@ fn open_pair<T: Start>(
     ensures fresh { IfOk result (λ pair. IsFresh true pair.0.log × IsFresh false pair.0.db) }
     ensures fault { IfErr result (λ e. IsOfStore e.0) }
     ensures stopped { IfErr result (λ e. MayStopAs e.0 e.1) }
-    ensures unread { IfErr result (λ e. IsUnread e.1) }
+    ensures unopened { IfErr result (λ e. IsUnopened e.1) }
 {
     if path == ":memory:" || path.starts_with("file:") {
         return Err((CANNOT_OPEN, Remains::Untouched(start)));
