@@ -32,7 +32,7 @@ use Rattle.moo_store.specs.declared.fault.StoreFault.TheVariants.{Store, OutOfMe
 use Rattle.moo_files.specs.Blank.{IsBlank}
 use Rattle.moo_files.proofs.BlankLemmas.{holds_none}
 use Rattle.moo_files.specs.Contents.{HoldsTrees, HoldsTables, HoldsState, HasOtherTables, HasAnyTable, IsMigrated, IsKept, ReadsAs, ReadsAsOurs, HoldsNoTable}
-use Rattle.moo_files.proofs.RemainsLemmas.{found_empty, something}
+use Rattle.moo_files.proofs.RemainsLemmas.{found_empty, begun_empty}
 
 -- while it is open a crash leaves its last commit alone
 abbrev pub OnlyLeaves : Database → Type 0
@@ -114,6 +114,10 @@ pub left_new : (image : Image) (store : Database) → Opens store → NewOrFound
 left_new image store opens (inl made) only none left lies = subst IsEmpty (sym (only opens.is_open left lies)) made.1
 left_new image store opens (inr found) only none left lies = left_none image store opens found only none left lies
 
+pub left_begun : (image : Image) (store : Database) → Opens store → NewOrFound image store → OnlyLeaves store → IsBlank image → (left : Trees) → store.may_leave left → IsEmpty left
+left_begun image store opens (inl made) only begun left lies = subst IsEmpty (sym (only opens.is_open left lies)) made.1
+left_begun image store opens (inr found) only begun left lies = subst IsEmpty (sym (only opens.is_open left lies)) (begun_empty image store.committed.trees begun found.reads)
+
 pub empty_other : (image : Image) (store : Database) → Opens store → IsLive store → FindsIn image store → IsNothing image → (version : Version) → store.now.schema ≢ schema_of version
 empty_other image store opens live found none version is =
     let trees = store.now.trees in
@@ -176,10 +180,6 @@ no_table image store opens live (inr found) empty = elim (reads_sound image stor
 pub found_something : (image : Image) (store : Database) → Opens store → IsLive store → NewOrFound image store → ¬ IsNothing image → ¬ IsBlank image → (trees : Trees) × ReadsAs image trees
 found_something image store opens live (inl made) some begun = absurd (begun made.0)
 found_something image store opens live (inr found) some begun = reads_something image store opens live found some
-
--- files that hold nothing read as no database
-pub nothing_of_ours : (image : Image) → IsNothing image → ¬ ReadsAsOurs image
-nothing_of_ours image nothing it = ∥∥₁_elim it.1 (λ x y. absurd x) (λ held. something held.0 image held.1.pages held.1.found held.1.ours.file.sound nothing)
 
 -- what opening may commit in place of the database that the files held
 pub migrated : (image : Image) (store : Database) (trees left : Trees) → Opens store → IsLive store → FindsIn image store → HoldsTrees image trees → Adopts store left → IsMigrated trees left

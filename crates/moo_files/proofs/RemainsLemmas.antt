@@ -13,6 +13,7 @@ use Rattle.sqlite_pool.specs.Stored.{stored_size, reserved, is_summed, StandsAs,
 use Rattle.sqlite_pool.specs.Stored.{Adopts, used_size, sealed}
 use Rattle.sqlite_pool.specs.StoredLaws.{trimmed_some}
 use Rattle.sqlite_pool.specs.Header.{first_page}
+use Rattle.sqlite_pool.specs.Opening.{IsBlankFile}
 use Rattle.sqlite_pool.specs.File.{header_in, IsSoundFile}
 use Rattle.sqlite_pool.proofs.ProbeLemmas.{size_by_log, size_by_file, reserved_word, first_byte}
 use Rattle.sqlite_wal.proofs.AppendLemmas.{some_value}
@@ -21,13 +22,14 @@ use Rattle.sqlite_store.specs.Unopened.{state_of}
 use Rattle.sqlite_trees.specs.Props.{Trees-set}
 use Rattle.sqlite.specs.Tree.{Trees}
 use Rattle.sqlite.specs.State.{State as Database}
-use Rattle.sqlite.specs.Files.{IsNothing, IsEmpty, HoldsDatabase, NamesSize, SaysSums, LeavesFiles, AreFoundIn, image_of, file_state}
+use Rattle.sqlite.specs.Files.{IsNothing, IsEmpty, HoldsDatabase, NamesSize, SaysSums, BeginsWell, LeavesFiles, AreFoundIn, image_of, file_state}
 use Rattle.sqlite.specs.declared.file.Leftover.{Leftover}
 use Rattle.sqlite.specs.declared.file.Leftover.TheVariants as left
 use Rattle.sqlite.proofs.FileLemmas.{is_something}
 use Rattle.moo_files.specs.Blank.{IsBlank, LeavesBlank, SparesFiles}
+use Rattle.moo_files.proofs.BegunLemmas.{begun_unreadable}
 use Rattle.moo_files.proofs.BlankLemmas.{holds_none}
-use Rattle.moo_files.specs.Contents.{HoldsTrees, HoldsSuch, HoldsNothingBut, ReadsAs}
+use Rattle.moo_files.specs.Contents.{HoldsTrees, HoldsSuch, HoldsNothingBut, ReadsAs, ReadsAsOurs}
 use Rattle.moo_files.specs.declared.remains.Remains.{Remains}
 use Rattle.moo_files.specs.declared.remains.Remains.TheVariants as remains
 use Rattle.moo_files.specs.Closing.{IsLeftOf, IsClosedFrom}
@@ -96,9 +98,9 @@ stands_for image found trees held size same stands =
 long_size : (size : ℕ) (page : List ℕ) → length (take 16 (take 100 (take size page))) ≡ 16 → 16 ≤ size
 long_size size page len = omega (arith, len, length-take 16 (take 100 (take size page)), length-take 100 (take size page), length-take size page)
 
--- a sound file isn't nothing, whatever its page size
-pub something : (size : ℕ) (image : Image) (pages : Pages) → Adopts size image pages → IsSoundFile size pages → ¬ IsNothing image
-something size image pages found sound nothing =
+-- the first page of a sound file is whole, whatever its size
+not_begun : (size : ℕ) (image : Image) (pages : Pages) → Adopts size image pages → IsSoundFile size pages → (other : ℕ) → 0 < other → ¬ IsBlankFile other image
+not_begun size image pages found sound other some =
     let (page, is) = some_value (found.stored 1) found.whole.first in
     let used : pages 1 ≡ Some (take size page) = ap (λ (p : Pages). p 1) (sym found.shows) ∙ trimmed_some size _ 1 page is in
     let head : header_in pages ≡ take 100 (take size page) = ap (λ (o : Option (List ℕ)). take 100 (unwrap_or o [])) used in
@@ -106,14 +108,27 @@ something size image pages found sound nothing =
     let long : 16 ≤ size = long_size size page (ap length magic) in
     let byte = sym (get_or-take size page 0 0 (omega (arith, long))) ∙ sym (get_or-take 100 (take size page) 0 0 (omega arith)) ∙ sym (get_or-take 16 (take 100 (take size page)) 0 0 (omega arith))
     ∙ ap (λ (b : List ℕ). slice_index b 0) magic in
-    let never = λ (other : ℕ) (some : 0 < other). let gate = first_byte other some in
-    begun_is_not_blank (sealed (first_page other)) page (stored_size size) image found.stored found.found is (found.whole.sized 1 page is) (omega (arith, long)) (byte ∙ sym gate) (λ none. let never = sym gate ∙ none in omega arith) in
+    let gate = first_byte other some in
+    begun_is_not_blank (sealed (first_page other)) page (stored_size size) image found.stored found.found is (found.whole.sized 1 page is) (omega (arith, long)) (byte ∙ sym gate) (λ none. let never = sym gate ∙ none in omega arith)
+
+something : (size : ℕ) (image : Image) (pages : Pages) → Adopts size image pages → IsSoundFile size pages → ¬ IsNothing image
+something size image pages found sound nothing =
+    let never = not_begun size image pages found sound in
     elim nothing [ inl plain ↦ never (used_size 4096 false) (omega arith) plain | inr summed ↦ never (used_size 4096 true) (omega arith) summed ]
+
+-- files that hold nothing read as no database
+pub nothing_of_ours : (image : Image) → IsNothing image → ¬ ReadsAsOurs image
+nothing_of_ours image nothing it = ∥∥₁_elim it.1 (λ x y. absurd x) (λ held. something held.0 image held.1.pages held.1.found held.1.ours.file.sound nothing)
 
 -- files that hold nothing read as nothing
 pub found_empty : (image : Image) (db : Trees) → IsNothing image → AreFoundIn image db → IsEmpty db
 found_empty image db nothing (inl it) = absurd (∥∥₁_elim it.4 (λ x y. absurd x) (λ ours. something it.0 image it.1 it.3 ours.file.sound nothing))
 found_empty image db nothing (inr it) = it.1
+
+-- and so do files that hold half a first page
+pub begun_empty : (image : Image) (db : Trees) → IsBlank image → AreFoundIn image db → IsEmpty db
+begun_empty image db begun (inl it) = absurd (∥∥₁_elim it.4 (λ x y. absurd x) (λ ours. not_begun it.0 image it.1 it.3 ours.file.sound 1024 (omega arith) begun))
+begun_empty image db begun (inr it) = it.1
 
 module _ {D : Type 0} {g : Ghosts D} (image : Image) (files : Files D) (same : image_of g files ≡ image) (only : (now : Image) → outcomes g files.log files.db now → now ≡ image) where
   -- of files that held a database
@@ -200,6 +215,17 @@ module _ {D : Type 0} {g : Ghosts D} (image : Image) (files : Files D) (same : i
   spared_blank rest (inl blank) nothing = made_blank rest blank.1 (inl nothing)
   spared_blank rest (inr leaves) nothing = leftover_blank rest leaves nothing
 
+  -- of files that held half a first page of 1,024 bytes
+  pub spared_begun : (rest : Leftover D g) → SparesFiles files rest → IsBlank image → LeftoverBlank (λ _. ⊥) rest
+  spared_begun rest (inl blank) begun = made_blank rest blank.1 (inr begun)
+  spared_begun (left.Files now) (inr leaves) begun = λ found lies. inr (inl (subst IsBlank (sym (only found (leaves found lies))) begun))
+  spared_begun (left.Unopened now) (inr (inl nothing)) begun = leftover_blank (left.Unopened now) (inl nothing) (subst IsNothing same nothing.0)
+  spared_begun (left.Unopened now) (inr (inr leaves)) begun = λ found lies.
+      let size = (state_of now).page_size in
+      let none : IsUnreadable size image = begun_unreadable image size begun (subst (λ i. NamesSize i (stored_size size)) same leaves.1) (subst (BeginsWell (stored_size size)) same leaves.2) in
+      inr (inl (subst IsBlank (sym (only found ((leaves.4 found lies).unread (subst (IsUnreadable size) (sym same) none)))) begun))
+  spared_begun (left.Store now) (inr leaves) begun = λ found lies. inl (begun_empty image found begun (subst (λ i. AreFoundIn i found) same (leaves found lies).0))
+
 -- ---- from what `sqlite` leaves to the remains
 
 such_more : (P Q : Trees → Type 0) → ((trees : Trees) → P trees → Q trees) → (image : Image) → HoldsSuch P image → HoldsSuch Q image
@@ -222,8 +248,9 @@ module _ {T D : Type 0} {g : Ghosts D} where
   unopened_keeps image (remains.Leftover left) trees unopened holds = absurd unopened
   unopened_keeps image (remains.Connection conn) trees unopened holds = absurd unopened
 
-  pub unopened_blank : (image : Image) (r : Remains T D g) → IsUnopened r → IsNothing image → KeepsNothingBut (λ _. ⊥) image r
-  unopened_blank image (remains.Untouched start) unopened nothing = inl nothing
+  pub unopened_blank : (image : Image) (r : Remains T D g) → IsUnopened r → IsNothing image ⊎ IsBlank image → KeepsNothingBut (λ _. ⊥) image r
+  unopened_blank image (remains.Untouched start) unopened (inl nothing) = inl nothing
+  unopened_blank image (remains.Untouched start) unopened (inr begun) = inr (inl begun)
   unopened_blank image (remains.NotOpened seal) unopened nothing = tt
   unopened_blank image (remains.Leftover left) unopened nothing = absurd unopened
   unopened_blank image (remains.Connection conn) unopened nothing = absurd unopened

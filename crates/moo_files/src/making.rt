@@ -62,6 +62,8 @@ pub fn create_from<T: Start>(
     ensures kept { (trees : Trees) → HoldsTrees (image_at T.Start) trees → HasAnyTable trees → IfErr result (λ e. IsCleanRemains e.1 → KeepsSuch (λ found. found ≡ trees) (image_at T.Start) e.1) }
     ensures trees { (trees : Trees) → HoldsTrees (image_at T.Start) trees → IfErr result (λ e. IsCleanRemains e.1 → KeepsSuch (λ found. (found ≡ trees) ⊎ LeavesState found (state_of opening_maps)) (image_at T.Start) e.1) }
     ensures blank { IsNothing (image_at T.Start) → IfErr result (λ e. IsCleanRemains e.1 → KeepsNothingBut (λ found. LeavesState found (state_of opening_maps)) (image_at T.Start) e.1) }
+    // So it is if they held half a first page, as a crash may leave it while a world is made.
+    ensures begun { IsBlank (image_at T.Start) → IfErr result (λ e. IsCleanRemains e.1 → KeepsNothingBut (λ found. LeavesState found (state_of opening_maps)) (image_at T.Start) e.1) }
     // Files that held anything else, sound or not, are spared.
     ensures spared { ¬ IsNothing (image_at T.Start) → ¬ IsBlank (image_at T.Start) → IfErr result (λ e. IsCleanRemains e.1 → Spares (image_at T.Start) e.1) }
     // A file that wasn't opened is refused for one of few reasons.

@@ -6,7 +6,7 @@ use Rattle.moo_rows.specs.Maps.{Maps}
 use Rattle.moo_world.specs.Judge.{state_of}
 use Rattle.moo_store.specs.States.{LeavesState}
 use Rattle.moo_store.specs.World.{store_of}
-use Rattle.moo_files.proofs.ContentsLemmas.{was_clean, clean_either, shows_held, left_held, left_only, left_new, finds_held, has_tables, any_table, no_table, found_something, or_committed}
+use Rattle.moo_files.proofs.ContentsLemmas.{was_clean, clean_either, shows_held, left_held, left_only, left_new, left_begun, finds_held, has_tables, any_table, no_table, found_something, or_committed}
 use Rattle.moo_files.proofs.RemainsLemmas.{keeps_more, blank_more}
 use Rattle.moo_files.proofs.loading.load_from.Goals as goal
 
@@ -69,6 +69,15 @@ returns-in-Err-load_files-clause-blank g c nothing clean =
     or_committed conn last (Made c.args.rows.maps) IsEmpty c.in-Err-load_files.ensures.crash_refused clean
     (left_new (image_at g.T.Start) (file_state conn) opened.0 (c.in-Ok.ensures.found early) c.in-Ok.ensures.left nothing)
 
+pub returns-in-Err-load_files-clause-begun : goal.returns-in-Err-load_files-clause-begun
+returns-in-Err-load_files-clause-begun g c begun clean =
+    let conn = c.in-Ok.conn in
+    let last = c.in-Err-load_files.conn in
+    let early = clean_either conn last (Made c.args.rows.maps) c.in-Err-load_files.ensures.crash_refused clean in
+    let opened = c.in-Ok.ensures.opened early in
+    or_committed conn last (Made c.args.rows.maps) IsEmpty c.in-Err-load_files.ensures.crash_refused clean
+    (left_begun (image_at g.T.Start) (file_state conn) opened.0 (c.in-Ok.ensures.found early) c.in-Ok.ensures.left begun)
+
 pub returns-in-Err-load_files-clause-refused : goal.returns-in-Err-load_files-clause-refused
 returns-in-Err-load_files-clause-refused g c s holds clean =
     let conn = c.in-Ok.conn in
@@ -97,6 +106,10 @@ returns-in-Err-clause-trees g c trees holds clean =
 pub returns-in-Err-clause-blank : goal.returns-in-Err-clause-blank
 returns-in-Err-clause-blank g c nothing clean =
     blank_more (λ _. ⊥) (Made c.args.rows.maps) (λ found never. absurd never) (image_at g.T.Start) c.in-Err.remains (c.in-Err.ensures.blank nothing clean)
+
+pub returns-in-Err-clause-begun : goal.returns-in-Err-clause-begun
+returns-in-Err-clause-begun g c begun clean =
+    blank_more (λ _. ⊥) (Made c.args.rows.maps) (λ found never. absurd never) (image_at g.T.Start) c.in-Err.remains (c.in-Err.ensures.begun begun clean)
 
 pub returns-in-Err-clause-refused : goal.returns-in-Err-clause-refused
 returns-in-Err-clause-refused g c s holds clean =

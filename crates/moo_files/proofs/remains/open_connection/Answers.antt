@@ -60,7 +60,7 @@ pub returns-in-Err-clause-kept : goal.returns-in-Err-clause-kept
 returns-in-Err-clause-kept g c trees holds clean = unopened_keeps (image_at g.T.Start) c.in-Err.refused.1 trees c.in-Err.ensures.unopened holds
 
 pub returns-in-Err-clause-blank : goal.returns-in-Err-clause-blank
-returns-in-Err-clause-blank g c nothing clean = unopened_blank (image_at g.T.Start) c.in-Err.refused.1 c.in-Err.ensures.unopened nothing
+returns-in-Err-clause-blank g c nothing clean = unopened_blank (image_at g.T.Start) c.in-Err.refused.1 c.in-Err.ensures.unopened (inl nothing)
 
 pub returns-in-Err-clause-spared : goal.returns-in-Err-clause-spared
 returns-in-Err-clause-spared g c some clean = unopened_spares (image_at g.T.Start) c.in-Err.refused.1 c.in-Err.ensures.unopened
