@@ -57,7 +57,7 @@ HasAnyTable trees = ¬ IsDatabase (record { schema = no_schema; trees = trees })
 
 -- A log and its file read as a sound database. `HoldsTrees` says besides that SQLite allows the size of its pages.
 abbrev pub ReadsAs : Image → Trees → Type 0
-ReadsAs image trees = ∥ (size : ℕ) × HoldsIn size image trees ∥₁
+ReadsAs image trees = ∥ ((size : ℕ) × HoldsIn size image trees) ∥₁
 
 -- they read as a sound database with tables of ours
 abbrev pub ReadsAsOurs : Image → Type 0
