@@ -1,7 +1,8 @@
 use Rattle.std.proofs.Common.{inl, inr, refl, true}
 use Rattle.sqlite.specs.WalFiles.{image_at}
 use Rattle.moo_world.specs.Judge.{state_of}
-use Rattle.moo_commands.specs.Run.{texts_by}
+use Rattle.moo_http.specs.Turns.{AttendedOn}
+use Rattle.moo_commands.specs.Run.{given_by}
 use Rattle.moo_commands.proofs.Beginning.{begins_dumped, of_other_texts, fails_to_begin, unmade_begins, fresh_begins, never_other}
 use Rattle.moo_commands.proofs.Connections.{surely}
 use Rattle.moo_commands.proofs.Refusals.{fails_at_once, tells_fault}
@@ -29,15 +30,15 @@ returns-in-Err g c =
 
 pub returns-in-Ok-load_from : goal.returns-in-Ok-load_from
 returns-in-Ok-load_from g c =
-    let texts = texts_by (g.R.Read.remaining c.args.input) (g.B.BatchFiles.text c.args.files.now) in
+    let given = given_by (g.R.Read.remaining c.args.input) (g.H.BatchFiles.text c.args.host.now) (AttendedOn g.H.Source.Arrivals.hands_out g.H.Source.Arrivals.takes_back g.H.Source.Reader.Read.remaining g.H.Source.Writer.Write.contents (g.H.Ports.opens c.args.host.now)) in
     let s = state_of c.in-Ok.rows.maps in
     let stands = c.in-Ok-load_from.ensures.stands in
     let ran = c.run_in_files.ensures in
     record {
       anew = λ anew. (
         s,
-        begins_dumped c.args.task texts c.args.dump.now s c.requires.load c.requires.word c.in-Ok.ensures.dumped,
-        of_other_texts c.args.task c.requires.load s _ texts _ _ _ _ _ _ (surely _ _ _ _ _ _ _ _ _ (ran.runs true s stands)),
+        begins_dumped c.args.task given c.args.dump.now s c.requires.load c.requires.word c.in-Ok.ensures.dumped,
+        of_other_texts c.args.task c.requires.load s _ given _ _ _ _ _ _ (surely _ _ _ _ _ _ _ _ _ (ran.runs true s stands)),
       );
       taken = λ t anew holds clean. c.in-Ok-load_from.ensures.taken t holds (ran.clean true s stands clean);
       kept = λ s other holds. never_other c.args.task c.requires.load other;
@@ -58,9 +59,9 @@ pub returns-in-Err-load_from : goal.returns-in-Err-load_from
 returns-in-Err-load_from g c =
     let fault = c.in-Err-load_from.fault in
     let image = image_at g.T.Start in
-    let texts = texts_by (g.R.Read.remaining c.args.input) (g.B.BatchFiles.text c.args.files.now) in
+    let given = given_by (g.R.Read.remaining c.args.input) (g.H.BatchFiles.text c.args.host.now) (AttendedOn g.H.Source.Arrivals.hands_out g.H.Source.Arrivals.takes_back g.H.Source.Reader.Read.remaining g.H.Source.Writer.Write.contents (g.H.Ports.opens c.args.host.now)) in
     let s = state_of c.in-Ok.rows.maps in
-    let begins = begins_dumped c.args.task texts c.args.dump.now s c.requires.load c.requires.word c.in-Ok.ensures.dumped in
+    let begins = begins_dumped c.args.task given c.args.dump.now s c.requires.load c.requires.word c.in-Ok.ensures.dumped in
     let old = g.W.Write.contents c.args.output.now in
     let new = g.W.Write.contents c.report-in-Err-load_from.new.output in
     let status = c.report-in-Err-load_from.result in
@@ -76,8 +77,8 @@ returns-in-Err-load_from g c =
       left = c.in-Err-load_from.ensures.refused;
       trees = λ trees other holds. never_other c.args.task c.requires.load other;
       spared = λ trees anew holds any. c.in-Err-load_from.ensures.kept trees holds any;
-      unmade = λ trees anew holds clean. unmade_begins c.args.task texts s begins trees image c.in-Err-load_from.remains (c.in-Err-load_from.ensures.trees trees holds clean);
-      fresh = λ anew none clean. fresh_begins c.args.task texts s begins image c.in-Err-load_from.remains (c.in-Err-load_from.ensures.blank none clean);
+      unmade = λ trees anew holds clean. unmade_begins c.args.task given s begins trees image c.in-Err-load_from.remains (c.in-Err-load_from.ensures.trees trees holds clean);
+      fresh = λ anew none clean. fresh_begins c.args.task given s begins image c.in-Err-load_from.remains (c.in-Err-load_from.ensures.blank none clean);
       blank = λ other none. never_other c.args.task c.requires.load other;
       told = inl (fault, c.in-Err-load_from.ensures.stopped, reports);
     }
