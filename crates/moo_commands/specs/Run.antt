@@ -78,6 +78,16 @@ dump_word (Load file dump) = dump.now
 dump_word (Check file) = []
 dump_word (Serve file port count) = []
 
+-- Once its world is open or made, the task only reads it: all but `apply` and `serve`.
+abbrev pub only_reads : Task → Bool
+only_reads (Init file) = true
+only_reads (Apply file batches) = false
+only_reads (Ask file batches) = true
+only_reads (Dump file) = true
+only_reads (Load file dump) = true
+only_reads (Check file) = true
+only_reads (Serve file port count) = false
+
 -- the text of each word for batches or a dump, if it is known
 abbrev pub Texts : Type 0
 Texts = List ℕ → Option (List ℕ)
@@ -161,6 +171,10 @@ StopsTask (Check file) s end failure Clean given old new =
     × (((fault : StoreFault) × (failure ≡ store_failure fault) × (Clean → IsOfStore fault) × (new ≡ old))
     ⊎ StopsIn (checked_line s.seq (length (objects_of s.world))) failure old new)
 StopsTask (Serve file port count) s end failure Clean given old new = StopsServing given.attends port count s end failure old new
+
+-- a crash leaves nothing that it couldn't leave before
+abbrev pub LeavesNothingNew : Database → Database → Type 0
+LeavesNothingNew old new = HasCleanDisk new → (trees : Trees) → new.may_leave trees → old.may_leave trees
 
 -- What was done to a World leaves it so: if the disk returns what was written, it did so before, and what a crash leaves is known.
 pub record EndsTask {S : Type 0} (g : Ghosts S) (known : Bool) (was world : World S) (End : Stand → Type 0) : Type 0 where

@@ -1,6 +1,6 @@
 //! What each command does over a world.
 
-ghost use Rattle.std.specs.Prelude.{◌≡◌, ◌⊎◌, length, IfOk, IfErr, OnOk, Bool, IsTrue};
+ghost use Rattle.std.specs.Prelude.{◌≡◌, ◌⊎◌, true, length, IfOk, IfErr, OnOk, Bool, IsTrue};
 ghost use Rattle.sqlite.specs.State.{HasCleanDisk, Survives};
 ghost use Rattle.std.specs.Io.KnownBytes.{Appends};
 ghost use Rattle.moo_world.specs.Judge.{State};
@@ -14,7 +14,7 @@ ghost use Rattle.moo_store.specs.Turns.{Halts};
 ghost use Rattle.moo_store.specs.World.{store_of, StandsFor};
 ghost use Rattle.moo_http.specs.Turns.{AttendedOn};
 ghost use Rattle.moo_commands.specs.Lines.{text_failure, store_failure, checked_line, loaded_line};
-ghost use Rattle.moo_commands.specs.Run.{texts_by, given_by, lost_status, RunsText, StopsText, StopsIn, Serving, StopsServing, ShowsTables, Done, StopsTask, EndsTask};
+ghost use Rattle.moo_commands.specs.Run.{texts_by, given_by, lost_status, RunsText, StopsText, StopsIn, Serving, StopsServing, ShowsTables, Done, StopsTask, EndsTask, LeavesNothingNew, only_reads};
 
 use crate::failure::Failure;
 use crate::host::BatchFiles;
@@ -233,6 +233,8 @@ pub(crate) fn do_task<H: BatchFiles + Ports, R: Read + Drop, W: Write, S: Alter 
         Done task.entry s end (ShowsTables S.Store world.old (store_of S.Store world.new)) (given_by (R.remaining input) (H.text host.now) (AttendedOn H.Source.hands_out H.Source.takes_back H.Source.Reader.remaining H.Source.Writer.contents (H.opens host.now))) (W.contents output.old) (W.contents output.new) status)) }
     ensures stops { (known : Bool) (s : State) → StandsFor S.Store known world.old s → IfErr result (λ failure. EndsTask S.Store known world.old world.new (λ end.
         StopsTask task.entry s end failure (IsTrue known × HasCleanDisk (store_of S.Store world.new)) (given_by (R.remaining input) (H.text host.now) (AttendedOn H.Source.hands_out H.Source.takes_back H.Source.Reader.remaining H.Source.Writer.contents (H.opens host.now))) (W.contents output.old) (W.contents output.new))) }
+    // A task that only reads commits nothing.
+    ensures still { only_reads task.entry ≡ true → LeavesNothingNew (store_of S.Store world.old) (store_of S.Store world.new) }
 {
     world.leaves();
     match task {

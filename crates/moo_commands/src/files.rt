@@ -17,7 +17,7 @@ ghost use Rattle.moo_files.specs.Contents.{HoldsTrees, HoldsTables, HoldsState, 
 ghost use Rattle.moo_files.specs.Remains.{IsCleanRemains, MayStopAs, KeepsSuch, KeepsNothingBut, StillHolds, StillHoldsTrees};
 ghost use Rattle.moo_http.specs.Turns.{AttendedOn};
 ghost use Rattle.moo_commands.specs.Lines.{Tells, store_failure};
-ghost use Rattle.moo_commands.specs.Run.{begins_anew, file_of, is_load, dump_word, given_by, RunsFrom, RunsTask, ShowsTables};
+ghost use Rattle.moo_commands.specs.Run.{begins_anew, file_of, is_load, dump_word, given_by, only_reads, LeavesNothingNew, RunsFrom, RunsTask, ShowsTables};
 ghost use Rattle.moo_commands.specs.Ends.{RunsFile, EndsWith};
 
 use crate::ends::Ends;
@@ -65,6 +65,7 @@ fn run_in_files<H: BatchFiles + Ports, R: Read + Drop, W: Write, D: Disk + Drop>
 ) -> Connection<FileStore<D>>
     ensures runs { (known : Bool) (s : State) → StandsFor over_files known world s → RunsFrom task.entry s (given_by (R.remaining input) (H.text host.now) (AttendedOn H.Source.hands_out H.Source.takes_back H.Source.Reader.remaining H.Source.Writer.contents (H.opens host.now))) (W.contents output.old) (W.contents output.new) status.new (IsTrue known × HasCleanDisk (file_state result)) (CrashLeaves (file_state result)) (ShowsTables over_files world (file_state result)) }
     ensures clean { (known : Bool) (s : State) → StandsFor over_files known world s → HasCleanDisk (file_state result) → HasCleanDisk (store_of over_files world) }
+    ensures still { only_reads task.entry ≡ true → LeavesNothingNew (store_of over_files world) (file_state result) }
 {
     run_in(rt, world, task, host, input, output, status)
 }

@@ -11,7 +11,7 @@ ghost use Rattle.moo_store.specs.States.{ShowsState};
 ghost use Rattle.moo_store.specs.World.{store_of, CrashLeaves, StandsFor};
 ghost use Rattle.moo_http.specs.Turns.{AttendedOn};
 ghost use Rattle.moo_commands.specs.Lines.{Reports};
-ghost use Rattle.moo_commands.specs.Run.{begins_anew, is_load, dump_word, BeginsWith, FailsToBegin, given_by, ShowsTables, RunsFrom, RunsOpened, RunsShown, FailsAtOnce, LeavesAsBefore};
+ghost use Rattle.moo_commands.specs.Run.{begins_anew, is_load, dump_word, BeginsWith, FailsToBegin, given_by, ShowsTables, RunsFrom, RunsOpened, RunsShown, FailsAtOnce, LeavesAsBefore, LeavesNothingNew, only_reads};
 
 use crate::commands::do_task;
 use crate::failure::Failure;
@@ -67,6 +67,8 @@ pub fn run_in<H: BatchFiles + Ports, R: Read + Drop, W: Write, S: Alter + Drop>(
     // The task runs from the state that the World stands for. A check that is done found that the tables show the World's rows.
     ensures runs { (known : Bool) (s : State) → StandsFor S.Store known world s → RunsFrom task.entry s (given_by (R.remaining input) (H.text host.now) (AttendedOn H.Source.hands_out H.Source.takes_back H.Source.Reader.remaining H.Source.Writer.contents (H.opens host.now))) (W.contents output.old) (W.contents output.new) status.new (IsTrue known × HasCleanDisk (state S.Store result)) (CrashLeaves (state S.Store result)) (ShowsTables S.Store world (state S.Store result)) }
     ensures clean { (known : Bool) (s : State) → StandsFor S.Store known world s → HasCleanDisk (state S.Store result) → HasCleanDisk (store_of S.Store world) }
+    // A task that only reads commits nothing.
+    ensures still { only_reads task.entry ≡ true → LeavesNothingNew (store_of S.Store world) (state S.Store result) }
 {
     let done = do_task(rt, &mut world, task, host, input, output);
     *status = ended(rt, done, output);
