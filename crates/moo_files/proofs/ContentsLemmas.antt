@@ -1,7 +1,7 @@
 -- From what the files hold to what a connection to them keeps.
 use Rattle.std.proofs.Common.{◌≡◌, ◌≢◌, ◌⊎◌, inl, inr, ℕ, zero, suc, ◌≤◌, Result, Ok, Err, IfErr, [], ap, arith, sym, subst, subst₂, ◌∙◌}
 use Rattle.std.specs.Prelude.{length, IsTrue}
-use Rattle.std.proofs.Math.Logic.{∥∥₁_elim}
+use Rattle.std.proofs.Math.Logic.{∥∥₁_elim, ∥∥₁_map}
 use Rattle.sqlite_trees.specs.Props.{Trees-set}
 use Rattle.sqlite.specs.Recovery.{Image}
 use Rattle.sqlite.specs.Schema.{Schema}
@@ -31,8 +31,8 @@ use Rattle.moo_store.specs.declared.fault.StoreFault.{StoreFault}
 use Rattle.moo_store.specs.declared.fault.StoreFault.TheVariants.{Store, OutOfMemory}
 use Rattle.moo_files.specs.Blank.{IsBlank}
 use Rattle.moo_files.proofs.BlankLemmas.{holds_none}
-use Rattle.moo_files.specs.Contents.{HoldsTrees, HoldsTables, HoldsState, HasOtherTables, HasAnyTable, IsMigrated, IsKept}
-use Rattle.moo_files.proofs.RemainsLemmas.{found_empty}
+use Rattle.moo_files.specs.Contents.{HoldsTrees, HoldsTables, HoldsState, HasOtherTables, HasAnyTable, IsMigrated, IsKept, ReadsAs, ReadsAsOurs, HoldsNoTable}
+use Rattle.moo_files.proofs.RemainsLemmas.{found_empty, begun_empty}
 
 -- while it is open a crash leaves its last commit alone
 abbrev pub OnlyLeaves : Database → Type 0
@@ -114,6 +114,10 @@ pub left_new : (image : Image) (store : Database) → Opens store → NewOrFound
 left_new image store opens (inl made) only none left lies = subst IsEmpty (sym (only opens.is_open left lies)) made.1
 left_new image store opens (inr found) only none left lies = left_none image store opens found only none left lies
 
+pub left_begun : (image : Image) (store : Database) → Opens store → NewOrFound image store → OnlyLeaves store → IsBlank image → (left : Trees) → store.may_leave left → IsEmpty left
+left_begun image store opens (inl made) only begun left lies = subst IsEmpty (sym (only opens.is_open left lies)) made.1
+left_begun image store opens (inr found) only begun left lies = subst IsEmpty (sym (only opens.is_open left lies)) (begun_empty image store.committed.trees begun found.reads)
+
 pub empty_other : (image : Image) (store : Database) → Opens store → IsLive store → FindsIn image store → IsNothing image → (version : Version) → store.now.schema ≢ schema_of version
 empty_other image store opens live found none version is =
     let trees = store.now.trees in
@@ -130,6 +134,52 @@ foreign_other image store trees opens live found holds others version is = other
 
 pub any_table : (image : Image) (store : Database) (trees : Trees) → Opens store → IsLive store → FindsIn image store → HoldsTrees image trees → HasAnyTable trees → store.now.schema ≢ no_schema
 any_table image store trees opens live found holds any is = any (is_database image store trees no_schema opens live found holds is)
+
+-- ---- what the files of a connection read as
+
+-- the files of a connection held nothing, or they read as its database
+pub reads_sound : (image : Image) (store : Database) → Opens store → IsLive store → FindsIn image store → IsNothing image ⊎ ReadsAs image store.committed.trees
+reads_sound image store opens live found = elim found.reads [
+  | inl it ↦
+      inr (∥∥₁_map it.4 (λ ours. (it.0, record { pages = it.1; wanted = it.2; schema = store.committed.schema; found = it.3; ours = ours; reads = it.5; sound = (live opens.is_open).1 })))
+  | inr it ↦ inl it.0
+]
+
+is_committed : (store : Database) (schema : Schema) → Opens store → IsLive store → store.now.schema ≡ schema → IsDatabase (record { schema = schema; trees = store.committed.trees })
+is_committed store schema opens live is = subst₂ (λ schema db. IsDatabase (record { schema = schema; trees = db })) is (ap (λ db. db.trees) opens.clean) (live opens.is_open).0
+
+-- a World was opened over them, so that their tables are ours
+pub reads_ours : (image : Image) (store : Database) → Opens store → IsLive store → FindsIn image store → ¬ ((version : Version) → store.now.schema ≢ schema_of version) → ReadsAsOurs image
+reads_ours image store opens live found ours = elim (reads_sound image store opens live found) [
+  | inl nothing ↦ absurd (ours (empty_other image store opens live found nothing))
+  | inr reads ↦ (store.committed.trees, reads, λ others. ours (λ version is. others version (is_committed store (schema_of version) opens live is)))
+]
+
+-- files that don't read as a database of ours have no tables of ours
+pub unsound_other : (image : Image) (store : Database) → Opens store → IsLive store → FindsIn image store → ¬ ReadsAsOurs image → (version : Version) → store.now.schema ≢ schema_of version
+unsound_other image store opens live found none = elim (reads_sound image store opens live found) [
+  | inl nothing ↦ empty_other image store opens live found nothing
+  | inr reads ↦ λ version is. none (store.committed.trees, reads, λ others. others version (is_committed store (schema_of version) opens live is))
+]
+
+-- a connection that is handed back is over files that read as a database, unless they held nothing
+pub reads_something : (image : Image) (store : Database) → Opens store → IsLive store → FindsIn image store → ¬ IsNothing image → (trees : Trees) × ReadsAs image trees
+reads_something image store opens live found some = elim (reads_sound image store opens live found) [
+  | inl nothing ↦ absurd (some nothing)
+  | inr reads ↦ (store.committed.trees, reads)
+]
+
+-- a world was made in them, so that they had room for it
+pub no_table : (image : Image) (store : Database) → Opens store → IsLive store → NewOrFound image store → ¬ (store.now.schema ≢ no_schema) → HoldsNoTable image
+no_table image store opens live (inl made) empty = inl made.0
+no_table image store opens live (inr found) empty = elim (reads_sound image store opens live found) [
+  | inl nothing ↦ inr (inl nothing)
+  | inr reads ↦ inr (inr (store.committed.trees, reads, λ any. empty (λ is. any (is_committed store no_schema opens live is))))
+]
+
+pub found_something : (image : Image) (store : Database) → Opens store → IsLive store → NewOrFound image store → ¬ IsNothing image → ¬ IsBlank image → (trees : Trees) × ReadsAs image trees
+found_something image store opens live (inl made) some begun = absurd (begun made.0)
+found_something image store opens live (inr found) some begun = reads_something image store opens live found some
 
 -- what opening may commit in place of the database that the files held
 pub migrated : (image : Image) (store : Database) (trees left : Trees) → Opens store → IsLive store → FindsIn image store → HoldsTrees image trees → Adopts store left → IsMigrated trees left

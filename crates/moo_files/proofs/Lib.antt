@@ -1,4 +1,5 @@
 pub mod AgainLemmas
+mod BegunLemmas
 mod BlankLemmas
 mod ContentsLemmas
 pub mod RemainsLemmas

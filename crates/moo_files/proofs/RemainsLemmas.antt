@@ -1,5 +1,5 @@
 -- What is left of files that held an image.
-use Rattle.std.proofs.Common.{◌≡◌, ◌≢◌, ◌⊎◌, inl, inr, ℕ, ◌≤◌, Bool, true, false, cond, IsTrue, List, [], ◌∷◌, length, take, slice_index, unwrap_or, get_or-take, length-take, ◌<◌, refl, Option, None, Some, IfSome, MatchOption, arith, sym, ap, subst, subst₂, ◌∙◌}
+use Rattle.std.proofs.Common.{◌≡◌, ◌≢◌, ◌⊎◌, inl, inr, ℕ, ◌≤◌, Bool, true, false, cond, IsTrue, List, [], ◌∷◌, length, take, slice_index, unwrap_or, get_or-take, length-take, ◌<◌, refl, Option, Some, arith, sym, ap, subst, subst₂, ◌∙◌}
 use Rattle.std.proofs.Math.Logic.{∥∥₁_elim, ∥∥₁_map}
 use Rattle.std.proofs.lemmas.Bool.{cases_eq, cases_Bool}
 use Rattle.sqlite_disk.specs.declared.Disk.{Ghosts}
@@ -9,10 +9,11 @@ use Rattle.sqlite_disk.specs.History.{MayLeave}
 use Rattle.sqlite_wal.specs.Recovery as raw
 use Rattle.sqlite_wal.specs.Recovery.{Image, Pages, IsIgnored}
 use Rattle.sqlite_wal.specs.Files.{outcomes}
-use Rattle.sqlite_pool.specs.Stored.{stored_size, reserved, is_summed, StandsAs}
+use Rattle.sqlite_pool.specs.Stored.{stored_size, reserved, is_summed, StandsAs, IsUnreadable}
 use Rattle.sqlite_pool.specs.Stored.{Adopts, used_size, sealed}
 use Rattle.sqlite_pool.specs.StoredLaws.{trimmed_some}
 use Rattle.sqlite_pool.specs.Header.{first_page}
+use Rattle.sqlite_pool.specs.Opening.{IsBlankFile}
 use Rattle.sqlite_pool.specs.File.{header_in, IsSoundFile}
 use Rattle.sqlite_pool.proofs.ProbeLemmas.{size_by_log, size_by_file, reserved_word, first_byte}
 use Rattle.sqlite_wal.proofs.AppendLemmas.{some_value}
@@ -21,23 +22,18 @@ use Rattle.sqlite_store.specs.Unopened.{state_of}
 use Rattle.sqlite_trees.specs.Props.{Trees-set}
 use Rattle.sqlite.specs.Tree.{Trees}
 use Rattle.sqlite.specs.State.{State as Database}
-use Rattle.sqlite.specs.Files.{IsNothing, IsEmpty, HoldsDatabase, NamesSize, SaysSums, LeavesFiles, AreFoundIn, image_of, file_state}
+use Rattle.sqlite.specs.Files.{IsNothing, IsEmpty, HoldsDatabase, NamesSize, SaysSums, BeginsWell, LeavesFiles, AreFoundIn, image_of, file_state}
 use Rattle.sqlite.specs.declared.file.Leftover.{Leftover}
 use Rattle.sqlite.specs.declared.file.Leftover.TheVariants as left
 use Rattle.sqlite.proofs.FileLemmas.{is_something}
-use Rattle.sqlite.specs.declared.error.Error.{Error}
-use Rattle.sqlite.specs.declared.error.Error.TheVariants.{SqliteFailure}
-use Rattle.sqlite.specs.declared.error.ErrorCode.TheVariants as code
-use Rattle.moo_store.specs.declared.fault.StoreFault.{StoreFault}
-use Rattle.moo_store.specs.declared.fault.StoreFault.TheVariants.{Store, OutOfMemory}
 use Rattle.moo_files.specs.Blank.{IsBlank, LeavesBlank, SparesFiles}
+use Rattle.moo_files.proofs.BegunLemmas.{begun_unreadable}
 use Rattle.moo_files.proofs.BlankLemmas.{holds_none}
-use Rattle.moo_files.specs.Contents.{HoldsTrees, HoldsSuch, HoldsNothingBut}
-use Rattle.moo_files.specs.declared.remains.NotOpened.{NotOpened}
+use Rattle.moo_files.specs.Contents.{HoldsTrees, HoldsSuch, HoldsNothingBut, ReadsAs, ReadsAsOurs}
 use Rattle.moo_files.specs.declared.remains.Remains.{Remains}
 use Rattle.moo_files.specs.declared.remains.Remains.TheVariants as remains
 use Rattle.moo_files.specs.Closing.{IsLeftOf, IsClosedFrom}
-use Rattle.moo_files.specs.Remains.{cannot_open, busy, IsCleanRemains, MayStopAs, LeftoverKeeps, LeftoverBlank, KeepsSuch, KeepsNothingBut}
+use Rattle.moo_files.specs.Remains.{IsCleanRemains, IsUnopened, LeftoverKeeps, LeftoverBlank, LeftoverSpares, KeepsSuch, KeepsNothingBut, Spares}
 
 -- ---- the two files, as they were settled
 
@@ -102,9 +98,9 @@ stands_for image found trees held size same stands =
 long_size : (size : ℕ) (page : List ℕ) → length (take 16 (take 100 (take size page))) ≡ 16 → 16 ≤ size
 long_size size page len = omega (arith, len, length-take 16 (take 100 (take size page)), length-take 100 (take size page), length-take size page)
 
--- a sound file isn't nothing, whatever its page size
-something : (size : ℕ) (image : Image) (pages : Pages) → Adopts size image pages → IsSoundFile size pages → ¬ IsNothing image
-something size image pages found sound nothing =
+-- the first page of a sound file is whole, whatever its size
+not_begun : (size : ℕ) (image : Image) (pages : Pages) → Adopts size image pages → IsSoundFile size pages → (other : ℕ) → 0 < other → ¬ IsBlankFile other image
+not_begun size image pages found sound other some =
     let (page, is) = some_value (found.stored 1) found.whole.first in
     let used : pages 1 ≡ Some (take size page) = ap (λ (p : Pages). p 1) (sym found.shows) ∙ trimmed_some size _ 1 page is in
     let head : header_in pages ≡ take 100 (take size page) = ap (λ (o : Option (List ℕ)). take 100 (unwrap_or o [])) used in
@@ -112,14 +108,27 @@ something size image pages found sound nothing =
     let long : 16 ≤ size = long_size size page (ap length magic) in
     let byte = sym (get_or-take size page 0 0 (omega (arith, long))) ∙ sym (get_or-take 100 (take size page) 0 0 (omega arith)) ∙ sym (get_or-take 16 (take 100 (take size page)) 0 0 (omega arith))
     ∙ ap (λ (b : List ℕ). slice_index b 0) magic in
-    let never = λ (other : ℕ) (some : 0 < other). let gate = first_byte other some in
-    begun_is_not_blank (sealed (first_page other)) page (stored_size size) image found.stored found.found is (found.whole.sized 1 page is) (omega (arith, long)) (byte ∙ sym gate) (λ none. let never = sym gate ∙ none in omega arith) in
+    let gate = first_byte other some in
+    begun_is_not_blank (sealed (first_page other)) page (stored_size size) image found.stored found.found is (found.whole.sized 1 page is) (omega (arith, long)) (byte ∙ sym gate) (λ none. let never = sym gate ∙ none in omega arith)
+
+something : (size : ℕ) (image : Image) (pages : Pages) → Adopts size image pages → IsSoundFile size pages → ¬ IsNothing image
+something size image pages found sound nothing =
+    let never = not_begun size image pages found sound in
     elim nothing [ inl plain ↦ never (used_size 4096 false) (omega arith) plain | inr summed ↦ never (used_size 4096 true) (omega arith) summed ]
+
+-- files that hold nothing read as no database
+pub nothing_of_ours : (image : Image) → IsNothing image → ¬ ReadsAsOurs image
+nothing_of_ours image nothing it = ∥∥₁_elim it.1 (λ x y. absurd x) (λ held. something held.0 image held.1.pages held.1.found held.1.ours.file.sound nothing)
 
 -- files that hold nothing read as nothing
 pub found_empty : (image : Image) (db : Trees) → IsNothing image → AreFoundIn image db → IsEmpty db
 found_empty image db nothing (inl it) = absurd (∥∥₁_elim it.4 (λ x y. absurd x) (λ ours. something it.0 image it.1 it.3 ours.file.sound nothing))
 found_empty image db nothing (inr it) = it.1
+
+-- and so do files that hold half a first page
+pub begun_empty : (image : Image) (db : Trees) → IsBlank image → AreFoundIn image db → IsEmpty db
+begun_empty image db begun (inl it) = absurd (∥∥₁_elim it.4 (λ x y. absurd x) (λ ours. not_begun it.0 image it.1 it.3 ours.file.sound 1024 (omega arith) begun))
+begun_empty image db begun (inr it) = it.1
 
 module _ {D : Type 0} {g : Ghosts D} (image : Image) (files : Files D) (same : image_of g files ≡ image) (only : (now : Image) → outcomes g files.log files.db now → now ≡ image) where
   -- of files that held a database
@@ -161,7 +170,28 @@ module _ {D : Type 0} {g : Ghosts D} (image : Image) (files : Files D) (same : i
   leftover_blank (left.Unopened now) (inr leaves) nothing = absurd (leaves.0 (subst IsNothing (sym same) nothing))
   leftover_blank (left.Store now) leaves nothing = λ found lies. inl (found_empty image found nothing (subst (λ i. AreFoundIn i found) same (leaves found lies).0))
 
+  -- of files that held something, be it a sound database or not
+  pub leftover_spares : (rest : Leftover D g) → LeavesFiles files rest → ¬ IsNothing image → LeftoverSpares image rest
+  leftover_spares (left.Files now) leaves some = λ found lies. only found (leaves found lies)
+  leftover_spares (left.Unopened now) (inl nothing) some = absurd (some (subst IsNothing same nothing.0))
+  leftover_spares (left.Unopened now) (inr leaves) some = λ found lies.
+      let size = (state_of now).page_size in
+      let it = leaves.4 found lies in
+      record {
+        same = elim it.same [
+          | inl was ↦ inl (only found was)
+          | inr stands ↦ inr (subst (λ i. NamesSize i (stored_size size)) same leaves.1, subst (λ i. StandsAs size i found) same stands)
+        ];
+        unread = λ unreadable. only found (it.unread (subst (IsUnreadable size) (sym same) unreadable));
+        something = λ none. it.something (λ was. some (subst IsNothing (only found was) none)) none;
+      }
+  leftover_spares (left.Store now) leaves some = λ found lies. subst (λ i. AreFoundIn i found) same (leaves found lies).0
+
   -- of files that a blank database was to be made in, or that `sqlite` took up
+  pub spared_spares : (rest : Leftover D g) → SparesFiles files rest → ¬ IsNothing image → ¬ IsBlank image → LeftoverSpares image rest
+  spared_spares rest (inl blank) some begun = absurd (begun (subst IsBlank same blank.0))
+  spared_spares rest (inr leaves) some begun = leftover_spares rest leaves some
+
   pub spared_keeps : (rest : Leftover D g) (trees : Trees) → SparesFiles files rest → HoldsTrees image trees → LeftoverKeeps (λ found. found ≡ trees) image rest
   spared_keeps rest trees (inl blank) holds = absurd (∥∥₁_elim holds (λ x y. absurd x) (λ held. holds_none image trees (subst IsBlank same blank.0) held))
   spared_keeps rest trees (inr leaves) holds = leftover_keeps rest trees leaves holds
@@ -185,6 +215,17 @@ module _ {D : Type 0} {g : Ghosts D} (image : Image) (files : Files D) (same : i
   spared_blank rest (inl blank) nothing = made_blank rest blank.1 (inl nothing)
   spared_blank rest (inr leaves) nothing = leftover_blank rest leaves nothing
 
+  -- of files that held half a first page of 1,024 bytes
+  pub spared_begun : (rest : Leftover D g) → SparesFiles files rest → IsBlank image → LeftoverBlank (λ _. ⊥) rest
+  spared_begun rest (inl blank) begun = made_blank rest blank.1 (inr begun)
+  spared_begun (left.Files now) (inr leaves) begun = λ found lies. inr (inl (subst IsBlank (sym (only found (leaves found lies))) begun))
+  spared_begun (left.Unopened now) (inr (inl nothing)) begun = leftover_blank (left.Unopened now) (inl nothing) (subst IsNothing same nothing.0)
+  spared_begun (left.Unopened now) (inr (inr leaves)) begun = λ found lies.
+      let size = (state_of now).page_size in
+      let none : IsUnreadable size image = begun_unreadable image size begun (subst (λ i. NamesSize i (stored_size size)) same leaves.1) (subst (BeginsWell (stored_size size)) same leaves.2) in
+      inr (inl (subst IsBlank (sym (only found ((leaves.4 found lies).unread (subst (IsUnreadable size) (sym same) none)))) begun))
+  spared_begun (left.Store now) (inr leaves) begun = λ found lies. inl (begun_empty image found begun (subst (λ i. AreFoundIn i found) same (leaves found lies).0))
+
 -- ---- from what `sqlite` leaves to the remains
 
 such_more : (P Q : Trees → Type 0) → ((trees : Trees) → P trees → Q trees) → (image : Image) → HoldsSuch P image → HoldsSuch Q image
@@ -200,10 +241,25 @@ nothing_more P Q goes image (inr (inl blank)) = inr (inl blank)
 nothing_more P Q goes image (inr (inr it)) = inr (inr (∥∥₁_map it (such_more _ _ (empty_or P Q goes) image)))
 
 module _ {T D : Type 0} {g : Ghosts D} where
-  pub of_leftover : (Goal : Remains T D g → Type 0) → ((seal : NotOpened) → Goal (remains.NotOpened seal)) → (rest : Option (Leftover D g)) (r : Remains T D g)
-      → MatchOption rest ((seal : NotOpened) × (r ≡ remains.NotOpened seal)) (λ it. r ≡ remains.Leftover it) → IfSome rest (λ it. Goal (remains.Leftover it)) → Goal r
-  of_leftover Goal none None r is told = subst Goal (sym is.1) (none is.0)
-  of_leftover Goal none (Some it) r is told = subst Goal (sym is) told
+  -- of files that weren't opened
+  pub unopened_keeps : (image : Image) (r : Remains T D g) (trees : Trees) → IsUnopened r → HoldsTrees image trees → KeepsSuch (λ found. found ≡ trees) image r
+  unopened_keeps image (remains.Untouched start) trees unopened holds = record { trees = trees; holds = holds; such = refl }
+  unopened_keeps image (remains.NotOpened seal) trees unopened holds = tt
+  unopened_keeps image (remains.Leftover left) trees unopened holds = absurd unopened
+  unopened_keeps image (remains.Connection conn) trees unopened holds = absurd unopened
+
+  pub unopened_blank : (image : Image) (r : Remains T D g) → IsUnopened r → IsNothing image ⊎ IsBlank image → KeepsNothingBut (λ _. ⊥) image r
+  unopened_blank image (remains.Untouched start) unopened (inl nothing) = inl nothing
+  unopened_blank image (remains.Untouched start) unopened (inr begun) = inr (inl begun)
+  unopened_blank image (remains.NotOpened seal) unopened nothing = tt
+  unopened_blank image (remains.Leftover left) unopened nothing = absurd unopened
+  unopened_blank image (remains.Connection conn) unopened nothing = absurd unopened
+
+  pub unopened_spares : (image : Image) (r : Remains T D g) → IsUnopened r → Spares image r
+  unopened_spares image (remains.Untouched start) unopened = tt
+  unopened_spares image (remains.NotOpened seal) unopened = tt
+  unopened_spares image (remains.Leftover left) unopened = absurd unopened
+  unopened_spares image (remains.Connection conn) unopened = absurd unopened
 
   -- what is true of each database that is kept
   pub keeps_more : (P Q : Trees → Type 0) → ((trees : Trees) → P trees → Q trees) → (image : Image) (r : Remains T D g) → KeepsSuch P image r → KeepsSuch Q image r
@@ -225,23 +281,6 @@ module _ {T D : Type 0} {g : Ghosts D} where
   blank_more P Q goes image (remains.Leftover (left.Unopened now)) it = λ found lies. nothing_more P Q goes found (it found lies)
   blank_more P Q goes image (remains.Leftover (left.Store now)) it = λ trees lies. empty_or P Q goes trees (it trees lies)
   blank_more P Q goes image (remains.Connection conn) it = λ trees lies. empty_or P Q goes trees (it trees lies)
-
-pub each_some : {A : Type 0} {P Q : A → Type 0} (o : Option A) → IfSome o P → ((a : A) → P a → Q a) → IfSome o Q
-each_some None it f = tt
-each_some (Some a) it f = f a it
-
--- why nothing was opened, as a fault
-pub stops : {T D : Type 0} {g : Ghosts D} (fault : StoreFault) (rest : Option (Leftover D g)) (r : Remains T D g) → MatchOption rest ((seal : NotOpened) × (r ≡ remains.NotOpened seal)) (λ it. r ≡ remains.Leftover it)
-    → (rest ≡ None → (fault ≡ cannot_open) ⊎ ((fault ≡ OutOfMemory) ⊎ (fault ≡ busy))) → MayStopAs fault r
-stops fault None r is named = subst (MayStopAs fault) (sym is.1) (named refl)
-stops fault (Some it) r is named = subst (MayStopAs fault) (sym is) tt
-
--- the error of an open that found no file, as a fault
-pub stop_fault : (error : Error) (fault : StoreFault) → (error ≡ SqliteFailure code.OutOfMemory → fault ≡ OutOfMemory) → (error ≢ SqliteFailure code.OutOfMemory → fault ≡ Store error)
-    → (error ≡ SqliteFailure code.CannotOpen) ⊎ ((error ≡ SqliteFailure code.OutOfMemory) ⊎ (error ≡ SqliteFailure code.DatabaseBusy)) → (fault ≡ cannot_open) ⊎ ((fault ≡ OutOfMemory) ⊎ (fault ≡ busy))
-stop_fault error fault memory other (inl is) = inl (other (λ out. let e = sym is ∙ out in cc) ∙ ap Store is)
-stop_fault error fault memory other (inr (inl is)) = inr (inl (memory is))
-stop_fault error fault memory other (inr (inr is)) = inr (inr (other (λ out. let e = sym is ∙ out in cc) ∙ ap Store is))
 
 -- ---- closing
 
@@ -273,3 +312,13 @@ module _ {T D : Type 0} {g : Ghosts D} (P : Trees → Type 0) (image : Image) wh
   blank_closed (remains.Connection conn) now it keeps =
       let done : IsCleanRemains {T = T} (remains.Leftover it.0) → KeepsNothingBut {T = T} P image (remains.Leftover it.0) = (λ clean. let leaves = it.3 clean in closed_blank P (file_state conn) it.0 leaves.1 (keeps leaves.0)) in
       subst (λ (r : Remains T D g). IsCleanRemains r → KeepsNothingBut P image r) (sym it.1) done
+
+module _ {T D : Type 0} {g : Ghosts D} (image : Image) where
+  -- what was spared is so once it is closed, and no connection comes back over files that are no sound database
+  pub spares_closed : (was now : Remains T D g) → IsClosedFrom was now → ((trees : Trees) → ¬ ReadsAs image trees) → (IsCleanRemains was → Spares image was) → IsCleanRemains now → Spares image now
+  spares_closed (remains.Untouched start) now is none spares = subst (λ (r : Remains T D g). IsCleanRemains r → Spares image r) (sym is) spares
+  spares_closed (remains.NotOpened seal) now is none spares = subst (λ (r : Remains T D g). IsCleanRemains r → Spares image r) (sym is) spares
+  spares_closed (remains.Leftover left) now is none spares = subst (λ (r : Remains T D g). IsCleanRemains r → Spares image r) (sym is) spares
+  spares_closed (remains.Connection conn) now it none spares =
+      let done : IsCleanRemains {T = T} (remains.Leftover it.0) → Spares {T = T} image (remains.Leftover it.0) = (λ clean. let reads = spares (it.3 clean).0 in absurd (none reads.0 reads.1)) in
+      subst (λ (r : Remains T D g). IsCleanRemains r → Spares image r) (sym it.1) done

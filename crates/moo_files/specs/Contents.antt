@@ -1,10 +1,11 @@
 -- What the files of a database hold.
-use Rattle.std.specs.Prelude.{◌≡◌, ◌⊎◌, false}
+use Rattle.std.specs.Prelude.{◌≡◌, ◌⊎◌, ℕ, false}
 use Rattle.sqlite_wal.specs.Recovery.{Image}
 use Rattle.sqlite_pool.specs.Stored.{is_summed}
 use Rattle.sqlite.specs.Tree.{Trees}
 use Rattle.sqlite.specs.State.{State as Database}
 use Rattle.sqlite.specs.Files.{HoldsDatabase, IsNothing, IsEmpty}
+use Rattle.sqlite.specs.Opening.{HoldsIn}
 use Rattle.sqlite.specs.Effect.{IsDatabase}
 use Rattle.moo_rows.specs.Maps.{Maps}
 use Rattle.moo_world.specs.Judge.{State}
@@ -53,6 +54,18 @@ HasOtherTables trees = (version : Version) → ¬ IsDatabase (record { schema = 
 -- any table, index or view
 abbrev pub HasAnyTable : Trees → Type 0
 HasAnyTable trees = ¬ IsDatabase (record { schema = no_schema; trees = trees })
+
+-- A log and its file read as a sound database. `HoldsTrees` says besides that SQLite allows the size of its pages.
+abbrev pub ReadsAs : Image → Trees → Type 0
+ReadsAs image trees = ∥ ((size : ℕ) × HoldsIn size image trees) ∥₁
+
+-- they read as a sound database with tables of ours
+abbrev pub ReadsAsOurs : Image → Type 0
+ReadsAsOurs image = (trees : Trees) × ReadsAs image trees × (¬ HasOtherTables trees)
+
+-- they hold half a first page, or nothing, or they read as a database without tables
+abbrev pub HoldsNoTable : Image → Type 0
+HoldsNoTable image = IsBlank image ⊎ (IsNothing image ⊎ ((trees : Trees) × ReadsAs image trees × (¬ HasAnyTable trees)))
 
 -- Tables of the first version have become others that show the same world. If they show none they don't become others.
 pub record IsMigrated (old new : Trees) : Type 0 where

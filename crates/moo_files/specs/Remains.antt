@@ -3,13 +3,13 @@ use Rattle.std.specs.Prelude.{◌≡◌, ◌⊎◌, ⊤}
 use Rattle.sqlite_disk.specs.declared.Disk.{Ghosts}
 use Rattle.sqlite_wal.specs.Recovery.{Image}
 use Rattle.sqlite_wal.specs.Files.{outcomes}
-use Rattle.sqlite_pool.specs.Stored.{stored_size, StandsAs}
+use Rattle.sqlite_pool.specs.Stored.{stored_size, StandsAs, IsUnreadable}
 use Rattle.sqlite_store.specs.FileStore.{recovers}
 use Rattle.sqlite_store.specs.Unopened.{state_of}
 use Rattle.sqlite_store.specs.declared.store.open.Unopened.{Unopened}
 use Rattle.sqlite.specs.Tree.{Trees}
 use Rattle.sqlite.specs.State.{HasCleanDisk}
-use Rattle.sqlite.specs.Files.{IsCleanLeft, IsEmpty, NamesSize, file_state}
+use Rattle.sqlite.specs.Files.{AreFoundIn, IsCleanLeft, IsEmpty, IsNothing, NamesSize, file_state}
 use Rattle.sqlite.specs.declared.file.Leftover.{Leftover}
 use Rattle.sqlite.specs.declared.file.Leftover.TheVariants as left
 use Rattle.sqlite.specs.declared.error.Error.TheVariants.{SqliteFailure}
@@ -19,7 +19,7 @@ use Rattle.moo_store.specs.States.{LeavesState}
 use Rattle.moo_store.specs.Opening.{not_ours}
 use Rattle.moo_store.specs.declared.fault.StoreFault.{StoreFault}
 use Rattle.moo_store.specs.declared.fault.StoreFault.TheVariants.{Store, OutOfMemory}
-use Rattle.moo_files.specs.Contents.{HoldsSuch, HoldsNothingBut, HasNoSums, IsKept}
+use Rattle.moo_files.specs.Contents.{HoldsSuch, HoldsNothingBut, HasNoSums, IsKept, ReadsAs}
 use Rattle.moo_files.specs.declared.remains.Remains.{Remains}
 use Rattle.moo_files.specs.declared.remains.Remains.TheVariants as remains
 
@@ -37,8 +37,15 @@ module _ {T D : Type 0} {g : Ghosts D} where
   IsCleanRemains (remains.Leftover left) = IsCleanLeft left
   IsCleanRemains (remains.Connection conn) = HasCleanDisk (file_state conn)
 
-  -- If no file was opened, the fault is one of these: before `sqlite` was asked, that the file is missing or empty; from `sqlite`, that
-  -- the files can't be opened, are open elsewhere, or memory ran out.
+  -- no file was opened
+  abbrev pub IsUnopened : Remains T D g → Type 0
+  IsUnopened (remains.Untouched start) = ⊤
+  IsUnopened (remains.NotOpened seal) = ⊤
+  IsUnopened (remains.Leftover left) = ⊥
+  IsUnopened (remains.Connection conn) = ⊥
+
+  -- If no file was opened, the fault is one of these: before `sqlite` was asked, that the file can't be opened or is empty; from
+  -- `sqlite`, that the files can't be opened, are open elsewhere, or memory ran out.
   abbrev pub MayStopAs : StoreFault → Remains T D g → Type 0
   MayStopAs fault (remains.Untouched start) = (fault ≡ cannot_open) ⊎ (fault ≡ not_ours)
   MayStopAs fault (remains.NotOpened seal) = (fault ≡ cannot_open) ⊎ ((fault ≡ OutOfMemory) ⊎ (fault ≡ busy))
@@ -56,6 +63,20 @@ module _ {D : Type 0} {g : Ghosts D} where
   LeftoverKeeps P image (left.Files now) = (found : Image) → outcomes g now.log now.db found → HoldsSuch P found
   LeftoverKeeps P image (left.Unopened now) = (found : Image) → (state_of now).may_leave found → (HoldsSuch P found ⊎ IsResealed now image found) × (HasNoSums image → HoldsSuch P found)
   LeftoverKeeps P image (left.Store now) = (trees : Trees) → recovers now trees → P trees
+
+  -- A crash leaves what was there, or the same pages, resealed. If the pages weren't whole, it leaves what was there. It never leaves
+  -- nothing, so that the next open doesn't write over it.
+  pub record IsSparedAs (now : Unopened D g) (image found : Image) : Type 0 where
+    pub same : (found ≡ image) ⊎ IsResealed now image found
+    pub unread : IsUnreadable (state_of now).page_size image → found ≡ image
+    pub something : ¬ IsNothing found
+
+  -- Whatever a crash leaves of files that held this image, sound or not, is this image, or that of which `IsSparedAs` speaks. If
+  -- `sqlite` had read all trees already, it leaves just these.
+  abbrev pub LeftoverSpares : Image → Leftover D g → Type 0
+  LeftoverSpares image (left.Files now) = (found : Image) → outcomes g now.log now.db found → found ≡ image
+  LeftoverSpares image (left.Unopened now) = (found : Image) → (state_of now).may_leave found → IsSparedAs now image found
+  LeftoverSpares image (left.Store now) = (trees : Trees) → recovers now trees → AreFoundIn image trees
 
   -- whatever a crash leaves of files that held nothing is nothing, a database without rows, or such a database
   abbrev pub LeftoverBlank : (Trees → Type 0) → Leftover D g → Type 0
@@ -86,3 +107,10 @@ module _ {T D : Type 0} {g : Ghosts D} where
   KeepsNothingBut P image (remains.NotOpened seal) = ⊤
   KeepsNothingBut P image (remains.Leftover left) = LeftoverBlank P left
   KeepsNothingBut P image (remains.Connection conn) = (trees : Trees) → (file_state conn).may_leave trees → IsEmpty trees ⊎ P trees
+
+  -- Files that held this image are spared, sound or not. A connection comes back only if they read as a sound database.
+  abbrev pub Spares : Image → Remains T D g → Type 0
+  Spares image (remains.Untouched start) = ⊤
+  Spares image (remains.NotOpened seal) = ⊤
+  Spares image (remains.Leftover left) = LeftoverSpares image left
+  Spares image (remains.Connection conn) = (trees : Trees) × ReadsAs image trees

@@ -7,6 +7,7 @@ mod closing;
 mod loading;
 mod making;
 mod opening;
+mod pair;
 mod remains;
 
 pub use again::open_again;
@@ -15,4 +16,5 @@ pub use closing::close_connection;
 pub use loading::load_from;
 pub use making::{create_at, create_from};
 pub use opening::{open_at, open_from};
-pub use remains::{NotOpened, Remains};
+pub use pair::NotOpened;
+pub use remains::Remains;

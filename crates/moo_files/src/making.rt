@@ -11,8 +11,9 @@ ghost use Rattle.moo_tables.specs.Tables.{no_schema};
 ghost use Rattle.moo_store.specs.States.{LeavesState};
 ghost use Rattle.moo_store.specs.Opening.{IsOfStore};
 ghost use Rattle.moo_store.specs.World.{store_of, StandsFor, Left};
-ghost use Rattle.moo_files.specs.Contents.{HoldsTrees, HoldsState, HasAnyTable};
-ghost use Rattle.moo_files.specs.Remains.{IsCleanRemains, MayStopAs, KeepsSuch, StillHolds, KeepsNothingBut};
+ghost use Rattle.moo_files.specs.Blank.{IsBlank};
+ghost use Rattle.moo_files.specs.Contents.{HoldsTrees, HoldsState, HasAnyTable, HoldsNoTable};
+ghost use Rattle.moo_files.specs.Remains.{IsCleanRemains, MayStopAs, KeepsSuch, StillHolds, KeepsNothingBut, Spares};
 
 use crate::remains::{Remains, open_new};
 use moo_store::{StoreFault, World, create_in};
@@ -52,12 +53,19 @@ pub fn create_from<T: Start>(
     ensures stands { IfOk result (λ world. StandsFor over_files true world (state_of opening_maps)) }
     // A file that holds a world takes no other.
     ensures taken { (s : State) → HoldsState (image_at T.Start) s → IfOk result (λ world. HasCleanDisk (store_of over_files world) → ⊥) }
+    // Nor does one that holds any table, whether that shows a world or not. A World is made only in files that have room for it.
+    ensures occupied { (trees : Trees) → HoldsTrees (image_at T.Start) trees → HasAnyTable trees → IfOk result (λ world. HasCleanDisk (store_of over_files world) → ⊥) }
+    ensures room { IfOk result (λ world. HasCleanDisk (store_of over_files world) → HoldsNoTable (image_at T.Start)) }
     ensures fault { IfErr result (λ e. IsOfStore e.0) }
     // After a refusal files that held any table hold the same database, and so does what a crash leaves. Of those that held none, or
     // nothing, a crash leaves nothing else than the opening world.
     ensures kept { (trees : Trees) → HoldsTrees (image_at T.Start) trees → HasAnyTable trees → IfErr result (λ e. IsCleanRemains e.1 → KeepsSuch (λ found. found ≡ trees) (image_at T.Start) e.1) }
     ensures trees { (trees : Trees) → HoldsTrees (image_at T.Start) trees → IfErr result (λ e. IsCleanRemains e.1 → KeepsSuch (λ found. (found ≡ trees) ⊎ LeavesState found (state_of opening_maps)) (image_at T.Start) e.1) }
     ensures blank { IsNothing (image_at T.Start) → IfErr result (λ e. IsCleanRemains e.1 → KeepsNothingBut (λ found. LeavesState found (state_of opening_maps)) (image_at T.Start) e.1) }
+    // So it is if they held half a first page, as a crash may leave it while a world is made.
+    ensures begun { IsBlank (image_at T.Start) → IfErr result (λ e. IsCleanRemains e.1 → KeepsNothingBut (λ found. LeavesState found (state_of opening_maps)) (image_at T.Start) e.1) }
+    // Files that held anything else, sound or not, are spared.
+    ensures spared { ¬ IsNothing (image_at T.Start) → ¬ IsBlank (image_at T.Start) → IfErr result (λ e. IsCleanRemains e.1 → Spares (image_at T.Start) e.1) }
     // A file that wasn't opened is refused for one of few reasons.
     ensures stopped { IfErr result (λ e. MayStopAs e.0 e.1) }
     // So a state that they held is there still.

@@ -15,8 +15,8 @@ ghost use Rattle.moo_cells.specs.Shows.{ShowsRows};
 ghost use Rattle.moo_store.specs.States.{ShowsState};
 ghost use Rattle.moo_store.specs.Opening.{Says, IsOfStore, Adopts, not_ours};
 ghost use Rattle.moo_store.specs.World.{store_of, StandsFor, Left};
-ghost use Rattle.moo_files.specs.Contents.{HoldsTrees, HoldsTables, HoldsState, HasOtherTables};
-ghost use Rattle.moo_files.specs.Remains.{cannot_open, IsCleanRemains, MayStopAs, StillHolds, StillHoldsTrees, KeepsNothingBut};
+ghost use Rattle.moo_files.specs.Contents.{HoldsTrees, HoldsTables, HoldsState, HasOtherTables, ReadsAsOurs};
+ghost use Rattle.moo_files.specs.Remains.{cannot_open, IsCleanRemains, MayStopAs, StillHolds, StillHoldsTrees, KeepsNothingBut, Spares};
 
 use crate::remains::{Remains, open_connection};
 use moo_store::{StoreFault, World, adopt};
@@ -87,16 +87,23 @@ pub fn open_from<T: Start>(
     // If they hold nothing, or other tables than ours, none is opened.
     ensures nothing { IsNothing (image_at T.Start) → IfOk result (λ world. HasCleanDisk (store_of over_files world) → ⊥) }
     ensures other { (trees : Trees) → HoldsTrees (image_at T.Start) trees → HasOtherTables trees → IfOk result (λ world. HasCleanDisk (store_of over_files world) → ⊥) }
+    // Nor is one opened over files that aren't a sound database: those of an opened World read as one with tables of ours.
+    ensures sound { IfOk result (λ world. HasCleanDisk (store_of over_files world) → ReadsAsOurs (image_at T.Start)) }
     // Whatever they hold, its rows are good, and what is said of rows alone is said of them.
     ensures rows { IfOk result (λ world. IsGood world.rows.maps × StandsFor over_files false world (state_of world.rows.maps)) }
     ensures works { IfOk result (λ world. world.failed ≡ false) }
     // If they hold a state, no refusal tells of damage. If they hold tables, a damage that is told is theirs.
     ensures whole { (s : State) → HoldsState (image_at T.Start) s → IfErr result (λ e. IsCleanRemains e.1 → IsOfStore e.0) }
     ensures fault { (tables : Tables) → HoldsTables (image_at T.Start) tables → IfErr result (λ e. IsCleanRemains e.1 → Says tables e.0) }
+    // If they hold other tables than ours, nothing, or no sound database, no refusal tells of damage or of a newer version.
+    ensures foreign { (trees : Trees) → HoldsTrees (image_at T.Start) trees → HasOtherTables trees → IfErr result (λ e. IsCleanRemains e.1 → IsOfStore e.0) }
+    ensures unsound { ¬ ReadsAsOurs (image_at T.Start) → IfErr result (λ e. IsCleanRemains e.1 → IsOfStore e.0) }
     // After a refusal they hold the database that they held, whatever its tables are, or what these were migrated to, and so does
     // what a crash leaves. Files that held nothing hold nothing, or a database without rows.
     ensures trees { (trees : Trees) → HoldsTrees (image_at T.Start) trees → IfErr result (λ e. IsCleanRemains e.1 → StillHoldsTrees (image_at T.Start) e.1 trees) }
     ensures blank { IsNothing (image_at T.Start) → IfErr result (λ e. IsCleanRemains e.1 → KeepsNothingBut (λ _. ⊥) (image_at T.Start) e.1) }
+    // Files that held anything else, sound or not, are spared.
+    ensures spared { ¬ IsNothing (image_at T.Start) → IfErr result (λ e. IsCleanRemains e.1 → Spares (image_at T.Start) e.1) }
     // A file that wasn't opened is refused for one of few reasons.
     ensures stopped { IfErr result (λ e. MayStopAs e.0 e.1) }
     // So a state that they held is there after a refusal, and so it is after a crash, then and of a World that was opened.

@@ -1,6 +1,6 @@
 //! A connection to the files of a world, or what is left of them after a refusal.
 
-ghost use Rattle.std.specs.Prelude.{◌≡◌, ◌≢◌, ◌⊎◌, true, false, IfOk, IfErr, IsTrue, MatchOption};
+ghost use Rattle.std.specs.Prelude.{◌≡◌, ◌≢◌, ◌⊎◌, true, false, IfOk, IfErr, IsTrue};
 ghost use Rattle.sqlite.specs.Tree.{Trees};
 ghost use Rattle.sqlite.specs.State.{HasCleanDisk};
 ghost use Rattle.sqlite_std_file.specs.File.{file_is_usable, IsFresh};
@@ -10,13 +10,14 @@ ghost use Rattle.sqlite.specs.Start.{FindsIn};
 ghost use Rattle.sqlite.specs.WalFiles.{image_at};
 ghost use Rattle.sqlite_wal.specs.Recovery.{Image};
 ghost use Rattle.moo_store.specs.Opening.{IsOfStore};
-ghost use Rattle.moo_files.specs.Contents.{HoldsTrees};
-ghost use Rattle.moo_files.specs.Remains.{cannot_open, busy, IsCleanRemains, MayStopAs, KeepsSuch, StillHolds, StillHoldsTrees, KeepsNothingBut};
+ghost use Rattle.moo_files.specs.Contents.{HoldsTrees, ReadsAs};
+ghost use Rattle.moo_files.specs.Remains.{cannot_open, busy, IsCleanRemains, IsUnopened, MayStopAs, KeepsSuch, StillHolds, StillHoldsTrees, KeepsNothingBut, Spares};
 ghost use Rattle.moo_world.specs.Judge.{State};
 ghost use Rattle.moo_files.specs.Closing.{IsClosedFrom};
 
 use crate::blank::open_or_make;
 use crate::closing::{close_connection, leave_commit};
+use crate::pair::{NotOpened, open_files};
 use moo_store::StoreFault;
 use sqlite::{Connection, Error, ErrorCode, FileFrom, FileStore, Files, Leftover, Options, Start};
 use sqlite_disk::Disk;
@@ -24,16 +25,12 @@ use sqlite_std_file::OpenError as PathError;
 use std::hash::{BuildHasher, RandomState};
 use std::io::ErrorKind;
 
-/// `sqlite` couldn't open the files, and handed nothing back. Only this module can say so.
-#[derive(Drop)]
-pub struct NotOpened(());
-
 /// What is left of the files if no world was opened or made. `T` is the start that is spent on opening them.
 pub enum Remains<T, D: Disk> {
-    /// `sqlite` wasn't asked, since there is no such file or it holds no byte. The start is unspent.
+    /// No file was opened: there is none of this name, or it holds no byte. The start is unspent.
     Untouched(T),
-    /// `sqlite` couldn't open the files, and handed nothing back.
-    NotOpened(NotOpened),
+    /// The start was spent on files that couldn't be opened, and nothing came back.
+    NotOpened(NotOpened<T>),
     /// What `sqlite` left of files that aren't a database, or that it couldn't read as one.
     Leftover(Leftover<D>),
     /// The connection, outside a transaction.
@@ -60,6 +57,8 @@ impl<T: Drop, D: Disk + Drop> Remains<T, D> {
         ensures state { (image : Image) (s : State) → (IsCleanRemains self → StillHolds image self s) → IsCleanRemains result → StillHolds image result s }
         ensures trees { (image : Image) (trees : Trees) → (IsCleanRemains self → StillHoldsTrees image self trees) → IsCleanRemains result → StillHoldsTrees image result trees }
         ensures blank { (image : Image) → (IsCleanRemains self → KeepsNothingBut (λ _. ⊥) image self) → IsCleanRemains result → KeepsNothingBut (λ _. ⊥) image result }
+        // What was never a sound database stays as it was spared.
+        ensures spared { (image : Image) → ((trees : Trees) → ¬ ReadsAs image trees) → (IsCleanRemains self → Spares image self) → IsCleanRemains result → Spares image result }
     {
         match self {
             Remains::Connection(conn) => Remains::Leftover(close_connection(conn)),
@@ -80,16 +79,6 @@ fn open_fault(error: Error) -> StoreFault
     }
 }
 
-/// What is left of the files if no connection to them was opened.
-fn remains_of<T, D: Disk>(left: Option<Leftover<D>>) -> Remains<T, D>
-    ensures { MatchOption left ((seal : _) × (result ≡ Remains.NotOpened seal)) (λ it. result ≡ Remains.Leftover it) }
-{
-    match left {
-        None => Remains::NotOpened(NotOpened(())),
-        Some(left) => Remains::Leftover(left),
-    }
-}
-
 const CANNOT_OPEN: StoreFault = StoreFault::Store(Error::SqliteFailure(ErrorCode::CannotOpen));
 
 const BUSY: StoreFault = StoreFault::Store(Error::SqliteFailure(ErrorCode::DatabaseBusy));
@@ -106,29 +95,34 @@ fn path_fault(error: PathError) -> StoreFault
     }
 }
 
-/// The two files at a path, as `sqlite` opens them. `:memory:` and a URI aren't paths.
-fn open_pair<T: Start>(
-    rt: &HostRuntime,
-    path: &str,
-    start: T,
-) -> Result<Files<FileFrom<T>>, StoreFault>
-    ensures usable { IfOk result (λ files. IsTrue (file_is_usable T.Start files.log) × IsTrue (file_is_usable T.Start files.db)) }
-    ensures fresh { IfOk result (λ files. IsFresh true files.log × IsFresh false files.db) }
-    ensures fault { IfErr result (λ fault. (fault ≡ cannot_open) ⊎ ((fault ≡ StoreFault.OutOfMemory) ⊎ (fault ≡ busy))) }
-{
-    if path == ":memory:" || path.starts_with("file:") {
-        return Err(CANNOT_OPEN);
-    }
-    match sqlite_std_file::open(rt, path, start) {
-        Ok(files) => Ok(files),
-        Err(error) => Err(path_fault(error)),
-    }
-}
-
 /// How `sqlite` opens files, with a random seed for the log's salts. None if there is none.
 fn options(rt: &HostRuntime) -> Option<Options> {
     let state = RandomState::new(rt).ok()?;
     Some(Options::new(state.hash_one(&0u8)))
+}
+
+/// The two files at a path, and how `sqlite` opens them. `:memory:` and a URI aren't paths.
+fn open_pair<T: Start>(
+    rt: &HostRuntime,
+    path: &str,
+    start: T,
+) -> Result<(Files<FileFrom<T>>, Options), (StoreFault, Remains<T, FileFrom<T>>)>
+    ensures usable { IfOk result (λ pair. IsTrue (file_is_usable T.Start pair.0.log) × IsTrue (file_is_usable T.Start pair.0.db)) }
+    ensures fresh { IfOk result (λ pair. IsFresh true pair.0.log × IsFresh false pair.0.db) }
+    ensures fault { IfErr result (λ e. IsOfStore e.0) }
+    ensures stopped { IfErr result (λ e. MayStopAs e.0 e.1) }
+    ensures unopened { IfErr result (λ e. IsUnopened e.1) }
+{
+    if path == ":memory:" || path.starts_with("file:") {
+        return Err((CANNOT_OPEN, Remains::Untouched(start)));
+    }
+    let Some(options) = options(rt) else {
+        return Err((CANNOT_OPEN, Remains::Untouched(start)));
+    };
+    match open_files(rt, path, start) {
+        Ok(files) => Ok((files, options)),
+        Err((error, seal)) => Err((path_fault(error), Remains::NotOpened(seal))),
+    }
 }
 
 /// A connection to files in which a world is to be made, or the fault and what is left of them. In files that hold no database a
@@ -146,13 +140,12 @@ pub(crate) fn open_new<T: Start>(
     ensures stopped { IfErr result (λ e. MayStopAs e.0 e.1) }
     ensures kept { (trees : Trees) → HoldsTrees (image_at T.Start) trees → IfErr result (λ e. IsCleanRemains e.1 → KeepsSuch (λ found. found ≡ trees) (image_at T.Start) e.1) }
     ensures blank { IsNothing (image_at T.Start) → IfErr result (λ e. IsCleanRemains e.1 → KeepsNothingBut (λ _. ⊥) (image_at T.Start) e.1) }
+    ensures begun { IsBlank (image_at T.Start) → IfErr result (λ e. IsCleanRemains e.1 → KeepsNothingBut (λ _. ⊥) (image_at T.Start) e.1) }
+    ensures spared { ¬ IsNothing (image_at T.Start) → ¬ IsBlank (image_at T.Start) → IfErr result (λ e. IsCleanRemains e.1 → Spares (image_at T.Start) e.1) }
 {
-    let Some(options) = options(rt) else {
-        return Err((CANNOT_OPEN, remains_of(None)));
-    };
-    let files = match open_pair(rt, path, start) {
-        Ok(files) => files,
-        Err(fault) => return Err((fault, remains_of(None))),
+    let (files, options) = match open_pair(rt, path, start) {
+        Ok(pair) => pair,
+        Err(refused) => return Err(refused),
     };
     match open_or_make(rt.alloc(), files, options) {
         Ok(made) => {
@@ -177,12 +170,17 @@ pub(crate) fn open_connection<T: Start>(
     ensures stopped { IfErr result (λ e. MayStopAs e.0 e.1) }
     ensures kept { (trees : Trees) → HoldsTrees (image_at T.Start) trees → IfErr result (λ e. IsCleanRemains e.1 → KeepsSuch (λ found. found ≡ trees) (image_at T.Start) e.1) }
     ensures blank { IsNothing (image_at T.Start) → IfErr result (λ e. IsCleanRemains e.1 → KeepsNothingBut (λ _. ⊥) (image_at T.Start) e.1) }
+    ensures spared { ¬ IsNothing (image_at T.Start) → IfErr result (λ e. IsCleanRemains e.1 → Spares (image_at T.Start) e.1) }
 {
-    match Connection::open_from(rt, path, false, start) {
+    let (files, options) = match open_pair(rt, path, start) {
+        Ok(pair) => pair,
+        Err(refused) => return Err(refused),
+    };
+    match Connection::open_files(rt.alloc(), files, options) {
         Ok(conn) => {
             leave_commit(&conn);
             Ok(conn)
         }
-        Err((error, left)) => Err((open_fault(error), remains_of(left))),
+        Err((error, left)) => Err((open_fault(error), Remains::Leftover(left))),
     }
 }

@@ -5,7 +5,7 @@ use Rattle.moo_store.specs.Opening.{Adopts}
 use Rattle.moo_store.specs.States.{LeavesState}
 use Rattle.moo_store.specs.World.{store_of}
 use Rattle.moo_files.specs.Contents.{IsKept}
-use Rattle.moo_files.proofs.ContentsLemmas.{was_clean, rests_held, shows_held, left_held, left_none, empty_other, foreign_other, kept_or_migrated, kept_state}
+use Rattle.moo_files.proofs.ContentsLemmas.{was_clean, rests_held, shows_held, left_held, left_none, empty_other, foreign_other, unsound_other, reads_ours, reads_something, kept_or_migrated, kept_state}
 use Rattle.moo_files.proofs.RemainsLemmas.{keeps_more}
 use Rattle.moo_files.proofs.opening.open_from.Goals as goal
 
@@ -49,6 +49,13 @@ returns-in-Ok-adopt_files-clause-other g c trees holds others clean =
     let opened = c.in-Ok.ensures.opened early in
     c.in-Ok-adopt_files.ensures.other (foreign_other (image_at g.T.Start) (file_state conn) trees opened.0 opened.1 (c.in-Ok.ensures.found early) holds others)
 
+pub returns-in-Ok-adopt_files-clause-sound : goal.returns-in-Ok-adopt_files-clause-sound
+returns-in-Ok-adopt_files-clause-sound g c clean =
+    let conn = c.in-Ok.conn in
+    let early = was_clean (file_state conn) (store_of over_files c.in-Ok-adopt_files.world) (Adopts (file_state conn)) c.in-Ok-adopt_files.ensures.crash clean in
+    let opened = c.in-Ok.ensures.opened early in
+    reads_ours (image_at g.T.Start) (file_state conn) opened.0 opened.1 (c.in-Ok.ensures.found early) (λ others. c.in-Ok-adopt_files.ensures.other others)
+
 -- ---- the tables were refused
 
 pub returns-in-Err-adopt_files-clause-whole : goal.returns-in-Err-adopt_files-clause-whole
@@ -87,6 +94,27 @@ returns-in-Err-adopt_files-clause-blank g c nothing clean =
     let found = c.in-Ok.ensures.found early in
     let same = (c.in-Err-adopt_files.ensures.other (empty_other image (file_state conn) opened.0 opened.1 found nothing)).1 in
     λ trees lies. inl (left_none image (file_state conn) opened.0 found c.in-Ok.ensures.left nothing trees (subst (λ h. (file_state h).may_leave trees) same lies))
+
+pub returns-in-Err-adopt_files-clause-foreign : goal.returns-in-Err-adopt_files-clause-foreign
+returns-in-Err-adopt_files-clause-foreign g c trees holds others clean =
+    let conn = c.in-Ok.conn in
+    let early = was_clean (file_state conn) (file_state c.in-Err-adopt_files.conn) (Adopts (file_state conn)) c.in-Err-adopt_files.ensures.crash_refused clean in
+    let opened = c.in-Ok.ensures.opened early in
+    (c.in-Err-adopt_files.ensures.other (foreign_other (image_at g.T.Start) (file_state conn) trees opened.0 opened.1 (c.in-Ok.ensures.found early) holds others)).0
+
+pub returns-in-Err-adopt_files-clause-unsound : goal.returns-in-Err-adopt_files-clause-unsound
+returns-in-Err-adopt_files-clause-unsound g c none clean =
+    let conn = c.in-Ok.conn in
+    let early = was_clean (file_state conn) (file_state c.in-Err-adopt_files.conn) (Adopts (file_state conn)) c.in-Err-adopt_files.ensures.crash_refused clean in
+    let opened = c.in-Ok.ensures.opened early in
+    (c.in-Err-adopt_files.ensures.other (unsound_other (image_at g.T.Start) (file_state conn) opened.0 opened.1 (c.in-Ok.ensures.found early) none)).0
+
+pub returns-in-Err-adopt_files-clause-spared : goal.returns-in-Err-adopt_files-clause-spared
+returns-in-Err-adopt_files-clause-spared g c some clean =
+    let conn = c.in-Ok.conn in
+    let early = was_clean (file_state conn) (file_state c.in-Err-adopt_files.conn) (Adopts (file_state conn)) c.in-Err-adopt_files.ensures.crash_refused clean in
+    let opened = c.in-Ok.ensures.opened early in
+    reads_something (image_at g.T.Start) (file_state conn) opened.0 opened.1 (c.in-Ok.ensures.found early) some
 
 -- ---- no connection was opened
 

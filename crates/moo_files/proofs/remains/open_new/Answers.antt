@@ -4,7 +4,7 @@ use Rattle.sqlite_wal.specs.Recovery.{Image}
 use Rattle.sqlite.specs.Files.{HoldsDatabase, AreFoundIn, file_state, image_of}
 use Rattle.sqlite.specs.WalFiles.{image_at}
 use Rattle.moo_files.specs.Blank.{IsBlank}
-use Rattle.moo_files.proofs.RemainsLemmas.{left_fresh, spared_keeps, spared_blank, stops}
+use Rattle.moo_files.proofs.RemainsLemmas.{left_fresh, spared_keeps, spared_blank, spared_begun, spared_spares, unopened_keeps, unopened_blank, unopened_spares}
 use Rattle.moo_files.proofs.remains.open_new.Goals as goal
 
 abbrev image : List ℕ → List ℕ → Image
@@ -33,7 +33,7 @@ returns-in-Err-open_or_make-clause-kept g c trees holds clean =
     let log = c.in-Ok.ensures.fresh.0 in
     let db = c.in-Ok.ensures.fresh.1 in
     let same = ap₂ image (ap₂ (seen start.log start.db) log.0 log.1) (ap₂ (seen start.log start.db) db.0 db.1) in
-    spared_keeps (image_at start) c.in-Ok.files same
+    spared_keeps (image_at start) c.in-Ok.pair.0 same
     (λ now out. ap₂ image (left_fresh start.is_mixing start.log start.db _ _ _ _ now.log log.0 log.1 out.0) (left_fresh start.is_mixing start.log start.db _ _ _ _ now.db db.0 db.1 out.1))
     c.in-Err-open_or_make.left trees (c.in-Err-open_or_make.ensures.spared clean) holds
 
@@ -43,6 +43,40 @@ returns-in-Err-open_or_make-clause-blank g c nothing clean =
     let log = c.in-Ok.ensures.fresh.0 in
     let db = c.in-Ok.ensures.fresh.1 in
     let same = ap₂ image (ap₂ (seen start.log start.db) log.0 log.1) (ap₂ (seen start.log start.db) db.0 db.1) in
-    spared_blank (image_at start) c.in-Ok.files same
+    spared_blank (image_at start) c.in-Ok.pair.0 same
     (λ now out. ap₂ image (left_fresh start.is_mixing start.log start.db _ _ _ _ now.log log.0 log.1 out.0) (left_fresh start.is_mixing start.log start.db _ _ _ _ now.db db.0 db.1 out.1))
     c.in-Err-open_or_make.left (c.in-Err-open_or_make.ensures.spared clean) nothing
+
+pub returns-in-Err-open_or_make-clause-begun : goal.returns-in-Err-open_or_make-clause-begun
+returns-in-Err-open_or_make-clause-begun g c begun clean =
+    let start = g.T.Start in
+    let log = c.in-Ok.ensures.fresh.0 in
+    let db = c.in-Ok.ensures.fresh.1 in
+    let same = ap₂ image (ap₂ (seen start.log start.db) log.0 log.1) (ap₂ (seen start.log start.db) db.0 db.1) in
+    spared_begun (image_at start) c.in-Ok.pair.0 same
+    (λ now out. ap₂ image (left_fresh start.is_mixing start.log start.db _ _ _ _ now.log log.0 log.1 out.0) (left_fresh start.is_mixing start.log start.db _ _ _ _ now.db db.0 db.1 out.1))
+    c.in-Err-open_or_make.left (c.in-Err-open_or_make.ensures.spared clean) begun
+
+pub returns-in-Err-open_or_make-clause-spared : goal.returns-in-Err-open_or_make-clause-spared
+returns-in-Err-open_or_make-clause-spared g c some begun clean =
+    let start = g.T.Start in
+    let log = c.in-Ok.ensures.fresh.0 in
+    let db = c.in-Ok.ensures.fresh.1 in
+    let same = ap₂ image (ap₂ (seen start.log start.db) log.0 log.1) (ap₂ (seen start.log start.db) db.0 db.1) in
+    spared_spares (image_at start) c.in-Ok.pair.0 same
+    (λ now out. ap₂ image (left_fresh start.is_mixing start.log start.db _ _ _ _ now.log log.0 log.1 out.0) (left_fresh start.is_mixing start.log start.db _ _ _ _ now.db db.0 db.1 out.1))
+    c.in-Err-open_or_make.left (c.in-Err-open_or_make.ensures.spared clean) some begun
+
+-- ---- no file was opened
+
+pub returns-in-Err-clause-kept : goal.returns-in-Err-clause-kept
+returns-in-Err-clause-kept g c trees holds clean = unopened_keeps (image_at g.T.Start) c.in-Err.refused.1 trees c.in-Err.ensures.unopened holds
+
+pub returns-in-Err-clause-blank : goal.returns-in-Err-clause-blank
+returns-in-Err-clause-blank g c nothing clean = unopened_blank (image_at g.T.Start) c.in-Err.refused.1 c.in-Err.ensures.unopened (inl nothing)
+
+pub returns-in-Err-clause-spared : goal.returns-in-Err-clause-spared
+returns-in-Err-clause-spared g c some begun clean = unopened_spares (image_at g.T.Start) c.in-Err.refused.1 c.in-Err.ensures.unopened
+
+pub returns-in-Err-clause-begun : goal.returns-in-Err-clause-begun
+returns-in-Err-clause-begun g c begun clean = unopened_blank (image_at g.T.Start) c.in-Err.refused.1 c.in-Err.ensures.unopened (inr begun)

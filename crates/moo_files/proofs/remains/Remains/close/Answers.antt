@@ -1,7 +1,7 @@
 use Rattle.std.proofs.Common.{refl}
 use Rattle.moo_store.specs.States.{LeavesState}
 use Rattle.moo_files.specs.Contents.{IsKept}
-use Rattle.moo_files.proofs.RemainsLemmas.{keeps_closed, blank_closed}
+use Rattle.moo_files.proofs.RemainsLemmas.{keeps_closed, blank_closed, spares_closed}
 use Rattle.moo_files.proofs.remains.Remains.close.Goals as goal
 
 pub returns-in-Connection-clause-closed : goal.returns-in-Connection-clause-closed
@@ -16,3 +16,6 @@ returns-in-Connection-clause-trees g c image trees = keeps_closed (IsKept trees)
 
 pub returns-in-Connection-clause-blank : goal.returns-in-Connection-clause-blank
 returns-in-Connection-clause-blank g c image = blank_closed (λ _. ⊥) image c.args.self _ (returns-in-Connection-clause-closed g c)
+
+pub returns-in-Connection-clause-spared : goal.returns-in-Connection-clause-spared
+returns-in-Connection-clause-spared g c image none = spares_closed image c.args.self _ (returns-in-Connection-clause-closed g c) none

@@ -1,0 +1,60 @@
+-- Half a first page of 1,024 bytes isn't a whole page of any database.
+use Rattle.std.proofs.Common.{◌≡◌, ◌≤◌, ◌<◌, ℕ, List, [], ◌∷◌, length, slice_index, inl, inr, sym, ◌∙◌, arith, ap}
+use Rattle.std.proofs.lemmas.Bool.{cases_eq}
+use Rattle.std.proofs.lemmas.List.{length-map}
+use Rattle.std.proofs.lemmas.List.FromFn.{length-range_with_len}
+use Rattle.std.specs.List.{range_with_len}
+use Rattle.sqlite_wal.specs.Format.{be32}
+use Rattle.sqlite_wal.specs.Recovery as raw
+use Rattle.sqlite_wal.specs.Recovery.{Image, Pages, AreWhole, IsIgnored}
+use Rattle.sqlite_wal.specs.PageSize.{size_in_file}
+use Rattle.sqlite_wal.proofs.AppendLemmas.{some_value}
+use Rattle.sqlite_wal.proofs.CreateLemmas.{begun_is_not_blank}
+use Rattle.sqlite_wal.proofs.FormatLemmas.{be32-part}
+use Rattle.sqlite_pool.specs.Header.{first_page, first_page_byte}
+use Rattle.sqlite_pool.specs.Stored.{stored_size, sealed, IsUnreadable}
+use Rattle.sqlite_pool.specs.StoredLaws.{length-sealed}
+use Rattle.sqlite_pool.proofs.ProbeLemmas.{first_byte}
+use Rattle.sqlite.specs.Files.{NamesSize, BeginsWell}
+use Rattle.moo_files.specs.Blank.{IsBlank}
+
+-- no file names a page of one byte
+one_byte : (db : List ℕ) → size_in_file db ≡ 1 → ⊥
+one_byte db one = grind arith
+
+no_byte : (first : List ℕ) → length first ≡ 0 → slice_index first 0 ≡ 83 → ⊥
+no_byte [] none byte = let never : 0 ≡ 83 = byte in omega (arith, never)
+no_byte (x ∷ xs) none byte = omega (arith, none)
+
+first_length : length (first_page 1024) ≡ 1024
+unfolding first_page
+first_length = length-map (range_with_len 0 1024) (first_page_byte 1024) ∙ length-range_with_len 0 1024
+
+-- the size that such files name isn't one byte
+named_large : (image : Image) (size : ℕ) → IsBlank image → 0 < length image.db → NamesSize image size → size ≡ 1 → ⊥
+named_large image size begun present names one =
+    let by_log : (¬ IsIgnored image.log) → ⊥ = λ read.
+    elim begun [
+      | inl none ↦ omega (arith, none, present)
+      | inr half ↦ elim half.0 [
+        | inl ignored ↦ read ignored.0
+        | inr taken ↦
+            let named : be32 image.log 8 ≡ length (sealed (first_page 1024)) = sym (be32-part image.log 0 32 8 (omega arith)) ∙ taken.0.head.size in
+            omega (arith, named, names.0 read, one, length-sealed (first_page 1024), first_length)
+      ]
+    ] in
+    by_log (λ ignored. one_byte image.db (sym (names.1 ignored) ∙ one))
+
+pub begun_unreadable : (image : Image) (size : ℕ) → IsBlank image → NamesSize image (stored_size size) → BeginsWell (stored_size size) image → IsUnreadable size image
+begun_unreadable image size begun names begins pages found whole =
+    let (first, is) = some_value (pages 1) whole.first in
+    let len = whole.sized 1 first is in
+    let byte = begins pages first found is len in
+    let gate = first_byte 1024 (omega arith) in
+    let some = λ (none : stored_size size ≡ 0). no_byte first (len ∙ none) byte in
+    let more = λ (one : stored_size size ≡ 1). named_large image (stored_size size) begun found.present names one in
+    let large : 1 < stored_size size = elim (cases_eq (stored_size size) 0) [
+      | inl none ↦ absurd (some none)
+      | inr any ↦ elim (cases_eq (stored_size size) 1) [ inl one ↦ absurd (more one) | inr other ↦ omega (arith, any, other) ]
+    ] in
+    begun_is_not_blank (sealed (first_page 1024)) first (stored_size size) image pages found is len large (byte ∙ sym gate) (λ none. let never = sym gate ∙ none in omega arith) begun
