@@ -18,15 +18,16 @@ use Rattle.moo_store.specs.Opening.{Says}
 use Rattle.moo_store.specs.States.{LeavesState}
 use Rattle.moo_store.specs.World.{CrashLeaves}
 use Rattle.moo_store.specs.declared.fault.StoreFault.{StoreFault}
-use Rattle.moo_files.specs.Contents.{HoldsTrees, HoldsTables, HoldsState, HasOtherTables, HasAnyTable}
-use Rattle.moo_files.specs.Remains.{IsCleanRemains, MayStopAs, KeepsSuch, KeepsNothingBut, StillHolds, StillHoldsTrees}
+use Rattle.moo_files.specs.Contents.{HoldsTrees, HoldsTables, HoldsState, HasOtherTables, HasAnyTable, IsKept, ReadsAsOurs, HoldsNoTable}
+use Rattle.moo_files.specs.Remains.{IsCleanRemains, MayStopAs, Spares, KeepsSuch, KeepsNothingBut, StillHolds, StillHoldsTrees}
+use Rattle.moo_files.specs.Blank.{IsBlank}
 use Rattle.moo_files.specs.Closing.{IsClosedFrom}
 use Rattle.moo_files.specs.declared.remains.Remains.{Remains}
 use Rattle.moo_files.specs.declared.remains.Remains.TheVariants as remains
 use Rattle.moo_words.specs.declared.task.Task.{Task}
 use Rattle.moo_words.specs.Tasks.{NamesTask, NamesAlone, mistakes}
 use Rattle.moo_commands.specs.Lines.{Reports, store_failure}
-use Rattle.moo_commands.specs.Run.{Given, file_of, begins_anew, is_load, BeginsWith, FailsToBegin, RunsFrom, RunsUnseen, RunsTask, FailsAtOnce, RefusesFile, EndsUsage}
+use Rattle.moo_commands.specs.Run.{Given, file_of, begins_anew, only_reads, is_load, BeginsWith, FailsToBegin, RunsFrom, RunsUnseen, RunsTask, FailsAtOnce, RefusesFile, EndsUsage}
 use Rattle.moo_commands.specs.declared.ends.Ends.{Ends}
 use Rattle.moo_commands.specs.declared.ends.Ends.TheVariants as variant
 
@@ -67,6 +68,18 @@ module _ {T D : Type 0} {g : Ghosts D} where
     -- it never runs over nothing, or over other tables than ours
     pub nothing : begins_anew task ≡ false → IsNothing image → MatchFile ends (λ conn. HasCleanDisk (file_state conn) → ⊥) (λ remains. ⊤)
     pub other : (trees : Trees) → begins_anew task ≡ false → HoldsTrees image trees → HasOtherTables trees → MatchFile ends (λ conn. HasCleanDisk (file_state conn) → ⊥) (λ remains. ⊤)
+    -- It runs only over files that read as a sound database with tables of ours. Any others are refused because the store fails, which is
+    -- also said of files that aren't a database, or of tables that aren't ours; or memory ran out. No damage is told of them.
+    pub sound : begins_anew task ≡ false → MatchFile ends (λ conn. HasCleanDisk (file_state conn) → ReadsAsOurs image) (λ remains. ⊤)
+    pub unsound : begins_anew task ≡ false → ¬ ReadsAsOurs image → MatchFile ends (λ conn. ⊤) (λ remains. IsCleanRemains remains → FailsAtOnce old new status)
+    pub foreign : (trees : Trees) → begins_anew task ≡ false → HoldsTrees image trees → HasOtherTables trees → MatchFile ends (λ conn. ⊤) (λ remains. IsCleanRemains remains → FailsAtOnce old new status)
+    -- a new world is made only if the files have room for it, and never over a table, whatever that shows
+    pub room : begins_anew task ≡ true → MatchFile ends (λ conn. HasCleanDisk (file_state conn) → HoldsNoTable image) (λ remains. ⊤)
+    pub occupied : (trees : Trees) → begins_anew task ≡ true → HoldsTrees image trees → HasAnyTable trees → MatchFile ends (λ conn. HasCleanDisk (file_state conn) → ⊥) (λ remains. ⊤)
+    -- After a task that only reads, a crash leaves the database that the file held, each cell as it was; or what that was migrated to.
+    pub still : (trees : Trees) → begins_anew task ≡ false → only_reads task ≡ true → HoldsTrees image trees → MatchFile ends
+        (λ conn. HasCleanDisk (file_state conn) → (found : Trees) → (file_state conn).may_leave found → IsKept trees found)
+        (λ remains. ⊤)
     -- whatever the file holds, it is refused, or the task runs from a well formed world
     pub opened : begins_anew task ≡ false → MatchFile ends
         (λ conn. (rows : Maps) × IsGood rows × RunsUnseen task (state_of rows) given old new status)
@@ -79,8 +92,13 @@ module _ {T D : Type 0} {g : Ghosts D} where
     pub spared : (trees : Trees) → begins_anew task ≡ true → HoldsTrees image trees → HasAnyTable trees → MatchFile ends (λ conn. ⊤) (λ remains. IsCleanRemains remains → KeepsSuch (λ found. found ≡ trees) image remains)
     pub unmade : (trees : Trees) → begins_anew task ≡ true → HoldsTrees image trees → MatchFile ends (λ conn. ⊤)
         (λ remains. IsCleanRemains remains → KeepsSuch (λ found. (found ≡ trees) ⊎ ((s : State) × BeginsWith task given s × LeavesState found s)) image remains)
-    -- Of files that held nothing a new world that can't be made leaves nothing, or that world, whole.
+    -- files that are refused are spared, sound or not
+    pub spares : ¬ IsNothing image → (begins_anew task ≡ true → ¬ IsBlank image) → MatchFile ends (λ conn. ⊤) (λ remains. IsCleanRemains remains → Spares image remains)
+    -- Of files that held nothing, or half a first page, a new world that can't be made leaves no more than they held, a database without
+    -- rows, or that world, whole.
     pub fresh : begins_anew task ≡ true → IsNothing image → MatchFile ends (λ conn. ⊤)
+        (λ remains. IsCleanRemains remains → KeepsNothingBut (λ found. (s : State) × BeginsWith task given s × LeavesState found s) image remains)
+    pub begun : begins_anew task ≡ true → IsBlank image → MatchFile ends (λ conn. ⊤)
         (λ remains. IsCleanRemains remains → KeepsNothingBut (λ found. (s : State) × BeginsWith task given s × LeavesState found s) image remains)
     pub blank : begins_anew task ≡ false → IsNothing image → MatchFile ends (λ conn. ⊤) (λ remains. IsCleanRemains remains → KeepsNothingBut (λ _. ⊥) image remains)
     -- if no file was opened, the line tells why, or why a dump shows no world

@@ -13,9 +13,10 @@ ghost use Rattle.moo_cells.specs.Shows.{ShowsRows};
 ghost use Rattle.moo_store.specs.Opening.{Says, IsOfStore};
 ghost use Rattle.moo_store.specs.States.{LeavesState};
 ghost use Rattle.moo_store.specs.World.{store_of, CrashLeaves, StandsFor};
-ghost use Rattle.moo_files.specs.Contents.{HoldsTrees, HoldsTables, HoldsState, HasOtherTables, HasAnyTable};
-ghost use Rattle.moo_files.specs.Remains.{IsCleanRemains, MayStopAs, KeepsSuch, KeepsNothingBut, StillHolds, StillHoldsTrees};
+ghost use Rattle.moo_files.specs.Contents.{HoldsTrees, HoldsTables, HoldsState, HasOtherTables, HasAnyTable, IsKept, ReadsAsOurs, HoldsNoTable};
+ghost use Rattle.moo_files.specs.Remains.{IsCleanRemains, MayStopAs, Spares, KeepsSuch, KeepsNothingBut, StillHolds, StillHoldsTrees};
 ghost use Rattle.moo_http.specs.Turns.{AttendedOn};
+ghost use Rattle.moo_files.specs.Blank.{IsBlank};
 ghost use Rattle.moo_commands.specs.Lines.{Tells, store_failure};
 ghost use Rattle.moo_commands.specs.Run.{begins_anew, file_of, is_load, dump_word, given_by, only_reads, LeavesNothingNew, RunsFrom, RunsTask, ShowsTables};
 ghost use Rattle.moo_commands.specs.Ends.{RunsFile, EndsWith};
@@ -109,7 +110,15 @@ fn world_of<T: Start>(
     ensures spared { begins_anew task.entry ≡ true → (trees : Trees) → HoldsTrees (image_at T.Start) trees → HasAnyTable trees → IfErr result (λ e. IsCleanRemains e.1 → KeepsSuch (λ found. found ≡ trees) (image_at T.Start) e.1) }
     ensures unmade { begins_anew task.entry ≡ true → (trees : Trees) → HoldsTrees (image_at T.Start) trees → IfErr result (λ e. IsCleanRemains e.1 → KeepsSuch (λ found. (found ≡ trees) ⊎ LeavesState found (state_of opening_maps)) (image_at T.Start) e.1) }
     ensures fresh { begins_anew task.entry ≡ true → IsNothing (image_at T.Start) → IfErr result (λ e. IsCleanRemains e.1 → KeepsNothingBut (λ found. LeavesState found (state_of opening_maps)) (image_at T.Start) e.1) }
+    ensures begun { begins_anew task.entry ≡ true → IsBlank (image_at T.Start) → IfErr result (λ e. IsCleanRemains e.1 → KeepsNothingBut (λ found. LeavesState found (state_of opening_maps)) (image_at T.Start) e.1) }
     ensures blank { begins_anew task.entry ≡ false → IsNothing (image_at T.Start) → IfErr result (λ e. IsCleanRemains e.1 → KeepsNothingBut (λ _. ⊥) (image_at T.Start) e.1) }
+    ensures sound { begins_anew task.entry ≡ false → IfOk result (λ world. HasCleanDisk (store_of over_files world) → ReadsAsOurs (image_at T.Start)) }
+    ensures unsound { begins_anew task.entry ≡ false → ¬ ReadsAsOurs (image_at T.Start) → IfErr result (λ e. IsCleanRemains e.1 → IsOfStore e.0) }
+    ensures foreign { begins_anew task.entry ≡ false → (trees : Trees) → HoldsTrees (image_at T.Start) trees → HasOtherTables trees → IfErr result (λ e. IsCleanRemains e.1 → IsOfStore e.0) }
+    ensures held { begins_anew task.entry ≡ false → (trees : Trees) → HoldsTrees (image_at T.Start) trees → IfOk result (λ world. HasCleanDisk (store_of over_files world) → (found : Trees) → (store_of over_files world).may_leave found → IsKept trees found) }
+    ensures room { begins_anew task.entry ≡ true → IfOk result (λ world. HasCleanDisk (store_of over_files world) → HoldsNoTable (image_at T.Start)) }
+    ensures occupied { begins_anew task.entry ≡ true → (trees : Trees) → HoldsTrees (image_at T.Start) trees → HasAnyTable trees → IfOk result (λ world. HasCleanDisk (store_of over_files world) → ⊥) }
+    ensures spares { ¬ IsNothing (image_at T.Start) → (begins_anew task.entry ≡ true → ¬ IsBlank (image_at T.Start)) → IfErr result (λ e. IsCleanRemains e.1 → Spares (image_at T.Start) e.1) }
     ensures stopped { IfErr result (λ e. MayStopAs e.0 e.1) }
     ensures left { (s : State) → HoldsState (image_at T.Start) s → IfErr result (λ e. IsCleanRemains e.1 → StillHolds (image_at T.Start) e.1 s) }
 {
