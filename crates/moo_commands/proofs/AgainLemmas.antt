@@ -1,5 +1,5 @@
 -- From what a crash left of a run to the next run.
-use Rattle.std.proofs.Common.{◌≡◌, inl, inr, ℕ, false, List, Option, Some, None, codes, sym, subst}
+use Rattle.std.proofs.Common.{◌≡◌, inl, inr, ℕ, false, List, Option, codes, sym, subst}
 use Rattle.std.specs.Bool.{⊤}
 use Rattle.std.proofs.lemmas.Bool.{true≢false, false_from_ne_true}
 use Rattle.std.specs.Str.{bytes_eq}
@@ -22,7 +22,7 @@ use Rattle.moo_files.specs.declared.remains.Remains.TheVariants as remains
 use Rattle.moo_files.proofs.AgainLemmas.{held_after}
 use Rattle.moo_words.specs.declared.task.Task.{Task}
 use Rattle.moo_words.specs.declared.task.Task.TheVariants.{Init, Apply, Ask, Dump, Load, Check, Serve}
-use Rattle.moo_commands.specs.Run.{Texts, begins_anew, file_of}
+use Rattle.moo_commands.specs.Run.{Given, begins_anew, file_of}
 use Rattle.moo_commands.specs.Ends.{MatchFile, RunsFile, EndsWith, RunsOver, IsClosedEnd, RunsClosed}
 use Rattle.moo_commands.specs.Again.{Started, RanFrom, TakesUp, IsLeftAfter, CrashesTo, IsFoundIn, ClosesTo}
 use Rattle.moo_commands.specs.declared.ends.Ends.{Ends}
@@ -38,36 +38,33 @@ on_file (Load file dump) other = absurd (true≢false other)
 on_file (Check file) other = other
 on_file (Serve file port count) other = other
 
-started_map : (task : Task) (image : Image) (texts : Texts) (From Then : State → Type 0) → ((s : State) → From s → Then s) → Started task image texts From → Started task image texts Then
-started_map task image texts From Then on it = ((λ other s holds. on s (it.0 other s holds)), (λ anew. let begun = it.1 anew in (begun.0, begun.1, on begun.0 begun.2)))
+started_map : (task : Task) (image : Image) (given : Given) (From Then : State → Type 0) → ((s : State) → From s → Then s) → Started task image given From → Started task image given Then
+started_map task image given From Then on it = ((λ other s holds. on s (it.0 other s holds)), (λ anew. let begun = it.1 anew in (begun.0, begun.1, on begun.0 begun.2)))
 
 module _ {D : Type 0} {g : Ghosts D} where
   -- what is found after a connection was closed is what a crash might have left before
-  found_left : (T : Type 0) (store : Database) (left_over : Leftover D g) (next : Image) → IsLeftOf store left_over → IsFoundIn {T = T} (Some (remains.Leftover left_over)) next → IsLeftBy store next
+  found_left : (T : Type 0) (store : Database) (left_over : Leftover D g) (next : Image) → IsLeftOf store left_over → IsFoundIn {T = T} (remains.Leftover left_over) next → IsLeftBy store next
   found_left T store (left.Files now) next of (inl is) = subst (IsLeftBy store) (sym is) of.0
   found_left T store (left.Files now) next of (inr out) = of.1 next out
   found_left T store (left.Unopened now) next of found = absurd of
   found_left T store (left.Store now) next of found = record { trees = found.trees; holds = found.holds; such = of found.trees found.such }
 
 module _ {T D : Type 0} {g : Ghosts D} where
-  ran_on_file : (conn : Held (FileStore D g)) → ◌≡◌ {A = Ends T D g} (variant.Ran conn) variant.NoFile → ⊥
-  ran_on_file conn is = subst (λ (ends : Ends T D g). MatchFile ends (λ conn. ⊤) (λ remains. ⊤)) is tt
-
   -- a task that ran over a file is on a file, and this is its run
-  ran_file : (task : Task) (image : Image) (conn : Held (FileStore D g)) (texts : Texts) (old new : Option (List ℕ)) (status : ℕ)
-      → EndsWith {T = T} task image (variant.Ran conn) texts old new status → RunsFile {T = T} task image (variant.Ran conn) texts old new status
-  ran_file task image conn texts old new status it = it.file (false_from_ne_true _ (λ is. ran_on_file conn (it.memory is)))
+  ran_file : (task : Task) (image : Image) (conn : Held (FileStore D g)) (given : Given) (old new : Option (List ℕ)) (status : ℕ)
+      → EndsWith {T = T} task image (variant.Ran conn) given old new status → RunsFile {T = T} task image (variant.Ran conn) given old new status
+  ran_file task image conn given old new status it = it.file (false_from_ne_true _ it.memory)
 
   -- it started from the state that the file held, or from one that it may begin with
-  ran_from : (task : Task) (image : Image) (conn : Held (FileStore D g)) (texts : Texts) (old new : Option (List ℕ)) (status : ℕ) (After : State → Type 0)
-      → HasCleanDisk (file_state conn) → RunsFile {T = T} task image (variant.Ran conn) texts old new status → ((s : State) → RanFrom task s conn texts old new status → After s) → Started task image texts After
-  ran_from task image conn texts old new status After clean it after = ((λ other s holds. after s (it.kept s other holds clean)), (λ anew. let begun = it.anew anew in (begun.0, begun.1, after begun.0 begun.2)))
+  ran_from : (task : Task) (image : Image) (conn : Held (FileStore D g)) (given : Given) (old new : Option (List ℕ)) (status : ℕ) (After : State → Type 0)
+      → HasCleanDisk (file_state conn) → RunsFile {T = T} task image (variant.Ran conn) given old new status → ((s : State) → RanFrom task s conn given old new status → After s) → Started task image given After
+  ran_from task image conn given old new status After clean it after = ((λ other s holds. after s (it.kept s other holds clean)), (λ anew. let begun = it.anew anew in (begun.0, begun.1, after begun.0 begun.2)))
 
   -- words over a file that holds a state take it up
-  pub takes_up : (words : List (List ℕ)) (image : Image) (ends : Ends T D g) (texts : Texts) (old new : Option (List ℕ)) (status : ℕ)
-      → RunsOver words image ends texts old new status → (s : State) → HoldsState image s → TakesUp words s ends texts old new status
-  takes_up words image ends texts old new status (inl (task, named, alone, runs, it)) s holds = inl (task, named, λ other. (it.file (on_file task other)).kept s other holds)
-  takes_up words image ends texts old new status (inr mistake) s holds = inr mistake
+  pub takes_up : (words : List (List ℕ)) (image : Image) (ends : Ends T D g) (given : Given) (old new : Option (List ℕ)) (status : ℕ)
+      → RunsOver words image ends given old new status → (s : State) → HoldsState image s → TakesUp words s ends given old new status
+  takes_up words image ends given old new status (inl (task, named, alone, runs, it)) s holds = inl (task, named, λ other. (it.file (on_file task other)).kept s other holds)
+  takes_up words image ends given old new status (inr mistake) s holds = inr mistake
 
   -- what a crash left of files that kept such a database holds such a one
   still_such : (P : Trees → Type 0) (image : Image) (rest : Remains T D g) (next : Image) → KeepsSuch P image rest → HoldsSuch P image → IsLeftAfter image rest next → HoldsSuch P next
@@ -78,25 +75,22 @@ module _ {T D : Type 0} {g : Ghosts D} where
   still_such P image (remains.Leftover (left.Store now)) next keeps holds left = record { trees = left.trees; holds = left.holds; such = keeps left.trees left.such }
   still_such P image (remains.Connection conn) next keeps holds left = record { trees = left.trees; holds = left.holds; such = keeps left.trees left.such }
 
-  refused_on_file : (rest : Remains T D g) → ◌≡◌ {A = Ends T D g} (variant.Refused rest) variant.NoFile → ⊥
-  refused_on_file rest is = subst (λ (ends : Ends T D g). MatchFile ends (λ conn. ⊤) (λ remains. ⊤)) is tt
-
-  refused_file : (task : Task) (image : Image) (rest : Remains T D g) (texts : Texts) (old new : Option (List ℕ)) (status : ℕ)
-      → EndsWith task image (variant.Refused rest) texts old new status → RunsFile task image (variant.Refused rest) texts old new status
-  refused_file task image rest texts old new status it = it.file (false_from_ne_true _ (λ is. refused_on_file rest (it.memory is)))
+  refused_file : (task : Task) (image : Image) (rest : Remains T D g) (given : Given) (old new : Option (List ℕ)) (status : ℕ)
+      → EndsWith task image (variant.Refused rest) given old new status → RunsFile task image (variant.Refused rest) given old new status
+  refused_file task image rest given old new status it = it.file (false_from_ne_true _ it.memory)
 
   -- files whose words were refused keep their state
-  refused_left : (words : List (List ℕ)) (image : Image) (rest : Remains T D g) (texts : Texts) (old new : Option (List ℕ)) (status : ℕ)
-      → RunsOver words image (variant.Refused rest) texts old new status → (s : State) → HoldsState image s → IsCleanRemains rest → StillHolds image rest s
-  refused_left words image rest texts old new status (inl (task, named, alone, runs, it)) s holds clean = (refused_file task image rest texts old new status it).left s holds clean
-  refused_left words image rest texts old new status (inr (some, usage, none)) s holds clean = absurd (refused_on_file rest none)
+  refused_left : (words : List (List ℕ)) (image : Image) (rest : Remains T D g) (given : Given) (old new : Option (List ℕ)) (status : ℕ)
+      → RunsOver words image (variant.Refused rest) given old new status → (s : State) → HoldsState image s → IsCleanRemains rest → StillHolds image rest s
+  refused_left words image rest given old new status (inl (task, named, alone, runs, it)) s holds clean = (refused_file task image rest given old new status it).left s holds clean
+  refused_left words image rest given old new status (inr (some, usage, none)) s holds clean = absurd none
 
-  pub crashes_to : (words : List (List ℕ)) (image : Image) (ends : Ends T D g) (texts : Texts) (old new : Option (List ℕ)) (status : ℕ) (next : Image) (Next : State → Type 0)
-      → RunsOver words image ends texts old new status → ((t : State) → HoldsState next t → Next t) → CrashesTo words image ends texts old new status next Next
-  crashes_to words image (variant.Ran conn) texts old new status next Next (inl (task, named, alone, runs, it)) goes = λ clean. (
+  pub crashes_to : (words : List (List ℕ)) (image : Image) (ends : Ends T D g) (given : Given) (old new : Option (List ℕ)) (status : ℕ) (next : Image) (Next : State → Type 0)
+      → RunsOver words image ends given old new status → ((t : State) → HoldsState next t → Next t) → CrashesTo words image ends given old new status next Next
+  crashes_to words image (variant.Ran conn) given old new status next Next (inl (task, named, alone, runs, it)) goes = λ clean. (
     task,
     named,
-    ran_from task image conn texts old new status _ clean (ran_file task image conn texts old new status it)
+    ran_from task image conn given old new status _ clean (ran_file task image conn given old new status it)
         (λ s run. (
           run,
           λ left.
@@ -104,11 +98,13 @@ module _ {T D : Type 0} {g : Ghosts D} where
               (lies.0, lies.1, lies.2, goes lies.0 lies.2),
         )),
   )
-  crashes_to words image (variant.Ran conn) texts old new status next Next (inr (some, usage, none)) goes = absurd (ran_on_file conn none)
-  crashes_to words image (variant.Refused rest) texts old new status next Next over goes = λ clean s holds left.
-      let still = still_such (λ trees. LeavesState trees s) image rest next (refused_left words image rest texts old new status over s holds clean) holds left in
+  crashes_to words image (variant.Ran conn) given old new status next Next (inr (some, usage, none)) goes = absurd none
+  crashes_to words image (variant.Refused rest) given old new status next Next over goes = λ clean s holds left.
+      let still = still_such (λ trees. LeavesState trees s) image rest next (refused_left words image rest given old new status over s holds clean) holds left in
       (still, goes s still)
-  crashes_to words image variant.NoFile texts old new status next Next over goes = tt
+  crashes_to words image (variant.NoFile start) given old new status next Next over goes = λ clean s holds same.
+      let still = subst (λ it. HoldsState it s) (sym same) holds in
+      (still, goes s still)
 
   -- what is closed keeps what it kept
   kept_closed : (P : Trees → Type 0) (image : Image) (was now : Remains T D g) → IsClosedFrom was now → IsCleanRemains now → (IsCleanRemains was → KeepsSuch P image was) → KeepsSuch P image now
@@ -124,34 +120,38 @@ module _ {T D : Type 0} {g : Ghosts D} where
       kept_left (left.Unopened files) of all = absurd of
       kept_left (left.Store store) of all = λ trees recovers. all trees (of trees recovers)
 
-  closes_by : (words : List (List ℕ)) (image : Image) (ends : Ends T D g) (closed : Option (Remains T D g)) (texts : Texts) (old new : Option (List ℕ)) (status : ℕ) (next : Image) (Next : State → Type 0)
-      → RunsOver words image ends texts old new status → IsClosedEnd ends closed → ((t : State) → HoldsState next t → Next t) → ClosesTo words image closed texts old new status next Next
-  closes_by words image (variant.Ran conn) (Some now) texts old new status next Next over (rest, is, copied, closes) goes = (
+  closes_by : (words : List (List ℕ)) (image : Image) (ends : Ends T D g) (closed : Remains T D g) (given : Given) (old new : Option (List ℕ)) (status : ℕ) (next : Image) (Next : State → Type 0)
+      → RunsOver words image ends given old new status → IsClosedEnd ends closed → ((t : State) → HoldsState next t → Next t) → ClosesTo words image closed given old new status next Next
+  closes_by words image (variant.Ran conn) closed given old new status next Next over (rest, is, copied, closes) goes = (
     variant.Ran conn,
     over,
     (rest, is, copied, closes),
     λ clean.
         let both = closes (subst IsCleanRemains is clean) in
-        let ran = crashes_to words image (variant.Ran conn) texts old new status next Next over goes both.0 in (
+        let ran = crashes_to words image (variant.Ran conn) given old new status next Next over goes both.0 in (
           ran.0,
           ran.1,
-          started_map ran.0 image texts _ _ (λ s run. (run.0, λ found. run.1 (found_left T (file_state conn) rest next both.1 (subst (λ it. IsFoundIn (Some it) next) is found)))) ran.2,
+          started_map ran.0 image given _ _ (λ s run. (run.0, λ found. run.1 (found_left T (file_state conn) rest next both.1 (subst (λ it. IsFoundIn it next) is found)))) ran.2,
         ),
   )
-  closes_by words image (variant.Ran conn) None texts old new status next Next over none goes = absurd none
-  closes_by words image (variant.Refused was) (Some now) texts old new status next Next over from goes = (
+  closes_by words image (variant.Refused was) closed given old new status next Next over from goes = (
     variant.Refused was,
     over,
     from,
     λ clean s holds found.
-        let kept = kept_closed (λ trees. LeavesState trees s) image was now from clean (λ early. refused_left words image was texts old new status over s holds early) in
-        let still = still_such (λ trees. LeavesState trees s) image now next kept holds found in
+        let kept = kept_closed (λ trees. LeavesState trees s) image was closed from clean (λ early. refused_left words image was given old new status over s holds early) in
+        let still = still_such (λ trees. LeavesState trees s) image closed next kept holds found in
         (still, goes s still),
   )
-  closes_by words image (variant.Refused was) None texts old new status next Next over none goes = absurd none
-  closes_by words image variant.NoFile (Some now) texts old new status next Next over none goes = absurd none
-  closes_by words image variant.NoFile None texts old new status next Next over from goes = (variant.NoFile, over, tt, tt)
+  closes_by words image (variant.NoFile start) closed given old new status next Next over is goes = (
+    variant.NoFile start,
+    over,
+    is,
+    λ clean s holds found.
+        let still = subst (λ it. HoldsState it s) (sym (subst (λ it. IsLeftAfter image it next) is found)) holds in
+        (still, goes s still),
+  )
 
-  pub closes_to : (words : List (List ℕ)) (image : Image) (closed : Option (Remains T D g)) (texts : Texts) (old new : Option (List ℕ)) (status : ℕ) (next : Image) (Next : State → Type 0)
-      → RunsClosed words image closed texts old new status → ((t : State) → HoldsState next t → Next t) → ClosesTo words image closed texts old new status next Next
-  closes_to words image closed texts old new status next Next it goes = closes_by words image it.0 closed texts old new status next Next it.1 it.2 goes
+  pub closes_to : (words : List (List ℕ)) (image : Image) (closed : Remains T D g) (given : Given) (old new : Option (List ℕ)) (status : ℕ) (next : Image) (Next : State → Type 0)
+      → RunsClosed words image closed given old new status → ((t : State) → HoldsState next t → Next t) → ClosesTo words image closed given old new status next Next
+  closes_to words image closed given old new status next Next it goes = closes_by words image it.0 closed given old new status next Next it.1 it.2 goes

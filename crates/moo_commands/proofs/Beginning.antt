@@ -14,26 +14,26 @@ use Rattle.moo_files.specs.declared.remains.Remains.{Remains}
 use Rattle.moo_files.proofs.RemainsLemmas.{keeps_more, blank_more}
 use Rattle.moo_words.specs.declared.task.Task.{Task}
 use Rattle.moo_words.specs.declared.task.Task.TheVariants.{Init, Apply, Ask, Dump, Load, Check, Serve}
-use Rattle.moo_commands.specs.Run.{Texts, begins_anew, is_load, dump_word, IsDumpedAs, BeginsWith, RunsFrom, RunsUnseen, FailsAtOnce, FailsToBegin, RunsNew}
+use Rattle.moo_commands.specs.Run.{Given, begins_anew, is_load, dump_word, IsDumpedAs, BeginsWith, RunsFrom, RunsUnseen, FailsAtOnce, FailsToBegin, RunsNew}
 use Rattle.moo_commands.proofs.Connections.{unseen}
 
-pub begins_opening : (task : Task) (texts : Texts) → is_load task ≡ false → BeginsWith task texts (state_of opening_maps)
-begins_opening (Init file) texts other = refl
-begins_opening (Apply file batches) texts other = refl
-begins_opening (Ask file batches) texts other = refl
-begins_opening (Dump file) texts other = refl
-begins_opening (Load file dump) texts other = absurd (true≢false other)
-begins_opening (Check file) texts other = refl
-begins_opening (Serve file port count) texts other = refl
+pub begins_opening : (task : Task) (given : Given) → is_load task ≡ false → BeginsWith task given (state_of opening_maps)
+begins_opening (Init file) given other = refl
+begins_opening (Apply file batches) given other = refl
+begins_opening (Ask file batches) given other = refl
+begins_opening (Dump file) given other = refl
+begins_opening (Load file dump) given other = absurd (true≢false other)
+begins_opening (Check file) given other = refl
+begins_opening (Serve file port count) given other = refl
 
-pub begins_dumped : (task : Task) (texts : Texts) (dump : List ℕ) (s : State) → is_load task ≡ true → dump_word task ≡ dump → IsDumpedAs (texts dump) s → BeginsWith task texts s
-begins_dumped (Init file) texts dump s loads is it = absurd (true≢false (sym loads))
-begins_dumped (Apply file batches) texts dump s loads is it = absurd (true≢false (sym loads))
-begins_dumped (Ask file batches) texts dump s loads is it = absurd (true≢false (sym loads))
-begins_dumped (Dump file) texts dump s loads is it = absurd (true≢false (sym loads))
-begins_dumped (Load file word) texts dump s loads is it = subst (λ w. IsDumpedAs (texts w) s) (sym is) it
-begins_dumped (Check file) texts dump s loads is it = absurd (true≢false (sym loads))
-begins_dumped (Serve file port count) texts dump s loads is it = absurd (true≢false (sym loads))
+pub begins_dumped : (task : Task) (given : Given) (dump : List ℕ) (s : State) → is_load task ≡ true → dump_word task ≡ dump → IsDumpedAs (given.text dump) s → BeginsWith task given s
+begins_dumped (Init file) given dump s loads is it = absurd (true≢false (sym loads))
+begins_dumped (Apply file batches) given dump s loads is it = absurd (true≢false (sym loads))
+begins_dumped (Ask file batches) given dump s loads is it = absurd (true≢false (sym loads))
+begins_dumped (Dump file) given dump s loads is it = absurd (true≢false (sym loads))
+begins_dumped (Load file word) given dump s loads is it = subst (λ w. IsDumpedAs (given.text w) s) (sym is) it
+begins_dumped (Check file) given dump s loads is it = absurd (true≢false (sym loads))
+begins_dumped (Serve file port count) given dump s loads is it = absurd (true≢false (sym loads))
 
 pub load_begins : (task : Task) → is_load task ≡ true → begins_anew task ≡ true
 load_begins (Init file) loads = refl
@@ -45,37 +45,37 @@ load_begins (Check file) loads = absurd (true≢false (sym loads))
 load_begins (Serve file port count) loads = absurd (true≢false (sym loads))
 
 -- what comes after a load reads no text
-pub of_other_texts : (task : Task) → is_load task ≡ true → (s : State) (texts others : Texts) (old new : Option (List ℕ)) (status : ℕ) (Clean : Type 0) (Crash : Stand → Type 0) (Shown : Type 0)
-    → RunsFrom task s texts old new status Clean Crash Shown → RunsFrom task s others old new status Clean Crash Shown
-of_other_texts (Init file) loads s texts others old new status Clean Crash Shown it = absurd (true≢false (sym loads))
-of_other_texts (Apply file batches) loads s texts others old new status Clean Crash Shown it = absurd (true≢false (sym loads))
-of_other_texts (Ask file batches) loads s texts others old new status Clean Crash Shown it = absurd (true≢false (sym loads))
-of_other_texts (Dump file) loads s texts others old new status Clean Crash Shown it = absurd (true≢false (sym loads))
-of_other_texts (Load file dump) loads s texts others old new status Clean Crash Shown it = record { end = it.end; crash = it.crash; writes = it.writes }
-of_other_texts (Check file) loads s texts others old new status Clean Crash Shown it = absurd (true≢false (sym loads))
-of_other_texts (Serve file port count) loads s texts others old new status Clean Crash Shown it = absurd (true≢false (sym loads))
+pub of_other_texts : (task : Task) → is_load task ≡ true → (s : State) (given others : Given) (old new : Option (List ℕ)) (status : ℕ) (Clean : Type 0) (Crash : Stand → Type 0) (Shown : Type 0)
+    → RunsFrom task s given old new status Clean Crash Shown → RunsFrom task s others old new status Clean Crash Shown
+of_other_texts (Init file) loads s given others old new status Clean Crash Shown it = absurd (true≢false (sym loads))
+of_other_texts (Apply file batches) loads s given others old new status Clean Crash Shown it = absurd (true≢false (sym loads))
+of_other_texts (Ask file batches) loads s given others old new status Clean Crash Shown it = absurd (true≢false (sym loads))
+of_other_texts (Dump file) loads s given others old new status Clean Crash Shown it = absurd (true≢false (sym loads))
+of_other_texts (Load file dump) loads s given others old new status Clean Crash Shown it = record { end = it.end; crash = it.crash; writes = it.writes }
+of_other_texts (Check file) loads s given others old new status Clean Crash Shown it = absurd (true≢false (sym loads))
+of_other_texts (Serve file port count) loads s given others old new status Clean Crash Shown it = absurd (true≢false (sym loads))
 
 pub fails_to_begin : (task : Task) (old new : Option (List ℕ)) (status : ℕ) → FailsAtOnce old new status → FailsToBegin task old new status
 fails_to_begin task old new status (failure, opening, reports) = (failure, inl opening, reports)
 
 -- a run from the world that a task begins with, of which nothing more is said than what is written
-pub new_unseen : (task : Task) (texts : Texts) (old new : Option (List ℕ)) (status : ℕ) (Clean : Type 0) (Crash : Stand → Type 0) (Shown : Type 0)
-    → FailsToBegin task old new status ⊎ ((s : State) × BeginsWith task texts s × RunsFrom task s texts old new status Clean Crash Shown) → RunsNew task texts old new status
-new_unseen task texts old new status Clean Crash Shown (inl fails) = inl fails
-new_unseen task texts old new status Clean Crash Shown (inr (s, begins, it)) = inr (s, begins, unseen task s texts old new status Clean Crash Shown it)
+pub new_unseen : (task : Task) (given : Given) (old new : Option (List ℕ)) (status : ℕ) (Clean : Type 0) (Crash : Stand → Type 0) (Shown : Type 0)
+    → FailsToBegin task old new status ⊎ ((s : State) × BeginsWith task given s × RunsFrom task s given old new status Clean Crash Shown) → RunsNew task given old new status
+new_unseen task given old new status Clean Crash Shown (inl fails) = inl fails
+new_unseen task given old new status Clean Crash Shown (inr (s, begins, it)) = inr (s, begins, unseen task s given old new status Clean Crash Shown it)
 
 -- what a refused making of that world leaves
-pub unmade_begins : {T D : Type 0} {g : Ghosts D} (task : Task) (texts : Texts) (s : State) → BeginsWith task texts s → (trees : Trees) (image : Image) (remains : Remains T D g)
-    → KeepsSuch (λ found. (found ≡ trees) ⊎ LeavesState found s) image remains → KeepsSuch (λ found. (found ≡ trees) ⊎ ((t : State) × BeginsWith task texts t × LeavesState found t)) image remains
-unmade_begins task texts s begins trees image remains =
-    keeps_more (λ found. (found ≡ trees) ⊎ LeavesState found s) (λ found. (found ≡ trees) ⊎ ((t : State) × BeginsWith task texts t × LeavesState found t))
+pub unmade_begins : {T D : Type 0} {g : Ghosts D} (task : Task) (given : Given) (s : State) → BeginsWith task given s → (trees : Trees) (image : Image) (remains : Remains T D g)
+    → KeepsSuch (λ found. (found ≡ trees) ⊎ LeavesState found s) image remains → KeepsSuch (λ found. (found ≡ trees) ⊎ ((t : State) × BeginsWith task given t × LeavesState found t)) image remains
+unmade_begins task given s begins trees image remains =
+    keeps_more (λ found. (found ≡ trees) ⊎ LeavesState found s) (λ found. (found ≡ trees) ⊎ ((t : State) × BeginsWith task given t × LeavesState found t))
     (λ found kept. elim kept [ inl same ↦ inl same | inr leaves ↦ inr (s, begins, leaves) ]) image remains
 
 -- and of files that held nothing
-pub fresh_begins : {T D : Type 0} {g : Ghosts D} (task : Task) (texts : Texts) (s : State) → BeginsWith task texts s → (image : Image) (remains : Remains T D g)
-    → KeepsNothingBut (λ found. LeavesState found s) image remains → KeepsNothingBut (λ found. (t : State) × BeginsWith task texts t × LeavesState found t) image remains
-fresh_begins task texts s begins image remains =
-    blank_more (λ found. LeavesState found s) (λ found. (t : State) × BeginsWith task texts t × LeavesState found t) (λ found leaves. (s, begins, leaves)) image remains
+pub fresh_begins : {T D : Type 0} {g : Ghosts D} (task : Task) (given : Given) (s : State) → BeginsWith task given s → (image : Image) (remains : Remains T D g)
+    → KeepsNothingBut (λ found. LeavesState found s) image remains → KeepsNothingBut (λ found. (t : State) × BeginsWith task given t × LeavesState found t) image remains
+fresh_begins task given s begins image remains =
+    blank_more (λ found. LeavesState found s) (λ found. (t : State) × BeginsWith task given t × LeavesState found t) (λ found leaves. (s, begins, leaves)) image remains
 
 -- a task that begins with a new world isn't one that takes up its file
 pub never_other : {A : Type 0} (task : Task) → is_load task ≡ true → begins_anew task ≡ false → A

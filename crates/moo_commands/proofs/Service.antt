@@ -7,7 +7,8 @@ use Rattle.moo_world.specs.Judge.{State}
 use Rattle.moo_store.specs.Kept.{World}
 use Rattle.moo_store.specs.Stand.{Stand, Works}
 use Rattle.moo_store.specs.World.{store_of}
-use Rattle.moo_http.specs.Connections.{StandsAtEnd, ServesPort}
+use Rattle.moo_http.specs.Connections.{StandsAtEnd}
+use Rattle.moo_http.specs.Turns.{Attendance, ServesOn}
 use Rattle.moo_http.specs.declared.service.ServiceFault.{ServiceFault}
 use Rattle.moo_http.specs.declared.service.ServiceFault.TheVariants as service_fault
 use Rattle.moo_commands.specs.Lines.{service_failure}
@@ -15,18 +16,18 @@ use Rattle.moo_commands.specs.Run.{Serving, StopsServing, EndsTask}
 use Rattle.moo_commands.specs.declared.failure.Failure.{Failure}
 
 -- what stops the service, by its fault
-stopped : (port count : ℕ) (s : State) (end : Stand) (fault : ServiceFault) (failure : Failure) (old new : Option (List ℕ)) → failure ≡ service_failure fault
-    → ServesPort (Err fault) port count (Works s) end old new → StopsServing port count s end failure old new
-stopped port count s end service_fault.Port failure old new is (same, unwritten) = inl (is, same, unwritten)
-stopped port count s end service_fault.Write failure old new is (inl (same, front)) = inr (inl (same, (inl is, front.0, front.1)))
-stopped port count s end service_fault.Write failure old new is (inr (text, all, front)) = inr (inr (text, all, (inl is, front.0, front.1)))
-stopped port count s end service_fault.OutOfMemory failure old new is (inl (same, front)) = inr (inl (same, (inr is, front.0, front.1)))
-stopped port count s end service_fault.OutOfMemory failure old new is (inr (text, all, front)) = inr (inr (text, all, (inr is, front.0, front.1)))
+stopped : (Attends : Attendance) (port count : ℕ) (s : State) (end : Stand) (fault : ServiceFault) (failure : Failure) (old new : Option (List ℕ)) → failure ≡ service_failure fault
+    → ServesOn Attends (Err fault) port count (Works s) end old new → StopsServing Attends port count s end failure old new
+stopped Attends port count s end service_fault.Port failure old new is (same, unwritten) = inl (is, same, unwritten)
+stopped Attends port count s end service_fault.Write failure old new is (inl (same, front)) = inr (inl (same, (inl is, front.0, front.1)))
+stopped Attends port count s end service_fault.Write failure old new is (inr (text, all, front)) = inr (inr (text, all, (inl is, front.0, front.1)))
+stopped Attends port count s end service_fault.OutOfMemory failure old new is (inl (same, front)) = inr (inl (same, (inr is, front.0, front.1)))
+stopped Attends port count s end service_fault.OutOfMemory failure old new is (inr (text, all, front)) = inr (inr (text, all, (inr is, front.0, front.1)))
 
-module _ {S : Type 0} (g : Ghosts S) (known : Bool) (was world : World S) (clean : HasCleanDisk (store_of g world) → HasCleanDisk (store_of g was)) (port count : ℕ) (s : State) (old new : Option (List ℕ)) where
-  pub service_done : (done : Unit {0}) → StandsAtEnd g known world (λ end. ServesPort (Ok done) port count (Works s) end old new) → EndsTask g known was world (λ end. Serving port count s end old new 0)
+module _ {S : Type 0} (g : Ghosts S) (known : Bool) (was world : World S) (clean : HasCleanDisk (store_of g world) → HasCleanDisk (store_of g was)) (Attends : Attendance) (port count : ℕ) (s : State) (old new : Option (List ℕ)) where
+  pub service_done : (done : Unit {0}) → StandsAtEnd g known world (λ end. ServesOn Attends (Ok done) port count (Works s) end old new) → EndsTask g known was world (λ end. Serving Attends port count s end old new 0)
   service_done done it = record { end = it.end; clean = clean; crash = it.crash; ends = (it.ends.0, it.ends.1, it.ends.2, refl) }
 
-  pub service_stops : (fault : ServiceFault) (failure : Failure) → failure ≡ service_failure fault → StandsAtEnd g known world (λ end. ServesPort (Err fault) port count (Works s) end old new)
-      → EndsTask g known was world (λ end. StopsServing port count s end failure old new)
-  service_stops fault failure is it = record { end = it.end; clean = clean; crash = it.crash; ends = stopped port count s it.end fault failure old new is it.ends }
+  pub service_stops : (fault : ServiceFault) (failure : Failure) → failure ≡ service_failure fault → StandsAtEnd g known world (λ end. ServesOn Attends (Err fault) port count (Works s) end old new)
+      → EndsTask g known was world (λ end. StopsServing Attends port count s end failure old new)
+  service_stops fault failure is it = record { end = it.end; clean = clean; crash = it.crash; ends = stopped Attends port count s it.end fault failure old new is it.ends }

@@ -1,5 +1,5 @@
 -- What words come to over a file, and the next words over what a crash left of it.
-use Rattle.std.specs.Prelude.{◌≡◌, ◌<◌, ◌⊎◌, ℕ, true, false, List, Option, Some, None, length, ⊤}
+use Rattle.std.specs.Prelude.{◌≡◌, ◌<◌, ◌⊎◌, ℕ, true, false, List, Option, length, ⊤}
 use Rattle.sqlite_disk.specs.declared.Disk.{Ghosts}
 use Rattle.sqlite_store.specs.declared.store.FileStore.{FileStore}
 use Rattle.sqlite_store.specs.FileStore.{recovers}
@@ -20,39 +20,40 @@ use Rattle.moo_files.specs.declared.remains.Remains.{Remains}
 use Rattle.moo_files.specs.declared.remains.Remains.TheVariants as remains
 use Rattle.moo_words.specs.declared.task.Task.{Task}
 use Rattle.moo_words.specs.Tasks.{NamesTask, mistakes}
-use Rattle.moo_commands.specs.Run.{Texts, begins_anew, BeginsWith, RunsFrom, FailsAtOnce, EndsUsage}
-use Rattle.moo_commands.specs.Ends.{MatchFile, RunsOver, IsClosedEnd}
+use Rattle.moo_commands.specs.Run.{Given, begins_anew, BeginsWith, RunsFrom, FailsAtOnce, EndsUsage}
+use Rattle.moo_commands.specs.Ends.{MatchFile, HasNoFile, RunsOver, IsClosedEnd}
 use Rattle.moo_commands.specs.declared.ends.Ends.{Ends}
 use Rattle.moo_commands.specs.declared.ends.Ends.TheVariants as variant
 
 -- The task started so: from the state that its file holds, if it takes it up; or from one that it may begin with.
-abbrev pub Started : Task → Image → Texts → (State → Type 0) → Type 0
-Started task image texts From =
+abbrev pub Started : Task → Image → Given → (State → Type 0) → Type 0
+Started task image given From =
     (begins_anew task ≡ false → (s : State) → HoldsState image s → From s)
-    × (begins_anew task ≡ true → (s : State) × BeginsWith task texts s × From s)
+    × (begins_anew task ≡ true → (s : State) × BeginsWith task given s × From s)
 
 module _ {D : Type 0} {g : Ghosts D} where
   -- the task ran over its file from s, with what a crash then leaves
-  abbrev pub RanFrom : Task → State → Held (FileStore D g) → Texts → Option (List ℕ) → Option (List ℕ) → ℕ → Type 0
-  RanFrom task s conn texts old new status = RunsFrom task s texts old new status (HasCleanDisk (file_state conn)) (CrashLeaves (file_state conn)) ⊤
+  abbrev pub RanFrom : Task → State → Held (FileStore D g) → Given → Option (List ℕ) → Option (List ℕ) → ℕ → Type 0
+  RanFrom task s conn given old new status = RunsFrom task s given old new status (HasCleanDisk (file_state conn)) (CrashLeaves (file_state conn)) ⊤
 
 module _ {T D : Type 0} {g : Ghosts D} where
   -- The words name a task, and if it takes up its file, it runs from s. Or the store fails or memory runs out, and no damage is told.
   -- Or the words have a mistake.
-  abbrev pub TakesUp : List (List ℕ) → State → Ends T D g → Texts → Option (List ℕ) → Option (List ℕ) → ℕ → Type 0
-  TakesUp words s ends texts old new status =
+  abbrev pub TakesUp : List (List ℕ) → State → Ends T D g → Given → Option (List ℕ) → Option (List ℕ) → ℕ → Type 0
+  TakesUp words s ends given old new status =
       ((task : Task) × NamesTask words task × (begins_anew task ≡ false → MatchFile ends
-      (λ conn. HasCleanDisk (file_state conn) → RanFrom task s conn texts old new status)
+      (λ conn. HasCleanDisk (file_state conn) → RanFrom task s conn given old new status)
       (λ remains. IsCleanRemains remains → FailsAtOnce old new status)))
-      ⊎ ((1 < length words) × EndsUsage (mistakes words) old new status × (ends ≡ variant.NoFile))
+      ⊎ ((1 < length words) × EndsUsage (mistakes words) old new status × HasNoFile ends)
 
-  -- if there is a file, this is true of it
-  abbrev pub IfFile : Ends T D g → (Held (FileStore D g) → Type 0) → (Remains T D g → Type 0) → Type 0
-  IfFile (variant.Ran conn) Ran Refused = Ran conn
-  IfFile (variant.Refused remains) Ran Refused = Refused remains
-  IfFile variant.NoFile Ran Refused = ⊤
+  -- This is true of the connection, if a task ran over the file. Otherwise that is true of what is left of the file, which is untouched
+  -- if the words have none: they have a mistake, or run on `:memory:`.
+  abbrev pub IfRan : Ends T D g → (Held (FileStore D g) → Type 0) → (Remains T D g → Type 0) → Type 0
+  IfRan (variant.Ran conn) Ran Left = Ran conn
+  IfRan (variant.Refused rest) Ran Left = Left rest
+  IfRan (variant.NoFile start) Ran Left = Left (remains.Untouched start)
 
-  -- What a crash leaves of files that held this image, if no world was opened or made. Files that weren't opened are as they were. (Those
+  -- What a crash leaves of files that held this image, if no task ran over them. Files that weren't opened are as they were. (Those
   -- that `sqlite` failed to open are taken as such: it says nothing of them. Files with sums on their pages, as no file of this program
   -- has, may have been resealed, and are left out.)
   abbrev pub IsLeftAfter : Image → Remains T D g → Image → Type 0
@@ -63,33 +64,24 @@ module _ {T D : Type 0} {g : Ghosts D} where
   IsLeftAfter image (remains.Leftover (left.Store now)) next = HoldsSuch (recovers now) next
   IsLeftAfter image (remains.Connection conn) next = IsLeftBy (file_state conn) next
 
-  -- The words were run over the file that held this image. If the disk is clean and the next image is what a crash left, that holds a
-  -- state of which `Next` is true: if a task ran, from a state to an end, one that this end may leave; if no world was opened or made,
-  -- the state that the file held.
-  abbrev pub CrashesTo : List (List ℕ) → Image → Ends T D g → Texts → Option (List ℕ) → Option (List ℕ) → ℕ → Image → (State → Type 0) → Type 0
-  CrashesTo words image ends texts old new status next Next = IfFile ends
-      (λ conn. HasCleanDisk (file_state conn) → (task : Task) × NamesTask words task × Started task image texts (λ s.
-      (run : RanFrom task s conn texts old new status) × (IsLeftBy (file_state conn) next → (t : State) × MayLeave run.end t × HoldsState next t × Next t)))
+  -- The words were run beside the file that held this image. If the disk is clean and the next image is what a crash left, that holds a
+  -- state of which `Next` is true: if a task ran over it, from a state to an end, one that this end may leave; if none did, the state that
+  -- the file held.
+  abbrev pub CrashesTo : List (List ℕ) → Image → Ends T D g → Given → Option (List ℕ) → Option (List ℕ) → ℕ → Image → (State → Type 0) → Type 0
+  CrashesTo words image ends given old new status next Next = IfRan ends
+      (λ conn. HasCleanDisk (file_state conn) → (task : Task) × NamesTask words task × Started task image given (λ s.
+      (run : RanFrom task s conn given old new status) × (IsLeftBy (file_state conn) next → (t : State) × MayLeave run.end t × HoldsState next t × Next t)))
       (λ remains. IsCleanRemains remains → (s : State) → HoldsState image s → IsLeftAfter image remains next → HoldsState next s × Next s)
 
-  -- the disk returned what was written, until the files were closed
-  abbrev pub IsCleanEnd : Option (Remains T D g) → Type 0
-  IsCleanEnd (Some remains) = IsCleanRemains remains
-  IsCleanEnd None = ⊤
-
   -- the image is what the files hold once their connection is closed, or what a crash leaves of them, or of their log if closing failed
-  abbrev pub IsFoundIn : Option (Remains T D g) → Image → Type 0
-  IsFoundIn (Some (remains.Leftover (left.Files now))) next = (next ≡ image_of g now) ⊎ outcomes g now.log now.db next
-  IsFoundIn (Some (remains.Leftover (left.Store now))) next = HoldsSuch (recovers now) next
+  abbrev pub IsFoundIn : Remains T D g → Image → Type 0
+  IsFoundIn (remains.Leftover (left.Files now)) next = (next ≡ image_of g now) ⊎ outcomes g now.log now.db next
+  IsFoundIn (remains.Leftover (left.Store now)) next = HoldsSuch (recovers now) next
   IsFoundIn closed next = ⊥
 
-  abbrev pub IsFoundAfter : Image → Option (Remains T D g) → Image → Type 0
-  IsFoundAfter image (Some remains) next = IsLeftAfter image remains next
-  IsFoundAfter image None next = ⊥
-
   -- the same, if the file was closed before the next run, with a crash or without one
-  abbrev pub ClosesTo : List (List ℕ) → Image → Option (Remains T D g) → Texts → Option (List ℕ) → Option (List ℕ) → ℕ → Image → (State → Type 0) → Type 0
-  ClosesTo words image closed texts old new status next Next = (ends : Ends T D g) × RunsOver words image ends texts old new status × IsClosedEnd ends closed × IfFile ends
-      (λ conn. IsCleanEnd closed → (task : Task) × NamesTask words task × Started task image texts (λ s.
-      (run : RanFrom task s conn texts old new status) × (IsFoundIn closed next → (t : State) × MayLeave run.end t × HoldsState next t × Next t)))
-      (λ remains. IsCleanEnd closed → (s : State) → HoldsState image s → IsFoundAfter image closed next → HoldsState next s × Next s)
+  abbrev pub ClosesTo : List (List ℕ) → Image → Remains T D g → Given → Option (List ℕ) → Option (List ℕ) → ℕ → Image → (State → Type 0) → Type 0
+  ClosesTo words image closed given old new status next Next = (ends : Ends T D g) × RunsOver words image ends given old new status × IsClosedEnd ends closed × IfRan ends
+      (λ conn. IsCleanRemains closed → (task : Task) × NamesTask words task × Started task image given (λ s.
+      (run : RanFrom task s conn given old new status) × (IsFoundIn closed next → (t : State) × MayLeave run.end t × HoldsState next t × Next t)))
+      (λ remains. IsCleanRemains closed → (s : State) → HoldsState image s → IsLeftAfter image closed next → HoldsState next s × Next s)

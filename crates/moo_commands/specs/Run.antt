@@ -29,7 +29,7 @@ use Rattle.moo_store.specs.Kept.{World}
 use Rattle.moo_store.specs.World.{store_of, CrashLeaves}
 use Rattle.moo_words.specs.declared.task.Task.{Task}
 use Rattle.moo_http.specs.Lines.{listening_line}
-use Rattle.moo_http.specs.Connections.{ServesAll}
+use Rattle.moo_http.specs.Turns.{Attendance, SaysAttended}
 use Rattle.moo_words.specs.declared.task.Task.TheVariants.{Init, Apply, Ask, Dump, Load, Check, Serve}
 use Rattle.moo_words.specs.Tasks.{NamesTask, NamesAlone, mistakes}
 use Rattle.moo_commands.specs.Lines.{Reports, WritesLine, text_failure, store_failure, created_line, loaded_line, checked_line}
@@ -78,6 +78,16 @@ dump_word (Load file dump) = dump.now
 dump_word (Check file) = []
 dump_word (Serve file port count) = []
 
+-- Once its world is open or made, the task only reads it: all but `apply` and `serve`.
+abbrev pub only_reads : Task → Bool
+only_reads (Init file) = true
+only_reads (Apply file batches) = false
+only_reads (Ask file batches) = true
+only_reads (Dump file) = true
+only_reads (Load file dump) = true
+only_reads (Check file) = true
+only_reads (Serve file port count) = false
+
 -- the text of each word for batches or a dump, if it is known
 abbrev pub Texts : Type 0
 Texts = List ℕ → Option (List ℕ)
@@ -86,14 +96,23 @@ Texts = List ℕ → Option (List ℕ)
 abbrev pub texts_by : Option (List ℕ) → Texts → Texts
 texts_by input files batches = if bytes_eq batches (codes "-") then input else files batches
 
+-- what a run is given beside its words and their file: the texts, and the connections that come to each port
+pub record Given : Type 1 where
+  pub text : Texts
+  pub attends : Attendance
+
+-- by the input, the files of batches and the ports
+abbrev pub given_by : Option (List ℕ) → Texts → Attendance → Given
+given_by input files attends = record { text = texts_by input files; attends = attends }
+
 -- the dump of this state is the text, byte for byte, if it is known
 abbrev pub IsDumpedAs : Option (List ℕ) → State → Type 0
 IsDumpedAs text s = IfSome text (λ bytes. dump_of s ≡ bytes)
 
 -- The state of the new world that a task begins with: one that is dumped as the text of the dump, or the opening state.
-abbrev pub BeginsWith : Task → Texts → State → Type 0
-BeginsWith (Load file dump) texts s = IsDumpedAs (texts dump.now) s
-BeginsWith task texts s = s ≡ state_of opening_maps
+abbrev pub BeginsWith : Task → Given → State → Type 0
+BeginsWith (Load file dump) given s = IsDumpedAs (given.text dump.now) s
+BeginsWith task given s = s ≡ state_of opening_maps
 
 -- 1 if an answer is `fault` or `closed`
 abbrev pub lost_status : ℕ → ℕ
@@ -112,20 +131,21 @@ StopsText step s end failure text old new =
     ((fault : TextFault) × (failure ≡ text_failure fault) × Halts step (Works s) end text old new fault)
     ⊎ ((failure ≡ NoBatches) × (end ≡ Works s) × (new ≡ old))
 
--- so many connections are served on a port, and what is said of them is written
-abbrev pub Serving : ℕ → ℕ → State → Stand → Option (List ℕ) → Option (List ℕ) → ℕ → Type 0
-Serving port count s end old new status = (text : List ℕ) × ServesAll port count (Works s) end text × Appends old new text × (status ≡ 0)
+-- The connections that came to a port were served, so many of them, and what is said of them is written. The world moved by what they
+-- asked, and by nothing else.
+abbrev pub Serving : Attendance → ℕ → ℕ → State → Stand → Option (List ℕ) → Option (List ℕ) → ℕ → Type 0
+Serving Attends port count s end old new status = (text : List ℕ) × SaysAttended Attends port count (Works s) end text × Appends old new text × (status ≡ 0)
 
 -- The task is done. A check found the tables as `Shown` says.
-abbrev pub Done : Task → State → Stand → Type 0 → Texts → Option (List ℕ) → Option (List ℕ) → ℕ → Type 0
-Done (Init file) s end Shown texts old new status = (end ≡ Works s) × Appends old new created_line × (status ≡ 0)
-Done (Apply file batches) s end Shown texts old new status = RunsText RunsBatch s end (texts batches.now) old new status
-Done (Ask file batches) s end Shown texts old new status = (end ≡ Works s) × RunsText AsksBatch s (Works s) (texts batches.now) old new status
-Done (Dump file) s end Shown texts old new status = (end ≡ Works s) × Appends old new (dump_of s) × (status ≡ 0)
-Done (Load file dump) s end Shown texts old new status = (end ≡ Works s) × Appends old new (loaded_line s.seq (length (objects_of s.world))) × (status ≡ 0)
-Done (Check file) s end Shown texts old new status =
+abbrev pub Done : Task → State → Stand → Type 0 → Given → Option (List ℕ) → Option (List ℕ) → ℕ → Type 0
+Done (Init file) s end Shown given old new status = (end ≡ Works s) × Appends old new created_line × (status ≡ 0)
+Done (Apply file batches) s end Shown given old new status = RunsText RunsBatch s end (given.text batches.now) old new status
+Done (Ask file batches) s end Shown given old new status = (end ≡ Works s) × RunsText AsksBatch s (Works s) (given.text batches.now) old new status
+Done (Dump file) s end Shown given old new status = (end ≡ Works s) × Appends old new (dump_of s) × (status ≡ 0)
+Done (Load file dump) s end Shown given old new status = (end ≡ Works s) × Appends old new (loaded_line s.seq (length (objects_of s.world))) × (status ≡ 0)
+Done (Check file) s end Shown given old new status =
     (end ≡ Works s) × Shown × Appends old new (checked_line s.seq (length (objects_of s.world))) × (status ≡ 0)
-Done (Serve file port count) s end Shown texts old new status = Serving port count s end old new status
+Done (Serve file port count) s end Shown given old new status = Serving given.attends port count s end old new status
 
 -- a front of a text is written, since the writer failed or memory ran out
 abbrev pub StopsIn : List ℕ → Failure → Option (List ℕ) → Option (List ℕ) → Type 0
@@ -133,24 +153,28 @@ StopsIn text failure old new = ((failure ≡ Write) ⊎ (failure ≡ NoMemory)) 
 
 -- The port can't be listened on, and nothing is done. Or what is said of the service stops in its first line, before any connection;
 -- or after the last one.
-abbrev pub StopsServing : ℕ → ℕ → State → Stand → Failure → Option (List ℕ) → Option (List ℕ) → Type 0
-StopsServing port count s end failure old new =
+abbrev pub StopsServing : Attendance → ℕ → ℕ → State → Stand → Failure → Option (List ℕ) → Option (List ℕ) → Type 0
+StopsServing Attends port count s end failure old new =
     ((failure ≡ Port) × (end ≡ Works s) × (new ≡ old))
     ⊎ ((end ≡ Works s) × StopsIn (listening_line port) failure old new)
-    ⊎ ((text : List ℕ) × ServesAll port count (Works s) end text × StopsIn text failure old new)
+    ⊎ ((text : List ℕ) × SaysAttended Attends port count (Works s) end text × StopsIn text failure old new)
 
 -- It stops with this failure, and so much is written. On a clean disk no check of a World that stands for a state finds a damage.
-abbrev pub StopsTask : Task → State → Stand → Failure → Type 0 → Texts → Option (List ℕ) → Option (List ℕ) → Type 0
-StopsTask (Init file) s end failure Clean texts old new = (end ≡ Works s) × StopsIn created_line failure old new
-StopsTask (Apply file batches) s end failure Clean texts old new = StopsText RunsBatch s end failure (texts batches.now) old new
-StopsTask (Ask file batches) s end failure Clean texts old new = (end ≡ Works s) × StopsText AsksBatch s (Works s) failure (texts batches.now) old new
-StopsTask (Dump file) s end failure Clean texts old new = (end ≡ Works s) × StopsIn (dump_of s) failure old new
-StopsTask (Load file dump) s end failure Clean texts old new = (end ≡ Works s) × StopsIn (loaded_line s.seq (length (objects_of s.world))) failure old new
-StopsTask (Check file) s end failure Clean texts old new =
+abbrev pub StopsTask : Task → State → Stand → Failure → Type 0 → Given → Option (List ℕ) → Option (List ℕ) → Type 0
+StopsTask (Init file) s end failure Clean given old new = (end ≡ Works s) × StopsIn created_line failure old new
+StopsTask (Apply file batches) s end failure Clean given old new = StopsText RunsBatch s end failure (given.text batches.now) old new
+StopsTask (Ask file batches) s end failure Clean given old new = (end ≡ Works s) × StopsText AsksBatch s (Works s) failure (given.text batches.now) old new
+StopsTask (Dump file) s end failure Clean given old new = (end ≡ Works s) × StopsIn (dump_of s) failure old new
+StopsTask (Load file dump) s end failure Clean given old new = (end ≡ Works s) × StopsIn (loaded_line s.seq (length (objects_of s.world))) failure old new
+StopsTask (Check file) s end failure Clean given old new =
     (end ≡ Works s)
     × (((fault : StoreFault) × (failure ≡ store_failure fault) × (Clean → IsOfStore fault) × (new ≡ old))
     ⊎ StopsIn (checked_line s.seq (length (objects_of s.world))) failure old new)
-StopsTask (Serve file port count) s end failure Clean texts old new = StopsServing port count s end failure old new
+StopsTask (Serve file port count) s end failure Clean given old new = StopsServing given.attends port count s end failure old new
+
+-- a crash leaves nothing that it couldn't leave before
+abbrev pub LeavesNothingNew : Database → Database → Type 0
+LeavesNothingNew old new = HasCleanDisk new → (trees : Trees) → new.may_leave trees → old.may_leave trees
 
 -- What was done to a World leaves it so: if the disk returns what was written, it did so before, and what a crash leaves is known.
 pub record EndsTask {S : Type 0} (g : Ghosts S) (known : Bool) (was world : World S) (End : Stand → Type 0) : Type 0 where
@@ -168,16 +192,16 @@ ShowsTables g world after = HasCleanDisk after → (tables : Tables) → Rests (
 -- A task runs from a world of this state: it is done, or stops and the failure is reported. If the disk is clean, a crash then
 -- leaves what its end tells: the state after the last acknowledged batch, or if the store failed in a batch, that or the one after it.
 -- If it is a check that is done, it found the tables as `Shown` says.
-pub record RunsFrom (task : Task) (s : State) (texts : Texts) (old new : Option (List ℕ)) (status : ℕ) (Clean : Type 0) (Crash : Stand → Type 0) (Shown : Type 0) : Type 0 where
+pub record RunsFrom (task : Task) (s : State) (given : Given) (old new : Option (List ℕ)) (status : ℕ) (Clean : Type 0) (Crash : Stand → Type 0) (Shown : Type 0) : Type 0 where
   pub end : Stand
   pub crash : Clean → Crash end
   pub writes :
-      Done task s end Shown texts old new status
-      ⊎ ((failure : Failure) × (between : Option (List ℕ)) × StopsTask task s end failure Clean texts old between × Reports failure between new status)
+      Done task s end Shown given old new status
+      ⊎ ((failure : Failure) × (between : Option (List ℕ)) × StopsTask task s end failure Clean given old between × Reports failure between new status)
 
 -- the same, if nothing is known of the disk and the tables
-abbrev pub RunsUnseen : Task → State → Texts → Option (List ℕ) → Option (List ℕ) → ℕ → Type 0
-RunsUnseen task s texts old new status = RunsFrom task s texts old new status ⊥ (λ _. ⊥) ⊤
+abbrev pub RunsUnseen : Task → State → Given → Option (List ℕ) → Option (List ℕ) → ℕ → Type 0
+RunsUnseen task s given old new status = RunsFrom task s given old new status ⊥ (λ _. ⊥) ⊤
 
 -- a failure of the store, or memory ran out
 abbrev pub IsOpening : Failure → Type 0
@@ -217,8 +241,8 @@ abbrev pub FailsToBegin : Task → Option (List ℕ) → Option (List ℕ) → �
 FailsToBegin task old new status = (failure : Failure) × MayNotBegin task failure × Reports failure old new status
 
 -- a new world can't be made, or the task runs from the one that it begins with
-abbrev pub RunsNew : Task → Texts → Option (List ℕ) → Option (List ℕ) → ℕ → Type 0
-RunsNew task texts old new status = FailsToBegin task old new status ⊎ ((s : State) × BeginsWith task texts s × RunsUnseen task s texts old new status)
+abbrev pub RunsNew : Task → Given → Option (List ℕ) → Option (List ℕ) → ℕ → Type 0
+RunsNew task given old new status = FailsToBegin task old new status ⊎ ((s : State) × BeginsWith task given s × RunsUnseen task s given old new status)
 
 -- a crash leaves nothing that it couldn't leave before, but tables that show this state
 abbrev pub LeavesAsBefore : State → Database → Database → Type 0
@@ -239,24 +263,24 @@ EndsUsage found old new status =
     ⊎ ((found ≡ []) × Reports Usage old new status)
 
 -- a file is refused, or the task runs from a well formed world
-abbrev pub RunsOpened : Task → Texts → Option (List ℕ) → Option (List ℕ) → ℕ → Type 0
-RunsOpened task texts old new status = RefusesFile old new status ⊎ ((rows : Maps) × IsGood rows × RunsUnseen task (state_of rows) texts old new status)
+abbrev pub RunsOpened : Task → Given → Option (List ℕ) → Option (List ℕ) → ℕ → Type 0
+RunsOpened task given old new status = RefusesFile old new status ⊎ ((rows : Maps) × IsGood rows × RunsUnseen task (state_of rows) given old new status)
 
 -- the task runs from the world that these tables show, or the line tells a fault of theirs
-abbrev pub RunsShown : Task → Tables → Texts → Option (List ℕ) → Option (List ℕ) → ℕ → Type 0
-RunsShown task tables texts old new status =
+abbrev pub RunsShown : Task → Tables → Given → Option (List ℕ) → Option (List ℕ) → ℕ → Type 0
+RunsShown task tables given old new status =
     ((fault : StoreFault) × Says tables fault × Reports (store_failure fault) old new status)
-    ⊎ ((rows : Maps) × IsGood rows × ShowsRows tables rows × RunsUnseen task (state_of rows) texts old new status)
+    ⊎ ((rows : Maps) × IsGood rows × ShowsRows tables rows × RunsUnseen task (state_of rows) given old new status)
 
 -- What a task comes to, whatever its file holds. If it begins with a new world, it runs from that, or it can't be made. Any
 -- other runs from the world that was found in its file, or the file is refused. (That it is the world which the file's tables
 -- show, `RunsFile` says.)
-pub record RunsTask (task : Task) (texts : Texts) (old new : Option (List ℕ)) (status : ℕ) : Type 0 where
-  pub anew : begins_anew task ≡ true → RunsNew task texts old new status
-  pub opened : begins_anew task ≡ false → RunsOpened task texts old new status
+pub record RunsTask (task : Task) (given : Given) (old new : Option (List ℕ)) (status : ℕ) : Type 0 where
+  pub anew : begins_anew task ≡ true → RunsNew task given old new status
+  pub opened : begins_anew task ≡ false → RunsOpened task given old new status
 
 -- the same of the task that the words name; or they have a mistake
-abbrev pub RunsWords : List (List ℕ) → Texts → Option (List ℕ) → Option (List ℕ) → ℕ → Type 0
-RunsWords words texts old new status =
-    ((task : Task) × NamesTask words task × NamesAlone words task × RunsTask task texts old new status)
+abbrev pub RunsWords : List (List ℕ) → Given → Option (List ℕ) → Option (List ℕ) → ℕ → Type 0
+RunsWords words given old new status =
+    ((task : Task) × NamesTask words task × NamesAlone words task × RunsTask task given old new status)
     ⊎ ((1 < length words) × EndsUsage (mistakes words) old new status)

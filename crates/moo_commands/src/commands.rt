@@ -1,6 +1,6 @@
 //! What each command does over a world.
 
-ghost use Rattle.std.specs.Prelude.{◌≡◌, ◌⊎◌, length, IfOk, IfErr, OnOk, Bool, IsTrue};
+ghost use Rattle.std.specs.Prelude.{◌≡◌, ◌⊎◌, true, length, IfOk, IfErr, OnOk, Bool, IsTrue};
 ghost use Rattle.sqlite.specs.State.{HasCleanDisk, Survives};
 ghost use Rattle.std.specs.Io.KnownBytes.{Appends};
 ghost use Rattle.moo_world.specs.Judge.{State};
@@ -12,14 +12,15 @@ ghost use Rattle.moo_store.specs.Opening.{IsOfStore};
 ghost use Rattle.moo_store.specs.Stand.{Works, RunsBatch, AsksBatch};
 ghost use Rattle.moo_store.specs.Turns.{Halts};
 ghost use Rattle.moo_store.specs.World.{store_of, StandsFor};
+ghost use Rattle.moo_http.specs.Turns.{AttendedOn};
 ghost use Rattle.moo_commands.specs.Lines.{text_failure, store_failure, checked_line, loaded_line};
-ghost use Rattle.moo_commands.specs.Run.{texts_by, lost_status, RunsText, StopsText, StopsIn, Serving, StopsServing, ShowsTables, Done, StopsTask, EndsTask};
+ghost use Rattle.moo_commands.specs.Run.{texts_by, given_by, lost_status, RunsText, StopsText, StopsIn, Serving, StopsServing, ShowsTables, Done, StopsTask, EndsTask, LeavesNothingNew, only_reads};
 
-use crate::batches::BatchFiles;
 use crate::failure::Failure;
+use crate::host::BatchFiles;
 use crate::output::{checked_text, explain_lost, loaded_text};
 use moo_dump::put_all;
-use moo_http::serve_port;
+use moo_http::{Ports, serve_port};
 use moo_reasons::StandardNotes;
 use moo_store::{Tally, World, apply_text, ask_text};
 use moo_words::Task;
@@ -62,22 +63,22 @@ fn run_text<R: Read + Drop, W: Write, S: Alter + Drop>(
 }
 
 /// Runs the batches of a file, or of the input for `-`.
-fn apply<B: BatchFiles, R: Read + Drop, W: Write, S: Alter + Drop>(
+fn apply<H: BatchFiles, R: Read + Drop, W: Write, S: Alter + Drop>(
     rt: &HostRuntime,
     world: &mut World<S>,
     batches: &str,
-    files: &B,
+    host: &H,
     input: R,
     output: &mut W,
 ) -> Result<u8, Failure>
-    ensures done { (known : Bool) (s : State) → StandsFor S.Store known world.old s → IfOk result (λ status. EndsTask S.Store known world.old world.new (λ end. RunsText RunsBatch s end (texts_by (R.remaining input) (B.text files.now) batches.now) (W.contents output.old) (W.contents output.new) status)) }
-    ensures stops { (known : Bool) (s : State) → StandsFor S.Store known world.old s → IfErr result (λ failure. EndsTask S.Store known world.old world.new (λ end. StopsText RunsBatch s end failure (texts_by (R.remaining input) (B.text files.now) batches.now) (W.contents output.old) (W.contents output.new))) }
+    ensures done { (known : Bool) (s : State) → StandsFor S.Store known world.old s → IfOk result (λ status. EndsTask S.Store known world.old world.new (λ end. RunsText RunsBatch s end (texts_by (R.remaining input) (H.text host.now) batches.now) (W.contents output.old) (W.contents output.new) status)) }
+    ensures stops { (known : Bool) (s : State) → StandsFor S.Store known world.old s → IfErr result (λ failure. EndsTask S.Store known world.old world.new (λ end. StopsText RunsBatch s end failure (texts_by (R.remaining input) (H.text host.now) batches.now) (W.contents output.old) (W.contents output.new))) }
 {
     world.leaves();
     if batches == "-" {
         return run_text(rt, world, None, input, output);
     }
-    match files.open(rt, batches) {
+    match host.open(rt, batches) {
         Ok(file) => run_text(rt, world, Some(batches), file, output),
         Err(_) => Err(Failure::NoBatches),
     }
@@ -109,21 +110,21 @@ fn ask_batches<R: Read + Drop, W: Write, S: Alter + Drop>(
 }
 
 /// Says what the batches of a file, or of the input for `-`, would come to.
-fn ask<B: BatchFiles, R: Read + Drop, W: Write, S: Alter + Drop>(
+fn ask<H: BatchFiles, R: Read + Drop, W: Write, S: Alter + Drop>(
     rt: &HostRuntime,
     world: &World<S>,
     batches: &str,
-    files: &B,
+    host: &H,
     input: R,
     output: &mut W,
 ) -> Result<u8, Failure>
-    ensures done { (known : Bool) (s : State) → StandsFor S.Store known world.now s → IfOk result (RunsText AsksBatch s (Works s) (texts_by (R.remaining input) (B.text files.now) batches.now) (W.contents output.old) (W.contents output.new)) }
-    ensures stops { (known : Bool) (s : State) → StandsFor S.Store known world.now s → IfErr result (λ failure. StopsText AsksBatch s (Works s) failure (texts_by (R.remaining input) (B.text files.now) batches.now) (W.contents output.old) (W.contents output.new)) }
+    ensures done { (known : Bool) (s : State) → StandsFor S.Store known world.now s → IfOk result (RunsText AsksBatch s (Works s) (texts_by (R.remaining input) (H.text host.now) batches.now) (W.contents output.old) (W.contents output.new)) }
+    ensures stops { (known : Bool) (s : State) → StandsFor S.Store known world.now s → IfErr result (λ failure. StopsText AsksBatch s (Works s) failure (texts_by (R.remaining input) (H.text host.now) batches.now) (W.contents output.old) (W.contents output.new)) }
 {
     if batches == "-" {
         return ask_batches(rt, world, None, input, output);
     }
-    match files.open(rt, batches) {
+    match host.open(rt, batches) {
         Ok(file) => ask_batches(rt, world, Some(batches), file, output),
         Err(_) => Err(Failure::NoBatches),
     }
@@ -201,45 +202,48 @@ fn show_loaded<W: Write, S: Alter + Drop>(
     put_loaded(alloc, seq, objects, output)
 }
 
-/// Serves so many connections on a port of 127.0.0.1.
-fn serve<W: Write, S: Alter + Drop>(
+/// Serves so many connections on a port.
+fn serve<P: Ports, W: Write, S: Alter + Drop>(
     rt: &HostRuntime,
+    ports: &P,
     world: &mut World<S>,
     port: u16,
     count: u32,
     output: &mut W,
 ) -> Result<u8, Failure>
-    ensures done { (known : Bool) (s : State) → StandsFor S.Store known world.old s → IfOk result (λ status. EndsTask S.Store known world.old world.new (λ end. Serving port count s end (W.contents output.old) (W.contents output.new) status)) }
-    ensures stops { (known : Bool) (s : State) → StandsFor S.Store known world.old s → IfErr result (λ failure. EndsTask S.Store known world.old world.new (λ end. StopsServing port count s end failure (W.contents output.old) (W.contents output.new))) }
+    ensures done { (known : Bool) (s : State) → StandsFor S.Store known world.old s → IfOk result (λ status. EndsTask S.Store known world.old world.new (λ end. Serving (AttendedOn P.Source.hands_out P.Source.takes_back P.Source.Reader.remaining P.Source.Writer.contents (P.opens ports.now)) port count s end (W.contents output.old) (W.contents output.new) status)) }
+    ensures stops { (known : Bool) (s : State) → StandsFor S.Store known world.old s → IfErr result (λ failure. EndsTask S.Store known world.old world.new (λ end. StopsServing (AttendedOn P.Source.hands_out P.Source.takes_back P.Source.Reader.remaining P.Source.Writer.contents (P.opens ports.now)) port count s end failure (W.contents output.old) (W.contents output.new))) }
 {
-    match serve_port(rt, world, port, count, output) {
+    match serve_port(rt, ports, world, port, count, output) {
         Ok(()) => Ok(0),
         Err(fault) => Err(Failure::from(fault)),
     }
 }
 
 /// Does what a task says over its world.
-pub(crate) fn do_task<B: BatchFiles, R: Read + Drop, W: Write, S: Alter + Drop>(
+pub(crate) fn do_task<H: BatchFiles + Ports, R: Read + Drop, W: Write, S: Alter + Drop>(
     rt: &HostRuntime,
     world: &mut World<S>,
     task: Task<'_>,
-    files: &B,
+    host: &H,
     input: R,
     output: &mut W,
 ) -> Result<u8, Failure>
     ensures done { (known : Bool) (s : State) → StandsFor S.Store known world.old s → IfOk result (λ status. EndsTask S.Store known world.old world.new (λ end.
-        Done task.entry s end (ShowsTables S.Store world.old (store_of S.Store world.new)) (texts_by (R.remaining input) (B.text files.now)) (W.contents output.old) (W.contents output.new) status)) }
+        Done task.entry s end (ShowsTables S.Store world.old (store_of S.Store world.new)) (given_by (R.remaining input) (H.text host.now) (AttendedOn H.Source.hands_out H.Source.takes_back H.Source.Reader.remaining H.Source.Writer.contents (H.opens host.now))) (W.contents output.old) (W.contents output.new) status)) }
     ensures stops { (known : Bool) (s : State) → StandsFor S.Store known world.old s → IfErr result (λ failure. EndsTask S.Store known world.old world.new (λ end.
-        StopsTask task.entry s end failure (IsTrue known × HasCleanDisk (store_of S.Store world.new)) (texts_by (R.remaining input) (B.text files.now)) (W.contents output.old) (W.contents output.new))) }
+        StopsTask task.entry s end failure (IsTrue known × HasCleanDisk (store_of S.Store world.new)) (given_by (R.remaining input) (H.text host.now) (AttendedOn H.Source.hands_out H.Source.takes_back H.Source.Reader.remaining H.Source.Writer.contents (H.opens host.now))) (W.contents output.old) (W.contents output.new))) }
+    // A task that only reads commits nothing.
+    ensures still { only_reads task.entry ≡ true → LeavesNothingNew (store_of S.Store world.old) (store_of S.Store world.new) }
 {
     world.leaves();
     match task {
         Task::Init { .. } => put_text("created\n", output),
-        Task::Apply { batches, .. } => apply(rt, world, batches, files, input, output),
-        Task::Ask { batches, .. } => ask(rt, world, batches, files, input, output),
+        Task::Apply { batches, .. } => apply(rt, world, batches, host, input, output),
+        Task::Ask { batches, .. } => ask(rt, world, batches, host, input, output),
         Task::Dump { .. } => show(world, output),
         Task::Load { .. } => show_loaded(rt.alloc(), world, output),
         Task::Check { .. } => check(rt.alloc(), world, output),
-        Task::Serve { port, count, .. } => serve(rt, world, port, count, output),
+        Task::Serve { port, count, .. } => serve(rt, host, world, port, count, output),
     }
 }

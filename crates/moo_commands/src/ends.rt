@@ -12,8 +12,8 @@ pub enum Ends<T, D: Disk> {
     Ran(Connection<FileStore<D>>),
     /// No world was opened or made.
     Refused(Remains<T, D>),
-    /// It ran over a world in memory, or the words name no task.
-    NoFile,
+    /// It ran over a world in memory, or the words name no task. No file was opened: the start is unspent.
+    NoFile(T),
 }
 
 // It is written out, so that a caller doesn't prove again how each part is dropped.
@@ -22,22 +22,22 @@ impl<T: Drop, D: Disk + Drop> Drop for Ends<T, D> {
         match self {
             Ends::Ran(_conn) => {}
             Ends::Refused(_remains) => {}
-            Ends::NoFile => {}
+            Ends::NoFile(_start) => {}
         }
     }
 }
 
 impl<T: Drop, D: Disk + Drop> Ends<T, D> {
-    /// Closes the file, and hands back what is left of it, to be dropped.
+    /// Closes the file, and hands back what is left of it, to be dropped. If the words have no file that is the unspent start.
     ///
     /// If it can't be closed, a part of what was committed is in its log alone, which the next open reads.
-    pub fn close(self) -> Option<Remains<T, D>>
+    pub fn close(self) -> Remains<T, D>
         ensures { IsClosedEnd self result }
     {
         match self {
-            Ends::Ran(conn) => Some(Remains::Connection(conn).close()),
-            Ends::Refused(remains) => Some(remains.close()),
-            Ends::NoFile => None,
+            Ends::Ran(conn) => Remains::Connection(conn).close(),
+            Ends::Refused(remains) => remains.close(),
+            Ends::NoFile(start) => Remains::Untouched(start),
         }
     }
 }

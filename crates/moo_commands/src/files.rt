@@ -13,19 +13,22 @@ ghost use Rattle.moo_cells.specs.Shows.{ShowsRows};
 ghost use Rattle.moo_store.specs.Opening.{Says, IsOfStore};
 ghost use Rattle.moo_store.specs.States.{LeavesState};
 ghost use Rattle.moo_store.specs.World.{store_of, CrashLeaves, StandsFor};
-ghost use Rattle.moo_files.specs.Contents.{HoldsTrees, HoldsTables, HoldsState, HasOtherTables, HasAnyTable};
-ghost use Rattle.moo_files.specs.Remains.{IsCleanRemains, MayStopAs, KeepsSuch, KeepsNothingBut, StillHolds, StillHoldsTrees};
+ghost use Rattle.moo_files.specs.Contents.{HoldsTrees, HoldsTables, HoldsState, HasOtherTables, HasAnyTable, IsKept, ReadsAsOurs, HoldsNoTable};
+ghost use Rattle.moo_files.specs.Remains.{IsCleanRemains, MayStopAs, Spares, KeepsSuch, KeepsNothingBut, StillHolds, StillHoldsTrees};
+ghost use Rattle.moo_http.specs.Turns.{AttendedOn};
+ghost use Rattle.moo_files.specs.Blank.{IsBlank};
 ghost use Rattle.moo_commands.specs.Lines.{Tells, store_failure};
-ghost use Rattle.moo_commands.specs.Run.{begins_anew, file_of, is_load, dump_word, texts_by, RunsFrom, RunsTask, ShowsTables};
+ghost use Rattle.moo_commands.specs.Run.{begins_anew, file_of, is_load, dump_word, given_by, only_reads, LeavesNothingNew, RunsFrom, RunsTask, ShowsTables};
 ghost use Rattle.moo_commands.specs.Ends.{RunsFile, EndsWith};
 
-use crate::batches::BatchFiles;
 use crate::ends::Ends;
 use crate::failure::Failure;
+use crate::host::BatchFiles;
 use crate::loading::{dump_word, read_world};
 use crate::output::report;
 use crate::over::{NO_INPUT, begins_anew, run_in, run_over};
 use moo_files::{Remains, create_from, load_from, open_from};
+use moo_http::Ports;
 use moo_store::{StoreFault, World};
 use moo_words::Task;
 use sqlite::{Connection, Error, ErrorCode, FileFrom, FileStore, Start};
@@ -52,19 +55,20 @@ fn file_of<'a>(task: Task<'a>) -> &'a str
 
 /// `run_in` at the store in files, over any disk. What is known of that store weighs on each function that calls a generic one at it,
 /// so this call has a function of its own.
-fn run_in_files<B: BatchFiles, R: Read + Drop, W: Write, D: Disk + Drop>(
+fn run_in_files<H: BatchFiles + Ports, R: Read + Drop, W: Write, D: Disk + Drop>(
     rt: &HostRuntime,
     world: World<FileStore<D>>,
     task: Task<'_>,
-    files: &B,
+    host: &H,
     input: R,
     output: &mut W,
     status: &mut u8,
 ) -> Connection<FileStore<D>>
-    ensures runs { (known : Bool) (s : State) → StandsFor over_files known world s → RunsFrom task.entry s (texts_by (R.remaining input) (B.text files.now)) (W.contents output.old) (W.contents output.new) status.new (IsTrue known × HasCleanDisk (file_state result)) (CrashLeaves (file_state result)) (ShowsTables over_files world (file_state result)) }
+    ensures runs { (known : Bool) (s : State) → StandsFor over_files known world s → RunsFrom task.entry s (given_by (R.remaining input) (H.text host.now) (AttendedOn H.Source.hands_out H.Source.takes_back H.Source.Reader.remaining H.Source.Writer.contents (H.opens host.now))) (W.contents output.old) (W.contents output.new) status.new (IsTrue known × HasCleanDisk (file_state result)) (CrashLeaves (file_state result)) (ShowsTables over_files world (file_state result)) }
     ensures clean { (known : Bool) (s : State) → StandsFor over_files known world s → HasCleanDisk (file_state result) → HasCleanDisk (store_of over_files world) }
+    ensures still { only_reads task.entry ≡ true → LeavesNothingNew (store_of over_files world) (file_state result) }
 {
-    run_in(rt, world, task, files, input, output, status)
+    run_in(rt, world, task, host, input, output, status)
 }
 
 /// Each fault of opening refuses the file.
@@ -106,7 +110,15 @@ fn world_of<T: Start>(
     ensures spared { begins_anew task.entry ≡ true → (trees : Trees) → HoldsTrees (image_at T.Start) trees → HasAnyTable trees → IfErr result (λ e. IsCleanRemains e.1 → KeepsSuch (λ found. found ≡ trees) (image_at T.Start) e.1) }
     ensures unmade { begins_anew task.entry ≡ true → (trees : Trees) → HoldsTrees (image_at T.Start) trees → IfErr result (λ e. IsCleanRemains e.1 → KeepsSuch (λ found. (found ≡ trees) ⊎ LeavesState found (state_of opening_maps)) (image_at T.Start) e.1) }
     ensures fresh { begins_anew task.entry ≡ true → IsNothing (image_at T.Start) → IfErr result (λ e. IsCleanRemains e.1 → KeepsNothingBut (λ found. LeavesState found (state_of opening_maps)) (image_at T.Start) e.1) }
+    ensures begun { begins_anew task.entry ≡ true → IsBlank (image_at T.Start) → IfErr result (λ e. IsCleanRemains e.1 → KeepsNothingBut (λ found. LeavesState found (state_of opening_maps)) (image_at T.Start) e.1) }
     ensures blank { begins_anew task.entry ≡ false → IsNothing (image_at T.Start) → IfErr result (λ e. IsCleanRemains e.1 → KeepsNothingBut (λ _. ⊥) (image_at T.Start) e.1) }
+    ensures sound { begins_anew task.entry ≡ false → IfOk result (λ world. HasCleanDisk (store_of over_files world) → ReadsAsOurs (image_at T.Start)) }
+    ensures unsound { begins_anew task.entry ≡ false → ¬ ReadsAsOurs (image_at T.Start) → IfErr result (λ e. IsCleanRemains e.1 → IsOfStore e.0) }
+    ensures foreign { begins_anew task.entry ≡ false → (trees : Trees) → HoldsTrees (image_at T.Start) trees → HasOtherTables trees → IfErr result (λ e. IsCleanRemains e.1 → IsOfStore e.0) }
+    ensures held { begins_anew task.entry ≡ false → (trees : Trees) → HoldsTrees (image_at T.Start) trees → IfOk result (λ world. HasCleanDisk (store_of over_files world) → (found : Trees) → (store_of over_files world).may_leave found → IsKept trees found) }
+    ensures room { begins_anew task.entry ≡ true → IfOk result (λ world. HasCleanDisk (store_of over_files world) → HoldsNoTable (image_at T.Start)) }
+    ensures occupied { begins_anew task.entry ≡ true → (trees : Trees) → HoldsTrees (image_at T.Start) trees → HasAnyTable trees → IfOk result (λ world. HasCleanDisk (store_of over_files world) → ⊥) }
+    ensures spares { ¬ IsNothing (image_at T.Start) → (begins_anew task.entry ≡ true → ¬ IsBlank (image_at T.Start)) → IfErr result (λ e. IsCleanRemains e.1 → Spares (image_at T.Start) e.1) }
     ensures stopped { IfErr result (λ e. MayStopAs e.0 e.1) }
     ensures left { (s : State) → HoldsState (image_at T.Start) s → IfErr result (λ e. IsCleanRemains e.1 → StillHolds (image_at T.Start) e.1 s) }
 {
@@ -118,22 +130,22 @@ fn world_of<T: Start>(
 }
 
 /// Makes the world of a dump in a file, does what the task says over it, and hands back what is left of the file.
-fn run_loaded<T: Start, B: BatchFiles, R: Read + Drop, W: Write>(
+fn run_loaded<T: Start, H: BatchFiles + Ports, R: Read + Drop, W: Write>(
     rt: &HostRuntime,
     file: &str,
     start: T,
     dump: &str,
     task: Task<'_>,
-    files: &B,
+    host: &H,
     input: R,
     output: &mut W,
     status: &mut u8,
 ) -> Ends<T, FileFrom<T>>
     requires load { is_load task ≡ true }
     requires word { dump_word task ≡ dump.now }
-    ensures { RunsFile task.entry (image_at T.Start) result (texts_by (R.remaining input) (B.text files.now)) (W.contents output.old) (W.contents output.new) status.new }
+    ensures { RunsFile task.entry (image_at T.Start) result (given_by (R.remaining input) (H.text host.now) (AttendedOn H.Source.hands_out H.Source.takes_back H.Source.Reader.remaining H.Source.Writer.contents (H.opens host.now))) (W.contents output.old) (W.contents output.new) status.new }
 {
-    let rows = match read_world(rt, dump, files, input) {
+    let rows = match read_world(rt, dump, host, input) {
         Ok(rows) => rows,
         Err(failure) => {
             *status = report(rt, failure, output);
@@ -141,7 +153,7 @@ fn run_loaded<T: Start, B: BatchFiles, R: Read + Drop, W: Write>(
         }
     };
     match load_from(rt, file, start, rows) {
-        Ok(world) => Ends::Ran(run_in_files(rt, world, task, files, NO_INPUT, output, status)),
+        Ok(world) => Ends::Ran(run_in_files(rt, world, task, host, NO_INPUT, output, status)),
         Err((fault, remains)) => {
             *status = report(rt, refusal(fault), output);
             Ends::Refused(remains)
@@ -150,21 +162,21 @@ fn run_loaded<T: Start, B: BatchFiles, R: Read + Drop, W: Write>(
 }
 
 /// Does what a task says over the world of its file or over the opening world, and hands back what is left of the file.
-fn run_begun<T: Start, B: BatchFiles, R: Read + Drop, W: Write>(
+fn run_begun<T: Start, H: BatchFiles + Ports, R: Read + Drop, W: Write>(
     rt: &HostRuntime,
     file: &str,
     start: T,
     task: Task<'_>,
-    files: &B,
+    host: &H,
     input: R,
     output: &mut W,
     status: &mut u8,
 ) -> Ends<T, FileFrom<T>>
     requires load { is_load task ≡ false }
-    ensures { RunsFile task.entry (image_at T.Start) result (texts_by (R.remaining input) (B.text files.now)) (W.contents output.old) (W.contents output.new) status.new }
+    ensures { RunsFile task.entry (image_at T.Start) result (given_by (R.remaining input) (H.text host.now) (AttendedOn H.Source.hands_out H.Source.takes_back H.Source.Reader.remaining H.Source.Writer.contents (H.opens host.now))) (W.contents output.old) (W.contents output.new) status.new }
 {
     match world_of(rt, file, start, task) {
-        Ok(world) => Ends::Ran(run_in_files(rt, world, task, files, input, output, status)),
+        Ok(world) => Ends::Ran(run_in_files(rt, world, task, host, input, output, status)),
         Err((fault, remains)) => {
             *status = report(rt, refusal_of(rt, file, task, fault), output);
             Ends::Refused(remains)
@@ -175,62 +187,62 @@ fn run_begun<T: Start, B: BatchFiles, R: Read + Drop, W: Write>(
 /// Does what a task says over its file, writes the line of a failure, and hands back what is left of the file. The status is that
 /// of `run_words`.
 ///
-/// `T` is what the file of the words holds, and `B` the files of batches: it is proved for all contents, and no code reads them. The
-/// program calls it for files that nobody has read.
-pub fn run_from<T: Start, B: BatchFiles, R: Read + Drop, W: Write>(
+/// `T` is what the file of the words holds, and `H` the files of batches and the ports: it is proved for all contents and all connections, and
+/// no code looks at them. The program calls it for files that nobody has read.
+pub fn run_from<T: Start, H: BatchFiles + Ports, R: Read + Drop, W: Write>(
     rt: &HostRuntime,
     file: &str,
     start: T,
     task: Task<'_>,
-    files: &B,
+    host: &H,
     input: R,
     output: &mut W,
     status: &mut u8,
 ) -> Ends<T, FileFrom<T>>
-    ensures { RunsFile task.entry (image_at T.Start) result (texts_by (R.remaining input) (B.text files.now)) (W.contents output.old) (W.contents output.new) status.new }
+    ensures { RunsFile task.entry (image_at T.Start) result (given_by (R.remaining input) (H.text host.now) (AttendedOn H.Source.hands_out H.Source.takes_back H.Source.Reader.remaining H.Source.Writer.contents (H.opens host.now))) (W.contents output.old) (W.contents output.new) status.new }
 {
     match dump_word(task) {
-        Some(dump) => run_loaded(rt, file, start, dump, task, files, input, output, status),
-        None => run_begun(rt, file, start, task, files, input, output, status),
+        Some(dump) => run_loaded(rt, file, start, dump, task, host, input, output, status),
+        None => run_begun(rt, file, start, task, host, input, output, status),
     }
 }
 
 /// Does what a task says over a new world in memory.
-fn run_in_memory<B: BatchFiles, R: Read + Drop, W: Write>(
+fn run_in_memory<H: BatchFiles + Ports, R: Read + Drop, W: Write>(
     rt: &HostRuntime,
     task: Task<'_>,
-    files: &B,
+    host: &H,
     input: R,
     output: &mut W,
 ) -> u8
-    ensures { RunsTask task.entry (texts_by (R.remaining input) (B.text files.now)) (W.contents output.old) (W.contents output.new) result }
+    ensures { RunsTask task.entry (given_by (R.remaining input) (H.text host.now) (AttendedOn H.Source.hands_out H.Source.takes_back H.Source.Reader.remaining H.Source.Writer.contents (H.opens host.now))) (W.contents output.old) (W.contents output.new) result }
 {
     let Ok(conn) = Connection::open_in_memory(rt.alloc()) else {
         return report(rt, Failure::NoMemory, output);
     };
     let mut status = 0;
-    let _conn = run_over(rt, conn, task, files, input, output, &mut status);
+    let _conn = run_over(rt, conn, task, host, input, output, &mut status);
     status
 }
 
-/// Does what a task says, and hands back what is left of its file. The status is that of `run_words`.
-pub(crate) fn run_task<T: Start, B: BatchFiles, R: Read + Drop, W: Write>(
+/// Does what a task says, and hands back what is left of its file: on `:memory:`, the unspent start. The status is that of `run_words`.
+pub(crate) fn run_task<T: Start, H: BatchFiles + Ports, R: Read + Drop, W: Write>(
     rt: &HostRuntime,
     task: Task<'_>,
     start: T,
-    files: &B,
+    host: &H,
     input: R,
     output: &mut W,
     status: &mut u8,
 ) -> Ends<T, FileFrom<T>>
-    ensures runs { RunsTask task.entry (texts_by (R.remaining input) (B.text files.now)) (W.contents output.old) (W.contents output.new) status.new }
-    ensures ends { EndsWith task.entry (image_at T.Start) result (texts_by (R.remaining input) (B.text files.now)) (W.contents output.old) (W.contents output.new) status.new }
+    ensures runs { RunsTask task.entry (given_by (R.remaining input) (H.text host.now) (AttendedOn H.Source.hands_out H.Source.takes_back H.Source.Reader.remaining H.Source.Writer.contents (H.opens host.now))) (W.contents output.old) (W.contents output.new) status.new }
+    ensures ends { EndsWith task.entry (image_at T.Start) result (given_by (R.remaining input) (H.text host.now) (AttendedOn H.Source.hands_out H.Source.takes_back H.Source.Reader.remaining H.Source.Writer.contents (H.opens host.now))) (W.contents output.old) (W.contents output.new) status.new }
 {
     let file = file_of(task);
     if file == ":memory:" {
-        *status = run_in_memory(rt, task, files, input, output);
-        Ends::NoFile
+        *status = run_in_memory(rt, task, host, input, output);
+        Ends::NoFile(start)
     } else {
-        run_from(rt, file, start, task, files, input, output, status)
+        run_from(rt, file, start, task, host, input, output, status)
     }
 }

@@ -2,11 +2,11 @@
 #![tactic(auto)]
 
 mod again;
-mod batches;
 mod commands;
 mod ends;
 mod failure;
 mod files;
+mod host;
 mod loading;
 mod output;
 mod over;
@@ -14,10 +14,10 @@ mod run;
 mod standard;
 
 pub use again::{run_close_run, run_crash_run};
-pub use batches::{BatchFiles, SystemFiles};
 pub use ends::Ends;
 pub use failure::Failure;
 pub use files::run_from;
+pub use host::{BatchFiles, System};
 pub use output::report;
 pub use over::{run_in, run_over};
 pub use run::{run_to_end, run_words};

@@ -5,8 +5,8 @@ ghost use Rattle.moo_world.specs.Rows.{IsGood};
 ghost use Rattle.moo_world.specs.Judge.{state_of};
 ghost use Rattle.moo_commands.specs.Run.{IsDumpedAs, IsOfDump, is_load, dump_word, texts_by};
 
-use crate::batches::BatchFiles;
 use crate::failure::Failure;
+use crate::host::BatchFiles;
 use moo_flat::Flat;
 use moo_load::{read_dump, read_text};
 use moo_words::Task;
@@ -41,21 +41,21 @@ fn rows_of<R: Read + Drop>(alloc: Global, mut text: R) -> Result<Flat, Failure>
 }
 
 /// The rows of the world that a file is the dump of, or the input for `-`.
-pub(crate) fn read_world<B: BatchFiles, R: Read + Drop>(
+pub(crate) fn read_world<H: BatchFiles, R: Read + Drop>(
     rt: &HostRuntime,
     dump: &str,
-    files: &B,
+    host: &H,
     input: R,
 ) -> Result<Flat, Failure>
     ensures good { IfOk result (λ rows. IsGood rows.maps) }
     ensures limit { IfOk result (λ rows. rows.maps.head.seq < 2 ^ 63) }
-    ensures dumped { IfOk result (λ rows. IsDumpedAs (texts_by (R.remaining input) (B.text files.now) dump.now) (state_of rows.maps)) }
+    ensures dumped { IfOk result (λ rows. IsDumpedAs (texts_by (R.remaining input) (H.text host.now) dump.now) (state_of rows.maps)) }
     ensures failure { IfErr result IsOfDump }
 {
     if dump == "-" {
         return rows_of(rt.alloc(), input);
     }
-    match files.open(rt, dump) {
+    match host.open(rt, dump) {
         Ok(text) => rows_of(rt.alloc(), text),
         Err(_) => Err(Failure::NoBatches),
     }

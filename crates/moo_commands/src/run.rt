@@ -4,16 +4,18 @@ ghost use Rattle.std.specs.Prelude.{◌≡◌, ℕ, List, map};
 ghost use Rattle.clap.specs.Kinds.{Kinds, HasKind};
 ghost use Rattle.moo_words.specs.Tasks.{IsRefusal, mistakes};
 ghost use Rattle.sqlite.specs.WalFiles.{image_at};
-ghost use Rattle.moo_commands.specs.Run.{mistake_status, texts_by, EndsUsage, RunsWords};
+ghost use Rattle.moo_http.specs.Turns.{AttendedOn};
+ghost use Rattle.moo_commands.specs.Run.{mistake_status, given_by, EndsUsage, RunsWords};
 ghost use Rattle.moo_commands.specs.Ends.{RunsOver, RunsClosed};
 
-use crate::batches::BatchFiles;
 use crate::ends::Ends;
 use crate::failure::Failure;
 use crate::files::run_task;
+use crate::host::BatchFiles;
 use crate::output::{put_line, report};
 use clap::error::ErrorKind;
 use moo_files::Remains;
+use moo_http::Ports;
 use moo_words::{Usage, read_words};
 use sqlite::{FileFrom, Start};
 use std::io::{Read, Write};
@@ -62,26 +64,27 @@ fn report_usage<W: Write>(rt: &HostRuntime, usage: &Usage, output: &mut W) -> u8
 /// does a hint if a batch met a fault of the store. If a batch isn't accepted, standard error says its line and why. A connection that fails isn't a
 /// failure of `serve`.
 ///
-/// `T` is what the file of the words holds, and `B` the files of batches: it is proved for all contents, and no code reads them. What is left of the file is handed back, to be closed.
-pub fn run_words<T: Start, B: BatchFiles, R: Read + Drop, W: Write>(
+/// `T` is what the file of the words holds, and `H` the files of batches and the ports: it is proved for all contents and all connections, and
+/// no code looks at them. What is left of the file is handed back, to be closed: if the words have none, the unspent start.
+pub fn run_words<T: Start, H: BatchFiles + Ports, R: Read + Drop, W: Write>(
     rt: &HostRuntime,
     words: &[&str],
     start: T,
-    files: &B,
+    host: &H,
     input: R,
     output: &mut W,
     status: &mut u8,
 ) -> Ends<T, FileFrom<T>>
     // What is written, whatever the file holds.
-    ensures words { RunsWords (map (λ word. word.now) words.now) (texts_by (R.remaining input) (B.text files.now)) (W.contents output.old) (W.contents output.new) status.new }
+    ensures words { RunsWords (map (λ word. word.now) words.now) (given_by (R.remaining input) (H.text host.now) (AttendedOn H.Source.hands_out H.Source.takes_back H.Source.Reader.remaining H.Source.Writer.contents (H.opens host.now))) (W.contents output.old) (W.contents output.new) status.new }
     // And by what it holds: the run is one over the world that it shows.
-    ensures over { RunsOver (map (λ word. word.now) words.now) (image_at T.Start) result (texts_by (R.remaining input) (B.text files.now)) (W.contents output.old) (W.contents output.new) status.new }
+    ensures over { RunsOver (map (λ word. word.now) words.now) (image_at T.Start) result (given_by (R.remaining input) (H.text host.now) (AttendedOn H.Source.hands_out H.Source.takes_back H.Source.Reader.remaining H.Source.Writer.contents (H.opens host.now))) (W.contents output.old) (W.contents output.new) status.new }
 {
     match read_words(rt.alloc(), words) {
-        Ok(task) => run_task(rt, task, start, files, input, output, status),
+        Ok(task) => run_task(rt, task, start, host, input, output, status),
         Err(usage) => {
             *status = report_usage(rt, &usage, output);
-            Ends::NoFile
+            Ends::NoFile(start)
         }
     }
 }
@@ -89,19 +92,19 @@ pub fn run_words<T: Start, B: BatchFiles, R: Read + Drop, W: Write>(
 /// `run_words`, and then the file is closed. It holds all that was committed, and its log FILE-wal beside it is short. If closing fails,
 /// and after a kill, a part of what was committed is in the log alone; the next open reads it, and the status is the same.
 ///
-/// What is left of the file is handed back, to be dropped.
-pub fn run_to_end<T: Start, B: BatchFiles, R: Read + Drop, W: Write>(
+/// What is left of the file is handed back, to be dropped: if the words have none, the unspent start.
+pub fn run_to_end<T: Start, H: BatchFiles + Ports, R: Read + Drop, W: Write>(
     rt: &HostRuntime,
     words: &[&str],
     start: T,
-    files: &B,
+    host: &H,
     input: R,
     output: &mut W,
     status: &mut u8,
-) -> Option<Remains<T, FileFrom<T>>>
-    ensures words { RunsWords (map (λ word. word.now) words.now) (texts_by (R.remaining input) (B.text files.now)) (W.contents output.old) (W.contents output.new) status.new }
+) -> Remains<T, FileFrom<T>>
+    ensures words { RunsWords (map (λ word. word.now) words.now) (given_by (R.remaining input) (H.text host.now) (AttendedOn H.Source.hands_out H.Source.takes_back H.Source.Reader.remaining H.Source.Writer.contents (H.opens host.now))) (W.contents output.old) (W.contents output.new) status.new }
     // The file is closed after a run over what it held.
-    ensures closed { RunsClosed (map (λ word. word.now) words.now) (image_at T.Start) result (texts_by (R.remaining input) (B.text files.now)) (W.contents output.old) (W.contents output.new) status.new }
+    ensures closed { RunsClosed (map (λ word. word.now) words.now) (image_at T.Start) result (given_by (R.remaining input) (H.text host.now) (AttendedOn H.Source.hands_out H.Source.takes_back H.Source.Reader.remaining H.Source.Writer.contents (H.opens host.now))) (W.contents output.old) (W.contents output.new) status.new }
 {
-    run_words(rt, words, start, files, input, output, status).close()
+    run_words(rt, words, start, host, input, output, status).close()
 }

@@ -4,14 +4,16 @@ ghost use Rattle.std.specs.Prelude.{◌≡◌, ◌≢◌, ◌⊎◌, ◌∷◌, 
 ghost use Rattle.std.specs.IoError.{error_kind};
 ghost use Rattle.moo_commands.specs.Lines.{Reports};
 ghost use Rattle.sqlite.specs.WalFiles.{image_at};
-ghost use Rattle.moo_commands.specs.Run.{texts_by};
-ghost use Rattle.moo_commands.specs.Ends.{RunsClosed};
+ghost use Rattle.moo_http.specs.Turns.{AttendedOn};
+ghost use Rattle.moo_commands.specs.Run.{given_by};
+ghost use Rattle.moo_commands.specs.Ends.{IsUntouched, RunsClosed};
 
-use crate::batches::{BatchFiles, SystemFiles};
 use crate::failure::Failure;
+use crate::host::{BatchFiles, System};
 use crate::output::report;
 use crate::run::run_to_end;
 use moo_files::Remains;
+use moo_http::Ports;
 use sqlite::{FileFrom, Start, Unknown};
 use std::alloc::{AllocError, Global};
 use std::env::args;
@@ -54,35 +56,36 @@ fn words_failure(error: &io::Error) -> Failure
 }
 
 /// Does what the words say and closes their file, or says why the words can't be read. What is left of the file is handed back, to be
-/// dropped.
-pub fn run_given<T: Start, B: BatchFiles, R: Read + Drop, W: Write>(
+/// dropped: if no file was opened for them, the unspent start.
+pub fn run_given<T: Start, H: BatchFiles + Ports, R: Read + Drop, W: Write>(
     rt: &HostRuntime,
     words: io::Result<Vec<String>>,
     start: T,
-    files: &B,
+    host: &H,
     input: R,
     output: &mut W,
     status: &mut u8,
-) -> Option<Remains<T, FileFrom<T>>>
-    // What the words come to, as `run_to_end` says it; or memory runs out before that.
-    ensures read { IfOk words (λ words. Reports Failure.NoMemory (W.contents output.old) (W.contents output.new) status.new
-        ⊎ RunsClosed (map string_bytes words.items) (image_at T.Start) result (texts_by (R.remaining input) (B.text files.now)) (W.contents output.old) (W.contents output.new) status.new) }
-    // If they can't be read, the line says whether memory ran out.
+) -> Remains<T, FileFrom<T>>
+    // What the words come to, as `run_to_end` says it; or memory runs out before that, and their file isn't opened.
+    ensures read { IfOk words (λ words. (Reports Failure.NoMemory (W.contents output.old) (W.contents output.new) status.new × IsUntouched result)
+        ⊎ RunsClosed (map string_bytes words.items) (image_at T.Start) result (given_by (R.remaining input) (H.text host.now) (AttendedOn H.Source.hands_out H.Source.takes_back H.Source.Reader.remaining H.Source.Writer.contents (H.opens host.now))) (W.contents output.old) (W.contents output.new) status.new) }
+    // If they can't be read, the line says whether memory ran out, and no file is opened.
     ensures memory { IfErr words (λ error. error_kind error ≡ ErrorKind.OutOfMemory → Reports Failure.NoMemory (W.contents output.old) (W.contents output.new) status.new) }
     ensures unread { IfErr words (λ error. error_kind error ≢ ErrorKind.OutOfMemory → Reports Failure.Usage (W.contents output.old) (W.contents output.new) status.new) }
+    ensures unopened { IfErr words (λ _. IsUntouched result) }
 {
     let words = match words {
         Ok(words) => words,
         Err(error) => {
             *status = report(rt, words_failure(&error), output);
-            return None;
+            return Remains::Untouched(start);
         }
     };
     let Ok(words) = borrowed(rt.alloc(), &words) else {
         *status = report(rt, Failure::NoMemory, output);
-        return None;
+        return Remains::Untouched(start);
     };
-    run_to_end(rt, &words, start, files, input, output, status)
+    run_to_end(rt, &words, start, host, input, output, status)
 }
 
 /// The words of the command line.
@@ -90,7 +93,7 @@ fn command_words(rt: &HostRuntime) -> io::Result<Vec<String>> {
     named_words(rt.alloc(), args(rt)?.collect(rt.alloc())?)
 }
 
-/// The whole program: `run_given` over the words of the command line, the files of the system and the standard streams. It has no type
+/// The whole program: `run_given` over the words of the command line, the files and ports of the system and the standard streams. It has no type
 /// parameter, so that the check of `main` needn't know what streams are.
 pub fn run_command(rt: &HostRuntime) -> u8 {
     let mut status = 0;
@@ -98,7 +101,7 @@ pub fn run_command(rt: &HostRuntime) -> u8 {
         rt,
         command_words(rt),
         Unknown,
-        &SystemFiles,
+        &System::new(rt),
         rt.stdin(),
         &mut rt.stdout(),
         &mut status,

@@ -15,7 +15,7 @@ ghost use Rattle.moo_cells.specs.Shows.{ShowsRows};
 ghost use Rattle.moo_store.specs.States.{ShowsState};
 ghost use Rattle.moo_store.specs.Opening.{Says, IsOfStore, Adopts, not_ours};
 ghost use Rattle.moo_store.specs.World.{store_of, StandsFor, Left};
-ghost use Rattle.moo_files.specs.Contents.{HoldsTrees, HoldsTables, HoldsState, HasOtherTables, ReadsAsOurs};
+ghost use Rattle.moo_files.specs.Contents.{HoldsTrees, HoldsTables, HoldsState, HasOtherTables, ReadsAsOurs, IsKept};
 ghost use Rattle.moo_files.specs.Remains.{cannot_open, IsCleanRemains, MayStopAs, StillHolds, StillHoldsTrees, KeepsNothingBut, Spares};
 
 use crate::remains::{Remains, open_connection};
@@ -104,6 +104,8 @@ pub fn open_from<T: Start>(
     ensures blank { IsNothing (image_at T.Start) → IfErr result (λ e. IsCleanRemains e.1 → KeepsNothingBut (λ _. ⊥) (image_at T.Start) e.1) }
     // Files that held anything else, sound or not, are spared.
     ensures spared { ¬ IsNothing (image_at T.Start) → IfErr result (λ e. IsCleanRemains e.1 → Spares (image_at T.Start) e.1) }
+    // While a World is open a crash leaves the database that they held, or what that was migrated to.
+    ensures held { (trees : Trees) → HoldsTrees (image_at T.Start) trees → IfOk result (λ world. HasCleanDisk (store_of over_files world) → (found : Trees) → (store_of over_files world).may_leave found → IsKept trees found) }
     // A file that wasn't opened is refused for one of few reasons.
     ensures stopped { IfErr result (λ e. MayStopAs e.0 e.1) }
     // So a state that they held is there after a refusal, and so it is after a crash, then and of a World that was opened.

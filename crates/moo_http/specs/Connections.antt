@@ -53,10 +53,6 @@ SaysByResult Holds Stays (Err fault) port count before after =
     (Stays × WritesFront (listening_line port) before after)
     ⊎ ((text : List ℕ) × SaysAll Holds port count text × WritesFront text before after)
 
--- So many connections are taken on a port, and this text says how many of them were answered and how many failed.
-abbrev pub ServesAll : ℕ → ℕ → Stand → Stand → List ℕ → Type 0
-ServesAll port count old new text = SaysAll (λ answered failed. AfterConnections count old new) port count text
-
--- What comes of the service on a port, by its result.
+-- What comes of the service on a port, by its result, of which only the World is looked at.
 abbrev pub ServesPort : Result (Unit {0}) ServiceFault → ℕ → ℕ → Stand → Stand → Option (List ℕ) → Option (List ℕ) → Type 0
 ServesPort result port count old new before after = SaysByResult (λ answered failed. AfterConnections count old new) (new ≡ old) result port count before after

@@ -9,7 +9,7 @@ use Rattle.moo_http.specs.declared.fault.ServeFault.{ServeFault}
 use Rattle.moo_http.specs.declared.fault.ServeFault.TheVariants.{Read, Write, OutOfMemory}
 use Rattle.moo_http.specs.declared.service.ServiceFault.{ServiceFault}
 use Rattle.moo_http.specs.Serves.{Gets}
-use Rattle.moo_http.specs.Connections.{SaysByResult}
+use Rattle.moo_http.specs.Connections.{SaysAll, SaysByResult}
 
 -- ---- one connection
 
@@ -68,3 +68,22 @@ module _ {A R W : Type 0} (hands_out : A → Option (Connection R W) → A → T
   abbrev pub ServesFrom : Result (Unit {0}) ServiceFault → ℕ → ℕ → A → Stand → A → Stand → Option (List ℕ) → Option (List ℕ) → Type 0
   ServesFrom result port count from old to new before after =
       SaysByResult (λ answered failed. Attended answered failed from old to new) ((to ≡ from) × (new ≡ old)) result port count before after
+
+  -- A source that was opened on this port handed out connections, of which so many were answered and so many failed.
+  abbrev pub AttendedOn : (ℕ → A → Type 0) → ℕ → ℕ → ℕ → Stand → Stand → Type 0
+  AttendedOn Opens port answered failed old new = (from to : A) × Opens port from × Attended answered failed from old to new
+
+-- ---- a port
+
+-- how many of the connections to a port were answered, how many failed, and from which stand to which they led
+abbrev pub Attendance : Type 1
+Attendance = ℕ → ℕ → ℕ → Stand → Stand → Type 0
+
+-- this text says how many of so many connections to a port were answered, and how many failed
+abbrev pub SaysAttended : Attendance → ℕ → ℕ → Stand → Stand → List ℕ → Type 0
+SaysAttended Attends port count old new text = SaysAll (λ answered failed. Attends port answered failed old new) port count text
+
+-- What comes of the service on a port, by its result.
+abbrev pub ServesOn : Attendance → Result (Unit {0}) ServiceFault → ℕ → ℕ → Stand → Stand → Option (List ℕ) → Option (List ℕ) → Type 0
+ServesOn Attends result port count old new before after =
+    SaysByResult (λ answered failed. Attends port answered failed old new) (new ≡ old) result port count before after

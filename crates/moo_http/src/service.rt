@@ -8,19 +8,18 @@ ghost use Rattle.moo_http.specs.declared.service.ServiceFault.TheVariants.{OutOf
 ghost use Rattle.std.specs.Io.KnownBytes.{Appends};
 ghost use Rattle.moo_http.specs.Lines.{listening_line, served_line};
 ghost use Rattle.moo_http.specs.Connections.{StandsAtEnd, ServesPort, WritesFront};
-ghost use Rattle.moo_http.specs.Turns.{ServesFrom};
+ghost use Rattle.moo_http.specs.Turns.{ServesFrom, AttendedOn, ServesOn};
 
 use crate::arrivals::Arrivals;
 use crate::listen::{Served, serve_on};
 use crate::log::Log;
-use crate::sockets::Sockets;
+use crate::ports::Ports;
 use moo_dump::put_all;
 use moo_request::Routes;
 use moo_store::World;
 use sqlite::Alter;
 use std::alloc::{AllocError, Global};
 use std::io::Write;
-use std::net::{Ipv4Addr, TcpListener};
 
 /// Why the service ended before its last line.
 #[derive(Clone, Copy, Debug, PartialEq, Eq, Drop)]
@@ -115,29 +114,27 @@ pub fn serve_from<S: Alter + Drop, A: Arrivals, W: Write>(
     say_served(alloc, output, served)
 }
 
-/// Binds a port of 127.0.0.1, and no other address; says so, serves so many connections, and says how many were answered and how many
-/// failed. Standard error has a line for each that failed and each answer of 503, at most ten in a second.
+/// Listens on a port, says so, serves so many connections, and says how many were answered and how many failed. Standard error has a line
+/// for each that failed and each answer of 503, at most ten in a second.
 ///
 /// The faults: Port if the port can't be bound, and nothing is written; else those of `serve_from`.
-pub fn serve_port<S: Alter + Drop, W: Write>(
+pub fn serve_port<S: Alter + Drop, P: Ports, W: Write>(
     rt: &HostRuntime,
+    ports: &P,
     world: &mut World<S>,
     port: u16,
     count: u32,
     output: &mut W,
 ) -> Result<(), ServiceFault>
-    ensures serves { (known : Bool) (stand : Stand) → StandsAt S.Store known world.old stand →
-        StandsAtEnd S.Store known world.new (λ end. ServesPort result port count stand end (W.contents output.old) (W.contents output.new)) }
+    // The World moved by what the connections asked that came to this port, as `serve_from` says it, and by nothing else.
+    ensures serves { (known : Bool) (stand : Stand) → StandsAt S.Store known world.old stand → StandsAtEnd S.Store known world.new (λ end.
+        ServesOn (AttendedOn P.Source.hands_out P.Source.takes_back P.Source.Reader.remaining P.Source.Writer.contents (P.opens ports.now)) result port count stand end (W.contents output.old) (W.contents output.new)) }
     // A disk that returns what was written did so before.
     ensures clean { HasCleanDisk (store_of S.Store world.new) → HasCleanDisk (store_of S.Store world.old) }
 {
     world.leaves();
-    let Ok(listener) = TcpListener::bind(rt, (Ipv4Addr::LOCALHOST, port)) else {
+    let Ok(mut source) = ports.listen(port) else {
         return Err(ServiceFault::Port);
     };
-    let mut sockets = Sockets {
-        clock: rt,
-        listener,
-    };
-    serve_from(rt, &mut sockets, world, port, count, output)
+    serve_from(rt, &mut source, world, port, count, output)
 }

@@ -4,17 +4,29 @@ ghost use Rattle.std.specs.Prelude.{⊤};
 
 use crate::arrivals::{Arrivals, Closing, Connection};
 use crate::linger::end;
-use std::net::{TcpListener, TcpStream};
+use std::io::Result;
+use std::net::{Ipv4Addr, TcpListener, TcpStream};
 use std::time::{Clock, Duration};
 
 /// How long one read or write of a connection may wait, in seconds.
 const PATIENCE: u64 = 10;
 
-/// The connections of a port.
+/// The connections of a port of 127.0.0.1. Nothing is known of what they ask.
 #[derive(Drop)]
-pub(crate) struct Sockets<'a, C> {
-    pub(crate) clock: &'a C,
-    pub(crate) listener: TcpListener,
+pub struct Sockets<'a, C> {
+    clock: &'a C,
+    listener: TcpListener,
+}
+
+impl<'a> Sockets<'a, HostRuntime> {
+    /// Binds a port of 127.0.0.1, and of no other address. An error if it can't be bound.
+    pub fn listen(rt: &'a HostRuntime, port: u16) -> Result<Sockets<'a, HostRuntime>> {
+        let listener = TcpListener::bind(rt, (Ipv4Addr::LOCALHOST, port))?;
+        Ok(Sockets {
+            clock: rt,
+            listener,
+        })
+    }
 }
 
 /// Has a silent peer's reads and writes fail after a while. False if the connection doesn't take that.

@@ -23,6 +23,12 @@ returns-in-Ok g c =
           (world.rows.maps, found.0, c.in-Ok.ensures.only other tables holds (ran.clean false here found.1 clean), unseen _ _ _ _ _ _ _ _ _ (ran.runs false here found.1));
       nothing = λ other none clean. c.in-Ok.ensures.nothing other none (ran.clean false here (c.in-Ok.ensures.opened other).1 clean);
       other = λ trees other holds others clean. c.in-Ok.ensures.other other trees holds others (ran.clean false here (c.in-Ok.ensures.opened other).1 clean);
+      sound = λ other clean. c.in-Ok.ensures.sound other (ran.clean false here (c.in-Ok.ensures.opened other).1 clean);
+      unsound = λ other none. tt;
+      foreign = λ trees other holds others. tt;
+      room = λ anew clean. c.in-Ok.ensures.room anew (ran.clean true (state_of opening_maps) (c.in-Ok.ensures.anew anew) clean);
+      occupied = λ trees anew holds any clean. c.in-Ok.ensures.occupied anew trees holds any (ran.clean true (state_of opening_maps) (c.in-Ok.ensures.anew anew) clean);
+      still = λ trees other reads holds clean found may. c.in-Ok.ensures.held other trees holds (ran.clean false here (c.in-Ok.ensures.opened other).1 clean) found (ran.still reads clean found may);
       opened = λ other.
           let found = c.in-Ok.ensures.opened other in
           (world.rows.maps, found.0, unseen _ _ _ _ _ _ _ _ _ (ran.runs false here found.1));
@@ -30,7 +36,9 @@ returns-in-Ok g c =
       trees = λ trees other holds. tt;
       spared = λ trees anew holds any. tt;
       unmade = λ trees anew holds. tt;
+      spares = λ some whole. tt;
       fresh = λ anew none. tt;
+      begun = λ anew half. tt;
       blank = λ other none. tt;
       told = tt;
     }
@@ -48,14 +56,23 @@ returns-in-Err g c =
       only = λ tables other holds clean. (fault, c.in-Err.ensures.fault other tables holds clean, reports);
       nothing = λ other none. tt;
       other = λ trees other holds others. tt;
+      sound = λ other. tt;
+      unsound = λ other none clean. fails_at_once fault old new c.report.result (c.in-Err.ensures.unsound other none clean) reports;
+      foreign = λ trees other holds others clean. fails_at_once fault old new c.report.result (c.in-Err.ensures.foreign other trees holds others clean) reports;
+      room = λ anew. tt;
+      occupied = λ trees anew holds any. tt;
+      still = λ trees other reads holds. tt;
       opened = λ other. refuses_file fault old new c.report.result reports;
       left = c.in-Err.ensures.left;
       trees = λ trees other holds. c.in-Err.ensures.trees other trees holds;
       spared = λ trees anew holds any. c.in-Err.ensures.spared anew trees holds any;
       unmade = λ trees anew holds clean.
           unmade_begins c.args.task _ (state_of opening_maps) (begins_opening c.args.task _ c.requires.load) trees (image_at g.T.Start) c.in-Err.remains (c.in-Err.ensures.unmade anew trees holds clean);
+      spares = c.in-Err.ensures.spares;
       fresh = λ anew none clean.
           fresh_begins c.args.task _ (state_of opening_maps) (begins_opening c.args.task _ c.requires.load) (image_at g.T.Start) c.in-Err.remains (c.in-Err.ensures.fresh anew none clean);
+      begun = λ anew half clean.
+          fresh_begins c.args.task _ (state_of opening_maps) (begins_opening c.args.task _ c.requires.load) (image_at g.T.Start) c.in-Err.remains (c.in-Err.ensures.begun anew half clean);
       blank = λ other none. c.in-Err.ensures.blank other none;
       told = inl (fault, c.in-Err.ensures.stopped, reports);
     }

@@ -1,8 +1,9 @@
 use Rattle.std.proofs.Common.{inl, inr, refl, true}
 use Rattle.sqlite.specs.WalFiles.{image_at}
 use Rattle.moo_world.specs.Judge.{state_of}
-use Rattle.moo_commands.specs.Run.{texts_by}
-use Rattle.moo_commands.proofs.Beginning.{begins_dumped, of_other_texts, fails_to_begin, unmade_begins, fresh_begins, never_other}
+use Rattle.moo_http.specs.Turns.{AttendedOn}
+use Rattle.moo_commands.specs.Run.{given_by}
+use Rattle.moo_commands.proofs.Beginning.{begins_dumped, of_other_texts, fails_to_begin, unmade_begins, fresh_begins, load_begins, never_other}
 use Rattle.moo_commands.proofs.Connections.{surely}
 use Rattle.moo_commands.proofs.Refusals.{fails_at_once, tells_fault}
 use Rattle.moo_commands.proofs.files.run_loaded.Goals as goal
@@ -17,39 +18,55 @@ returns-in-Err g c =
       only = λ tables other holds. never_other c.args.task c.requires.load other;
       nothing = λ other none. tt;
       other = λ trees other holds others. tt;
+      sound = λ other. tt;
+      unsound = λ other none. never_other c.args.task c.requires.load other;
+      foreign = λ trees other holds others. never_other c.args.task c.requires.load other;
+      room = λ anew. tt;
+      occupied = λ trees anew holds any. tt;
+      still = λ trees other reads holds. tt;
       opened = λ other. never_other c.args.task c.requires.load other;
       left = λ s holds clean. holds;
       trees = λ trees other holds. never_other c.args.task c.requires.load other;
       spared = λ trees anew holds any clean. record { trees = trees; holds = holds; such = refl };
       unmade = λ trees anew holds clean. record { trees = trees; holds = holds; such = inl refl };
+      spares = λ some whole clean. tt;
       fresh = λ anew none clean. inl none;
+      begun = λ anew half clean. inr (inl half);
       blank = λ other none. never_other c.args.task c.requires.load other;
       told = inr (c.requires.load, (c.in-Err.failure, inr (c.requires.load, c.in-Err.ensures.failure), c.report.ensures));
     }
 
 pub returns-in-Ok-load_from : goal.returns-in-Ok-load_from
 returns-in-Ok-load_from g c =
-    let texts = texts_by (g.R.Read.remaining c.args.input) (g.B.BatchFiles.text c.args.files.now) in
+    let given = given_by (g.R.Read.remaining c.args.input) (g.H.BatchFiles.text c.args.host.now) (AttendedOn g.H.Source.Arrivals.hands_out g.H.Source.Arrivals.takes_back g.H.Source.Reader.Read.remaining g.H.Source.Writer.Write.contents (g.H.Ports.opens c.args.host.now)) in
     let s = state_of c.in-Ok.rows.maps in
     let stands = c.in-Ok-load_from.ensures.stands in
     let ran = c.run_in_files.ensures in
     record {
       anew = λ anew. (
         s,
-        begins_dumped c.args.task texts c.args.dump.now s c.requires.load c.requires.word c.in-Ok.ensures.dumped,
-        of_other_texts c.args.task c.requires.load s _ texts _ _ _ _ _ _ (surely _ _ _ _ _ _ _ _ _ (ran.runs true s stands)),
+        begins_dumped c.args.task given c.args.dump.now s c.requires.load c.requires.word c.in-Ok.ensures.dumped,
+        of_other_texts c.args.task c.requires.load s _ given _ _ _ _ _ _ (surely _ _ _ _ _ _ _ _ _ (ran.runs true s stands)),
       );
       taken = λ t anew holds clean. c.in-Ok-load_from.ensures.taken t holds (ran.clean true s stands clean);
       kept = λ s other holds. never_other c.args.task c.requires.load other;
       only = λ tables other holds. never_other c.args.task c.requires.load other;
       nothing = λ other none. never_other c.args.task c.requires.load other;
       other = λ trees other holds others. never_other c.args.task c.requires.load other;
+      sound = λ other. never_other c.args.task c.requires.load other;
+      unsound = λ other none. tt;
+      foreign = λ trees other holds others. tt;
+      room = λ anew clean. c.in-Ok-load_from.ensures.room (ran.clean true s stands clean);
+      occupied = λ trees anew holds any clean. c.in-Ok-load_from.ensures.occupied trees holds any (ran.clean true s stands clean);
+      still = λ trees other reads holds. never_other c.args.task c.requires.load other;
       opened = λ other. never_other c.args.task c.requires.load other;
       left = λ s holds. tt;
       trees = λ trees other holds. tt;
       spared = λ trees anew holds any. tt;
       unmade = λ trees anew holds. tt;
+      spares = λ some whole. tt;
       fresh = λ anew none. tt;
+      begun = λ anew half. tt;
       blank = λ other none. tt;
       told = tt;
     }
@@ -58,9 +75,9 @@ pub returns-in-Err-load_from : goal.returns-in-Err-load_from
 returns-in-Err-load_from g c =
     let fault = c.in-Err-load_from.fault in
     let image = image_at g.T.Start in
-    let texts = texts_by (g.R.Read.remaining c.args.input) (g.B.BatchFiles.text c.args.files.now) in
+    let given = given_by (g.R.Read.remaining c.args.input) (g.H.BatchFiles.text c.args.host.now) (AttendedOn g.H.Source.Arrivals.hands_out g.H.Source.Arrivals.takes_back g.H.Source.Reader.Read.remaining g.H.Source.Writer.Write.contents (g.H.Ports.opens c.args.host.now)) in
     let s = state_of c.in-Ok.rows.maps in
-    let begins = begins_dumped c.args.task texts c.args.dump.now s c.requires.load c.requires.word c.in-Ok.ensures.dumped in
+    let begins = begins_dumped c.args.task given c.args.dump.now s c.requires.load c.requires.word c.in-Ok.ensures.dumped in
     let old = g.W.Write.contents c.args.output.now in
     let new = g.W.Write.contents c.report-in-Err-load_from.new.output in
     let status = c.report-in-Err-load_from.result in
@@ -72,12 +89,20 @@ returns-in-Err-load_from g c =
       only = λ tables other holds. never_other c.args.task c.requires.load other;
       nothing = λ other none. tt;
       other = λ trees other holds others. tt;
+      sound = λ other. tt;
+      unsound = λ other none. never_other c.args.task c.requires.load other;
+      foreign = λ trees other holds others. never_other c.args.task c.requires.load other;
+      room = λ anew. tt;
+      occupied = λ trees anew holds any. tt;
+      still = λ trees other reads holds. tt;
       opened = λ other. never_other c.args.task c.requires.load other;
       left = c.in-Err-load_from.ensures.refused;
       trees = λ trees other holds. never_other c.args.task c.requires.load other;
       spared = λ trees anew holds any. c.in-Err-load_from.ensures.kept trees holds any;
-      unmade = λ trees anew holds clean. unmade_begins c.args.task texts s begins trees image c.in-Err-load_from.remains (c.in-Err-load_from.ensures.trees trees holds clean);
-      fresh = λ anew none clean. fresh_begins c.args.task texts s begins image c.in-Err-load_from.remains (c.in-Err-load_from.ensures.blank none clean);
+      unmade = λ trees anew holds clean. unmade_begins c.args.task given s begins trees image c.in-Err-load_from.remains (c.in-Err-load_from.ensures.trees trees holds clean);
+      spares = λ some whole. c.in-Err-load_from.ensures.spared some (whole (load_begins c.args.task c.requires.load));
+      fresh = λ anew none clean. fresh_begins c.args.task given s begins image c.in-Err-load_from.remains (c.in-Err-load_from.ensures.blank none clean);
+      begun = λ anew half clean. fresh_begins c.args.task given s begins image c.in-Err-load_from.remains (c.in-Err-load_from.ensures.begun half clean);
       blank = λ other none. never_other c.args.task c.requires.load other;
       told = inl (fault, c.in-Err-load_from.ensures.stopped, reports);
     }

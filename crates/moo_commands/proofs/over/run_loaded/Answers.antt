@@ -1,18 +1,19 @@
 use Rattle.std.proofs.Common.{inl, inr, true}
 use Rattle.moo_world.specs.Judge.{state_of}
-use Rattle.moo_commands.specs.Run.{texts_by}
+use Rattle.moo_http.specs.Turns.{AttendedOn}
+use Rattle.moo_commands.specs.Run.{given_by}
 use Rattle.moo_commands.proofs.Beginning.{begins_dumped, of_other_texts}
 use Rattle.moo_commands.proofs.Connections.{of_making, surely}
 use Rattle.moo_commands.proofs.over.run_loaded.Goals as goal
 
 pub returns-in-Ok-load_in : goal.returns-in-Ok-load_in
 returns-in-Ok-load_in g c =
-    let texts = texts_by (g.R.Read.remaining c.args.input) (g.B.BatchFiles.text c.args.files.now) in
+    let given = given_by (g.R.Read.remaining c.args.input) (g.H.BatchFiles.text c.args.host.now) (AttendedOn g.H.Source.Arrivals.hands_out g.H.Source.Arrivals.takes_back g.H.Source.Reader.Read.remaining g.H.Source.Writer.Write.contents (g.H.Ports.opens c.args.host.now)) in
     let s = state_of c.in-Ok.rows.maps in
     inr (
       s,
-      begins_dumped c.args.task texts c.args.dump.now s c.requires.load c.requires.word c.in-Ok.ensures.dumped,
-      of_other_texts c.args.task c.requires.load s _ texts _ _ _ _ _ _ (surely _ _ _ _ _ _ _ _ _ (c.run_in.ensures.runs true s c.in-Ok-load_in.ensures.stands)),
+      begins_dumped c.args.task given c.args.dump.now s c.requires.load c.requires.word c.in-Ok.ensures.dumped,
+      of_other_texts c.args.task c.requires.load s _ given _ _ _ _ _ _ (surely _ _ _ _ _ _ _ _ _ (c.run_in.ensures.runs true s c.in-Ok-load_in.ensures.stands)),
     )
 
 pub returns-in-Err-load_in : goal.returns-in-Err-load_in

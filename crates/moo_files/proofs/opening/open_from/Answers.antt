@@ -56,6 +56,14 @@ returns-in-Ok-adopt_files-clause-sound g c clean =
     let opened = c.in-Ok.ensures.opened early in
     reads_ours (image_at g.T.Start) (file_state conn) opened.0 opened.1 (c.in-Ok.ensures.found early) (λ others. c.in-Ok-adopt_files.ensures.other others)
 
+pub returns-in-Ok-adopt_files-clause-held : goal.returns-in-Ok-adopt_files-clause-held
+returns-in-Ok-adopt_files-clause-held g c trees holds clean =
+    let conn = c.in-Ok.conn in
+    let store = store_of over_files c.in-Ok-adopt_files.world in
+    let early = was_clean (file_state conn) store (Adopts (file_state conn)) c.in-Ok-adopt_files.ensures.crash clean in
+    let opened = c.in-Ok.ensures.opened early in
+    kept_or_migrated (image_at g.T.Start) (file_state conn) store trees opened.0 opened.1 (c.in-Ok.ensures.found early) c.in-Ok.ensures.left holds clean c.in-Ok-adopt_files.ensures.crash
+
 -- ---- the tables were refused
 
 pub returns-in-Err-adopt_files-clause-whole : goal.returns-in-Err-adopt_files-clause-whole

@@ -1,3 +1,4 @@
+use Rattle.std.proofs.Common.{refl}
 use Rattle.moo_commands.proofs.ends.Ends.close.Goals as goal
 
 pub returns-in-Ran : goal.returns-in-Ran
@@ -7,4 +8,4 @@ pub returns-in-Refused : goal.returns-in-Refused
 returns-in-Refused g c = rw c.in-Refused.is c.close-in-Refused.ensures.closed
 
 pub returns-in-NoFile : goal.returns-in-NoFile
-returns-in-NoFile g c = rw c.in-NoFile.is tt
+returns-in-NoFile g c = rw c.in-NoFile.is refl
