@@ -23,7 +23,7 @@ use Rattle.moo_tables.proofs.OverLemmas.{Found, number_one, none_kept, no_permut
 
 module _ {K : Type 0} (has : K → Row → Bool) (key : K) (rows : List Row) (keyed : AreKeyed rows) where
   -- the row with the key, by its number
-  found_row : (r : Row) → Has rows r → has key r ≡ true → Found has key rows keyed (Int (id_in (rowid r)) ∷ [])
+  abbrev found_row : (r : Row) → Has rows r → has key r ≡ true → Found has key rows keyed (Int (id_in (rowid r)) ∷ [])
   found_row r in_it here = record { row = r; in_it = in_it; here = here; number = id_in (rowid r); numbered = int_value (rowid r) (all_has (λ r. IsTrue (is_int (rowid r))) rows r keyed.1 in_it); is = refl }
 
   module _ (one : (r s : Row) → Has rows r → Has rows s → has key r ≡ true → has key s ≡ true → r ≡ s) (table : Table) (tests project : List Term) (given : Row) (answer : List Row) where
