@@ -144,10 +144,13 @@ module _ {K C : Type 0} (name : List ℕ) (tree : ℕ) (columns : List Column) (
               let f = o.row in
               let named : rowid f.row ≡ Int n = f.numbered ∙ ap Int (ties_one (rowid f.row) f.number n (itself has_rowid n old_rows keyed (number_one n old_rows keyed) o.there f) f.here) in
               let rows_are = it.edited.applies.rows ∙ o.after_is ∙ ap (λ r. put_row r (rest has_rowid n old_rows keyed)) (kept_updated key row f.row named) in
-              inl (sees old new tables n (Some params) (put_row source (rest has_rowid n old_rows keyed)) seen (sets _ rows_are)
-                  (put_keyed has_rowid n old_rows keyed source refl)
-                  (λ k. after_put same_number has_rowid (cells_at places) number_exact number_apart n source old_rows (has_itself n (drop 1 source)) (number_free n source old_rows refl) k
-                  ∙ ap (λ shown. numbered_with n (Some shown) (numbered_in places old_rows) k) (it_has.placed key row)), it.counted ∙ o.count))
+              inl (
+                sees old new tables n (Some params) (put_row source (rest has_rowid n old_rows keyed)) seen (sets _ rows_are)
+                    (put_keyed has_rowid n old_rows keyed source refl)
+                    (λ k. after_put same_number has_rowid (cells_at places) number_exact number_apart n source old_rows (has_itself n (drop 1 source)) (number_free n source old_rows refl) k
+                    ∙ ap (λ shown. numbered_with n (Some shown) (numbered_in places old_rows) k) (it_has.placed key row)),
+                it.counted ∙ o.count,
+              ))
           | inr l ↦ inr (sees_still (sets old_rows (it.edited.applies.rows ∙ l.after_is)) tables seen, it.counted ∙ l.count)
         ]
 

@@ -161,10 +161,13 @@ module _ {K C : Type 0} (name : List ℕ) (tree : ℕ) (columns : List Column) (
               let ties = and_parts _ _ f.here in
               let row_is = over_updated key row f.number f.row f.numbered (exactly (column f.row 1) two.0 ints.0 ties.0) (exactly (column f.row 2) two.1 ints.1 ties.1) in
               let rows_are = it.edited.applies.rows ∙ o.after_is ∙ ap (λ r. put_row (cast_row t r) (rest has_pair two old_rows keyed)) row_is ∙ ap (λ r. put_row r (rest has_pair two old_rows keyed)) (kept f.number key row) in
-              inl (sees old new tables two (Some params) (put_row (Int f.number ∷ params) (rest has_pair two old_rows keyed)) seen (sets _ rows_are)
-                  (put_keyed has_pair two old_rows keyed (Int f.number ∷ params) refl)
-                  (λ k. after_put same_numbers has_pair (cells_at places) pair_exact pair_apart two (Int f.number ∷ params) old_rows (has_its_pair f.number key row) (free_beside has_pair two old_rows keyed one o.there f (Int f.number ∷ params) refl) k
-                  ∙ ap (λ shown. paired_with two (Some shown) (paired_in places old_rows) k) (it_has.placed f.number key row)), it.counted ∙ o.count))
+              inl (
+                sees old new tables two (Some params) (put_row (Int f.number ∷ params) (rest has_pair two old_rows keyed)) seen (sets _ rows_are)
+                    (put_keyed has_pair two old_rows keyed (Int f.number ∷ params) refl)
+                    (λ k. after_put same_numbers has_pair (cells_at places) pair_exact pair_apart two (Int f.number ∷ params) old_rows (has_its_pair f.number key row) (free_beside has_pair two old_rows keyed one o.there f (Int f.number ∷ params) refl) k
+                    ∙ ap (λ shown. paired_with two (Some shown) (paired_in places old_rows) k) (it_has.placed f.number key row)),
+                it.counted ∙ o.count,
+              ))
           | inr l ↦ inr (sees_still (sets old_rows (it.edited.applies.rows ∙ l.after_is)) tables seen, it.counted ∙ l.count)
         ]
 

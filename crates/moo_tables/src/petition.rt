@@ -75,11 +75,7 @@ impl TableRow for PetitionCells {
         )
     }
 
-    fn put<S: Alter>(
-        &self,
-        tx: &mut Transaction<'_, S>,
-        id: PetitionId,
-    ) -> Result<usize, Error> {
+    fn put<S: Alter>(&self, tx: &mut Transaction<'_, S>, id: PetitionId) -> Result<usize, Error> {
         run(
             tx,
             "INSERT INTO petition VALUES (?1, ?2, ?3) ON CONFLICT (id) DO UPDATE SET who = ?2, calls = ?3",
@@ -87,15 +83,8 @@ impl TableRow for PetitionCells {
         )
     }
 
-    fn remove<S: Alter>(
-        tx: &mut Transaction<'_, S>,
-        id: PetitionId,
-    ) -> Result<usize, Error> {
-        run(
-            tx,
-            "DELETE FROM petition WHERE id = ?1",
-            &petition_key(id),
-        )
+    fn remove<S: Alter>(tx: &mut Transaction<'_, S>, id: PetitionId) -> Result<usize, Error> {
+        run(tx, "DELETE FROM petition WHERE id = ?1", &petition_key(id))
     }
 }
 

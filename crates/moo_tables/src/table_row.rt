@@ -15,11 +15,7 @@ pub(crate) trait TableRow {
     ghost with_row: { Self.Key → Option Self → Tables → Tables };
 
     /// Writes over the row with a key, if there is one. Answers how many rows it wrote over: one or none.
-    fn update<S: Alter>(
-        &self,
-        tx: &mut Transaction<'_, S>,
-        key: Self::Key,
-    ) -> Result<usize, Error>
+    fn update<S: Alter>(&self, tx: &mut Transaction<'_, S>, key: Self::Key) -> Result<usize, Error>
         ensures same_reference { tx.new.conn.ghost_name ≡ tx.old.conn.ghost_name }
         ensures inside { StaysInside (state S.Store tx.old.conn.now) (state S.Store tx.new.conn.now) }
         ensures over { IfOk result (λ count. WritesOver (with_row key (Some self.now)) count (state S.Store tx.old.conn.now) (state S.Store tx.new.conn.now)) };
