@@ -34,7 +34,7 @@ use Rattle.moo_tables.proofs.CastLemmas.{fit, kept_all}
 use Rattle.moo_tables.proofs.StepLemmas.{cast_int, updates, deletes}
 use Rattle.moo_tables.proofs.UpsertLemmas.{Settles, upserts}
 use Rattle.moo_tables.proofs.OverLemmas.{number_one, itself, number_settles}
-use Rattle.moo_tables.proofs.UpdateLemmas.{IsOver, IsLeft, over_or_left}
+use Rattle.moo_tables.proofs.UpdateLemmas.{over_or_left}
 use Rattle.moo_tables.proofs.QueryLemmas.{chosen, shows_all}
 use Rattle.moo_tables.proofs.KeyLemmas.{after_put, after_removal, number_exact, number_apart, ties_one}
 use Rattle.moo_tables.proofs.RowLemmas.{moo_quiet, equal_number, put_keyed, rest_keyed, rest, went_out, number_free, has_itself, picks_number}

@@ -35,7 +35,7 @@ use Rattle.moo_tables.proofs.CastLemmas.{fit, kept_all}
 use Rattle.moo_tables.proofs.StepLemmas.{cast_null, cast_int, updates, deletes}
 use Rattle.moo_tables.proofs.UpsertLemmas.{Settles, upserts}
 use Rattle.moo_tables.proofs.OverLemmas.{free_beside, pair_settles}
-use Rattle.moo_tables.proofs.UpdateLemmas.{IsOver, IsLeft, over_or_left}
+use Rattle.moo_tables.proofs.UpdateLemmas.{over_or_left}
 use Rattle.moo_tables.proofs.ListingLemmas.{exactly}
 use Rattle.moo_tables.proofs.ReadLemmas.{ArePairs}
 use Rattle.moo_tables.proofs.QueryLemmas.{chosen, shows_all}
