@@ -45,7 +45,7 @@ abbrev cells : Unit {0} → ℕ → Row
 cells _ next = petition_head_cells next
 
 has_numbers : HasNumbers petition_head_table number_of cells
-has_numbers = record { stored = λ db. refl; fitting = λ key row. refl; placed = λ key row. refl; alone = λ key row. refl; there = λ key row. refl; over = λ key row r. refl; conflicting = λ new r. refl }
+has_numbers = record { stored = λ db. refl; begins = λ key row. refl; fitting = λ key row. refl; placed = λ key row. refl; alone = λ key row. refl; there = λ key row. refl; over = λ key row r. refl; updated = λ key row r. refl; conflicting = λ new r. refl }
 
 abbrev stored : ℕ → Row
 stored next = stored_at (pos 1) (petition_head_cells next)

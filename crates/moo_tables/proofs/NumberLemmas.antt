@@ -1,11 +1,12 @@
 -- What the statements do that write a table with a number as its key, whichever it is.
-use Rattle.std.proofs.Common.{◌≡◌, ◌+◌, ◌/◌, ℕ, ℤ, List, [], ◌∷◌, ◌++◌, drop, map, length, slice_get, Option, Some, None, true, false, ◌&&◌, ◌||◌, Bool, Result, Ok, Err, OnOk, IsTrue, refl, ap, subst, ◌∙◌}
+use Rattle.std.proofs.Common.{◌≡◌, ◌+◌, ◌/◌, ℕ, ℤ, List, [], ◌∷◌, ◌++◌, drop, map, length, slice_get, Option, Some, None, true, false, ◌&&◌, ◌||◌, ◌⊎◌, inl, inr, Bool, Result, Ok, Err, OnOk, IfOk, IsTrue, refl, sym, ap, subst, ◌∙◌, arith}
+use Rattle.std.specs.List.{list_all}
 use Rattle.std.specs.List.Sorted.{IsPermutation}
 use Rattle.sqlite.specs.declared.types.Value.TheVariants.{Null, Int}
 use Rattle.sqlite.specs.declared.error.Error.{Error}
 use Rattle.sqlite.specs.Order.{Row, column}
 use Rattle.sqlite.specs.Ops.{binary, is_true}
-use Rattle.sqlite.specs.Term.{col, eval_all}
+use Rattle.sqlite.specs.Term.{col, holds, eval_all}
 use Rattle.sqlite.specs.Collation.TheVariants.{Binary}
 use Rattle.sqlite_sql.specs.declared.ops.BinaryOp.TheVariants.{Compare}
 use Rattle.sqlite_sql.specs.declared.ops.CompareOp.TheVariants.{Eq}
@@ -25,17 +26,19 @@ use Rattle.sqlite_schema.specs.Rules.{agree}
 use Rattle.sqlite_schema.specs.declared.schema.Column.{Column}
 use Rattle.sqlite_value.specs.Keys.{first_key, plain}
 use Rattle.moo_tables.specs.Tables.{Tables, second_schema, numbered, number_places, cells_at, numbered_in, numbered_with, same_number}
-use Rattle.moo_tables.specs.Texts.{put_text, remove_text}
+use Rattle.moo_tables.specs.Texts.{update_text, put_text, remove_text}
 use Rattle.moo_tables.specs.Inside.{AreKeyed, Sees, Changes, RanStatement, KeepsSlot}
-use Rattle.moo_tables.proofs.TextLemmas.{WritesByNumber, number_terms, number_overwrite, written_over, by_number, rowids_where}
+use Rattle.moo_tables.specs.Over.{WritesOver}
+use Rattle.moo_tables.proofs.TextLemmas.{WritesByNumber, number_terms, number_overwrite, writes_where, written_over, by_number, rowids_where}
 use Rattle.moo_tables.proofs.CastLemmas.{fit, kept_all}
-use Rattle.moo_tables.proofs.StepLemmas.{cast_int, deletes}
+use Rattle.moo_tables.proofs.StepLemmas.{cast_int, updates, deletes}
 use Rattle.moo_tables.proofs.UpsertLemmas.{Settles, upserts}
-use Rattle.moo_tables.proofs.OverLemmas.{number_settles}
+use Rattle.moo_tables.proofs.OverLemmas.{number_one, itself, number_settles}
+use Rattle.moo_tables.proofs.UpdateLemmas.{over_or_left}
 use Rattle.moo_tables.proofs.QueryLemmas.{chosen, shows_all}
-use Rattle.moo_tables.proofs.KeyLemmas.{after_put, after_removal, number_exact, number_apart}
+use Rattle.moo_tables.proofs.KeyLemmas.{after_put, after_removal, number_exact, number_apart, ties_one}
 use Rattle.moo_tables.proofs.RowLemmas.{moo_quiet, equal_number, put_keyed, rest_keyed, rest, went_out, number_free, has_itself, picks_number}
-use Rattle.moo_tables.proofs.SeenLemmas.{schema_seen, SetsTree}
+use Rattle.moo_tables.proofs.SeenLemmas.{schema_seen, SetsTree, sees_still}
 
 -- a row as its tree has it: the number, and the first column empty
 abbrev pub stored_at : ℤ → Row → Row
@@ -44,6 +47,7 @@ stored_at n cells = Int n ∷ Null ∷ drop 1 cells
 -- The rows of the table have these cells. Each of these facts is computed, whatever the columns are.
 pub record HasNumbers {K C : Type 0} (t : Table) (number : K → ℤ) (cells : K → C → Row) : Type 0 where
   pub stored : (db : Trees) → overlay db [] t.tree ≡ db t.tree
+  pub begins : (key : K) (row : C) → cells key row ≡ Int (number key) ∷ drop 1 (cells key row)
   pub fitting : (key : K) (row : C) → fit t.columns (Null ∷ drop 1 (cells key row)) ≡ true
   -- what the tree has shows the cells, and the values of the statement give it
   pub placed : (key : K) (row : C) → cells_at (number_places t) (stored_at (number key) (cells key row)) ≡ cells key row
@@ -52,6 +56,7 @@ pub record HasNumbers {K C : Type 0} (t : Table) (number : K → ℤ) (cells : K
   -- a row that is there gets the new values
   pub over : (key : K) (row : C) (r : Row)
       → eval_all (number_overwrite t) ((cells key row ++ Int (number key) ∷ shown t (stored_at (number key) (cells key row))) ∷ r ∷ []) ≡ rowid r ∷ rowid r ∷ Null ∷ drop 1 (cells key row)
+  pub updated : (key : K) (row : C) (r : Row) → eval_all (number_overwrite t) (cells key row ∷ r ∷ []) ≡ rowid r ∷ rowid r ∷ Null ∷ drop 1 (cells key row)
   -- under no index can a row conflict
   pub conflicting : (new r : Row) → conflicts (Some (0 ∷ [])) second_schema.indexes t new r ≡ (agree plain (0 ∷ []) r (0 ∷ []) new || false)
 
@@ -81,6 +86,14 @@ module _ {K C : Type 0} (name : List ℕ) (tree : ℕ) (columns : List Column) (
   pub kept_over : (key : K) (row : C) (r : Row) → rowid r ≡ Int (number key) → cast_row t (drop 1 (eval_all (number_overwrite t) ((cells key row ++ Int (number key) ∷ shown t (stored key row)) ∷ r ∷ []))) ≡ stored key row
   kept_over key row r named = ap (λ vs. cast_row t (drop 1 vs)) (it_has.over key row r) ∙ ap (λ v. cast_row t (v ∷ Null ∷ drop 1 (cells key row))) named ∙ kept key row
 
+  -- and so is a row that is updated
+  kept_updated : (key : K) (row : C) (r : Row) → rowid r ≡ Int (number key) → cast_row t (drop 1 (eval_all (number_overwrite t) (cells key row ∷ r ∷ []))) ≡ stored key row
+  kept_updated key row r named = ap (λ vs. cast_row t (drop 1 vs)) (it_has.updated key row r) ∙ ap (λ v. cast_row t (v ∷ Null ∷ drop 1 (cells key row))) named ∙ kept key row
+
+  -- its number finds it
+  finds : (key : K) (row : C) (r : Row) → list_all (holds (cells key row ∷ r ∷ [])) by_number ≡ has_rowid (number key) r
+  finds key row r = ap (λ vs. list_all (holds (vs ∷ r ∷ [])) by_number) (it_has.begins key row) ∙ picks_number (number key) (drop 1 (cells key row)) r
+
   pub meets : (key : K) (row : C) (r : Row) → conflicts (Some (0 ∷ [])) second_schema.indexes t (stored key row) r ≡ has_rowid (number key) r
   meets key row r = it_has.conflicting (stored key row) r ∙ numbers_agree (number key) (Null ∷ drop 1 (cells key row)) r
 
@@ -109,6 +122,38 @@ module _ {K C : Type 0} (name : List ℕ) (tree : ℕ) (columns : List Column) (
         (λ k. after_put same_number has_rowid (cells_at places) number_exact number_apart n source old_rows (has_itself n (drop 1 source)) (number_free n source old_rows refl) k
         ∙ ap (λ shown. numbered_with n (Some shown) (numbered_in places old_rows) k) (it_has.placed key row))
 
+    -- one row was written over, or none was there
+    abbrev Overs : State → State → K → C → ℕ → Tables → Type 0
+    Overs old new key row count tables = ((Sees new (With (number key) (Some (cells key row)) tables) × KeepsSlot old.now new.now) × (count ≡ 1)) ⊎ ((Sees new tables × KeepsSlot old.now new.now) × (count ≡ 0))
+
+    overs : (old new : State) (key : K) (row : C) (count : ℕ) (tables : Tables) → Sees old tables → Executes (update_text t) (cells key row) old new (Ok count) → IsTrue new.in_transaction → Overs old new key row count tables
+    overs old new key row count tables seen h inside =
+        let has = schema_seen seen in
+        let n = number key in
+        let source = stored key row in
+        let params = cells key row in
+        let old_rows = old.now.trees tree in
+        let keyed = keyed_seen old tables seen in
+        let project = number_overwrite t in
+        let w = runs_as (update_text t) params old new second_schema has _ writes.update writes.update_plain count h in
+        let it = updates second_schema moo_quiet at _ _ _ _ _ _ _ is old new has (statement_of (update_text t) (understood second_schema (update_text t))) params count (writes_where tree by_number project) w in
+        let shown = subst (λ rs. IsPermutation (map (λ r. eval_all project (params ∷ r ∷ [])) (chosen by_number params rs)) it.answer) (it_has.stored old.now.trees) (shows_all tree by_number project [] (overlay old.now.trees []) params it.answer (it.answers.answer Null)) in
+        let sets : (rows : List Row) → new.now.trees tree ≡ rows → SetsTree old new tree rows = λ rows is_so. record { schema_is = it.edited.schema_is; sound = w.sound; is_open = w.shown.is_open; inside = inside; rows_are = is_so; others = it.edited.applies.others } in
+        elim (over_or_left has_rowid n old_rows keyed (number_one n old_rows keyed) t by_number project params it.answer (λ r in_it. finds key row r) (λ r. refl) shown) [
+          | inl o ↦ (
+              let f = o.row in
+              let named : rowid f.row ≡ Int n = f.numbered ∙ ap Int (ties_one (rowid f.row) f.number n (itself has_rowid n old_rows keyed (number_one n old_rows keyed) o.there f) f.here) in
+              let rows_are = it.edited.applies.rows ∙ o.after_is ∙ ap (λ r. put_row r (rest has_rowid n old_rows keyed)) (kept_updated key row f.row named) in
+              inl (
+                sees old new tables n (Some params) (put_row source (rest has_rowid n old_rows keyed)) seen (sets _ rows_are)
+                    (put_keyed has_rowid n old_rows keyed source refl)
+                    (λ k. after_put same_number has_rowid (cells_at places) number_exact number_apart n source old_rows (has_itself n (drop 1 source)) (number_free n source old_rows refl) k
+                    ∙ ap (λ shown. numbered_with n (Some shown) (numbered_in places old_rows) k) (it_has.placed key row)),
+                it.counted ∙ o.count,
+              ))
+          | inr l ↦ inr (sees_still (sets old_rows (it.edited.applies.rows ∙ l.after_is)) tables seen, it.counted ∙ l.count)
+        ]
+
     removes : (old new : State) (key : K) (count : ℕ) (tables : Tables) → Sees old tables → Executes (remove_text t) (Int (number key) ∷ []) old new (Ok count) → IsTrue new.in_transaction → Sees new (With (number key) None tables) × KeepsSlot old.now new.now
     removes old new key count tables seen h inside =
         let has = schema_seen seen in
@@ -119,7 +164,7 @@ module _ {K C : Type 0} (name : List ℕ) (tree : ℕ) (columns : List Column) (
         let w = runs_as (remove_text t) params old new second_schema has _ writes.remove writes.remove_plain count h in
         let it = deletes second_schema moo_quiet at _ _ _ _ _ _ _ is old new has (statement_of (remove_text t) (understood second_schema (remove_text t))) params count (rowids_where tree by_number) w in
         let shown = subst (λ rows. IsPermutation (map (λ r. rowid r ∷ []) (chosen by_number params rows)) it.0) (it_has.stored old.now.trees) (shows_all tree by_number (col 1 0 ∷ []) [] (overlay old.now.trees []) params it.0 (it.1.answer Null)) in
-        let left = it.2.applies.rows ∙ went_out has_rowid n old_rows keyed by_number params [] it.0 shown (picks_number n) in
+        let left = it.2.applies.rows ∙ went_out has_rowid n old_rows keyed by_number params [] it.0 shown (picks_number n []) in
         sees old new tables n None (rest has_rowid n old_rows keyed) seen
         (record { schema_is = it.2.schema_is; sound = w.sound; is_open = w.shown.is_open; inside = inside; rows_are = left; others = it.2.applies.others })
         (rest_keyed has_rowid n old_rows keyed)
@@ -132,3 +177,10 @@ module _ {K C : Type 0} (name : List ℕ) (tree : ℕ) (columns : List Column) (
     pub put : (old new : State) (key : K) (row : C) (r : Result ℕ Error) → RanStatement (put_text t) (cells key row) old new r → OnOk r (Changes (With (number key) (Some (cells key row))) old new)
     put old new key row (Err e) ran = tt
     put old new key row (Ok count) ran = λ clean tables seen. let it = ran clean in puts old new key row count tables seen it.1 it.0
+
+    pub update : (old new : State) (key : K) (row : C) (r : Result ℕ Error) → RanStatement (update_text t) (cells key row) old new r → IfOk r (λ count. WritesOver (With (number key) (Some (cells key row))) count old new)
+    update old new key row (Err e) ran = tt
+    update old new key row (Ok count) ran = record {
+      found = λ some clean tables seen. let it = ran clean in elim (overs old new key row count tables seen it.1 it.0) [ inl o ↦ o.0 | inr l ↦ absurd (some l.1) ];
+      missed = λ none clean tables seen. let it = ran clean in elim (overs old new key row count tables seen it.1 it.0) [ inl o ↦ absurd (let e = sym o.1 ∙ none in omega (arith, e)) | inr l ↦ l.0 ];
+    }

@@ -53,16 +53,16 @@ number_one id rows keyed r s p q here there = one_row rows r s keyed.0 p q (tie_
 apart : (x y : Row) (id : ℤ) → value_cmp (rowid x) (rowid y) ≡ Less → has_rowid id x ≡ true → has_rowid id y ≡ true → ⊥
 apart x y id less here there = let e : Less ≡ Equal = sym less ∙ tie_by x y id here there in cc
 
-none_kept : (test : Row → Bool) (rows : List Row) → ((r : Row) → Has rows r → test r ≡ false) → filter test rows ≡ []
+pub none_kept : (test : Row → Bool) (rows : List Row) → ((r : Row) → Has rows r → test r ≡ false) → filter test rows ≡ []
 none_kept test [] none = refl
 none_kept test (r ∷ rows) none = rw (none r (inl refl)) (none_kept test rows (λ s in_it. none s (inr in_it)))
 
-no_permutation : {X : Type 0} (ys : List X) → IsPermutation [] ys → ys ≡ []
+pub no_permutation : {X : Type 0} (ys : List X) → IsPermutation [] ys → ys ≡ []
 no_permutation [] h = refl
 no_permutation (y ∷ ys) h = absurd (let e = length_permutation [] (y ∷ ys) h in omega (arith, e))
 
 -- the rows with the number of one of them are that one
-alone : (rows : List Row) (r : Row) (id : ℤ) → IsTable rows → Has rows r → has_rowid id r ≡ true → filter (has_rowid id) rows ≡ r ∷ []
+pub alone : (rows : List Row) (r : Row) (id : ℤ) → IsTable rows → Has rows r → has_rowid id r ≡ true → filter (has_rowid id) rows ≡ r ∷ []
 alone [] r id up in_it here = absurd in_it
 alone (x ∷ rows) r id up (inl is) here =
     let first : has_rowid id x ≡ true = subst (λ y. has_rowid id y ≡ true) is here in

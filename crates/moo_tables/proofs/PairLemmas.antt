@@ -1,11 +1,13 @@
 -- What the statements do that write a table with two columns as its key, whichever it is.
-use Rattle.std.proofs.Common.{◌≡◌, ◌+◌, ◌/◌, ℕ, ℤ, List, [], ◌∷◌, ◌++◌, drop, map, length, slice_get, Option, Some, None, true, false, ◌&&◌, ◌||◌, Bool, Result, Ok, Err, OnOk, IsTrue, refl, sym, ap, subst, ◌∙◌}
+use Rattle.std.proofs.Common.{◌≡◌, ◌+◌, ◌/◌, ℕ, ℤ, List, [], ◌∷◌, ◌++◌, drop, map, length, slice_get, Option, Some, None, true, false, ◌&&◌, ◌||◌, ◌⊎◌, inl, inr, Bool, Result, Ok, Err, OnOk, IfOk, IsTrue, refl, sym, ap, subst, ◌∙◌, arith}
+use Rattle.std.specs.List.{list_all}
+use Rattle.std.proofs.lemmas.Bool.{and_parts}
 use Rattle.std.specs.List.Sorted.{IsPermutation}
 use Rattle.sqlite.specs.declared.types.Value.TheVariants.{Null, Int}
 use Rattle.sqlite.specs.declared.error.Error.{Error}
 use Rattle.sqlite.specs.Order.{Row, column}
 use Rattle.sqlite.specs.Ops.{binary, is_true}
-use Rattle.sqlite.specs.Term.{col, eval_all}
+use Rattle.sqlite.specs.Term.{col, holds, eval_all}
 use Rattle.sqlite.specs.Collation.TheVariants.{Binary}
 use Rattle.sqlite_sql.specs.declared.ops.BinaryOp.TheVariants.{Compare}
 use Rattle.sqlite_sql.specs.declared.ops.CompareOp.TheVariants.{Eq}
@@ -25,18 +27,21 @@ use Rattle.sqlite_schema.specs.Rules.{agree}
 use Rattle.sqlite_schema.specs.declared.schema.Column.{Column}
 use Rattle.sqlite_value.specs.Keys.{first_key, plain}
 use Rattle.moo_tables.specs.Tables.{Tables, second_schema, paired, pair_places, has_pair, cells_at, paired_in, paired_with, same_numbers}
-use Rattle.moo_tables.specs.Texts.{put_text, remove_text}
+use Rattle.moo_tables.specs.Texts.{update_text, put_text, remove_text}
 use Rattle.moo_tables.specs.Inside.{AreKeyed, Sees, Changes, RanStatement, KeepsSlot}
-use Rattle.moo_tables.proofs.TextLemmas.{WritesByPair, pair_terms, pair_overwrite, written_over, by_pair, rowids_where}
+use Rattle.moo_tables.specs.Over.{WritesOver}
+use Rattle.moo_tables.proofs.TextLemmas.{WritesByPair, pair_terms, pair_overwrite, writes_where, written_over, by_pair, rowids_where}
 use Rattle.moo_tables.proofs.CastLemmas.{fit, kept_all}
-use Rattle.moo_tables.proofs.StepLemmas.{cast_null, cast_int, deletes}
+use Rattle.moo_tables.proofs.StepLemmas.{cast_null, cast_int, updates, deletes}
 use Rattle.moo_tables.proofs.UpsertLemmas.{Settles, upserts}
-use Rattle.moo_tables.proofs.OverLemmas.{pair_settles}
+use Rattle.moo_tables.proofs.OverLemmas.{free_beside, pair_settles}
+use Rattle.moo_tables.proofs.UpdateLemmas.{over_or_left}
+use Rattle.moo_tables.proofs.ListingLemmas.{exactly}
 use Rattle.moo_tables.proofs.ReadLemmas.{ArePairs}
 use Rattle.moo_tables.proofs.QueryLemmas.{chosen, shows_all}
 use Rattle.moo_tables.proofs.KeyLemmas.{after_put, after_removal, pair_exact, pair_apart}
 use Rattle.moo_tables.proofs.RowLemmas.{moo_quiet, equal_number, put_keyed, rest_keyed, rest, went_out, pair_has, picks_pair}
-use Rattle.moo_tables.proofs.SeenLemmas.{schema_seen, SetsTree}
+use Rattle.moo_tables.proofs.SeenLemmas.{schema_seen, SetsTree, sees_still}
 
 -- The rows of the table have these cells. Each of these facts is computed, whatever the columns are.
 pub record HasPairs {K C : Type 0} (t : Table) (pair : K → ℤ × ℤ) (cells : K → C → Row) : Type 0 where
@@ -49,6 +54,7 @@ pub record HasPairs {K C : Type 0} (t : Table) (pair : K → ℤ × ℤ) (cells 
   pub there : (next id : ℤ) (key : K) (row : C) → column (cells key row ++ Int id ∷ shown t (Int next ∷ cells key row)) (length t.columns) ≡ Int id
   -- a row that is there gets the new values
   pub over : (next id : ℤ) (key : K) (row : C) (r : Row) → eval_all (pair_overwrite t) ((cells key row ++ Int id ∷ shown t (Int next ∷ cells key row)) ∷ r ∷ []) ≡ rowid r ∷ rowid r ∷ column r 1 ∷ column r 2 ∷ drop 2 (cells key row)
+  pub updated : (key : K) (row : C) (r : Row) → eval_all (pair_overwrite t) (cells key row ∷ r ∷ []) ≡ rowid r ∷ rowid r ∷ column r 1 ∷ column r 2 ∷ drop 2 (cells key row)
   -- under these two columns no other key is looked at
   pub conflicting : (new r : Row) → conflicts (Some (1 ∷ 2 ∷ [])) second_schema.indexes t new r ≡ (agree plain (1 ∷ 2 ∷ []) r (1 ∷ 2 ∷ []) new || false)
 
@@ -81,6 +87,17 @@ module _ {K C : Type 0} (name : List ℕ) (tree : ℕ) (columns : List Column) (
   meets id key row r =
       it_has.conflicting (Int id ∷ cells key row) r ∙ ap (λ vs. agree plain (1 ∷ 2 ∷ []) r (1 ∷ 2 ∷ []) (Int id ∷ vs) || false) (it_has.begins key row)
       ∙ pairs_agree id (pair key).0 (pair key).1 (drop 2 (cells key row)) r
+
+  -- so does a row that is updated
+  over_updated : (key : K) (row : C) (id : ℤ) (r : Row) → rowid r ≡ Int id → column r 1 ≡ Int (pair key).0 → column r 2 ≡ Int (pair key).1 → drop 1 (eval_all (pair_overwrite t) (cells key row ∷ r ∷ [])) ≡ Int id ∷ cells key row
+  over_updated key row id r number first second =
+      let tail = drop 2 (cells key row) in
+      ap (drop 1) (it_has.updated key row r) ∙ ap (λ v. v ∷ column r 1 ∷ column r 2 ∷ tail) number ∙ ap (λ v. Int id ∷ v ∷ column r 2 ∷ tail) first ∙ ap (λ v. Int id ∷ Int (pair key).0 ∷ v ∷ tail) second
+      ∙ ap (λ vs. Int id ∷ vs) (sym (it_has.begins key row))
+
+  -- its key finds it
+  finds : (key : K) (row : C) (r : Row) → list_all (holds (cells key row ∷ r ∷ [])) by_pair ≡ has_pair (pair key) r
+  finds key row r = ap (λ vs. list_all (holds (vs ∷ r ∷ [])) by_pair) (it_has.begins key row) ∙ picks_pair (pair key) (drop 2 (cells key row)) r
 
   -- a row that is written over keeps its number and its key
   over : (next : ℤ) (key : K) (row : C) (id : ℤ) (r : Row) → rowid r ≡ Int id → column r 1 ≡ Int (pair key).0 → column r 2 ≡ Int (pair key).1
@@ -119,6 +136,41 @@ module _ {K C : Type 0} (name : List ℕ) (tree : ℕ) (columns : List Column) (
         (λ k. after_put same_numbers has_pair (cells_at places) pair_exact pair_apart two (Int number ∷ params) old_rows (has_its_pair number key row) put.0.free k
         ∙ ap (λ shown. paired_with two (Some shown) (paired_in places old_rows) k) (it_has.placed number key row))
 
+    -- one row was written over, or none was there
+    abbrev Overs : State → State → K → C → ℕ → Tables → Type 0
+    Overs old new key row count tables = ((Sees new (With (pair key) (Some (cells key row)) tables) × KeepsSlot old.now new.now) × (count ≡ 1)) ⊎ ((Sees new tables × KeepsSlot old.now new.now) × (count ≡ 0))
+
+    overs : (old new : State) (key : K) (row : C) (count : ℕ) (tables : Tables) → Sees old tables → Executes (update_text t) (cells key row) old new (Ok count) → IsTrue new.in_transaction → Overs old new key row count tables
+    overs old new key row count tables seen h inside =
+        let has = schema_seen seen in
+        let two = pair key in
+        let params = cells key row in
+        let old_rows = old.now.trees tree in
+        let keyed = keyed_seen old tables seen in
+        let pairs = pairs_seen old tables seen in
+        let one = pairs.one two in
+        let project = pair_overwrite t in
+        let w = runs_as (update_text t) params old new second_schema has _ writes.update writes.update_plain count h in
+        let it = updates second_schema moo_quiet at _ _ _ _ _ _ _ is old new has (statement_of (update_text t) (understood second_schema (update_text t))) params count (writes_where tree by_pair project) w in
+        let shown = subst (λ rs. IsPermutation (map (λ r. eval_all project (params ∷ r ∷ [])) (chosen by_pair params rs)) it.answer) (it_has.stored old.now.trees) (shows_all tree by_pair project [] (overlay old.now.trees []) params it.answer (it.answers.answer Null)) in
+        let sets : (rows : List Row) → new.now.trees tree ≡ rows → SetsTree old new tree rows = λ rows is_so. record { schema_is = it.edited.schema_is; sound = w.sound; is_open = w.shown.is_open; inside = inside; rows_are = is_so; others = it.edited.applies.others } in
+        elim (over_or_left has_pair two old_rows keyed one t by_pair project params it.answer (λ r in_it. finds key row r) (λ r. refl) shown) [
+          | inl o ↦ (
+              let f = o.row in
+              let ints = pairs.ints f.row f.in_it in
+              let ties = and_parts _ _ f.here in
+              let row_is = over_updated key row f.number f.row f.numbered (exactly (column f.row 1) two.0 ints.0 ties.0) (exactly (column f.row 2) two.1 ints.1 ties.1) in
+              let rows_are = it.edited.applies.rows ∙ o.after_is ∙ ap (λ r. put_row (cast_row t r) (rest has_pair two old_rows keyed)) row_is ∙ ap (λ r. put_row r (rest has_pair two old_rows keyed)) (kept f.number key row) in
+              inl (
+                sees old new tables two (Some params) (put_row (Int f.number ∷ params) (rest has_pair two old_rows keyed)) seen (sets _ rows_are)
+                    (put_keyed has_pair two old_rows keyed (Int f.number ∷ params) refl)
+                    (λ k. after_put same_numbers has_pair (cells_at places) pair_exact pair_apart two (Int f.number ∷ params) old_rows (has_its_pair f.number key row) (free_beside has_pair two old_rows keyed one o.there f (Int f.number ∷ params) refl) k
+                    ∙ ap (λ shown. paired_with two (Some shown) (paired_in places old_rows) k) (it_has.placed f.number key row)),
+                it.counted ∙ o.count,
+              ))
+          | inr l ↦ inr (sees_still (sets old_rows (it.edited.applies.rows ∙ l.after_is)) tables seen, it.counted ∙ l.count)
+        ]
+
     removes : (old new : State) (key : K) (count : ℕ) (tables : Tables) → Sees old tables → Executes (remove_text t) (Int (pair key).0 ∷ Int (pair key).1 ∷ []) old new (Ok count) → IsTrue new.in_transaction → Sees new (With (pair key) None tables) × KeepsSlot old.now new.now
     removes old new key count tables seen h inside =
         let has = schema_seen seen in
@@ -129,7 +181,7 @@ module _ {K C : Type 0} (name : List ℕ) (tree : ℕ) (columns : List Column) (
         let w = runs_as (remove_text t) params old new second_schema has _ writes.remove writes.remove_plain count h in
         let it = deletes second_schema moo_quiet at _ _ _ _ _ _ _ is old new has (statement_of (remove_text t) (understood second_schema (remove_text t))) params count (rowids_where tree by_pair) w in
         let shown = subst (λ rows. IsPermutation (map (λ r. rowid r ∷ []) (chosen by_pair params rows)) it.0) (it_has.stored old.now.trees) (shows_all tree by_pair (col 1 0 ∷ []) [] (overlay old.now.trees []) params it.0 (it.1.answer Null)) in
-        let left = it.2.applies.rows ∙ went_out has_pair two old_rows keyed by_pair params [] it.0 shown (picks_pair two) in
+        let left = it.2.applies.rows ∙ went_out has_pair two old_rows keyed by_pair params [] it.0 shown (picks_pair two []) in
         sees old new tables two None (rest has_pair two old_rows keyed) seen
         (record { schema_is = it.2.schema_is; sound = w.sound; is_open = w.shown.is_open; inside = inside; rows_are = left; others = it.2.applies.others })
         (rest_keyed has_pair two old_rows keyed)
@@ -142,3 +194,10 @@ module _ {K C : Type 0} (name : List ℕ) (tree : ℕ) (columns : List Column) (
     pub put : (old new : State) (key : K) (row : C) (r : Result ℕ Error) → RanStatement (put_text t) (cells key row) old new r → OnOk r (Changes (With (pair key) (Some (cells key row))) old new)
     put old new key row (Err e) ran = tt
     put old new key row (Ok count) ran = λ clean tables seen. let it = ran clean in puts old new key row count tables seen it.1 it.0
+
+    pub update : (old new : State) (key : K) (row : C) (r : Result ℕ Error) → RanStatement (update_text t) (cells key row) old new r → IfOk r (λ count. WritesOver (With (pair key) (Some (cells key row))) count old new)
+    update old new key row (Err e) ran = tt
+    update old new key row (Ok count) ran = record {
+      found = λ some clean tables seen. let it = ran clean in elim (overs old new key row count tables seen it.1 it.0) [ inl o ↦ o.0 | inr l ↦ absurd (some l.1) ];
+      missed = λ none clean tables seen. let it = ran clean in elim (overs old new key row count tables seen it.1 it.0) [ inl o ↦ absurd (let e = sym o.1 ∙ none in omega (arith, e)) | inr l ↦ l.0 ];
+    }

@@ -1,5 +1,5 @@
 -- What the statements on petitions do.
-use Rattle.std.proofs.Common.{ℕ, ℤ, pos, [], ◌∷◌, Option, Some, None, Result, OnOk, refl}
+use Rattle.std.proofs.Common.{ℕ, ℤ, pos, [], ◌∷◌, Option, Some, None, Result, OnOk, IfOk, refl}
 use Rattle.sqlite.specs.declared.types.Value.TheVariants.{Int}
 use Rattle.sqlite.specs.declared.error.Error.{Error}
 use Rattle.sqlite.specs.Order.{Row}
@@ -8,8 +8,9 @@ use Rattle.moo_rows.specs.declared.row.PetitionId.{PetitionId}
 use Rattle.moo_tables.specs.declared.petition.PetitionCells.{PetitionCells}
 use Rattle.moo_tables.specs.Cells.{petition_cells, with_petition_cells}
 use Rattle.moo_tables.specs.Tables.{Tables, petition_table, numbered_with}
-use Rattle.moo_tables.specs.Texts.{put_petition_text, remove_petition_text}
+use Rattle.moo_tables.specs.Texts.{update_petition_text, put_petition_text, remove_petition_text}
 use Rattle.moo_tables.specs.Inside.{Changes, RanStatement}
+use Rattle.moo_tables.specs.Over.{WritesOver}
 use Rattle.moo_tables.proofs.TextLemmas.{petition_writes}
 use Rattle.moo_tables.proofs.NumberLemmas as number
 use Rattle.moo_tables.proofs.NumberLemmas.{HasNumbers}
@@ -19,7 +20,7 @@ abbrev number_of : PetitionId → ℤ
 number_of id = pos id.0
 
 has_numbers : HasNumbers petition_table number_of petition_cells
-has_numbers = record { stored = λ db. refl; fitting = λ key row. refl; placed = λ key row. refl; alone = λ key row. refl; there = λ key row. refl; over = λ key row r. refl; conflicting = λ new r. refl }
+has_numbers = record { stored = λ db. refl; begins = λ key row. refl; fitting = λ key row. refl; placed = λ key row. refl; alone = λ key row. refl; there = λ key row. refl; over = λ key row r. refl; updated = λ key row r. refl; conflicting = λ new r. refl }
 
 abbrev With : ℤ → Option Row → Tables → Tables
 With key cells tables = record tables { petition = numbered_with key cells tables.petition }
@@ -29,3 +30,6 @@ remove = number.remove _ 9 _ number_of petition_cells has_numbers 6 refl petitio
 
 pub put : (old new : State) (id : PetitionId) (row : PetitionCells) (r : Result ℕ Error) → RanStatement put_petition_text (petition_cells id row) old new r → OnOk r (Changes (with_petition_cells id (Some row)) old new)
 put = number.put _ 9 _ number_of petition_cells has_numbers 6 refl petition_writes With (λ s tables seen. petitions_seen seen) sees_petition
+
+pub update : (old new : State) (id : PetitionId) (row : PetitionCells) (r : Result ℕ Error) → RanStatement update_petition_text (petition_cells id row) old new r → IfOk r (λ count. WritesOver (with_petition_cells id (Some row)) count old new)
+update = number.update _ 9 _ number_of petition_cells has_numbers 6 refl petition_writes With (λ s tables seen. petitions_seen seen) sees_petition

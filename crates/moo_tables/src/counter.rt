@@ -12,7 +12,7 @@ ghost use Rattle.moo_tables.specs.Tables.{petition_schema, second_schema};
 ghost use Rattle.moo_tables.specs.declared.version.Version.TheVariants.{First, Second};
 
 use crate::columns::is_number;
-use crate::statement::{counter_value, prepare, run, run_prepared};
+use crate::statement::{counter_value, run};
 use sqlite::{Alter, Connection, Error, Row, Transaction};
 use sqlite_schema::schema::Column;
 use sqlite_value::value::ValueRef;
@@ -42,11 +42,11 @@ pub(crate) fn put_counter<S: Alter>(tx: &mut Transaction<'_, S>, next: u32) -> R
     ensures inside { StaysInside (state S.Store tx.old.conn.now) (state S.Store tx.new.conn.now) }
     ensures put { OnOk result (Changes (with_counter next) (state S.Store tx.old.conn.now) (state S.Store tx.new.conn.now)) }
 {
-    let put = prepare(
+    run(
         tx,
         "INSERT INTO petition_head VALUES (?1, ?2) ON CONFLICT (id) DO UPDATE SET next_petition = ?2 WHERE next_petition <> ?2",
-    )?;
-    run_prepared(tx, &put, &counter_values(next))
+        &counter_values(next),
+    )
 }
 
 /// Puts the number of the next petition, if one is given. Else nothing runs, and the row stays.

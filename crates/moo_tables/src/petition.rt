@@ -10,15 +10,14 @@ ghost use Rattle.moo_tables.specs.Inside.{StaysInside, Rests, ReadsTables, Fails
 ghost use Rattle.moo_tables.specs.Listing.{ListsNumbers};
 ghost use Rattle.moo_tables.specs.Petition.{petition_table, petition_cells};
 ghost use Rattle.moo_tables.specs.Tables.{slot2_schema, petition_schema, second_schema};
-ghost use Rattle.moo_tables.specs.Texts.{put_petition_text, remove_petition_text};
 ghost use Rattle.moo_tables.specs.declared.version.Version.TheVariants.{Second};
 
 use crate::columns::{is_number, is_text};
-use crate::statement::{counter_value, object_value, run, run_prepared, text_value};
+use crate::statement::{counter_value, object_value, run, text_value};
 use crate::table_row::TableRow;
 use moo_rows::PetitionId;
 use moo_value::ObjNo;
-use sqlite::{Alter, Connection, Error, Row, Statement, Transaction};
+use sqlite::{Alter, Connection, Error, Row, Transaction};
 use sqlite_schema::schema::Column;
 use sqlite_value::value::ValueRef;
 
@@ -62,35 +61,30 @@ fn petition_key(id: PetitionId) -> [ValueRef<'static>; 1]
 impl TableRow for PetitionCells {
     type Key = PetitionId;
 
-    ghost put_text = { put_petition_text };
-
-    ghost remove_text = { remove_petition_text };
-
     ghost with_row = { with_petition_cells };
 
-    fn put_text() -> &'static str {
-        "INSERT INTO petition VALUES (?1, ?2, ?3) ON CONFLICT (id) DO UPDATE SET who = ?2, calls = ?3"
-    }
-
-    fn remove_text() -> &'static str {
-        "DELETE FROM petition WHERE id = ?1"
-    }
-
-    fn put<S: Alter>(
+    fn update<S: Alter>(
         &self,
         tx: &mut Transaction<'_, S>,
-        statement: &Statement,
         id: PetitionId,
     ) -> Result<usize, Error> {
-        run_prepared(tx, statement, &petition_values(id, self))
+        run(
+            tx,
+            "UPDATE petition SET who = ?2, calls = ?3 WHERE id = ?1",
+            &petition_values(id, self),
+        )
     }
 
-    fn remove<S: Alter>(
-        tx: &mut Transaction<'_, S>,
-        statement: &Statement,
-        id: PetitionId,
-    ) -> Result<usize, Error> {
-        run_prepared(tx, statement, &petition_key(id))
+    fn put<S: Alter>(&self, tx: &mut Transaction<'_, S>, id: PetitionId) -> Result<usize, Error> {
+        run(
+            tx,
+            "INSERT INTO petition VALUES (?1, ?2, ?3) ON CONFLICT (id) DO UPDATE SET who = ?2, calls = ?3",
+            &petition_values(id, self),
+        )
+    }
+
+    fn remove<S: Alter>(tx: &mut Transaction<'_, S>, id: PetitionId) -> Result<usize, Error> {
+        run(tx, "DELETE FROM petition WHERE id = ?1", &petition_key(id))
     }
 }
 

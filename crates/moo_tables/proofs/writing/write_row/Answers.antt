@@ -4,9 +4,9 @@ use Rattle.moo_tables.specs.Inside.{Changes}
 use Rattle.moo_tables.proofs.writing.write_row.Goals as goal
 
 pub returns-in-Some-clause-written : goal.returns-in-Some-clause-written
-returns-in-Some-clause-written g c texts =
-    subst (λ cells. OnOk c.put.result (Changes (g.R.TableRow.with_row c.args.key cells) (state g.S.Store c.args.tx.now.conn.now) (state g.S.Store c.put.new.tx.conn.now))) (sym c.in-Some.is) (c.put.ensures.put texts.0)
+returns-in-Some-clause-written g c =
+    subst (λ cells. OnOk c.put_row.result (Changes (g.R.TableRow.with_row c.args.key cells) (state g.S.Store c.args.tx.now.conn.now) (state g.S.Store c.put_row.new.tx.conn.now))) (sym c.in-Some.is) c.put_row.ensures.written
 
-pub returns-in-None-clause-written : goal.returns-in-None-clause-written
-returns-in-None-clause-written g c texts =
-    subst (λ cells. OnOk c.remove.result (Changes (g.R.TableRow.with_row c.args.key cells) (state g.S.Store c.args.tx.now.conn.now) (state g.S.Store c.remove.new.tx.conn.now))) (sym c.in-None.is) (c.remove.ensures.gone texts.1)
+pub returns-in_ok-remove-in-None-clause-written : goal.returns-in_ok-remove-in-None-clause-written
+returns-in_ok-remove-in-None-clause-written g c =
+    subst (λ cells. Changes (g.R.TableRow.with_row c.args.key cells) (state g.S.Store c.args.tx.now.conn.now) (state g.S.Store c.remove.new.tx.conn.now)) (sym c.in-None.is) c.in_ok-remove-in-None.ensures.gone

@@ -1,18 +1,29 @@
-use Rattle.std.proofs.Common.{◌∙◌}
+use Rattle.std.proofs.Common.{◌∙◌, take, subst, sym}
+use Rattle.std.proofs.lemmas.List.{take_all}
 use Rattle.sqlite.specs.Held.{state}
 use Rattle.moo_tables.specs.Cells.{with_each}
-use Rattle.moo_tables.specs.Texts.{HaveTexts}
-use Rattle.moo_tables.proofs.InsideLemmas.{stays_then, then_ran}
+use Rattle.moo_tables.specs.Inside.{Sees, KeepsSlot}
+use Rattle.moo_tables.proofs.InsideLemmas.{stays_then, changes_then}
+use Rattle.moo_tables.proofs.ChangeLemmas.{fold_more}
 use Rattle.moo_tables.proofs.writing.write_rows.Goals as goal
 
-pub returns-clause-written : goal.returns-clause-written
-returns-clause-written g c =
+pub loop-change-preserved : goal.loop-change-preserved
+loop-change-preserved g c =
     let old = state g.S.Store c.args.tx.now.conn.now in
-    let mid = state g.S.Store c.prepare_rows.new.tx.conn.now in
-    let new = state g.S.Store c.write_each.new.tx.conn.now in
-    let table = g.R.TableRow in
-    then_ran old mid new (with_each table.with_row c.args.changes.now) (HaveTexts table.put_text table.remove_text c.in_ok-statements.statements) c.write_each.result c.write_each.ensures.inside c.in_ok-statements.ensures.same
-    (λ clean. let have = c.in_ok-statements.ensures.texts clean in (have.0 ∙ c.put_text.ensures, have.1 ∙ c.remove_text.ensures)) c.write_each.ensures.written
+    let mid = state g.S.Store c.loop-change.tx.conn.now in
+    let new = state g.S.Store c.write_row.new.tx.conn.now in
+    let with_row = g.R.TableRow.with_row in
+    let was = c.loop-change.invariant in
+    let done = c.in_ok-expected.ensures in
+    let x = c.change-item.result in (
+      done.same_reference ∙ was.0,
+      stays_then old mid new was.1 done.inside,
+      λ clean tables seen. subst (λ t. Sees new t × KeepsSlot old.now new.now) (sym (fold_more (λ t y. with_row y.0 y.1 t) tables c.args.changes.now c.loop-change.change-index x c.loop-change-test.true c.change-item.is))
+          (changes_then old mid new (with_each with_row (take c.loop-change.change-index c.args.changes.now)) (with_row x.0 x.1) done.inside was.2 done.written clean tables seen),
+    )
 
-pub returns-clause-inside : goal.returns-clause-inside
-returns-clause-inside g c = stays_then _ _ _ c.prepare_rows.ensures.inside c.write_each.ensures.inside
+pub returns-clause-written : goal.returns-clause-written
+returns-clause-written g c clean tables seen =
+    let old = state g.S.Store c.args.tx.now.conn.now in
+    let new = state g.S.Store c.loop-change.tx.conn.now in
+    subst (λ changes. Sees new (with_each g.R.TableRow.with_row changes tables) × KeepsSlot old.now new.now) (take_all c.loop-change.change-index c.args.changes.now c.loop-change-test.false) (c.loop-change.invariant.2 clean tables seen)

@@ -3,4 +3,4 @@ use Rattle.moo_tables.proofs.RowLemmas.{ran_as}
 use Rattle.moo_tables.proofs.prop.PropCellsTableRow.put.Goals as goal
 
 pub returns-clause-put : goal.returns-clause-put
-returns-clause-put g c same = put _ _ _ c.args.self.now _ (ran_as _ _ _ _ _ _ _ same c.prop_values.ensures c.run_prepared.ensures.ran)
+returns-clause-put g c = put _ _ _ c.args.self.now _ (ran_as _ _ _ _ _ _ c.prop_values.ensures c.run.ensures.ran)

@@ -1,13 +1,11 @@
 use Rattle.std.proofs.Common.{◌≡◌, take}
 use Rattle.sqlite.specs.Held.{state}
 use Rattle.moo_tables.specs.Inside.{StaysInside, Changes}
-use Rattle.moo_tables.specs.Texts.{HaveTexts}
 use Rattle.moo_tables.specs.Cells.{with_each}
-use Rattle.moo_tables.proofs.writing.write_each.Given as goal
+use Rattle.moo_tables.proofs.writing.write_rows.Given as goal
 
 abbrev pub invariant-loop-change : goal.invariant-loop-change
 invariant-loop-change g l =
     let old = state g.S.Store l.fn.tx.conn.now in
     let now = state g.S.Store l.tx.conn.now in
-    let table = g.R.TableRow in
-    (l.tx.conn.ghost_name ≡ l.fn.tx.conn.ghost_name) × StaysInside old now × (HaveTexts table.put_text table.remove_text l.statements → Changes (with_each table.with_row (take l.change-index l.changes)) old now)
+    (l.tx.conn.ghost_name ≡ l.fn.tx.conn.ghost_name) × StaysInside old now × Changes (with_each g.R.TableRow.with_row (take l.change-index l.changes)) old now

@@ -1,0 +1,6 @@
+use Rattle.moo_tables.proofs.HeadLemmas.{put}
+use Rattle.moo_tables.proofs.RowLemmas.{ran_as}
+use Rattle.moo_tables.proofs.head.put_new_head.Goals as goal
+
+pub returns-clause-put : goal.returns-clause-put
+returns-clause-put g c = put _ _ c.args.row.now _ (ran_as _ _ _ _ _ _ c.head_values.ensures c.run.ensures.ran)

@@ -1,0 +1,6 @@
+use Rattle.moo_tables.proofs.ObjectLemmas.{update}
+use Rattle.moo_tables.proofs.RowLemmas.{ran_as}
+use Rattle.moo_tables.proofs.object.ObjectCellsTableRow.update.Goals as goal
+
+pub returns-clause-over : goal.returns-clause-over
+returns-clause-over g c = update _ _ _ c.args.self.now _ (ran_as _ _ _ _ _ _ c.object_values.ensures c.run.ensures.ran)
