@@ -9,7 +9,7 @@ ghost use Rattle.moo_text.specs.declared.reply.Reply.{Reply};
 ghost use Rattle.moo_tables.specs.Inside.{MayOpenAs};
 ghost use Rattle.moo_store.specs.Answered.{added};
 ghost use Rattle.moo_store.specs.Opening.{IsOfStore};
-ghost use Rattle.moo_store.specs.Reopened.{HoldsAcknowledged, RunsInParts, IsKeptOf};
+ghost use Rattle.moo_store.specs.Reopened.{HoldsAcknowledged, AreLedTo, RunsInParts, IsKeptOf};
 ghost use Rattle.moo_store.specs.World.{store_of, StandsFor};
 
 use crate::adopting::adopt;
@@ -36,6 +36,9 @@ pub fn run_and_reopen<S: Alter + Drop, T: Alter + Drop>(
     requires outside { (state T.Store found).in_transaction ≡ false }
     ensures reopened { (s : _) → StandsFor S.Store true world.old s → MayOpenAs (store_of S.Store world.new) (state T.Store found) →
         IfOk result (λ again. HasCleanDisk (store_of T.Store again) → HoldsAcknowledged T.Store again s batches.now (added replies.old.items replies.new.items)) }
+    // Its rows are those that these batches lead to: over the stop too, what stays keeps its number, and none is given again.
+    ensures numbers { (s : _) → StandsFor S.Store true world.old s → MayOpenAs (store_of S.Store world.new) (state T.Store found) →
+        IfOk result (λ again. HasCleanDisk (store_of T.Store again) → AreLedTo world.old.rows.maps again.rows.maps batches.now (added replies.old.items replies.new.items)) }
     ensures refused { (s : _) → StandsFor S.Store true world.old s → MayOpenAs (store_of S.Store world.new) (state T.Store found) →
         IfErr result (λ e. HasCleanDisk (state T.Store e.1) → IsOfStore e.0) }
 {
@@ -54,6 +57,9 @@ pub fn run_then_crash_then_adopt<S: Alter + Reopen + Drop>(
 ) -> Option<Result<World<S>, (StoreFault, Connection<S>)>>
     ensures reopened { (s : _) → StandsFor S.Store true world s → IfSome result (λ opened. IfOk opened (λ again.
         HasCleanDisk (store_of S.Store again) → HoldsAcknowledged S.Store again s batches.now (added replies.old.items replies.new.items))) }
+    // Its rows are those that these batches lead to: over the stop too, what stays keeps its number, and none is given again.
+    ensures numbers { (s : _) → StandsFor S.Store true world s → IfSome result (λ opened. IfOk opened (λ again.
+        HasCleanDisk (store_of S.Store again) → AreLedTo world.rows.maps again.rows.maps batches.now (added replies.old.items replies.new.items))) }
     ensures refused { (s : _) → StandsFor S.Store true world s → IfSome result (λ opened. IfErr opened (λ e. HasCleanDisk (state S.Store e.1) → IsOfStore e.0)) }
 {
     let _stopped = world.run(batches, replies);
