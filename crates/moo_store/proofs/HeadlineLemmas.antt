@@ -4,10 +4,11 @@ use Rattle.std.specs.Prelude.{⊤}
 use Rattle.sqlite.specs.State.{State as Database, HasCleanDisk, Opens}
 use Rattle.sqlite.specs.Effect.{IsDatabase}
 use Rattle.sqlite.specs.Store.{Ghosts}
+use Rattle.sqlite.specs.Tree.{Trees}
 use Rattle.moo_world.specs.declared.call.Batch.{Batch}
 use Rattle.moo_world.specs.Judge.{State, judge, left_by, after}
 use Rattle.moo_text.specs.declared.reply.Reply.{Reply}
-use Rattle.moo_tables.specs.Inside.{MayOpenAs, Rests}
+use Rattle.moo_tables.specs.Inside.{MayOpenAs, Rests, Leaves}
 use Rattle.moo_tables.proofs.ReopenLemmas.{opened}
 use Rattle.moo_rows.specs.Maps.{Maps}
 use Rattle.moo_world.specs.Rows.{IsGood}
@@ -74,6 +75,14 @@ pub rows_found : {T : Type 0} (g : Ghosts T) (again : Database) (world : World T
 rows_found g again world rows opens sound it good shown =
     let found = shown it.tables (opened again it.tables opens sound it.leaves) in
     one_good it.tables rows world.rows.maps it.shows (good_within rows good) found.0 found.1
+
+-- so are they whatever shows what the crash left
+pub led_found : (store : Database) (trees : Trees) (rows found : Maps) (batches others : List Batch) → LeavesLed store rows batches others → store.may_leave trees
+    → ((tables : Tables) → Leaves trees tables → ShowsRows tables found) → IsGood found → (more : ℕ) × (more ≤ 1) × BatchesLead (batches ++ take more others) rows found
+led_found store trees rows found batches others led lies shown good =
+    let it = led trees lies in
+    let same = one_good it.5.tables it.2 found it.5.shows (good_within it.2 it.3) (shown it.5.tables it.5.leaves) good in
+    (it.0, it.1, subst (BatchesLead (batches ++ take it.0 others) rows) same it.4)
 
 pub led_to : {T : Type 0} (g : Ghosts T) (crashed again : Database) (world : World T) (rows : Maps) (batches : List Batch) (replies : List Reply) → LeavesLed crashed rows (acknowledged batches replies) (drop (length replies) batches) → MayOpenAs crashed again
     → ((tables : Tables) → Rests again tables → ShowsRows tables world.rows.maps × IsGood world.rows.maps) → AreLedTo rows world.rows.maps batches replies
