@@ -77,12 +77,12 @@ rows_found g again world rows opens sound it good shown =
     one_good it.tables rows world.rows.maps it.shows (good_within rows good) found.0 found.1
 
 -- so are they whatever shows what the crash left
-pub led_found : (store : Database) (trees : Trees) (rows found : Maps) (batches others : List Batch) → LeavesLed store rows batches others → store.may_leave trees
-    → ((tables : Tables) → Leaves trees tables → ShowsRows tables found) → IsGood found → (more : ℕ) × (more ≤ 1) × BatchesLead (batches ++ take more others) rows found
-led_found store trees rows found batches others led lies shown good =
+pub led_found : (store : Database) (rows found : Maps) (batches : List Batch) (replies : List Reply) (trees : Trees) → LeavesLed store rows (acknowledged batches replies) (drop (length replies) batches) → store.may_leave trees
+    → ((tables : Tables) → Leaves trees tables → ShowsRows tables found) → IsGood found → AreLedTo rows found batches replies
+led_found store rows found batches replies trees led lies shown good =
     let it = led trees lies in
     let same = one_good it.5.tables it.2 found it.5.shows (good_within it.2 it.3) (shown it.5.tables it.5.leaves) good in
-    (it.0, it.1, subst (BatchesLead (batches ++ take it.0 others) rows) same it.4)
+    record { more = it.0; at_most_one = it.1; led = subst (BatchesLead (kept_of batches replies it.0) rows) same it.4 }
 
 pub led_to : {T : Type 0} (g : Ghosts T) (crashed again : Database) (world : World T) (rows : Maps) (batches : List Batch) (replies : List Reply) → LeavesLed crashed rows (acknowledged batches replies) (drop (length replies) batches) → MayOpenAs crashed again
     → ((tables : Tables) → Rests again tables → ShowsRows tables world.rows.maps × IsGood world.rows.maps) → AreLedTo rows world.rows.maps batches replies

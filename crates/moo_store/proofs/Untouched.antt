@@ -9,7 +9,7 @@ use Rattle.sqlite.specs.Tree.{Trees}
 use Rattle.moo_rows.specs.Maps.{Maps}
 use Rattle.moo_tables.specs.Tables.{Tables}
 use Rattle.moo_tables.specs.Inside.{Rests, IsCurrent}
-use Rattle.moo_tables.proofs.InsideLemmas.{left_by}
+use Rattle.moo_tables.proofs.InsideLemmas.{left_by as tables_left}
 use Rattle.moo_world.specs.declared.call.Batch.{Batch}
 use Rattle.moo_text.specs.declared.reply.Reply.{Reply}
 use Rattle.moo_text.specs.declared.reply.Reply.TheVariants as reply
@@ -178,7 +178,7 @@ led_at_rest g old now batches others settled clean shown good written trees lies
       was.end,
       led_good old.rows.maps batches was.end led good,
       subst (λ bs. BatchesLead bs old.rows.maps was.end) (sym (append-nil batches)) led,
-      record { tables = was.after; leaves = left_by (store_of g now) was.after trees was.rests (settled trees was.rests.is_open lies); shows = writes-show old.rows.maps it.tables batches was.end was.after was.writes it.shows },
+      record { tables = was.after; leaves = tables_left (store_of g now) was.after trees was.rests (settled trees was.rests.is_open lies); shows = writes-show old.rows.maps it.tables batches was.end was.after was.writes it.shows },
     )
 
 -- what was written, and then, from a World that works, what is led to on

@@ -1,22 +1,17 @@
 //! What holds of runs as wholes.
 
-ghost use Rattle.std.specs.Prelude.{◌≡◌, ℕ, ◌≤◌, ◌++◌, take, true, List};
+ghost use Rattle.std.specs.Prelude.{◌≡◌, ◌++◌, true, List};
 ghost use Rattle.std.specs.List.{AllByRecursion};
-ghost use Rattle.sqlite.specs.State.{State as Database};
-ghost use Rattle.sqlite.specs.Tree.{Trees};
 ghost use Rattle.moo_world.specs.declared.call.Batch.{Batch};
 ghost use Rattle.moo_text.specs.declared.next.Next.{Next};
 ghost use Rattle.moo_text.specs.declared.reply.Reply.{Reply};
 ghost use Rattle.moo_text.specs.declared.reply.Answer.{Answer};
 ghost use Rattle.moo_rows.specs.Maps.{Maps};
 ghost use Rattle.moo_tables.specs.Tables.{Tables};
-ghost use Rattle.moo_tables.specs.Inside.{Leaves};
-ghost use Rattle.moo_cells.specs.Shows.{ShowsRows};
-ghost use Rattle.moo_world.specs.Rows.{IsGood};
 ghost use Rattle.moo_world.specs.Judge.{State, after};
 ghost use Rattle.moo_world.specs.Numbers.{NumbersStay};
 ghost use Rattle.moo_world.specs.Requests.{PetitionsStay, state_of};
-ghost use Rattle.moo_store.specs.Led.{BatchesLead, LeavesLed};
+ghost use Rattle.moo_store.specs.Led.{BatchesLead};
 ghost use Rattle.moo_store.specs.Untouched.{Writes};
 ghost use Rattle.moo_store.specs.Answered.{Answered, acknowledged};
 ghost use Rattle.moo_store.specs.Stand.{Stand, state_at, RunsBatch, AsksBatch};
@@ -50,12 +45,6 @@ pub fn led_batches_keep_numbers()
 /// Batches that lead on from where others led join to one list.
 pub fn led_batches_join()
     ensures { (rows mid end : Maps) (first second : List Batch) → BatchesLead first rows mid → BatchesLead second mid end → BatchesLead (first ++ second) rows end }
-{}
-
-/// What a crash left of a run shows no other good rows than those that its acknowledged batches lead to, or these and one more.
-pub fn led_rows_are_found()
-    ensures { (store : Database) (trees : Trees) (rows found : Maps) (batches others : List Batch) → LeavesLed store rows batches others → store.may_leave trees →
-        ((tables : Tables) → Leaves trees tables → ShowsRows tables found) → IsGood found → (more : ℕ) × (more ≤ 1) × BatchesLead (batches ++ take more others) rows found }
 {}
 
 /// The state after a text is that after its acknowledged batches.
