@@ -1,10 +1,10 @@
 -- The tables, after changes are written, show the new rows; and so do tables of the first version that are taken over.
-use Rattle.std.proofs.Common.{◌≡◌, ◌≢◌, ℕ, ℤ, pos, negsuc, Bool, true, false, cond, List, Option, None, Some, refl, sym, ap, ◌∙◌, subst}
+use Rattle.std.proofs.Common.{◌≡◌, ◌≢◌, ◌==◌, ℕ, ℤ, pos, negsuc, Bool, true, false, cond, List, Option, None, Some, refl, sym, ap, ◌∙◌, subst}
 use Rattle.std.specs.Prelude.{◌&&◌}
 use Rattle.std.specs.Bool.{Decides}
 use Rattle.std.specs.Ordering.{eq_by_cmp}
 use Rattle.std.proofs.lemmas.Bool.{and_parts}
-use Rattle.std.proofs.lemmas.Bool.Decides.{Decides-int_eq}
+use Rattle.std.proofs.lemmas.Bool.Decides.{Decides-int_eq, Decides-eqb}
 use Rattle.std.specs.FinMap.{get}
 use Rattle.sqlite.specs.Order.{Row}
 use Rattle.moo_value.specs.declared.value.ObjNo.{ObjNo}
@@ -19,14 +19,14 @@ use Rattle.moo_world.proofs.Shown.MapLaws.{decided_alike, key-Decides}
 use Rattle.moo_tables.specs.declared.version.Version.{Version}
 use Rattle.moo_tables.specs.declared.version.Version.TheVariants.{First, Second}
 use Rattle.moo_tables.specs.Tables.{Tables, same_number, same_numbers, numbered_with}
-use Rattle.moo_tables.specs.Cells.{head_cells, object_cells, prop_cells, slot_cells, verb_cells, petition_cells, petition_head_cells, tables_with, migrated}
+use Rattle.moo_tables.specs.Cells.{head_cells, object_cells, prop_cells, slot_cells, verb_cells, petition_cells, petition_head_cells, counter_with, tables_with, migrated}
 use Rattle.moo_tables.specs.Inside.{IsCurrent}
 use Rattle.moo_tables.specs.declared.cells.CellChanges.{CellChanges}
 use Rattle.moo_tables.specs.declared.slot.SlotCells.{SlotCells}
 use Rattle.moo_draft.specs.declared.changes.Changes.{Changes}
 use Rattle.moo_draft.specs.Changes.{AreChanges}
 use Rattle.moo_cells.specs.Shows.{ShowsObject, ShowsProp, ShowsSlot, ShowsVerb, ShowsPetition, ShowsOrNone, ShowsCounter, ShowsMaps, ShowsRows}
-use Rattle.moo_store.specs.Printed.{PrintEach, PrintsSlot, Prints, all_of}
+use Rattle.moo_store.specs.Printed.{PrintEach, PrintsSlot, Prints, new_number, all_of}
 use Rattle.moo_store.specs.Untouched.{KeepsCells}
 use Rattle.moo_store.proofs.AllRows.{all_changed}
 use Rattle.moo_store.proofs.Written.{written, stays, elsewhere}
@@ -102,8 +102,8 @@ not_one : (n : ℤ) → n ≢ pos 1 → same_number n (pos 1) ≡ false
 not_one n h = decided_false _ _ (same_number-Decides n (pos 1)) h
 
 -- slots are printed as tables of the present version show them
-prints_slots : (version : Version) (cells : CellChanges) (changes : Changes) → version ≡ Second → Prints cells changes → PrintEach (λ key cells row. ShowsSlot version key (slot_cells key cells) row) cells.slots.items changes.slots
-prints_slots version cells changes current p = subst (λ v. PrintEach (λ key cells row. ShowsSlot v key (slot_cells key cells) row) cells.slots.items changes.slots) (sym current) p.slots
+prints_slots : (last : Option ℕ) (version : Version) (cells : CellChanges) (changes : Changes) → version ≡ Second → Prints last cells changes → PrintEach (λ key cells row. ShowsSlot version key (slot_cells key cells) row) cells.slots.items changes.slots
+prints_slots last version cells changes current p = subst (λ v. PrintEach (λ key cells row. ShowsSlot v key (slot_cells key cells) row) cells.slots.items changes.slots) (sym current) p.slots
 
 -- the row of the counter alone is put
 counts_written : (version : Version) (next : ℕ) (table : ℤ → Option Row) → version ≡ Second → ((n : ℤ) → n ≢ pos 1 → table n ≡ None) → ShowsCounter version (numbered_with (pos 1) (Some (petition_head_cells next)) table) next
@@ -113,19 +113,33 @@ counts_written version next table current alone = subst (λ v. ShowsCounter v (n
 )
 
 -- in tables of the present version the counter has no other row
-pub counts_alone : (version : Version) (next : ℕ) (table : ℤ → Option Row) → version ≡ Second → ShowsCounter version table next → (n : ℤ) → n ≢ pos 1 → table n ≡ None
+counts_alone : (version : Version) (next : ℕ) (table : ℤ → Option Row) → version ≡ Second → ShowsCounter version table next → (n : ℤ) → n ≢ pos 1 → table n ≡ None
 counts_alone version next table current shows = (subst (λ v. ShowsCounter v table next) current shows).1
 
-pub shows-written : (cells : CellChanges) (changes : Changes) (base new : Maps) (t : Tables) → Prints cells changes → AreChanges base new changes → IsCurrent t → ((n : ℤ) → n ≢ pos 1 → t.head n ≡ None) → ((n : ℤ) → n ≢ pos 1 → t.petition_head n ≡ None) → ShowsMaps t base → ShowsRows (tables_with cells t) new
-shows-written cells changes base new t p c current alone counter_alone shows = record {
+-- what the counter has before a change: no other row, and the last number that was written if there is one
+abbrev CountsBefore : Option ℕ → Version → (ℤ → Option Row) → Type 0
+CountsBefore None version table = (n : ℤ) → n ≢ pos 1 → table n ≡ None
+CountsBefore (Some last) version table = ShowsCounter version table last
+
+-- the next number is put, or it is there already
+counts_next : (last : Option ℕ) (next : ℕ) (version : Version) (table : ℤ → Option Row) → version ≡ Second → CountsBefore last version table → ShowsCounter version (counter_with (new_number last next) table) next
+counts_next None next version table current alone = counts_written version next table current alone
+counts_next (Some last) next version table current shows = go (last == next) refl
+  where
+    go : (b : Bool) → (last == next) ≡ b → ShowsCounter version (counter_with (new_number (Some last) next) table) next
+    go true e = rw e (subst (ShowsCounter version table) ((Decides-eqb last next).0 e) shows)
+    go false e = rw e (counts_written version next table current (counts_alone version last table current shows))
+
+pub shows-written : (last : Option ℕ) (cells : CellChanges) (changes : Changes) (base new : Maps) (t : Tables) → Prints last cells changes → AreChanges base new changes → IsCurrent t → ((n : ℤ) → n ≢ pos 1 → t.head n ≡ None) → CountsBefore last t.version t.petition_head → ShowsMaps t base → ShowsRows (tables_with cells t) new
+shows-written last cells changes base new t p c current alone counts shows = record {
   head = ap (λ b. cond b (Some (head_cells Second cells.head)) (t.head (pos 1))) ((same_number-Decides (pos 1) (pos 1)).1 refl) ∙ ap (λ h. Some (head_cells Second h)) (p.head ∙ c.head) ∙ ap (λ v. Some (head_cells v new.head)) (sym current);
   no_head = λ n h. ap (λ b. cond b (Some (head_cells Second cells.head)) (t.head n)) (not_one n h) ∙ alone n h;
-  counter = subst (λ (h : Head). ShowsCounter t.version (numbered_with (pos 1) (Some (petition_head_cells cells.head.next_petition)) t.petition_head) h.next_petition) (p.head ∙ c.head) (counts_written t.version cells.head.next_petition t.petition_head current counter_alone);
+  counter = subst (λ n. ShowsCounter t.version (counter_with n t.petition_head) new.head.next_petition) (sym (p.next_petition ∙ ap (λ (h : Head). new_number last h.next_petition) c.head)) (counts_next last new.head.next_petition t.version t.petition_head current counts);
   maps = record {
     objects = written object_cmp object_exact same_number (λ n. n.0) number_alike object_cells ShowsObject cells.objects.items changes.objects (get base.objects) (get new.objects) t.object p.objects c.objects shows.objects;
     props = written prop_cmp prop_exact same_number (λ id. pos id.0) id_alike prop_cells ShowsProp cells.props.items changes.props (get base.props) (get new.props) t.prop p.props c.props shows.props;
     no_prop = λ n. elsewhere prop_cmp prop_exact same_number (λ id. pos id.0) id_alike prop_cells ShowsProp cells.props.items t.prop (negsuc n) (no_id n) ∙ shows.no_prop n;
-    slots = written slot_cmp slot_exact same_numbers (λ k. (k.0.0, pos k.1.0)) slot_alike slot_cells (ShowsSlot t.version) cells.slots.items changes.slots (get base.slots) (get new.slots) t.slot (prints_slots t.version cells changes current p) c.slots shows.slots;
+    slots = written slot_cmp slot_exact same_numbers (λ k. (k.0.0, pos k.1.0)) slot_alike slot_cells (ShowsSlot t.version) cells.slots.items changes.slots (get base.slots) (get new.slots) t.slot (prints_slots last t.version cells changes current p) c.slots shows.slots;
     no_slot = λ x n. elsewhere slot_cmp slot_exact same_numbers (λ k. (k.0.0, pos k.1.0)) slot_alike slot_cells (ShowsSlot Second) cells.slots.items t.slot (x, negsuc n) (λ k. no_pair x n k.0.0 k.1.0) ∙ shows.no_slot x n;
     verbs = written verb_cmp verb_exact same_numbers (λ k. (k.0.0, pos k.1.0)) verb_alike verb_cells ShowsVerb cells.verbs.items changes.verbs (get base.verbs) (get new.verbs) t.verb p.verbs c.verbs shows.verbs;
     no_verb = λ x n. elsewhere verb_cmp verb_exact same_numbers (λ k. (k.0.0, pos k.1.0)) verb_alike verb_cells ShowsVerb cells.verbs.items t.verb (x, negsuc n) (λ k. no_pair x n k.0.0 k.1.0) ∙ shows.no_verb x n;
@@ -135,11 +149,11 @@ shows-written cells changes base new t p c current alone counter_alone shows = r
 }
 
 -- the rows that stay keep their cells
-pub keeps-written : (cells : CellChanges) (changes : Changes) (base new : Maps) (t : Tables) → Prints cells changes → AreChanges base new changes → IsCurrent t → ShowsRows t base → KeepsCells base new t (tables_with cells t)
+pub keeps-written : (cells : CellChanges) (changes : Changes) (base new : Maps) (t : Tables) → Prints (Some base.head.next_petition) cells changes → AreChanges base new changes → IsCurrent t → ShowsRows t base → KeepsCells base new t (tables_with cells t)
 keeps-written cells changes base new t p c current shown = record {
   version = refl;
   shown = shown;
-  shows = shows-written cells changes base new t p c current shown.no_head (counts_alone t.version base.head.next_petition t.petition_head current shown.counter) shown.maps;
+  shows = shows-written (Some base.head.next_petition) cells changes base new t p c current shown.no_head shown.counter shown.maps;
   objects = stays object_cmp object_exact same_number (λ n. n.0) number_alike object_cells ShowsObject cells.objects.items changes.objects (get base.objects) (get new.objects) t.object p.objects c.objects;
   props = stays prop_cmp prop_exact same_number (λ id. pos id.0) id_alike prop_cells ShowsProp cells.props.items changes.props (get base.props) (get new.props) t.prop p.props c.props;
   slots = stays slot_cmp slot_exact same_numbers (λ k. (k.0.0, pos k.1.0)) slot_alike slot_cells (ShowsSlot Second) cells.slots.items changes.slots (get base.slots) (get new.slots) t.slot p.slots c.slots;

@@ -1,5 +1,5 @@
 -- Cells that are printed from changes of rows.
-use Rattle.std.specs.Prelude.{◌≡◌, List, [], ◌∷◌, map, Option, Some, ⊤}
+use Rattle.std.specs.Prelude.{◌≡◌, ◌==◌, if◌then◌else◌, ℕ, List, [], ◌∷◌, map, Option, Some, None, ⊤}
 use Rattle.std.specs.FinMap.{FinMap, entries}
 use Rattle.std.specs.declared.cmp.Ordering.{Ordering}
 use Rattle.moo_value.specs.declared.value.ObjNo.{ObjNo}
@@ -63,8 +63,15 @@ all_changes m = record {
   petitions = all_of m.petitions;
 }
 
-pub record Prints (cells : CellChanges) (changes : Changes) : Type 0 where
+-- the number of the next petition, if it isn't the last one that was written
+abbrev pub new_number : Option ℕ → ℕ → Option ℕ
+new_number None next = Some next
+new_number (Some last) next = if last == next then None else Some next
+
+-- The cells of the changes. The number of the next petition is among them if it isn't the last one that was written.
+pub record Prints (last : Option ℕ) (cells : CellChanges) (changes : Changes) : Type 0 where
   pub head : cells.head ≡ changes.head
+  pub next_petition : cells.next_petition ≡ new_number last changes.head.next_petition
   pub objects : PrintEach PrintsObject cells.objects.items changes.objects
   pub props : PrintEach PrintsProp cells.props.items changes.props
   pub slots : PrintEach PrintsSlot cells.slots.items changes.slots

@@ -1,11 +1,11 @@
 //! Rows that change, printed as the cells of their tables.
 
-ghost use Rattle.std.specs.Prelude.{◌≡◌, List, Option, IfOk};
+ghost use Rattle.std.specs.Prelude.{◌≡◌, List, Option, Some, None, IfOk};
 ghost use Rattle.std.specs.Iterator.{YieldsFirstBy, IsFinite};
 ghost use Rattle.moo_value.specs.Literal.{Spells};
 ghost use Rattle.moo_world.specs.Answers.{object_list};
 ghost use Rattle.moo_cells.specs.Shows.{ShowsAccept, ShowsSlotState, ShowsOrNone};
-ghost use Rattle.moo_store.specs.Printed.{PrintEach, PrintsSlot, Prints, as_changes, all_of, all_changes};
+ghost use Rattle.moo_store.specs.Printed.{PrintEach, PrintsSlot, Prints, new_number, as_changes, all_of, all_changes};
 
 use moo_draft::{ChangeList, Changes};
 use moo_flat::Flat;
@@ -205,15 +205,17 @@ pub(crate) fn print_slots(
 
 /// The cells of all rows, as changes from no rows. The only error is out of memory.
 pub(crate) fn print_all(alloc: Global, rows: &Flat) -> Result<CellChanges, AllocError>
-    ensures { IfOk result (λ cells. Prints cells (all_changes rows.now.maps)) }
+    ensures { IfOk result (λ cells. Prints None cells (all_changes rows.now.maps)) }
 {
+    let head = rows.head();
     let objects = print_left(alloc, each_object(rows))?;
     let props = print_left(alloc, each_prop(rows))?;
     let slots = print_slots(alloc, rows)?;
     let verbs = print_left(alloc, each_verb(rows))?;
     let petitions = print_left(alloc, each_petition(rows))?;
     Ok(CellChanges {
-        head: rows.head(),
+        head,
+        next_petition: Some(head.next_petition),
         objects,
         props,
         slots,
@@ -222,9 +224,17 @@ pub(crate) fn print_all(alloc: Global, rows: &Flat) -> Result<CellChanges, Alloc
     })
 }
 
-/// The cells of changes. The only error is out of memory.
-pub fn print_changes(alloc: Global, changes: &Changes) -> Result<CellChanges, AllocError>
-    ensures { IfOk result (λ cells. Prints cells changes.now) }
+/// The number of the next petition, if it isn't the last one that was written.
+fn new_number(last: u32, next: u32) -> Option<u32>
+    ensures { result ≡ new_number (Some last) next }
+{
+    if last == next { None } else { Some(next) }
+}
+
+/// The cells of changes. `last` is the number of the next petition that the tables have: while it stays it isn't among the cells. The
+/// only error is out of memory.
+pub fn print_changes(alloc: Global, last: u32, changes: &Changes) -> Result<CellChanges, AllocError>
+    ensures { IfOk result (λ cells. Prints (Some last) cells changes.now) }
 {
     let objects = print_each(alloc, &changes.objects)?;
     let props = print_each(alloc, &changes.props)?;
@@ -233,6 +243,7 @@ pub fn print_changes(alloc: Global, changes: &Changes) -> Result<CellChanges, Al
     let petitions = print_each(alloc, &changes.petitions)?;
     Ok(CellChanges {
         head: changes.head,
+        next_petition: new_number(last, changes.head.next_petition),
         objects,
         props,
         slots,

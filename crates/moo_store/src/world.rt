@@ -42,7 +42,7 @@ impl<S: Alter> Model for World<S> {
 }
 
 impl<S: Alter + Drop> World<S> {
-    ghost use Rattle.std.specs.Prelude.{◌≡◌, ◌≢◌, ◌⊎◌, ◌<◌, ◌^◌, Bool, false, true, IsTrue, [], ◌∷◌, length, take, drop, OnOk, OnErr, IfOk, IfErr, IsErrAnd, IsErrOf, IsOkAnd, ⊤, Ok, Err};
+    ghost use Rattle.std.specs.Prelude.{◌≡◌, ◌≢◌, ◌⊎◌, ◌<◌, ◌^◌, Bool, false, true, IsTrue, [], ◌∷◌, length, take, drop, Some, OnOk, OnErr, IfOk, IfErr, IsErrAnd, IsErrOf, IsOkAnd, ⊤, Ok, Err};
     ghost use Rattle.sqlite.specs.State.{HasCleanDisk};
     ghost use Rattle.sqlite.specs.Held.{state};
     ghost use Rattle.moo_rows.specs.Maps.{Maps};
@@ -89,7 +89,7 @@ impl<S: Alter + Drop> World<S> {
         cells: &CellChanges,
     ) -> Result<Reply, StoreFault>
         requires works { self.old.failed ≡ false }
-        requires printed { Prints cells.now changes }
+        requires printed { Prints (Some self.old.rows.maps.head.next_petition) cells.now changes }
         requires limit { cells.now.head.seq < 2 ^ 63 }
         requires changes { (next : Maps) × AreChanges self.old.rows.maps next changes × IsGood next }
         ensures reply { IfOk result (λ reply. reply ≡ Reply.Accepted changes.head.seq answers) }
@@ -126,10 +126,13 @@ impl<S: Alter + Drop> World<S> {
             return Err(StoreFault::Closed);
         }
         match judge(self.alloc, &self.rows, batch) {
-            Verdict::Accepted { answers, changes } => match print_changes(self.alloc, &changes) {
-                Ok(cells) => self.commit(answers, changes, &cells),
-                Err(_) => Ok(Reply::NoMemory),
-            },
+            Verdict::Accepted { answers, changes } => {
+                let last = self.rows.head().next_petition;
+                match print_changes(self.alloc, last, &changes) {
+                    Ok(cells) => self.commit(answers, changes, &cells),
+                    Err(_) => Ok(Reply::NoMemory),
+                }
+            }
             Verdict::Refused { call, code } => Ok(Reply::Refused { call, code }),
             Verdict::Full { call } => Ok(Reply::Full { call }),
             Verdict::Stale { seq } => Ok(Reply::Stale { seq }),

@@ -4,7 +4,7 @@ ghost use Rattle.std.specs.Prelude.{◌≡◌, ◌↔◌, ◌∷◌, [], IsTrue,
 ghost use Rattle.sqlite.specs.Held.{state};
 ghost use Rattle.sqlite.specs.State.{HasCleanDisk};
 ghost use Rattle.sqlite.specs.Values.{bound};
-ghost use Rattle.moo_tables.specs.Cells.{with_counter};
+ghost use Rattle.moo_tables.specs.Cells.{with_counter, with_next_petition};
 ghost use Rattle.moo_tables.specs.Head.{petition_head_table, petition_head_cells};
 ghost use Rattle.moo_tables.specs.Inside.{StaysInside, Changes, Holds, Sees, Rests, ReadsTables, FailsToRead, IsGrown, KeepsSlot, grown};
 ghost use Rattle.moo_tables.specs.Listing.{ListsNumbers};
@@ -47,6 +47,21 @@ pub(crate) fn put_counter<S: Alter>(tx: &mut Transaction<'_, S>, next: u32) -> R
         "INSERT INTO petition_head VALUES (?1, ?2) ON CONFLICT (id) DO UPDATE SET next_petition = ?2 WHERE next_petition <> ?2",
     )?;
     run_prepared(tx, &put, &counter_values(next))
+}
+
+/// Puts the number of the next petition, if one is given. Else nothing runs, and the row stays.
+pub(crate) fn put_next_petition<S: Alter>(
+    tx: &mut Transaction<'_, S>,
+    next: Option<u32>,
+) -> Result<usize, Error>
+    ensures same_reference { tx.new.conn.ghost_name ≡ tx.old.conn.ghost_name }
+    ensures inside { StaysInside (state S.Store tx.old.conn.now) (state S.Store tx.new.conn.now) }
+    ensures put { OnOk result (Changes (with_next_petition next) (state S.Store tx.old.conn.now) (state S.Store tx.new.conn.now)) }
+{
+    match next {
+        Some(next) => put_counter(tx, next),
+        None => Ok(0),
+    }
 }
 
 /// The row of `petition_head`. The first version has no such table.

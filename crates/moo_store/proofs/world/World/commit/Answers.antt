@@ -1,10 +1,11 @@
-use Rattle.std.proofs.Common.{◌≡◌, ◌⊎◌, false, IsTrue, refl, sym, ap, subst}
+use Rattle.std.proofs.Common.{◌≡◌, ◌⊎◌, false, Some, IsTrue, refl, sym, ap, subst}
 use Rattle.sqlite.specs.Held.{state}
 use Rattle.sqlite.specs.State.{HasCleanDisk}
 use Rattle.moo_world.specs.Rows.{IsGood}
 use Rattle.moo_world.specs.Judge.{state_of}
 use Rattle.moo_draft.specs.Changes.{AreChanges}
 use Rattle.moo_store.specs.Kept.{World}
+use Rattle.moo_store.specs.Printed.{Prints}
 use Rattle.moo_store.specs.World.{store_of, ShowsItsRows, IsAt}
 use Rattle.moo_store.specs.States.{KeepsRows, LeavesRows}
 use Rattle.moo_tables.specs.Tables.{Tables}
@@ -21,9 +22,10 @@ returns-in-Err-clause-crash g c next shown exact clean trees lies =
     let rows = c.self.inside.rows.maps in
     let shows = subst (ShowsItsRows g.S.Store) (sym c.self.view_is) shown in
     let here : AreChanges rows next c.args.changes = subst (λ (w : World _). AreChanges w.rows.maps next c.args.changes) (sym c.self.view_is) exact in
+    let printed : Prints (Some rows.head.next_petition) c.args.cells.now c.args.changes = subst (λ (w : World _). Prints (Some w.rows.maps.head.next_petition) c.args.cells.now c.args.changes) (sym c.self.view_is) c.requires.printed in
     subst (λ (w : World _). LeavesRows trees w.rows.maps ⊎ LeavesRows trees next) c.self.view_is
     (rows_left (state g.S.Store c.self.inside.connection) (state g.S.Store c.commit_cells.new.conn) rows next (g.met.S.Store.settled c.self.inside.connection.store) shows
-    (c.commit_cells.ensures.crash c.args.changes rows next c.requires.printed here shows) clean trees lies)
+    (c.commit_cells.ensures.crash c.args.changes rows next printed here shows) clean trees lies)
 
 pub returns-clause-is_at : goal.returns-clause-is_at
 returns-clause-is_at g c known next shown exact good =
@@ -31,11 +33,12 @@ returns-clause-is_at g c known next shown exact good =
     let old = state g.S.Store c.self.inside.connection in
     let new = state g.S.Store c.commit_cells.new.conn in
     let here : AreChanges rows next c.args.changes = subst (λ (w : World _). AreChanges w.rows.maps next c.args.changes) (sym c.self.view_is) exact in
+    let printed : Prints (Some rows.head.next_petition) c.args.cells.now c.args.changes = subst (λ (w : World _). Prints (Some w.rows.maps.head.next_petition) c.args.cells.now c.args.changes) (sym c.self.view_is) c.requires.printed in
     let written : IsTrue known → HasCleanDisk new → KeepsRows new next = λ sure.
     let shows = subst (ShowsItsRows g.S.Store) (sym c.self.view_is) (shown sure) in
     rows_written old new rows next shows
-    (c.commit_cells.ensures.crash c.args.changes rows next c.requires.printed here shows)
-    (λ clean. c.in_default.ensures.written clean c.args.changes rows next c.requires.printed here) in
+    (c.commit_cells.ensures.crash c.args.changes rows next printed here shows)
+    (λ clean. c.in_default.ensures.written clean c.args.changes rows next printed here) in
     elim c.if-is_err.branch [
       | then-is_err w ↦ subst (λ v. IsAt g.S.Store known v (state_of next)) (sym w.self-is) (record { tables = λ sure clean. keeps_state new next (state_of next) good refl (written sure clean); rows = λ e. cc; shown = λ sure e. cc })
       | else-is_err w ↦ subst (λ v. IsAt g.S.Store known v (state_of next)) (sym w.self-is)
@@ -72,12 +75,13 @@ pub returns-clause-cells : goal.returns-clause-cells
 returns-clause-cells g c next tables exact clean rests current shown =
     let rows = c.self.inside.rows.maps in
     let here : AreChanges rows next c.args.changes = subst (λ (w : World _). AreChanges w.rows.maps next c.args.changes) (sym c.self.view_is) exact in
+    let printed : Prints (Some rows.head.next_petition) c.args.cells.now c.args.changes = subst (λ (w : World _). Prints (Some w.rows.maps.head.next_petition) c.args.cells.now c.args.changes) (sym c.self.view_is) c.requires.printed in
     let rest : Rests (state g.S.Store c.self.inside.connection) tables = subst (λ w. Rests (store_of g.S.Store w) tables) (sym c.self.view_is) rests in
     let new = state g.S.Store c.commit_cells.new.conn in
     let old_rows = c.args.self.now.rows.maps in
     let shows : ShowsRows tables rows = subst (λ (w : World _). ShowsRows tables w.rows.maps) (sym c.self.view_is) shown in
     let wrote : HasCleanDisk new → (after : Tables) × Rests new after × KeepsCells old_rows next tables after = λ clean.
-    let it = c.in_default.ensures.cells clean c.args.changes rows next tables c.requires.printed here rest current shows in
+    let it = c.in_default.ensures.cells clean c.args.changes rows next tables printed here rest current shows in
     (it.0, it.1, subst (λ (w : World _). KeepsCells w.rows.maps next tables it.0) c.self.view_is it.2) in
     elim c.if-is_err.branch [
       | then-is_err w ↦ subst (λ v. HasCleanDisk (store_of g.S.Store v) → (after : Tables) × Rests (store_of g.S.Store v) after × KeepsCells old_rows next tables after) (sym w.self-is) wrote clean

@@ -1,4 +1,4 @@
-use Rattle.std.proofs.Common.{◌≡◌, ◌<◌, IfOk, refl, sym, ap, ◌∙◌, subst, true, false}
+use Rattle.std.proofs.Common.{◌≡◌, ◌<◌, Some, IfOk, refl, sym, ap, ◌∙◌, subst, true, false}
 use Rattle.moo_rows.specs.declared.row.Head.{Head}
 use Rattle.moo_world.specs.Rows.{IsGood}
 use Rattle.moo_world.specs.Judge.{state_of, judge, Accepted, Refused, NoRoom, Stale}
@@ -6,6 +6,7 @@ use Rattle.moo_world.specs.Between.{BatchLeads}
 use Rattle.moo_draft.specs.Changes.{AreChanges}
 use Rattle.moo_text.specs.declared.reply.Reply.TheVariants as reply
 use Rattle.moo_store.specs.Kept.{World}
+use Rattle.moo_store.specs.Printed.{Prints}
 use Rattle.moo_store.specs.Answered.{IsRun}
 use Rattle.moo_store.proofs.Crashes.{states_left}
 use Rattle.moo_store.proofs.Judged.{closed_stands, no_memory_stands, refused_stands, accepted_stands}
@@ -18,6 +19,11 @@ commit-requires-clause-limit g c =
     let found = c.in-Accepted.ensures in
     let seq = ap (λ (h : Head). h.seq) (c.in-Ok.ensures.head ∙ found.1.head) in
     subst (λ n. n < 9223372036854775808) (sym seq) (accepted_low (state_of c.self.inside.rows.maps) (state_of found.0) c.args.batch.now c.in-Accepted.answers found.3)
+
+pub commit-requires-clause-printed : goal.commit-requires-clause-printed
+commit-requires-clause-printed g c =
+    let printed = subst (λ (h : Head). Prints (Some h.next_petition) c.in-Ok.cells c.in-Accepted.changes) c.head-last.ensures c.in-Ok.ensures in
+    subst (λ (w : World _). Prints (Some w.rows.maps.head.next_petition) c.in-Ok.cells c.in-Accepted.changes) c.self.view_is printed
 
 pub commit-requires-clause-changes : goal.commit-requires-clause-changes
 commit-requires-clause-changes g c =
