@@ -32,6 +32,10 @@ pub on_each_err : {A E : Type 0} (P Q : E → Type 0) (r : Result A E) → ((e :
 on_each_err P Q (Ok a) f p = tt
 on_each_err P Q (Err e) f p = f e p
 
+pub on_both_ok : {A E : Type 0} (P Q R : A → Type 0) (r : Result A E) → ((a : A) → P a → Q a → R a) → IfOk r P → IfOk r Q → IfOk r R
+on_both_ok P Q R (Ok a) f p q = f a p q
+on_both_ok P Q R (Err e) f p q = tt
+
 -- what is known of an answer for each state, and what is known of it alone
 pub both_ok : {A E : Type 0} (r : Result A E) (C : A → Type 0) (K : State → Type 0) (P : A → State → Type 0) (Q : A → Type 0) → IfOk r C → ((t : State) → K t → IfOk r (λ a. P a t)) → ((a : A) → C a → ((t : State) → K t → P a t) → Q a) → IfOk r Q
 both_ok (Ok a) C K P Q known each f = f a known each

@@ -16,7 +16,7 @@ use Rattle.moo_store.specs.World.{store_of, Left, CrashLeaves, StandsAt}
 abbrev pub IsSettled : Database → Type 0
 IsSettled store = (trees : Trees) → IsTrue store.is_open → store.may_leave trees → trees ≡ store.committed.trees
 
-rows_at_rest : (store : Database) (rows : Maps) → IsSettled store → KeepsRows store rows → (trees : Trees) → store.may_leave trees → LeavesRows trees rows
+pub rows_at_rest : (store : Database) (rows : Maps) → IsSettled store → KeepsRows store rows → (trees : Trees) → store.may_leave trees → LeavesRows trees rows
 rows_at_rest store rows settled it trees left = record {
   tables = it.tables;
   leaves = left_by store it.tables trees it.rests (settled trees it.rests.is_open left);
@@ -39,12 +39,17 @@ leaves_state : (trees : Trees) (rows : Maps) (s : State) → IsGood rows → sta
 leaves_state trees rows s good is it = record { rows = rows; good = good; state = is; leaves = it }
 
 -- a crash at a write leaves the rows before it, or the next ones
-pub left_by_write : (old new : Database) (rows next : Maps) (s t : State) → IsGood rows → IsGood next → state_of rows ≡ s → state_of next ≡ t → IsSettled old → (HasCleanDisk old → KeepsRows old rows)
-    → Survives old new (λ trees. LeavesRows trees next) → HasCleanDisk new → (trees : Trees) → new.may_leave trees → LeavesState trees s ⊎ LeavesState trees t
-left_by_write old new rows next s t good good_next is is_next settled rests survives clean trees left = elim (survives.crash clean trees left) [
-  | inl was ↦ inl (leaves_state trees rows s good is (rows_at_rest old rows settled (rests (clean_before old new (λ x. LeavesRows x next) survives clean)) trees was))
-  | inr on ↦ inr (leaves_state trees next t good_next is_next on)
+pub rows_left : (old new : Database) (rows next : Maps) → IsSettled old → (HasCleanDisk old → KeepsRows old rows)
+    → Survives old new (λ trees. LeavesRows trees next) → HasCleanDisk new → (trees : Trees) → new.may_leave trees → LeavesRows trees rows ⊎ LeavesRows trees next
+rows_left old new rows next settled rests survives clean trees left = elim (survives.crash clean trees left) [
+  | inl was ↦ inl (rows_at_rest old rows settled (rests (clean_before old new (λ x. LeavesRows x next) survives clean)) trees was)
+  | inr on ↦ inr on
 ]
+
+-- so it leaves the state before it, or the next one
+pub states_left : (trees : Trees) (rows next : Maps) (s t : State) → IsGood rows → IsGood next → state_of rows ≡ s → state_of next ≡ t → LeavesRows trees rows ⊎ LeavesRows trees next → LeavesState trees s ⊎ LeavesState trees t
+states_left trees rows next s t good good_next is is_next (inl was) = inl (leaves_state trees rows s good is was)
+states_left trees rows next s t good good_next is is_next (inr on) = inr (leaves_state trees next t good_next is_next on)
 
 -- what was written is there
 pub rows_written : (old new : Database) (rows next : Maps) → (HasCleanDisk old → KeepsRows old rows) → Survives old new (λ trees. LeavesRows trees next) → (HasCleanDisk new → KeepsRows old rows → KeepsRows new next)

@@ -4,16 +4,24 @@ use Rattle.std.specs.Prelude.{⊤}
 use Rattle.sqlite.specs.State.{State as Database, HasCleanDisk, Opens}
 use Rattle.sqlite.specs.Effect.{IsDatabase}
 use Rattle.sqlite.specs.Store.{Ghosts}
+use Rattle.sqlite.specs.Tree.{Trees}
 use Rattle.moo_world.specs.declared.call.Batch.{Batch}
 use Rattle.moo_world.specs.Judge.{State, judge, left_by, after}
 use Rattle.moo_text.specs.declared.reply.Reply.{Reply}
-use Rattle.moo_tables.specs.Inside.{MayOpenAs}
+use Rattle.moo_tables.specs.Inside.{MayOpenAs, Rests, Leaves}
 use Rattle.moo_tables.proofs.ReopenLemmas.{opened}
-use Rattle.moo_store.specs.States.{ShowsState, LeavesState}
+use Rattle.moo_rows.specs.Maps.{Maps}
+use Rattle.moo_world.specs.Rows.{IsGood}
+use Rattle.moo_tables.specs.Tables.{Tables}
+use Rattle.moo_cells.specs.Shows.{ShowsRows}
+use Rattle.moo_cells.proofs.CellsLemmas.{one_good}
+use Rattle.moo_cells.proofs.GoodRows.{good_within}
+use Rattle.moo_store.specs.Led.{BatchesLead, LeavesLed}
+use Rattle.moo_store.specs.States.{ShowsState, LeavesRows, LeavesState}
 use Rattle.moo_store.specs.Answered.{acknowledged}
 use Rattle.moo_store.specs.Kept.{World}
 use Rattle.moo_store.specs.World.{store_of, IsAt, StandsFor, Left, LeftOrNext, MatchStore}
-use Rattle.moo_store.specs.Reopened.{HoldsAcknowledged, kept_of, RunsInParts, IsKeptOf}
+use Rattle.moo_store.specs.Reopened.{HoldsAcknowledged, AreLedTo, kept_of, RunsInParts, IsKeptOf}
 use Rattle.moo_store.specs.declared.fault.StoreFault.{StoreFault}
 use Rattle.moo_store.specs.declared.fault.StoreFault.TheVariants.{Store, Damaged, NewerVersion, OutOfMemory, Closed}
 
@@ -58,6 +66,30 @@ found crashed again s batches replies left may =
 pub holds : {T : Type 0} (g : Ghosts T) (again : Database) (world : World T) (s : State) (batches : List Batch) (replies : List Reply) (it : Found again s batches replies)
     → StandsFor g true world (after s (acknowledged batches replies ++ take it.more (drop (length replies) batches))) → HoldsAcknowledged g world s batches replies
 holds g again world s batches replies it stands = record { more = it.more; at_most_one = it.at_most_one; stands = stands }
+
+-- ---- the rows that are found
+
+-- good rows that a crash left are those that the next open shows
+pub rows_found : {T : Type 0} (g : Ghosts T) (again : Database) (world : World T) (rows : Maps) → Opens again → IsDatabase again.now → LeavesRows again.now.trees rows → IsGood rows
+    → ((tables : Tables) → Rests again tables → ShowsRows tables world.rows.maps × IsGood world.rows.maps) → rows ≡ world.rows.maps
+rows_found g again world rows opens sound it good shown =
+    let found = shown it.tables (opened again it.tables opens sound it.leaves) in
+    one_good it.tables rows world.rows.maps it.shows (good_within rows good) found.0 found.1
+
+-- so are they whatever shows what the crash left
+pub led_found : (store : Database) (rows found : Maps) (batches : List Batch) (replies : List Reply) (trees : Trees) → LeavesLed store rows (acknowledged batches replies) (drop (length replies) batches) → store.may_leave trees
+    → ((tables : Tables) → Leaves trees tables → ShowsRows tables found) → IsGood found → AreLedTo rows found batches replies
+led_found store rows found batches replies trees led lies shown good =
+    let it = led trees lies in
+    let same = one_good it.5.tables it.2 found it.5.shows (good_within it.2 it.3) (shown it.5.tables it.5.leaves) good in
+    record { more = it.0; at_most_one = it.1; led = subst (BatchesLead (kept_of batches replies it.0) rows) same it.4 }
+
+pub led_to : {T : Type 0} (g : Ghosts T) (crashed again : Database) (world : World T) (rows : Maps) (batches : List Batch) (replies : List Reply) → LeavesLed crashed rows (acknowledged batches replies) (drop (length replies) batches) → MayOpenAs crashed again
+    → ((tables : Tables) → Rests again tables → ShowsRows tables world.rows.maps × IsGood world.rows.maps) → AreLedTo rows world.rows.maps batches replies
+led_to g crashed again world rows batches replies left may shown =
+    let it = left again.now.trees may.found in
+    let same = rows_found g again world it.2 may.opens may.sound it.5 it.3 shown in
+    record { more = it.0; at_most_one = it.1; led = subst (BatchesLead (kept_of batches replies it.0) rows) same it.4 }
 
 -- ---- several parts
 

@@ -10,19 +10,20 @@ use Rattle.moo_text.specs.declared.next.Next.TheVariants.{Batch as Whole, Malfor
 use Rattle.moo_text.specs.declared.reply.Answer.{Answer}
 use Rattle.moo_text.specs.declared.reply.Reply.{Reply}
 use Rattle.moo_text.specs.declared.fault.TextFault.{TextFault}
+use Rattle.moo_world.specs.Rows.{IsGood}
 use Rattle.moo_tables.specs.Tables.{Tables}
 use Rattle.moo_tables.specs.Inside.{Rests}
-use Rattle.moo_store.specs.World.{store_of, StandsAt}
+use Rattle.moo_store.specs.World.{store_of, ShowsItsRows, StandsAt}
 use Rattle.moo_store.specs.Stand.{Stand, Works, Failed, StoreFailed, RunsBatch}
 use Rattle.moo_store.specs.Kept.{World}
 use Rattle.moo_store.specs.declared.fault.StoreFault.{StoreFault}
 use Rattle.moo_store.specs.declared.fault.StoreFault.TheVariants.{Store, Damaged, NewerVersion, OutOfMemory, Closed}
-use Rattle.moo_store.specs.Text.{RunsAndAnswers, answer_to, accepted_at, accepted, KeepsRest, Applies, StopsRun}
-use Rattle.moo_store.specs.Untouched.{StandsOver, taken_of}
+use Rattle.moo_store.specs.Text.{RunsAndAnswers, answer_to, accepted_at, accepted, faulted_at, faulted, KeepsRest, KeepsLed, Applies, StopsRun}
+use Rattle.moo_store.specs.Untouched.{StandsOver, taken_of, lost_of}
 use Rattle.moo_store.specs.Turns.{Turn, Turns, Completes, Halts}
 use Rattle.moo_store.proofs.Crashes.{IsSettled, crash_leaves}
 use Rattle.moo_store.proofs.Following.{completes-follows, halts-follows}
-use Rattle.moo_store.proofs.Running.{fails_of}
+use Rattle.moo_store.proofs.Running.{FailsAtStore, fails_of}
 use Rattle.moo_store.proofs.Untouched.{Written, is_over, written_none, written_on}
 
 -- ---- what is written
@@ -35,24 +36,38 @@ one_taken batch a (Err NewerVersion) is = ap (accepted_at (Whole batch)) is
 one_taken batch a (Err OutOfMemory) is = ap (accepted_at (Whole batch)) is
 one_taken batch a (Err Closed) is = ap (accepted_at (Whole batch)) is
 
--- an item that is no batch writes nothing
-written_same : {S : Type 0} (g : Ghosts S) (old now new : World S) (batches : List Batch) → new ≡ now → Written g old now batches → Written g old new (batches ++ [])
-written_same g old now new batches same was = subst (λ w. Written g old w (batches ++ [])) (sym same) (subst (Written g old now) (sym (append-nil batches)) was)
+one_lost : {S : Type 0} (g : Ghosts S) (old new : World S) (batch : Batch) (a : Answer) (r : Result Reply StoreFault) → a ≡ answer_to r → FailsAtStore g old new r → faulted_at (Whole batch) a ≡ lost_of batch r
+one_lost g old new batch a (Ok reply) is fails = ap (faulted_at (Whole batch)) is
+one_lost g old new batch a (Err (Store error)) is fails = ap (faulted_at (Whole batch)) is
+one_lost g old new batch a (Err (Damaged kind key)) is fails = absurd fails
+one_lost g old new batch a (Err NewerVersion) is fails = absurd fails
+one_lost g old new batch a (Err OutOfMemory) is fails = absurd fails
+one_lost g old new batch a (Err Closed) is fails = ap (faulted_at (Whole batch)) is
 
-turn_written : {S : Type 0} (g : Ghosts S) (old now new : World S) (batches : List Batch) (item : Next) (a : Answer) → Written g old now batches → Turn (RunsAndAnswers g) now item a new → Written g old new (batches ++ accepted_at item a)
-turn_written g old now new batches (Whole batch) a was turn =
-    subst (λ more. Written g old new (batches ++ more)) (sym (one_taken batch a turn.result turn.answer)) (written_on g old now new batches batch turn.result was (fails_of g now new turn.result turn.closed turn.fails) turn.cells)
-turn_written g old now new batches (Malformed number) a was turn = written_same g old now new batches turn.1 was
-turn_written g old now new batches Truncated a was turn = written_same g old now new batches turn.1 was
-turn_written g old now new batches End a was turn = absurd turn
+-- an item that isn't a batch writes nothing
+written_same : {S : Type 0} (g : Ghosts S) (old now new : World S) (batches lost : List Batch) → new ≡ now → Written g old now batches lost → Written g old new (batches ++ []) (lost ++ [])
+written_same g old now new batches lost same was =
+    subst (λ w. Written g old w (batches ++ []) (lost ++ [])) (sym same) (subst (Written g old now (batches ++ [])) (sym (append-nil lost)) (subst (λ bs. Written g old now bs lost) (sym (append-nil batches)) was))
 
-turns_written : {S : Type 0} (g : Ghosts S) (old now new : World S) (batches : List Batch) (items : List Next) (answers : List Answer) → Written g old now batches → Turns (RunsAndAnswers g) now items answers new → Written g old new (batches ++ accepted items answers)
-turns_written g old now new batches [] [] was turns = written_same g old now new batches turns was
-turns_written g old now new batches [] (a ∷ answers) was turns = absurd turns
-turns_written g old now new batches (item ∷ items) [] was turns = absurd turns
-turns_written g old now new batches (item ∷ items) (a ∷ answers) was turns =
-    subst (Written g old new) (append_assoc batches (accepted_at item a) (accepted items answers))
-    (turns_written g old turns.0 new (batches ++ accepted_at item a) items answers (turn_written g old now turns.0 batches item a was turns.1) turns.2)
+turn_written : {S : Type 0} (g : Ghosts S) (old now new : World S) (batches lost : List Batch) (item : Next) (a : Answer) → Written g old now batches lost → Turn (RunsAndAnswers g) now item a new
+    → Written g old new (batches ++ accepted_at item a) (lost ++ faulted_at item a)
+turn_written g old now new batches lost (Whole batch) a was turn =
+    let fails = fails_of g now new turn.result turn.closed turn.fails in
+    subst (λ more. Written g old new (batches ++ more) (lost ++ faulted_at (Whole batch) a)) (sym (one_taken batch a turn.result turn.answer))
+    (subst (λ more. Written g old new (batches ++ taken_of batch turn.result) (lost ++ more)) (sym (one_lost g now new batch a turn.result turn.answer fails)) (written_on g old now new batches lost batch turn.result was fails turn.cells))
+turn_written g old now new batches lost (Malformed number) a was turn = written_same g old now new batches lost turn.1 was
+turn_written g old now new batches lost Truncated a was turn = written_same g old now new batches lost turn.1 was
+turn_written g old now new batches lost End a was turn = absurd turn
+
+turns_written : {S : Type 0} (g : Ghosts S) (old now new : World S) (batches lost : List Batch) (items : List Next) (answers : List Answer) → Written g old now batches lost → Turns (RunsAndAnswers g) now items answers new
+    → Written g old new (batches ++ accepted items answers) (lost ++ faulted items answers)
+turns_written g old now new batches lost [] [] was turns = written_same g old now new batches lost turns was
+turns_written g old now new batches lost [] (a ∷ answers) was turns = absurd turns
+turns_written g old now new batches lost (item ∷ items) [] was turns = absurd turns
+turns_written g old now new batches lost (item ∷ items) (a ∷ answers) was turns =
+    subst (Written g old new (batches ++ accepted (item ∷ items) (a ∷ answers))) (append_assoc lost (faulted_at item a) (faulted items answers))
+    (subst (λ bs. Written g old new bs ((lost ++ faulted_at item a) ++ faulted items answers)) (append_assoc batches (accepted_at item a) (accepted items answers))
+    (turns_written g old turns.0 new (batches ++ accepted_at item a) (lost ++ faulted_at item a) items answers (turn_written g old now turns.0 batches lost item a was turns.1) turns.2))
 
 -- the tables of a World that works show its rows
 over_at : {S : Type 0} (g : Ghosts S) (known : Bool) (world : World S) (stand : Stand) (tables : Tables) → IsTrue known → StandsAt g known world stand → HasCleanDisk (store_of g world) → Rests (store_of g world) tables → StandsOver g world tables
@@ -64,35 +79,46 @@ over_at g known world (StoreFailed s hand) tables sure at clean rests = record {
   shows = λ works. let no : true ≡ false = sym at.0 ∙ works in absurd cc;
 }
 
-keeps_rest : {S : Type 0} (g : Ghosts S) (known : Bool) (old new : World S) (stand : Stand) (batches : List Batch) → Written g old new batches → StandsAt g known old stand → IsTrue known → KeepsRest g old new batches
-keeps_rest g known old new stand batches it at sure clean works tables rests = it.written clean works tables (over_at g known old stand tables sure at (it.clean clean) rests)
+keeps_rest : {S : Type 0} (g : Ghosts S) (known : Bool) (old new : World S) (stand : Stand) (batches lost : List Batch) → Written g old new batches lost → StandsAt g known old stand → IsTrue known → KeepsRest g old new batches
+keeps_rest g known old new stand batches lost it at sure clean works tables rests = it.written clean works tables (over_at g known old stand tables sure at (it.clean clean) rests)
+
+-- a World that works shows its rows
+shows_at : {S : Type 0} (g : Ghosts S) (known : Bool) (world : World S) (stand : Stand) → IsTrue known → StandsAt g known world stand → world.failed ≡ false → ShowsItsRows g world
+shows_at g known world (Works s) sure at works = at.is_at.shown sure works
+shows_at g known world (Failed s) sure at works = at.1.shown sure works
+shows_at g known world (StoreFailed s hand) sure at works = let no : true ≡ false = sym at.0 ∙ works in absurd cc
+
+keeps_led : {S : Type 0} (g : Ghosts S) (known : Bool) (old new : World S) (stand : Stand) (batches lost : List Batch) → Written g old new batches lost → (old.failed ≡ false → IsGood old.rows.maps) → StandsAt g known old stand → IsTrue known → KeepsLed g old new batches lost
+keeps_led g known old new stand batches lost it good at sure clean works = it.led clean (shows_at g known old stand sure at works) (good works)
 
 -- ---- a whole text
 
 module _ {S : Type 0} (g : Ghosts S) (settled : (w : World S) → IsSettled (store_of g w)) where
-  pub applies : (old new : World S) (text before behind : Option (List ℕ)) (b l : ℕ) → Completes (RunsAndAnswers g) old new text before behind b l → (known : Bool) (stand : Stand) → StandsAt g known old stand → Applies g known stand text before behind old new b l
-  applies old new text before behind b l c known stand at =
+  pub applies : (old new : World S) (text before behind : Option (List ℕ)) (b l : ℕ) → (old.failed ≡ false → IsGood old.rows.maps) → Completes (RunsAndAnswers g) old new text before behind b l → (known : Bool) (stand : Stand) → StandsAt g known old stand → Applies g known stand text before behind old new b l
+  applies old new text before behind b l good c known stand at =
       let run = completes-follows (RunsAndAnswers g) RunsBatch (StandsAt g known) (λ old new stand batch a it one. one.stands known stand it) old new stand text before behind b l at c in
-      let wrote = turns_written g old old new [] (items c.given) c.answers (written_none g old) c.turns in
+      let wrote = turns_written g old old new [] [] (items c.given) c.answers (written_none g old (settled old)) c.turns in
       record {
         new = run.0;
         stands = run.1;
         completes = run.2;
         crash = crash_leaves g known new run.0 (settled new) run.1;
         clean = wrote.clean;
-        cells = keeps_rest g known old new stand (accepted (items c.given) c.answers) wrote at;
+        cells = keeps_rest g known old new stand (accepted (items c.given) c.answers) (faulted (items c.given) c.answers) wrote at;
+        led = keeps_led g known old new stand (accepted (items c.given) c.answers) (faulted (items c.given) c.answers) wrote good at;
       }
 
-  pub stops : (old new : World S) (text before behind : Option (List ℕ)) (fault : TextFault) → Halts (RunsAndAnswers g) old new text before behind fault → (known : Bool) (stand : Stand) → StandsAt g known old stand → StopsRun g known stand text before behind old new fault
-  stops old new text before behind fault h known stand at =
+  pub stops : (old new : World S) (text before behind : Option (List ℕ)) (fault : TextFault) → (old.failed ≡ false → IsGood old.rows.maps) → Halts (RunsAndAnswers g) old new text before behind fault → (known : Bool) (stand : Stand) → StandsAt g known old stand → StopsRun g known stand text before behind old new fault
+  stops old new text before behind fault good h known stand at =
       let run = halts-follows (RunsAndAnswers g) RunsBatch (StandsAt g known) (λ old new stand batch a it one. one.stands known stand it) old new stand text before behind fault at h in
-      let done = turns_written g old old h.mid [] h.done h.answers (written_none g old) h.turns in
-      let wrote = turns_written g old h.mid new (accepted h.done h.answers) h.hand h.last done h.in_hand in
+      let done = turns_written g old old h.mid [] [] h.done h.answers (written_none g old (settled old)) h.turns in
+      let wrote = turns_written g old h.mid new (accepted h.done h.answers) (faulted h.done h.answers) h.hand h.last done h.in_hand in
       record {
         new = run.0;
         stands = run.1;
         halts = run.2;
         crash = crash_leaves g known new run.0 (settled new) run.1;
         clean = wrote.clean;
-        cells = keeps_rest g known old new stand (accepted h.done h.answers ++ accepted h.hand h.last) wrote at;
+        cells = keeps_rest g known old new stand (accepted h.done h.answers ++ accepted h.hand h.last) (faulted h.done h.answers ++ faulted h.hand h.last) wrote at;
+        led = keeps_led g known old new stand (accepted h.done h.answers ++ accepted h.hand h.last) (faulted h.done h.answers ++ faulted h.hand h.last) wrote good at;
       }

@@ -306,6 +306,13 @@ runs_through g old now all count before replies r no_store p known stand it = re
   ends = no_store _ _ refl;
 }
 
+-- the next batch is that in hand, and others may follow
+pub next_in_hand : {S : Type 0} (g : Ghosts S) (old now : World S) (all : List Batch) (count : ℕ) (before replies : List Reply) (batch : Batch) → count < length all → batch ≡ get_or all count batch → Progress g old now all count before replies
+    → drop (length (added before replies)) all ≡ batch ∷ drop (suc count) all
+next_in_hand g old now all count before replies batch low is p =
+    let place : length (added before replies) ≡ count = ap length (added_is g old now all count before replies p) ∙ p.each in
+    ap (λ n. drop n all) place ∙ drop-cons all count batch low ∙ ap (λ b. b ∷ drop (suc count) all) (sym is)
+
 -- the batch in hand met a fault
 pub runs_stopped : {S : Type 0} (g : Ghosts S) (old now new : World S) (all : List Batch) (count : ℕ) (before replies : List Reply) (batch : Batch) (fault : StoreFault) → count < length all → batch ≡ get_or all count batch
     → (let r : Result Reply StoreFault = Err fault in FailsAtStore g now new r) → StandsBehind g now batch (answer_to (Err fault)) new → Progress g old now all count before replies
@@ -313,13 +320,12 @@ pub runs_stopped : {S : Type 0} (g : Ghosts S) (old now new : World S) (all : Li
 runs_stopped g old now new all count before replies batch (Store error) low is fails stands p known stand it =
     let done = p.turned known stand it in
     let one = stands known done.0 done.1 in
-    let place : length (added before replies) ≡ count = ap length (added_is g old now all count before replies p) ∙ p.each in
     record {
       mid = done.0;
       turns = turns_added g old now all count before replies p known stand it;
       new = one.0;
       stands = one.1;
-      ends = (batch, drop (suc count) all, ap (λ n. drop n all) place ∙ drop-cons all count batch low ∙ ap (λ b. b ∷ drop (suc count) all) (sym is), one.2);
+      ends = (batch, drop (suc count) all, next_in_hand g old now all count before replies batch low is p, one.2);
     }
 runs_stopped g old now new all count before replies batch (Damaged kind key) low is fails stands p known stand it = absurd fails
 runs_stopped g old now new all count before replies batch NewerVersion low is fails stands p known stand it = absurd fails

@@ -1,13 +1,15 @@
 -- What the accepted batches of a run leave of the tables, one after another.
-use Rattle.std.proofs.Common.{◌≡◌, ◌⊎◌, inl, inr, ℕ, ◌<◌, Bool, List, [], ◌∷◌, ◌++◌, append_assoc, drop, length, get_or, Result, Ok, Err, OnOk, OnErr, IfOk, IfErr, IsTrue, true, false, refl, sym, ap, subst, ◌∙◌, arith}
+use Rattle.std.proofs.Common.{◌≡◌, ◌⊎◌, inl, inr, ℕ, zero, suc, ◌<◌, ◌≤◌, Bool, List, [], ◌∷◌, ◌++◌, append_assoc, take, drop, length, get_or, Result, Ok, Err, OnOk, OnErr, IfOk, IfErr, IsTrue, true, false, refl, sym, ap, subst, ◌∙◌, arith}
 use Rattle.std.proofs.lemmas.List.{append-nil}
 use Rattle.std.proofs.Math.Seq.{drop-append_seam}
 use Rattle.std.specs.Prelude.{⊤}
-use Rattle.sqlite.specs.State.{HasCleanDisk}
+use Rattle.sqlite.specs.State.{State as Database, HasCleanDisk}
 use Rattle.sqlite.specs.Store.{Ghosts}
+use Rattle.sqlite.specs.Tree.{Trees}
 use Rattle.moo_rows.specs.Maps.{Maps}
 use Rattle.moo_tables.specs.Tables.{Tables}
 use Rattle.moo_tables.specs.Inside.{Rests, IsCurrent}
+use Rattle.moo_tables.proofs.InsideLemmas.{left_by as tables_left}
 use Rattle.moo_world.specs.declared.call.Batch.{Batch}
 use Rattle.moo_text.specs.declared.reply.Reply.{Reply}
 use Rattle.moo_text.specs.declared.reply.Reply.TheVariants as reply
@@ -17,10 +19,14 @@ use Rattle.moo_world.specs.Between.{BatchLeads}
 use Rattle.moo_world.specs.Judge.{State, Accepted, state_of, judge, left_by}
 use Rattle.moo_store.specs.Answered.{acknowledged, added}
 use Rattle.moo_cells.specs.Shows.{ShowsRows}
-use Rattle.moo_store.specs.World.{store_of, IsAt, MatchStore}
+use Rattle.moo_store.specs.World.{store_of, ShowsItsRows, IsAt, StandsFor, MatchStore}
+use Rattle.moo_store.specs.States.{KeepsRows, LeavesRows}
+use Rattle.moo_store.specs.Led.{BatchesLead, LeavesLed}
+use Rattle.moo_store.proofs.Crashes.{IsSettled, rows_at_rest}
 use Rattle.moo_store.specs.Kept.{World}
-use Rattle.moo_store.specs.Untouched.{KeepsCells, Writes, StandsOver, HasWritten, WritesOne, IsKnown, taken_of}
+use Rattle.moo_store.specs.Untouched.{KeepsCells, Writes, StandsOver, HasWritten, WritesOne, IsKnown, taken_of, lost_of}
 use Rattle.moo_store.proofs.Committed.{shown_by, current_by}
+use Rattle.moo_store.proofs.Numbered.{led-append, led_good, writes_led}
 use Rattle.moo_store.proofs.Running.{Progress, FailsAtStore}
 use Rattle.moo_store.specs.declared.fault.StoreFault.{StoreFault}
 use Rattle.moo_store.specs.declared.fault.StoreFault.TheVariants.{Store, Damaged, NewerVersion, OutOfMemory, Closed}
@@ -86,20 +92,22 @@ written_then g old mid new tables first second works shown was on =
     }
 
 -- a batch that isn't accepted writes nothing
-pub nothing_written : {S : Type 0} (g : Ghosts S) (old : World S) (batch : Batch) (r : Result Reply StoreFault) → taken_of batch r ≡ [] → WritesOne g old old batch r
-nothing_written g old batch r none = record {
+pub nothing_written : {S : Type 0} (g : Ghosts S) (old : World S) (batch : Batch) (r : Result Reply StoreFault) → IsSettled (store_of g old) → (old.failed ≡ false → IsGood old.rows.maps) → taken_of batch r ≡ [] → WritesOne g old old batch r
+nothing_written g old batch r settled good none = record {
   clean = λ c. c;
   written = λ c known tables over. subst (HasWritten g old old tables) (sym none) (none_written g old tables over);
+  led = λ clean shown works trees lies. (0, omega arith, old.rows.maps, good works, subst (λ done. BatchesLead (done ++ []) old.rows.maps old.rows.maps) (sym none) refl, rows_at_rest (store_of g old) old.rows.maps settled (shown clean) trees lies);
 }
 
 -- an accepted batch writes its changes, or the store failed and nothing is written
-pub accepted_writes : {S : Type 0} (g : Ghosts S) (old new : World S) (batch : Batch) (answers : List Value) (seq : ℕ) (next : Maps) (r : Result Reply StoreFault) → old.failed ≡ false → IsGood next → BatchLeads batch old.rows.maps next
+pub accepted_writes : {S : Type 0} (g : Ghosts S) (old new : World S) (batch : Batch) (answers : List Value) (seq : ℕ) (next : Maps) (r : Result Reply StoreFault) → old.failed ≡ false → IsGood old.rows.maps → IsGood next → BatchLeads batch old.rows.maps next
     → judge (state_of old.rows.maps) batch ≡ Accepted answers (state_of next)
     → IfOk r (λ r. r ≡ reply.Accepted seq answers) → OnOk r (new.failed ≡ false → new.rows.maps ≡ next)
     → OnOk r ((tables : Tables) → HasCleanDisk (store_of g new) → Rests (store_of g old) tables → IsCurrent tables → ShowsRows tables old.rows.maps → (after : Tables) × Rests (store_of g new) after × KeepsCells old.rows.maps next tables after)
     → OnErr r (HasCleanDisk (store_of g new) → IsTrue (store_of g new).is_open → (tables : Tables) → Rests (store_of g old) tables → IsCurrent tables → Rests (store_of g new) tables)
-    → (HasCleanDisk (store_of g new) → HasCleanDisk (store_of g old)) → IfErr r (λ fault. (error : _) × (fault ≡ Store error)) → OnErr r (new.failed ≡ true) → WritesOne g old new batch r
-accepted_writes g old new batch answers seq next (Ok reply) works good leads judged is rows cells undone clean fault failed = record {
+    → (HasCleanDisk (store_of g new) → HasCleanDisk (store_of g old)) → IfErr r (λ fault. (error : _) × (fault ≡ Store error)) → OnErr r (new.failed ≡ true)
+    → IsSettled (store_of g new) → OnErr r (ShowsItsRows g old → HasCleanDisk (store_of g new) → (trees : Trees) → (store_of g new).may_leave trees → LeavesRows trees old.rows.maps ⊎ LeavesRows trees next) → WritesOne g old new batch r
+accepted_writes g old new batch answers seq next (Ok reply) works sound good leads judged is rows cells undone clean fault failed settled crash = record {
   clean = clean;
   written = λ c known tables over.
       let it = cells tables c over.rests (over.current works) (over.shows works) in
@@ -111,8 +119,18 @@ accepted_writes g old new batch answers seq next (Ok reply) works good leads jud
         writes = subst (λ x. Writes old.rows.maps tables (acknowledged (batch ∷ []) (x ∷ [])) next it.0) (sym is) (next, it.0, good, leads, sym (ap (left_by (state_of old.rows.maps)) judged), it.2, (refl, refl));
         rows = rows;
       };
+  led = λ c shown on trees lies.
+      let was = shown (clean c) in
+      let it = cells was.tables c was.rests was.current was.shows in (
+        0,
+        omega arith,
+        next,
+        good,
+        subst (λ x. BatchesLead (acknowledged (batch ∷ []) (x ∷ []) ++ []) old.rows.maps next) (sym is) (next, good, leads, sym (ap (left_by (state_of old.rows.maps)) judged), refl),
+        rows_at_rest (store_of g new) next settled (record { tables = it.0; rests = it.1; current = it.2.version ∙ was.current; shows = it.2.shows }) trees lies,
+      );
 }
-accepted_writes g old new batch answers seq next (Err (Store error)) works good leads judged is rows cells undone clean fault failed = record {
+accepted_writes g old new batch answers seq next (Err (Store error)) works sound good leads judged is rows cells undone clean fault failed settled crash = record {
   clean = clean;
   written = λ c opened tables over. record {
     end = old.rows.maps;
@@ -122,11 +140,15 @@ accepted_writes g old new batch answers seq next (Err (Store error)) works good 
     writes = (refl, refl);
     rows = λ on. let no : true ≡ false = sym failed ∙ on in absurd cc;
   };
+  led = λ c shown on trees lies. elim (crash shown c trees lies) [
+    | inl was ↦ (0, omega arith, old.rows.maps, sound, refl, was)
+    | inr late ↦ (1, omega arith, next, good, (next, good, leads, sym (ap (left_by (state_of old.rows.maps)) judged), refl), late)
+  ];
 }
-accepted_writes g old new batch answers seq next (Err (Damaged kind key)) works good leads judged is rows cells undone clean fault failed = let no : (Damaged kind key) ≡ Store fault.0 = fault.1 in absurd cc
-accepted_writes g old new batch answers seq next (Err NewerVersion) works good leads judged is rows cells undone clean fault failed = let no : NewerVersion ≡ Store fault.0 = fault.1 in absurd cc
-accepted_writes g old new batch answers seq next (Err OutOfMemory) works good leads judged is rows cells undone clean fault failed = let no : OutOfMemory ≡ Store fault.0 = fault.1 in absurd cc
-accepted_writes g old new batch answers seq next (Err Closed) works good leads judged is rows cells undone clean fault failed = let no : Closed ≡ Store fault.0 = fault.1 in absurd cc
+accepted_writes g old new batch answers seq next (Err (Damaged kind key)) works sound good leads judged is rows cells undone clean fault failed settled crash = let no : (Damaged kind key) ≡ Store fault.0 = fault.1 in absurd cc
+accepted_writes g old new batch answers seq next (Err NewerVersion) works sound good leads judged is rows cells undone clean fault failed settled crash = let no : NewerVersion ≡ Store fault.0 = fault.1 in absurd cc
+accepted_writes g old new batch answers seq next (Err OutOfMemory) works sound good leads judged is rows cells undone clean fault failed settled crash = let no : OutOfMemory ≡ Store fault.0 = fault.1 in absurd cc
+accepted_writes g old new batch answers seq next (Err Closed) works sound good leads judged is rows cells undone clean fault failed settled crash = let no : Closed ≡ Store fault.0 = fault.1 in absurd cc
 
 -- an accepted batch is acknowledged, unless the store failed
 pub accepted_is_taken : {S : Type 0} (old new : World S) (batch : Batch) (answers : List Value) (seq : ℕ) (r : Result Reply StoreFault)
@@ -138,37 +160,94 @@ accepted_is_taken old new batch answers seq (Err NewerVersion) is fault none = l
 accepted_is_taken old new batch answers seq (Err OutOfMemory) is fault none = let no : OutOfMemory ≡ Store fault.0 = fault.1 in absurd cc
 accepted_is_taken old new batch answers seq (Err Closed) is fault none = let no : Closed ≡ Store fault.0 = fault.1 in absurd cc
 
+-- ---- the rows that a crash leaves
+
+-- the tables that show a World's rows
+shown_over : {S : Type 0} (g : Ghosts S) (old : World S) (it : KeepsRows (store_of g old) old.rows.maps) → StandsOver g old it.tables
+shown_over g old it = record { rests = it.rests; current = λ _. it.current; shows = λ _. it.shows }
+
+-- what was written at rest
+pub led_at_rest : {S : Type 0} (g : Ghosts S) (old now : World S) (batches others : List Batch) → IsSettled (store_of g now) → HasCleanDisk (store_of g old) → ShowsItsRows g old → IsGood old.rows.maps
+    → ((tables : Tables) → StandsOver g old tables → HasWritten g old now tables batches) → LeavesLed (store_of g now) old.rows.maps batches others
+led_at_rest g old now batches others settled clean shown good written trees lies =
+    let it = shown clean in
+    let was = written it.tables (shown_over g old it) in
+    let led = writes_led old.rows.maps it.tables batches was.end was.after was.writes in (
+      0,
+      omega arith,
+      was.end,
+      led_good old.rows.maps batches was.end led good,
+      subst (λ bs. BatchesLead bs old.rows.maps was.end) (sym (append-nil batches)) led,
+      record { tables = was.after; leaves = tables_left (store_of g now) was.after trees was.rests (settled trees was.rests.is_open lies); shows = writes-show old.rows.maps it.tables batches was.end was.after was.writes it.shows },
+    )
+
+-- what was written, and then, from a World that works, what is led to on
+pub led_then : {S : Type 0} (g : Ghosts S) (old now next : World S) (first second others : List Batch) → now.failed ≡ false → HasCleanDisk (store_of g old) → ShowsItsRows g old
+    → ((tables : Tables) → StandsOver g old tables → HasWritten g old now tables first) → (ShowsItsRows g now → LeavesLed (store_of g next) now.rows.maps second others)
+    → LeavesLed (store_of g next) old.rows.maps (first ++ second) others
+led_then g old now next first second others works clean shown written on trees lies =
+    let it = shown clean in
+    let was = written it.tables (shown_over g old it) in
+    let rows = was.rows works in
+    let shows : ShowsRows was.after now.rows.maps = subst (ShowsRows was.after) (sym rows) (writes-show old.rows.maps it.tables first was.end was.after was.writes it.shows) in
+    let led = writes_led old.rows.maps it.tables first was.end was.after was.writes in
+    let here = on (λ _. record { tables = was.after; rests = was.rests; current = was.current works; shows = shows }) trees lies in (
+      here.0,
+      here.1,
+      here.2,
+      here.3,
+      subst (λ bs. BatchesLead bs old.rows.maps here.2) (sym (append_assoc first second (take here.0 others)))
+          (led-append old.rows.maps first was.end (second ++ take here.0 others) here.2 led (subst (λ m. BatchesLead (second ++ take here.0 others) m here.2) rows here.4)),
+      here.5,
+    )
+
 -- ---- what a World has written since an earlier moment, one batch after another
 
--- these batches; where the World has failed, this is known while its connection is open
-pub record Written {S : Type 0} (g : Ghosts S) (old now : World S) (batches : List Batch) : Type 0 where
+-- these batches, and the store failed in the others; if the World has failed, what was written is known while its connection is open
+pub record Written {S : Type 0} (g : Ghosts S) (old now : World S) (batches lost : List Batch) : Type 0 where
   pub clean : HasCleanDisk (store_of g now) → HasCleanDisk (store_of g old)
   pub works : now.failed ≡ false → old.failed ≡ false
+  pub none : now.failed ≡ false → lost ≡ []
   pub written : HasCleanDisk (store_of g now) → (now.failed ≡ false) ⊎ IsTrue (store_of g now).is_open → (tables : Tables) → StandsOver g old tables → HasWritten g old now tables batches
+  pub led : HasCleanDisk (store_of g now) → ShowsItsRows g old → IsGood old.rows.maps → LeavesLed (store_of g now) old.rows.maps batches lost
 
-pub written_none : {S : Type 0} (g : Ghosts S) (old : World S) → Written g old old []
-written_none g old = record { clean = λ c. c; works = λ works. works; written = λ c known tables over. none_written g old tables over }
+pub written_none : {S : Type 0} (g : Ghosts S) (old : World S) → IsSettled (store_of g old) → Written g old old [] []
+written_none g old settled = record {
+  clean = λ c. c;
+  works = λ works. works;
+  none = λ works. refl;
+  written = λ c known tables over. none_written g old tables over;
+  led = λ c shown good. led_at_rest g old old [] [] settled c shown good (none_written g old);
+}
 
 -- one more batch was run
-pub written_on : {S : Type 0} (g : Ghosts S) (old now next : World S) (batches : List Batch) (batch : Batch) (r : Result Reply StoreFault)
-    → Written g old now batches → FailsAtStore g now next r → WritesOne g now next batch r → Written g old next (batches ++ taken_of batch r)
-written_on g old now next batches batch (Ok reply) was works one = record {
-  clean = λ c. was.clean (one.clean c);
-  works = λ _. was.works works;
-  written = λ c known tables over. written_then g old now next tables batches (taken_of batch (Ok reply)) works (over.shows (was.works works)) (was.written (one.clean c) (inl works) tables over) (one.written c tt);
-}
-written_on g old now next batches batch (Err (Store error)) was fails one = record {
+pub written_on : {S : Type 0} (g : Ghosts S) (old now next : World S) (batches lost : List Batch) (batch : Batch) (r : Result Reply StoreFault)
+    → Written g old now batches lost → FailsAtStore g now next r → WritesOne g now next batch r → Written g old next (batches ++ taken_of batch r) (lost ++ lost_of batch r)
+written_on g old now next batches lost batch (Ok reply) was works one =
+    record {
+      clean = λ c. was.clean (one.clean c);
+      works = λ _. was.works works;
+      none = λ on. append-nil lost ∙ was.none works;
+      written = λ c known tables over. written_then g old now next tables batches (taken_of batch (Ok reply)) works (over.shows (was.works works)) (was.written (one.clean c) (inl works) tables over) (one.written c tt);
+      led = λ c shown good. subst (LeavesLed (store_of g next) old.rows.maps (batches ++ taken_of batch (Ok reply))) (sym (append-nil lost ∙ was.none works))
+          (led_then g old now next batches (taken_of batch (Ok reply)) [] works (was.clean (one.clean c)) shown (was.written (one.clean c) (inl works)) (λ shows. one.led c shows works));
+    }
+written_on g old now next batches lost batch (Err (Store error)) was fails one = record {
   clean = λ c. was.clean (one.clean c);
   works = λ _. was.works fails.0;
+  none = λ on. let no : true ≡ false = sym fails.1 ∙ on in absurd cc;
   written = λ c known tables over. elim known [
     | inl works ↦ (let no : true ≡ false = sym fails.1 ∙ works in absurd cc)
     | inr opened ↦ written_then g old now next tables batches [] fails.0 (over.shows (was.works fails.0)) (was.written (one.clean c) (inl fails.0) tables over) (one.written c opened)
   ];
+  led = λ c shown good. subst (λ none. LeavesLed (store_of g next) old.rows.maps (batches ++ []) (none ++ batch ∷ [])) (sym (was.none fails.0))
+      (led_then g old now next batches [] (batch ∷ []) fails.0 (was.clean (one.clean c)) shown (was.written (one.clean c) (inl fails.0)) (λ shows. one.led c shows fails.0));
 }
-written_on g old now next batches batch (Err (Damaged kind key)) was fails one = absurd fails
-written_on g old now next batches batch (Err NewerVersion) was fails one = absurd fails
-written_on g old now next batches batch (Err OutOfMemory) was fails one = absurd fails
-written_on g old now next batches batch (Err Closed) was fails one = subst (λ w. Written g old w (batches ++ [])) (sym fails.1) (subst (Written g old now) (sym (append-nil batches)) was)
+written_on g old now next batches lost batch (Err (Damaged kind key)) was fails one = absurd fails
+written_on g old now next batches lost batch (Err NewerVersion) was fails one = absurd fails
+written_on g old now next batches lost batch (Err OutOfMemory) was fails one = absurd fails
+written_on g old now next batches lost batch (Err Closed) was fails one =
+    subst (λ w. Written g old w (batches ++ []) (lost ++ [])) (sym fails.1) (subst (Written g old now (batches ++ [])) (sym (append-nil lost)) (subst (λ bs. Written g old now bs lost) (sym (append-nil batches)) was))
 
 -- ---- a list of batches
 
@@ -226,6 +305,39 @@ same_stopped T g old now new all replies (Damaged kind key) it fails none = absu
 same_stopped T g old now new all replies NewerVersion it fails none = absurd fails
 same_stopped T g old now new all replies OutOfMemory it fails none = absurd fails
 same_stopped T g old now new all replies Closed it fails none = fails.1 ∙ it.same none
+
+-- ---- the rows that a crash leaves of a list of batches
+
+-- a World that is at a state shows its rows
+pub led_over : {S : Type 0} (g : Ghosts S) (old now : World S) (s : State) (all : List Batch) (replies : List Reply) (others : List Batch) → IsSettled (store_of g now) → StandsFor g true old s → IsGood old.rows.maps
+    → Wrote g old now all replies → HasCleanDisk (store_of g now) → LeavesLed (store_of g now) old.rows.maps (acknowledged all replies) others
+led_over g old now s all replies others settled at good it clean = led_at_rest g old now (acknowledged all replies) others settled (it.clean clean) (at.is_at.shown refl at.works) good (it.written clean)
+
+-- at most one more
+take_first : (more : ℕ) (batch : Batch) (left : List Batch) → more ≤ 1 → take more (batch ∷ []) ≡ take more (batch ∷ left)
+take_first zero batch left low = refl
+take_first (suc zero) batch left low = refl
+take_first (suc (suc n)) batch left low = absurd (omega (arith, low))
+
+with_others : (store : Database) (rows : Maps) (batches : List Batch) (batch : Batch) (left : List Batch) → LeavesLed store rows batches (batch ∷ []) → LeavesLed store rows batches (batch ∷ left)
+with_others store rows batches batch left led trees lies =
+    let it = led trees lies in
+    (it.0, it.1, it.2, it.3, subst (λ one. BatchesLead (batches ++ one) rows it.2) (take_first it.0 batch left it.1) it.4, it.5)
+
+-- the batch in hand met a fault
+pub led_stopped : {S : Type 0} (g : Ghosts S) (old now new : World S) (s : State) (all : List Batch) (replies : List Reply) (batch : Batch) (left : List Batch) (fault : StoreFault) → IsSettled (store_of g new) → StandsFor g true old s → IsGood old.rows.maps
+    → Wrote g old now all replies → (let r : Result Reply StoreFault = Err fault in FailsAtStore g now new r) → WritesOne g now new batch (Err fault)
+    → HasCleanDisk (store_of g new) → LeavesLed (store_of g new) old.rows.maps (acknowledged all replies) (batch ∷ left)
+led_stopped g old now new s all replies batch left (Store error) settled at good it fails one clean =
+    with_others (store_of g new) old.rows.maps (acknowledged all replies) batch left
+    (subst (λ bs. LeavesLed (store_of g new) old.rows.maps bs (batch ∷ [])) (append-nil (acknowledged all replies))
+    (led_then g old now new (acknowledged all replies) [] (batch ∷ []) fails.0 (it.clean (one.clean clean)) (at.is_at.shown refl at.works) (it.written (one.clean clean)) (λ shows. one.led clean shows fails.0)))
+led_stopped g old now new s all replies batch left (Damaged kind key) settled at good it fails one clean = absurd fails
+led_stopped g old now new s all replies batch left NewerVersion settled at good it fails one clean = absurd fails
+led_stopped g old now new s all replies batch left OutOfMemory settled at good it fails one clean = absurd fails
+led_stopped g old now new s all replies batch left Closed settled at good it fails one clean =
+    let same : now ≡ new = sym fails.1 in
+    led_over g old new s all replies (batch ∷ left) settled at good (subst (λ w. Wrote g old w all replies) same it) clean
 
 -- ---- the replies that a run added
 

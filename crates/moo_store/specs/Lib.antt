@@ -5,6 +5,7 @@ pub mod Answered
 pub mod Stand
 pub mod World
 pub mod Turns
+pub mod Led
 pub mod Untouched
 pub mod Text
 pub mod Opening

@@ -1,11 +1,13 @@
 -- What is found by opening again what a crash left.
 use Rattle.std.specs.Prelude.{◌≡◌, ℕ, ◌≤◌, List, [], ◌∷◌, ◌++◌, take, drop, length, true}
 use Rattle.sqlite.specs.Store.{Ghosts}
+use Rattle.moo_rows.specs.Maps.{Maps}
 use Rattle.moo_world.specs.declared.call.Batch.{Batch}
 use Rattle.moo_world.specs.Judge.{State, after}
 use Rattle.moo_text.specs.declared.reply.Reply.{Reply}
 use Rattle.moo_store.specs.Answered.{acknowledged}
 use Rattle.moo_store.specs.Kept.{World}
+use Rattle.moo_store.specs.Led.{BatchesLead}
 use Rattle.moo_store.specs.World.{StandsFor}
 
 -- the batches that were acknowledged, and the first `more` of those that have no reply
@@ -17,6 +19,13 @@ pub record HoldsAcknowledged {S : Type 0} (g : Ghosts S) (world : World S) (s : 
   pub more : ℕ
   pub at_most_one : more ≤ 1
   pub stands : StandsFor g true world (after s (kept_of batches replies more))
+
+-- The rows found are those that every acknowledged batch and at most one more, the next one, lead to from the rows before: a property,
+-- a verb or a petition that stays has the number that it had, and no new one has a number that was given before.
+pub record AreLedTo (rows found : Maps) (batches : List Batch) (replies : List Reply) : Type 0 where
+  pub more : ℕ
+  pub at_most_one : more ≤ 1
+  pub led : BatchesLead (kept_of batches replies more) rows found
 
 -- Several runs, each from what the opening after the one before found: the batches that each was given, and its replies.
 abbrev pub RunsInParts : State → List (List Batch × List Reply) → State → Type 0

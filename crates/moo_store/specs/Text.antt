@@ -20,6 +20,7 @@ use Rattle.moo_store.specs.Kept.{World}
 use Rattle.moo_store.specs.World.{store_of, CrashLeaves, StandsAt, MatchStore}
 use Rattle.moo_store.specs.Stand.{Stand, RunsBatch}
 use Rattle.moo_store.specs.Turns.{Turns, Completes, Halts}
+use Rattle.moo_store.specs.Led.{LeavesLed}
 use Rattle.moo_store.specs.Untouched.{HasWritten, WritesOne}
 use Rattle.moo_store.specs.declared.fault.StoreFault.{StoreFault}
 use Rattle.moo_store.specs.declared.fault.StoreFault.TheVariants.{Store, OutOfMemory, Closed}
@@ -68,6 +69,21 @@ abbrev pub KeepsRest : {S : Type 0} (g : Ghosts S) → World S → World S → L
 KeepsRest g was world batches =
     HasCleanDisk (store_of g world) → (world.failed ≡ false) ⊎ IsTrue (store_of g world).is_open → (tables : Tables) → Rests (store_of g was) tables → HasWritten g was world tables batches
 
+-- the batch of an item, if the store failed in it
+abbrev pub faulted_at : Next → Answer → List Batch
+faulted_at (Whole batch) answer.Fault = batch ∷ []
+faulted_at item a = []
+
+-- the batches among these items in which the store failed: at most one, since it closes the World
+abbrev pub faulted : List Next → List Answer → List Batch
+faulted (item ∷ items) (a ∷ answers) = faulted_at item a ++ faulted items answers
+faulted items answers = []
+
+-- If the disk returns what was written, and the World worked before: whatever a crash leaves shows rows that these batches lead to from
+-- its rows, or these and one of the others.
+abbrev pub KeepsLed : {S : Type 0} (g : Ghosts S) → World S → World S → List Batch → List Batch → Type 0
+KeepsLed g was world batches others = HasCleanDisk (store_of g world) → was.failed ≡ false → LeavesLed (store_of g world) was.rows.maps batches others
+
 -- The text was run to its end.
 pub record Applies {S : Type 0} (g : Ghosts S) (known : Bool) (old : Stand) (text before behind : Option (List ℕ)) (was world : World S) (batches lost : ℕ) : Type 0 where
   pub new : Stand
@@ -77,6 +93,8 @@ pub record Applies {S : Type 0} (g : Ghosts S) (known : Bool) (old : Stand) (tex
   pub clean : HasCleanDisk (store_of g world) → HasCleanDisk (store_of g was)
   -- in the tables, each acknowledged batch keeps the cells of the rows that it leaves as they are
   pub cells : IsTrue known → KeepsRest g was world (accepted (items completes.given) completes.answers)
+  -- a crash leaves rows that the acknowledged batches lead to, with all numbers kept, or these and the batch in which the store failed
+  pub led : IsTrue known → KeepsLed g was world (accepted (items completes.given) completes.answers) (faulted (items completes.given) completes.answers)
 
 -- The run of the text stopped.
 pub record StopsRun {S : Type 0} (g : Ghosts S) (known : Bool) (old : Stand) (text before behind : Option (List ℕ)) (was world : World S) (fault : TextFault) : Type 0 where
@@ -86,6 +104,7 @@ pub record StopsRun {S : Type 0} (g : Ghosts S) (known : Bool) (old : Stand) (te
   pub crash : IsTrue known → HasCleanDisk (store_of g world) → CrashLeaves (store_of g world) new
   pub clean : HasCleanDisk (store_of g world) → HasCleanDisk (store_of g was)
   pub cells : IsTrue known → KeepsRest g was world (accepted halts.done halts.answers ++ accepted halts.hand halts.last)
+  pub led : IsTrue known → KeepsLed g was world (accepted halts.done halts.answers ++ accepted halts.hand halts.last) (faulted halts.done halts.answers ++ faulted halts.hand halts.last)
 
 -- ---- if memory doesn't run out and no fault comes
 

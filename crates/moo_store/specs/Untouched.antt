@@ -17,9 +17,11 @@ use Rattle.moo_world.specs.Judge.{state_of}
 use Rattle.moo_text.specs.declared.reply.Reply.{Reply}
 use Rattle.moo_store.specs.Answered.{state_behind, acknowledged}
 use Rattle.moo_cells.specs.Shows.{ShowsRows}
-use Rattle.moo_store.specs.World.{store_of, MatchStore}
+use Rattle.moo_store.specs.World.{store_of, ShowsItsRows, MatchStore}
+use Rattle.moo_store.specs.Led.{LeavesLed}
 use Rattle.moo_store.specs.Kept.{World}
 use Rattle.moo_store.specs.declared.fault.StoreFault.{StoreFault}
+use Rattle.moo_store.specs.declared.fault.StoreFault.TheVariants.{Store}
 
 -- From rows that the tables show to rows that the tables then show: if a row is the same in both, so are its cells.
 pub record KeepsCells (rows next : Maps) (old new : Tables) : Type 0 where
@@ -59,6 +61,12 @@ pub record StandsOver {S : Type 0} (g : Ghosts S) (world : World S) (tables : Ta
   pub current : world.failed ≡ false → IsCurrent tables
   pub shows : world.failed ≡ false → ShowsRows tables world.rows.maps
 
+-- the batch, if the store failed in it
+abbrev pub lost_of : Batch → Result Reply StoreFault → List Batch
+lost_of batch (Ok reply) = []
+lost_of batch (Err (Store error)) = batch ∷ []
+lost_of batch (Err fault) = []
+
 -- if the store failed, its connection is still open
 abbrev pub IsKnown : {T : Type 0} → Database → Result T StoreFault → Type 0
 IsKnown store r = MatchStore r ⊤ (IsTrue store.is_open)
@@ -67,3 +75,5 @@ IsKnown store r = MatchStore r ⊤ (IsTrue store.is_open)
 pub record WritesOne {S : Type 0} (g : Ghosts S) (old new : World S) (batch : Batch) (r : Result Reply StoreFault) : Type 0 where
   pub clean : HasCleanDisk (store_of g new) → HasCleanDisk (store_of g old)
   pub written : HasCleanDisk (store_of g new) → IsKnown (store_of g new) r → (tables : Tables) → StandsOver g old tables → HasWritten g old new tables (taken_of batch r)
+  -- a crash leaves the rows that an accepted batch led to; if the store failed, those before the batch or those that it leads to
+  pub led : HasCleanDisk (store_of g new) → ShowsItsRows g old → old.failed ≡ false → LeavesLed (store_of g new) old.rows.maps (taken_of batch r) (lost_of batch r)

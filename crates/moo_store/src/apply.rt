@@ -44,5 +44,6 @@ pub fn apply_text<R: Read + Drop, W: Write, S: Alter + Drop, N: Notes>(
     ensures stops { IfErr result (λ fault. (known : Bool) (stand : Stand) → StandsAt S.Store known world.old stand →
         StopsRun S.Store known stand (R.remaining reader) (W.contents writer.old) (W.contents writer.new) world.old world.new fault) }
 {
+    world.has_good_rows();
     answer_all(alloc, reader, writer, world, notes)
 }

@@ -11,6 +11,7 @@ ghost use Rattle.moo_tables.specs.Tables.{Tables};
 ghost use Rattle.moo_world.specs.Judge.{State, after};
 ghost use Rattle.moo_world.specs.Numbers.{NumbersStay};
 ghost use Rattle.moo_world.specs.Requests.{PetitionsStay, state_of};
+ghost use Rattle.moo_store.specs.Led.{BatchesLead};
 ghost use Rattle.moo_store.specs.Untouched.{Writes};
 ghost use Rattle.moo_store.specs.Answered.{Answered, acknowledged};
 ghost use Rattle.moo_store.specs.Stand.{Stand, state_at, RunsBatch, AsksBatch};
@@ -32,6 +33,18 @@ pub fn runs_join()
 pub fn written_batches_keep_numbers()
     ensures numbers { (rows end : Maps) (tables after : Tables) (batches : List Batch) → Writes rows tables batches end after → NumbersStay rows end }
     ensures petitions { (rows end : Maps) (tables after : Tables) (batches : List Batch) → Writes rows tables batches end after → PetitionsStay (state_of rows) (state_of end) }
+{}
+
+/// So it is in the rows that are found after a stop. Their state is that after the batches.
+pub fn led_batches_keep_numbers()
+    ensures numbers { (rows end : Maps) (batches : List Batch) → BatchesLead batches rows end → NumbersStay rows end }
+    ensures petitions { (rows end : Maps) (batches : List Batch) → BatchesLead batches rows end → PetitionsStay (state_of rows) (state_of end) }
+    ensures state { (rows end : Maps) (batches : List Batch) → BatchesLead batches rows end → state_of end ≡ after (state_of rows) batches }
+{}
+
+/// Batches that lead on from where others led join to one list.
+pub fn led_batches_join()
+    ensures { (rows mid end : Maps) (first second : List Batch) → BatchesLead first rows mid → BatchesLead second mid end → BatchesLead (first ++ second) rows end }
 {}
 
 /// The state after a text is that after its acknowledged batches.

@@ -52,10 +52,11 @@ impl<S: Alter + Drop> World<S> {
     ghost use Rattle.moo_draft.specs.Changes.{AreChanges};
     ghost use Rattle.moo_store.specs.Printed.{Prints};
     ghost use Rattle.moo_cells.specs.Shows.{ShowsRows};
-    ghost use Rattle.moo_store.specs.States.{LeavesState};
+    ghost use Rattle.moo_store.specs.States.{LeavesRows};
     ghost use Rattle.moo_store.specs.Answered.{answer_of, IsRun, AnsweredOne, Answered, acknowledged, added};
     ghost use Rattle.moo_tables.specs.Tables.{Tables};
     ghost use Rattle.moo_tables.specs.Inside.{Rests, IsCurrent};
+    ghost use Rattle.moo_store.specs.Led.{LeavesLed};
     ghost use Rattle.moo_store.specs.Untouched.{KeepsCells, WritesOne, HasWritten, IsKnown, taken_of};
     ghost use Rattle.moo_store.specs.Stand.{Stand};
     ghost use Rattle.moo_store.specs.Text.{answer_to, StandsBehind, RunsAll};
@@ -99,7 +100,7 @@ impl<S: Alter + Drop> World<S> {
         ensures clean { HasCleanDisk (store_of S.Store self.new) → HasCleanDisk (store_of S.Store self.old) }
         ensures fault { IfErr result (λ fault. (error : _) × (fault ≡ Store error)) }
         ensures failed { OnErr result (self.new.failed ≡ true) }
-        ensures crash { OnErr result ((next : Maps) → ShowsItsRows S.Store self.old → AreChanges self.old.rows.maps next changes → IsGood next → HasCleanDisk (store_of S.Store self.new) → (trees : _) → (store_of S.Store self.new).may_leave trees → LeavesState trees (state_of self.old.rows.maps) ⊎ LeavesState trees (state_of next)) }
+        ensures crash { OnErr result ((next : Maps) → ShowsItsRows S.Store self.old → AreChanges self.old.rows.maps next changes → HasCleanDisk (store_of S.Store self.new) → (trees : _) → (store_of S.Store self.new).may_leave trees → LeavesRows trees self.old.rows.maps ⊎ LeavesRows trees next) }
     {
         if let Err(error) = commit_cells(&mut self.connection, cells) {
             self.failed = true;
@@ -176,6 +177,11 @@ impl<S: Alter + Drop> World<S> {
         ensures cells { (s : _) → IsAt S.Store true self.old s → HasCleanDisk (store_of S.Store self.new) → IsKnown (store_of S.Store self.new) result → (tables : Tables) → Rests (store_of S.Store self.old) tables →
             HasWritten S.Store self.old self.new tables (acknowledged batches.now (added replies.old.items replies.new.items)) }
 
+        // A crash leaves rows that the acknowledged batches lead to, or these and the batch in hand, with all numbers kept.
+        ensures led { (s : _) → StandsFor S.Store true self.old s → HasCleanDisk (store_of S.Store self.new) →
+            let new = added replies.old.items replies.new.items in
+            LeavesLed (store_of S.Store self.new) self.old.rows.maps (acknowledged batches.now new) (drop (length new) batches.now) }
+
         // Batches of which none is acknowledged change nothing.
         ensures same { acknowledged batches.now (added replies.old.items replies.new.items) ≡ [] → MatchStore result (self.new ≡ self.old) ⊤ }
 
@@ -227,6 +233,13 @@ impl<S: Alter + Drop> World<S> {
     /// A World that works and whose tables show its rows stands for their world. The call does nothing; its contract is what it is for.
     pub fn stands(&self)
         ensures { (known : Bool) → self.now.failed ≡ false → (IsTrue known → ShowsItsRows S.Store self.now) → StandsFor S.Store known self.now (state_of self.now.rows.maps) }
+    {
+        let _failed = self.failed;
+    }
+
+    /// The rows of a World that works are good. The call does nothing; its contract is what it is for.
+    pub(crate) fn has_good_rows(&self)
+        ensures { self.now.failed ≡ false → IsGood self.now.rows.maps }
     {
         let _failed = self.failed;
     }

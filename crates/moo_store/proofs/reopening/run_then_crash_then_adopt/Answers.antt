@@ -8,8 +8,8 @@ use Rattle.moo_store.specs.Answered.{added}
 use Rattle.moo_store.specs.Opening.{IsOfStore, Adopts}
 use Rattle.moo_store.specs.World.{store_of, StandsFor}
 use Rattle.moo_store.specs.Reopened.{HoldsAcknowledged}
-use Rattle.moo_store.proofs.AdoptLemmas.{both_ok, both_err}
-use Rattle.moo_store.proofs.HeadlineLemmas.{leaves_one, found, holds}
+use Rattle.moo_store.proofs.AdoptLemmas.{on_both_ok, both_ok, both_err}
+use Rattle.moo_store.proofs.HeadlineLemmas.{leaves_one, found, holds, led_to}
 use Rattle.moo_store.proofs.reopening.run_then_crash_then_adopt.Goals as goal
 
 pub returns-in-Some-clause-reopened : goal.returns-in-Some-clause-reopened
@@ -25,6 +25,15 @@ returns-in-Some-clause-reopened g c s it =
     let left = leaves_one g.S.Store c.run-stopped.new.self c.run-stopped.result _ _ (c.run-stopped.ensures.world true s it.is_at) (c.run-stopped.ensures.left s it.is_at) may.was_clean in
     let f = found (store_of g.S.Store c.run-stopped.new.self) opened s batches new left may in
     holds g.S.Store opened again s batches new f (stands _ f.shows clean))
+
+pub returns-in-Some-clause-numbers : goal.returns-in-Some-clause-numbers
+returns-in-Some-clause-numbers g c s it =
+    let opened = state g.S.Store c.in-Some.found in
+    let new = added c.args.replies.now.items c.run-stopped.new.replies.items in
+    on_both_ok _ _ _ c.adopt.result (λ again survives shown clean.
+    let early = clean_before opened (store_of g.S.Store again) _ survives clean in
+    let may = subst (λ h. MayOpenAs (state g.S.Store h) opened) c.into_connection.ensures.is (c.in-Some.ensures.opened early) in
+    led_to g.S.Store (store_of g.S.Store c.run-stopped.new.self) opened again c.args.world.rows.maps c.args.batches.now new (c.run-stopped.ensures.led s it may.was_clean) may (shown clean)) c.adopt.ensures.crash c.adopt.ensures.shown
 
 pub returns-in-Some-clause-refused : goal.returns-in-Some-clause-refused
 returns-in-Some-clause-refused g c s it =

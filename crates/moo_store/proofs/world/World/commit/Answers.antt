@@ -1,4 +1,4 @@
-use Rattle.std.proofs.Common.{◌≡◌, false, Some, IsTrue, refl, sym, ap, subst}
+use Rattle.std.proofs.Common.{◌≡◌, ◌⊎◌, false, Some, IsTrue, refl, sym, ap, subst}
 use Rattle.sqlite.specs.Held.{state}
 use Rattle.sqlite.specs.State.{HasCleanDisk}
 use Rattle.moo_world.specs.Rows.{IsGood}
@@ -7,26 +7,25 @@ use Rattle.moo_draft.specs.Changes.{AreChanges}
 use Rattle.moo_store.specs.Kept.{World}
 use Rattle.moo_store.specs.Printed.{Prints}
 use Rattle.moo_store.specs.World.{store_of, ShowsItsRows, IsAt}
-use Rattle.moo_store.specs.States.{KeepsRows}
+use Rattle.moo_store.specs.States.{KeepsRows, LeavesRows}
 use Rattle.moo_tables.specs.Tables.{Tables}
 use Rattle.moo_tables.specs.Inside.{Rests}
 use Rattle.moo_store.specs.Untouched.{KeepsCells}
 use Rattle.moo_cells.specs.Shows.{ShowsRows}
-use Rattle.moo_store.proofs.Crashes.{left_by_write, keeps_state, rows_written}
+use Rattle.moo_store.proofs.Crashes.{rows_left, keeps_state, rows_written}
 use Rattle.moo_store.proofs.Running.{when_ok}
 use Rattle.moo_store.proofs.world.World.commit.Goals as goal
 use Rattle.moo_store.proofs.world.World.commit.Goals.{then-is_err, else-is_err}
 
 pub returns-in-Err-clause-crash : goal.returns-in-Err-clause-crash
-returns-in-Err-clause-crash g c next shown exact good clean =
+returns-in-Err-clause-crash g c next shown exact clean trees lies =
     let rows = c.self.inside.rows.maps in
-    let works : c.self.inside.failed ≡ false = subst (λ (w : World _). w.failed ≡ false) (sym c.self.view_is) c.requires.works in
     let shows = subst (ShowsItsRows g.S.Store) (sym c.self.view_is) shown in
     let here : AreChanges rows next c.args.changes = subst (λ (w : World _). AreChanges w.rows.maps next c.args.changes) (sym c.self.view_is) exact in
     let printed : Prints (Some rows.head.next_petition) c.args.cells.now c.args.changes = subst (λ (w : World _). Prints (Some w.rows.maps.head.next_petition) c.args.cells.now c.args.changes) (sym c.self.view_is) c.requires.printed in
-    left_by_write (state g.S.Store c.self.inside.connection) (state g.S.Store c.commit_cells.new.conn) rows next (state_of c.args.self.now.rows.maps) (state_of next)
-    (c.self.invariant.1 works) good (ap (λ (w : World _). state_of w.rows.maps) c.self.view_is) refl (g.met.S.Store.settled c.self.inside.connection.store) shows
-    (c.commit_cells.ensures.crash c.args.changes rows next printed here shows) clean
+    subst (λ (w : World _). LeavesRows trees w.rows.maps ⊎ LeavesRows trees next) c.self.view_is
+    (rows_left (state g.S.Store c.self.inside.connection) (state g.S.Store c.commit_cells.new.conn) rows next (g.met.S.Store.settled c.self.inside.connection.store) shows
+    (c.commit_cells.ensures.crash c.args.changes rows next printed here shows) clean trees lies)
 
 pub returns-clause-is_at : goal.returns-clause-is_at
 returns-clause-is_at g c known next shown exact good =

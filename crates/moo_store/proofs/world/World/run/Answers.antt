@@ -1,9 +1,13 @@
-use Rattle.std.proofs.Common.{◌≡◌, ◌+◌, vec_len, refl, arith, true, Ok, Err}
+use Rattle.std.proofs.Common.{◌≡◌, ◌+◌, vec_len, refl, sym, ◌∙◌, subst, arith, true, false, Ok, Err}
 use Rattle.std.specs.Prelude.{⊤}
 use Rattle.moo_store.specs.declared.fault.StoreFault.TheVariants.{OutOfMemory, Closed}
-use Rattle.moo_store.proofs.Running.{when_ok, starts, goes_on, answers, is_at_end, stops, left_at, fails_of, runs_one, runs_through, runs_stopped, fewer}
-use Rattle.moo_store.proofs.Untouched.{is_over, wrote_at_start, wrote_on, wrote_stopped, same_stopped}
-use Rattle.moo_store.specs.Answered.{added}
+use Rattle.moo_store.proofs.Running.{when_ok, starts, goes_on, answers, is_at_end, stops, left_at, fails_of, runs_one, runs_through, runs_stopped, next_in_hand, fewer}
+use Rattle.moo_store.proofs.Untouched.{is_over, wrote_at_start, wrote_on, wrote_stopped, same_stopped, led_over, led_stopped}
+use Rattle.moo_store.specs.Answered.{acknowledged, added}
+use Rattle.moo_store.specs.Led.{LeavesLed}
+use Rattle.moo_store.specs.World.{store_of}
+use Rattle.moo_store.specs.Kept.{World}
+use Rattle.moo_world.specs.Rows.{IsGood}
 use Rattle.moo_store.proofs.world.World.run.Goals as goal
 
 -- before the first batch
@@ -102,6 +106,31 @@ returns-in-Err-clause-cells g c s it clean known tables rests =
 
 pub returns-clause-cells : goal.returns-clause-cells
 returns-clause-cells g c s it clean known tables rests = c.loop-batch.invariant.cells.written clean tables (is_over g.S.Store true c.args.self.now s tables refl it (c.loop-batch.invariant.cells.clean clean) rests)
+
+-- what a crash leaves of the rows
+
+pub returns-then-self-clause-led : goal.returns-then-self-clause-led
+returns-then-self-clause-led g c s it clean = let no : true ≡ false = sym (subst (λ (w : World _). w.failed ≡ true) c.self.view_is c.if-self.true) ∙ it.works in absurd cc
+
+pub returns-then-is_err-clause-led : goal.returns-then-is_err-clause-led
+returns-then-is_err-clause-led g c s it clean =
+    led_over g.S.Store c.args.self.now c.args.self.now s c.args.batches.now _ _ (g.met.S.Store.settled c.args.self.now.connection.store) it
+    (subst (λ (w : World _). w.failed ≡ false → IsGood w.rows.maps) c.self.view_is c.self.invariant.1 it.works)
+    (wrote_at_start g.S.Store c.args.self.now c.args.batches.now c.args.replies.now.items c.reserve.new.self.items c.reserve.ensures.items) clean
+
+pub returns-in-Err-clause-led : goal.returns-in-Err-clause-led
+returns-in-Err-clause-led g c s it clean =
+    let done = acknowledged c.args.batches.now (added c.args.replies.now.items c.loop-batch.replies.items) in
+    subst (LeavesLed (store_of g.S.Store c.run_one.new.self) c.args.self.now.rows.maps done)
+    (sym (next_in_hand g.S.Store c.args.self.now c.loop-batch.self c.args.batches.now c.loop-batch.batch-index c.args.replies.now.items c.loop-batch.replies.items c.batch-item.result c.loop-batch-test.true c.batch-item.is c.loop-batch.invariant.progress))
+    (led_stopped g.S.Store c.args.self.now c.loop-batch.self c.run_one.new.self s c.args.batches.now (added c.args.replies.now.items c.loop-batch.replies.items) c.batch-item.result _ c.in-Err.fault (g.met.S.Store.settled c.run_one.new.self.connection.store) it
+    (subst (λ (w : World _). w.failed ≡ false → IsGood w.rows.maps) c.self.view_is c.self.invariant.1 it.works)
+    c.loop-batch.invariant.cells (fails_of g.S.Store c.loop-batch.self c.run_one.new.self (Err c.in-Err.fault) c.in-Err.ensures.closed c.in-Err.ensures.fails) c.in-Err.ensures.cells clean)
+
+pub returns-clause-led : goal.returns-clause-led
+returns-clause-led g c s it clean =
+    led_over g.S.Store c.args.self.now c.loop-batch.self s c.args.batches.now _ _ (g.met.S.Store.settled c.loop-batch.self.connection.store) it
+    (subst (λ (w : World _). w.failed ≡ false → IsGood w.rows.maps) c.self.view_is c.self.invariant.1 it.works) c.loop-batch.invariant.cells clean
 
 -- where none was acknowledged
 

@@ -1,13 +1,14 @@
-use Rattle.std.proofs.Common.{◌≡◌, ◌<◌, ◌⊎◌, Some, IfOk, refl, sym, ap, ◌∙◌, subst, true, false}
+use Rattle.std.proofs.Common.{◌≡◌, ◌<◌, Some, IfOk, refl, sym, ap, ◌∙◌, subst, true, false}
 use Rattle.moo_rows.specs.declared.row.Head.{Head}
+use Rattle.moo_world.specs.Rows.{IsGood}
 use Rattle.moo_world.specs.Judge.{state_of, judge, Accepted, Refused, NoRoom, Stale}
 use Rattle.moo_world.specs.Between.{BatchLeads}
 use Rattle.moo_draft.specs.Changes.{AreChanges}
 use Rattle.moo_text.specs.declared.reply.Reply.TheVariants as reply
 use Rattle.moo_store.specs.Kept.{World}
 use Rattle.moo_store.specs.Printed.{Prints}
-use Rattle.moo_store.specs.States.{LeavesState}
 use Rattle.moo_store.specs.Answered.{IsRun}
+use Rattle.moo_store.proofs.Crashes.{states_left}
 use Rattle.moo_store.proofs.Judged.{closed_stands, no_memory_stands, refused_stands, accepted_stands}
 use Rattle.moo_store.proofs.Running.{accepted_low, accepted_is_run, at_changed, at_error}
 use Rattle.moo_store.proofs.Untouched.{nothing_written, accepted_writes, accepted_is_taken}
@@ -36,10 +37,11 @@ returns-in-Ok-clause-stands g c =
     let works = subst (λ (w : World _). w.failed ≡ false) c.self.view_is c.if-self.false in
     let exact = subst (λ (w : World _). AreChanges w.rows.maps next c.in-Accepted.changes) c.self.view_is found.1 in
     let judged = subst (λ (w : World _). judge (state_of w.rows.maps) c.args.batch.now ≡ Accepted c.in-Accepted.answers (state_of next)) c.self.view_is found.3 in
+    let good = subst (λ (w : World _). IsGood w.rows.maps) c.self.view_is (c.self.invariant.1 c.if-self.false) in
     accepted_stands g.S.Store c.args.self.now c.commit.new.self c.args.batch.now c.in-Accepted.answers (state_of next) c.commit.result works judged
     (subst (λ n. IfOk c.commit.result (λ r. r ≡ reply.Accepted n c.in-Accepted.answers)) (ap (λ (h : Head). h.seq) found.1.head) c.commit.ensures.reply)
     (λ known s at. at_changed c.commit.result (λ here. here known next (λ sure. at.shown sure works) exact found.2) c.commit.ensures.is_at) c.commit.ensures.fault c.commit.ensures.failed
-    (λ known s at. at_error c.commit.result (λ crash sure clean trees left. subst (λ t. LeavesState trees t ⊎ LeavesState trees (state_of next)) (at.rows works) (crash next (at.shown sure works) exact found.2 clean trees left)) c.commit.ensures.crash)
+    (λ known s at. at_error c.commit.result (λ crash sure clean trees left. states_left trees c.args.self.now.rows.maps next s (state_of next) good found.2 (at.rows works) refl (crash next (at.shown sure works) exact clean trees left)) c.commit.ensures.crash)
 
 pub returns-then-self-clause-stands : goal.returns-then-self-clause-stands
 returns-then-self-clause-stands g c = closed_stands g.S.Store c.args.self.now c.args.batch.now (subst (λ (w : World _). w.failed ≡ true) c.self.view_is c.if-self.true)
@@ -81,27 +83,28 @@ returns-in-Ok-clause-cells g c =
     let works = subst (λ (w : World _). w.failed ≡ false) c.self.view_is c.if-self.false in
     let judged = subst (λ (w : World _). judge (state_of w.rows.maps) c.args.batch.now ≡ Accepted answers (state_of next)) c.self.view_is found.3 in
     let leads = subst (λ (w : World _). BatchLeads c.args.batch.now w.rows.maps next) c.self.view_is found.4 in
-    accepted_writes g.S.Store c.args.self.now c.commit.new.self c.args.batch.now answers c.in-Accepted.changes.head.seq next c.commit.result works found.2 leads judged c.commit.ensures.reply
+    accepted_writes g.S.Store c.args.self.now c.commit.new.self c.args.batch.now answers c.in-Accepted.changes.head.seq next c.commit.result works (subst (λ (w : World _). IsGood w.rows.maps) c.self.view_is (c.self.invariant.1 c.if-self.false)) found.2 leads judged c.commit.ensures.reply
     (at_changed c.commit.result (λ rows. rows next exact) c.commit.ensures.rows)
     (at_changed c.commit.result (λ cells tables clean rests current shown. cells next tables exact clean rests current shown) c.commit.ensures.cells) c.commit.ensures.undone c.commit.ensures.clean c.commit.ensures.fault c.commit.ensures.failed
+    (g.met.S.Store.settled c.commit.new.self.connection.store) (at_error c.commit.result (λ crash shown clean trees left. crash next shown exact clean trees left) c.commit.ensures.crash)
 
 pub returns-then-self-clause-cells : goal.returns-then-self-clause-cells
-returns-then-self-clause-cells g c = nothing_written g.S.Store c.args.self.now c.args.batch.now _ refl
+returns-then-self-clause-cells g c = nothing_written g.S.Store c.args.self.now c.args.batch.now _ (g.met.S.Store.settled c.args.self.now.connection.store) (subst (λ (w : World _). w.failed ≡ false → IsGood w.rows.maps) c.self.view_is c.self.invariant.1) refl
 
 pub returns-in-Err-clause-cells : goal.returns-in-Err-clause-cells
-returns-in-Err-clause-cells g c = nothing_written g.S.Store c.args.self.now c.args.batch.now _ refl
+returns-in-Err-clause-cells g c = nothing_written g.S.Store c.args.self.now c.args.batch.now _ (g.met.S.Store.settled c.args.self.now.connection.store) (subst (λ (w : World _). w.failed ≡ false → IsGood w.rows.maps) c.self.view_is c.self.invariant.1) refl
 
 pub returns-in-Refused-clause-cells : goal.returns-in-Refused-clause-cells
-returns-in-Refused-clause-cells g c = nothing_written g.S.Store c.args.self.now c.args.batch.now _ refl
+returns-in-Refused-clause-cells g c = nothing_written g.S.Store c.args.self.now c.args.batch.now _ (g.met.S.Store.settled c.args.self.now.connection.store) (subst (λ (w : World _). w.failed ≡ false → IsGood w.rows.maps) c.self.view_is c.self.invariant.1) refl
 
 pub returns-in-Full-clause-cells : goal.returns-in-Full-clause-cells
-returns-in-Full-clause-cells g c = nothing_written g.S.Store c.args.self.now c.args.batch.now _ refl
+returns-in-Full-clause-cells g c = nothing_written g.S.Store c.args.self.now c.args.batch.now _ (g.met.S.Store.settled c.args.self.now.connection.store) (subst (λ (w : World _). w.failed ≡ false → IsGood w.rows.maps) c.self.view_is c.self.invariant.1) refl
 
 pub returns-in-Stale-clause-cells : goal.returns-in-Stale-clause-cells
-returns-in-Stale-clause-cells g c = nothing_written g.S.Store c.args.self.now c.args.batch.now _ refl
+returns-in-Stale-clause-cells g c = nothing_written g.S.Store c.args.self.now c.args.batch.now _ (g.met.S.Store.settled c.args.self.now.connection.store) (subst (λ (w : World _). w.failed ≡ false → IsGood w.rows.maps) c.self.view_is c.self.invariant.1) refl
 
 pub returns-in-OutOfMemory-clause-cells : goal.returns-in-OutOfMemory-clause-cells
-returns-in-OutOfMemory-clause-cells g c = nothing_written g.S.Store c.args.self.now c.args.batch.now _ refl
+returns-in-OutOfMemory-clause-cells g c = nothing_written g.S.Store c.args.self.now c.args.batch.now _ (g.met.S.Store.settled c.args.self.now.connection.store) (subst (λ (w : World _). w.failed ≡ false → IsGood w.rows.maps) c.self.view_is c.self.invariant.1) refl
 
 pub returns-in-Ok-clause-same : goal.returns-in-Ok-clause-same
 returns-in-Ok-clause-same g c = accepted_is_taken c.args.self.now c.commit.new.self c.args.batch.now c.in-Accepted.answers c.in-Accepted.changes.head.seq c.commit.result c.commit.ensures.reply c.commit.ensures.fault
