@@ -4,11 +4,19 @@
 #![tactic(auto)]
 
 mod calls;
+mod checks;
+mod forms;
 mod headers;
+mod ladders;
 mod names;
 mod notes;
+mod property_ladders;
 mod refusals;
+mod settled;
+mod shown;
+mod telling;
 mod values;
+mod verb_ladders;
 mod words;
 
 pub use notes::StandardNotes;

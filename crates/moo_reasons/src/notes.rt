@@ -69,7 +69,7 @@ fn put_refused(
     out.extend_from_slice(b"refused: ")?;
     if let Next::Batch(batch) = item {
         if let Some(call) = batch.calls.items().get((call as usize).saturating_sub(1)) {
-            return refusal_reason(alloc, call, code, out);
+            return refusal_reason(alloc, batch.programmer, call, code, out);
         }
     }
     out.extend_from_slice(code.name().as_bytes())
