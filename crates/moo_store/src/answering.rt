@@ -1,6 +1,7 @@
 //! Answering the items of a text in turn.
 
 ghost use Rattle.std.specs.Prelude.{◌≡◌, IfOk, IfErr, IfSome, IfNone};
+ghost use Rattle.moo_world.specs.Rows.{IsGood};
 ghost use Rattle.moo_world.specs.declared.call.Batch.{Batch};
 ghost use Rattle.moo_text.specs.declared.reply.Answer.{Answer};
 ghost use Rattle.moo_store.specs.Text.{answer_to};
@@ -9,6 +10,7 @@ ghost use Rattle.moo_store.specs.Turns.{Turn, Completes, Halts};
 use crate::fault::StoreFault;
 use crate::output::put_answer;
 use crate::tally::Tally;
+use moo_flat::Flat;
 use moo_text::{Answer, Feed, Next, Notes, Reply, TextFault};
 use moo_world::Batch;
 use std::alloc::Global;
@@ -22,6 +24,10 @@ pub(crate) trait Answering {
     /// Answers one batch.
     fn answer(&mut self, batch: &Batch) -> Answer
         ensures { answered self.old batch.now result self.new };
+
+    /// The rows by which it answers, if it isn't past answering.
+    fn rows(&self) -> Option<&Flat>
+        ensures { IfSome result (λ rows. IsGood rows.now.maps) };
 }
 
 /// The answer to a batch that a World ran or was asked.
@@ -69,6 +75,6 @@ pub(crate) fn answer_all<R: Read + Drop, W: Write, A: Answering, N: Notes>(
         };
         tally.count(&answer);
         put_answer(alloc, writer, &answer)?;
-        notes.note(&item, feed.marks(), &answer);
+        notes.note(answering.rows(), &item, feed.marks(), &answer);
     }
 }
