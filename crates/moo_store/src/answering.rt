@@ -10,9 +10,11 @@ ghost use Rattle.moo_store.specs.Turns.{Turn, Completes, Halts};
 use crate::fault::StoreFault;
 use crate::output::put_answer;
 use crate::tally::Tally;
+use crate::world::World;
 use moo_flat::Flat;
 use moo_text::{Answer, Feed, Next, Notes, Reply, TextFault};
 use moo_world::Batch;
+use sqlite::Alter;
 use std::alloc::Global;
 use std::io::{Read, Write};
 
@@ -28,6 +30,15 @@ pub(crate) trait Answering {
     /// The rows by which it answers, if it isn't past answering.
     fn rows(&self) -> Option<&Flat>
         ensures { IfSome result (λ rows. IsGood rows.now.maps) };
+}
+
+impl<S: Alter + Drop> World<S> {
+    /// The rows, unless the World has failed.
+    pub(crate) fn good_rows(&self) -> Option<&Flat>
+        ensures { IfSome result (λ rows. IsGood rows.now.maps) }
+    {
+        if self.failed { None } else { Some(&self.rows) }
+    }
 }
 
 /// The answer to a batch that a World ran or was asked.

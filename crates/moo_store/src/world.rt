@@ -42,7 +42,7 @@ impl<S: Alter> Model for World<S> {
 }
 
 impl<S: Alter + Drop> World<S> {
-    ghost use Rattle.std.specs.Prelude.{◌≡◌, ◌≢◌, ◌⊎◌, ◌<◌, ◌^◌, Bool, false, true, IsTrue, [], ◌∷◌, length, take, drop, OnOk, OnErr, IfOk, IfErr, IfSome, IsErrAnd, IsErrOf, IsOkAnd, ⊤, Ok, Err};
+    ghost use Rattle.std.specs.Prelude.{◌≡◌, ◌≢◌, ◌⊎◌, ◌<◌, ◌^◌, Bool, false, true, IsTrue, [], ◌∷◌, length, take, drop, OnOk, OnErr, IfOk, IfErr, IsErrAnd, IsErrOf, IsOkAnd, ⊤, Ok, Err};
     ghost use Rattle.sqlite.specs.State.{HasCleanDisk};
     ghost use Rattle.sqlite.specs.Held.{state};
     ghost use Rattle.moo_rows.specs.Maps.{Maps};
@@ -256,13 +256,6 @@ impl<S: Alter + Drop> World<S> {
             return Err(StoreFault::Closed);
         }
         Ok(object_count(&self.rows))
-    }
-
-    /// The rows, unless the World has failed.
-    pub(crate) fn good_rows(&self) -> Option<&Flat>
-        ensures { IfSome result (λ rows. IsGood rows.now.maps) }
-    {
-        if self.failed { None } else { Some(&self.rows) }
     }
 
     /// The connection, with its tables.
