@@ -2,10 +2,11 @@
 
 A case is a task of the program and a kind of calls: the first of them is refused in the first run, the second in the next, and so on
 until a run meets none. Each run has to end in one of the ends that are listed for its task, and the file after it has to open as the
-world before the task or the one after it, as that end says.
+world before the task or the one after it, as that end says. Before a load there is no file: after it the file holds the whole world, or no
+tables, so that the same load into it is done.
 
-To open a world takes some 3,700 growths. Every 41st of these is refused, and each one after them; with REFUSE_ALL=1 every one, which
-takes hours.
+To open a world takes some 3,700 growths, and to load one 6,000. Every 41st of these is refused, and each one after them; with REFUSE_ALL=1
+every one, which takes hours.
 """
 import errno
 import os
@@ -14,7 +15,7 @@ import unittest
 from concurrent.futures import ThreadPoolExecutor
 
 from tests.support.cases import ProgramTest
-from tests.support.refusing import Fault, Post, Task, build_refuser, growths, run
+from tests.support.refusing import Fault, Load, Post, Task, build_refuser, growths, run
 from tests.support.service import answer, post
 from tests.support.worlds import TREE
 
@@ -43,6 +44,15 @@ def unavailable(word):
     return answer("503 Service Unavailable", f'{{"error":"{word}"}}').decode()
 
 
+# 300 objects more than a new world has, each with a slot, and each third with a value in it.
+LARGE = "\n".join([
+    "batch as #3",
+    'add_property(#1, "note", {1, "two"}, {#3, "rc"})',
+    *(f'create(#1)\nset(#{number}, "name", "thing {number}")' for number in range(4, 304)),
+    *(f'set(#{number}, "note", "{number} of them")' for number in range(4, 304, 3)),
+    "end\n",
+])
+
 # If a file is opened and no answer has come.
 REFUSED = {(NO_MEMORY, 4): {0}, (STORE, 1): {0}}
 
@@ -69,6 +79,12 @@ def is_cut(written, status, whole):
 
 def sent_front(written, status):
     return {1} if status == 0 and written.endswith(FAILED) and CREATED.startswith(written[: -len(FAILED)]) else None
+
+
+def dump_and_load(file):
+    """The dump of a file, and what its load writes."""
+    dump, _ = run(["dump", file], ".")
+    return dump, f"loaded seq {dump.split()[1]} objects {dump.count('object {')}\n"
 
 
 def next_numbers(number, opening):
@@ -187,3 +203,26 @@ class Refuse(ProgramTest):
             task.ends[(whole or task.done[0], 0)] = {0}
             task.is_end = fronts(task.done[0], {0}) if whole is None else task.is_end
             self.refused(f"a {word}, on a disk that fails once", task, Fault("file", errno.EIO))
+
+    def test_loads_without_memory(self):
+        dump, loaded = dump_and_load("asked.db")
+        load = Load(dump, {(loaded, 0): {1}, (NO_MEMORY, 4): {0, 1}, (STORE, 1): {0, 1}})
+        self.refused("a load, where memory is refused", load, Fault("memory", errno.ENOMEM), growths(load))
+
+    def test_loads_from_streams(self):
+        dump, loaded = dump_and_load("asked.db")
+        load = Load(dump, {(loaded, 0): {1}, (READ, 1): {0}})
+        self.refused("a load, in pieces, from a reader that fails", load, Fault("input", errno.EIO, piece=16))
+        load = Load(dump, {(loaded, 0): {1}}, fronts(loaded, {1}))
+        self.refused("a load, told byte by byte to a writer that fails", load, Fault("output", errno.EIO, piece=1))
+
+    def test_loads(self):
+        shutil.copy("new.db", "large.db")
+        run(["apply", "large.db", "-"], ".", LARGE)
+        for size, file in (("a small dump", "asked.db"), ("a dump of 304 objects", "large.db")):
+            dump, loaded = dump_and_load(file)
+            ends = {(loaded, 0): {1}, (STORE, 1): {0, 1}}
+            self.refused(f"{size}, loaded on a disk that fails once", Load(dump, ends), Fault("file", errno.EIO))
+            self.refused("on one that stays full", Load(dump, ends), Fault("file", errno.ENOSPC, True))
+            dies = lambda written, status: {("", -9): {0, 1}, (loaded, -9): {1}}.get((written, status))
+            self.refused("killed at each call of the files", Load(dump, {(loaded, 0): {1}}, dies), Fault("file", KILL))

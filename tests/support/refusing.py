@@ -66,13 +66,20 @@ class Task:
         self.is_end = is_end or (lambda written, status: None)
         self.dumps = []
         with tempfile.TemporaryDirectory() as room:
-            shutil.copy(world, f"{room}/w.db")
+            self.begin(room)
             self.dumps.append(run(["dump", "w.db"], room))
             self.done = self.do(room, None)
             self.dumps.append(run(["dump", "w.db"], room))
 
+    def begin(self, room):
+        shutil.copy(self.world, f"{room}/w.db")
+
     def do(self, room, env):
         return run(self.words, room, self.text, env)
+
+    def holds(self, room, world):
+        """Whether the file holds the world before the task, or the one after it."""
+        return run(["dump", "w.db"], room) == self.dumps[world]
 
     def wrong(self, room, end):
         """What is wrong with an end, and with the file after it; or nothing."""
@@ -81,18 +88,35 @@ class Task:
             worlds = self.is_end(*end)
         if worlds is None:
             return f"it wrote {end[0]!r}, status {end[1]}"
-        found = run(["dump", "w.db"], room)
-        if not any(found == self.dumps[world] for world in worlds):
-            return f"it wrote {end[0]!r}, status {end[1]}, and the file then holds {found!r}"
+        if not any(self.holds(room, world) for world in sorted(worlds, reverse=True)):
+            return f"it wrote {end[0]!r}, status {end[1]}, and the file then holds {run(['dump', 'w.db'], room)!r}"
         return ""
 
     def refuse(self, fault, number):
         """Whether a call was refused at that number, and what was wrong."""
         with tempfile.TemporaryDirectory() as room:
-            shutil.copy(self.world, f"{room}/w.db")
+            self.begin(room)
             told = f"{room}/told"
             end = self.do(room, fault.env(number, told))
             return os.path.exists(told), self.wrong(room, end)
+
+
+class Load(Task):
+    """A task that is a load of a dump from the standard input into a file that isn't there. The file after it holds the whole world, or
+    no tables: then the same load into it is done."""
+
+    def __init__(self, dump, ends, is_end=None):
+        super().__init__(None, ["load", "w.db", "-"], dump, ends, is_end)
+        if self.dumps[1] != (dump, 0):
+            raise AssertionError(f"the dump isn't loaded: {self.done}")
+
+    def begin(self, room):
+        pass
+
+    def holds(self, room, world):
+        if world == 0 and self.do(room, None) != self.done:
+            return False
+        return super().holds(room, 1) and run(["check", "w.db"], room)[1] == 0
 
 
 class Post(Task):

@@ -1,4 +1,4 @@
-//! Why a line of a batch can't be read, and why a call is refused, in words for people.
+//! Why a line of a batch can't be read, and what is told of each batch that isn't accepted, in words for people.
 //!
 //! These words go to standard error. Nothing that is proved rests on them: what a batch is answered is judged elsewhere.
 #![tactic(auto)]
@@ -7,7 +7,6 @@ mod calls;
 mod headers;
 mod names;
 mod notes;
-mod refusals;
 mod values;
 mod words;
 
