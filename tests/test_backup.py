@@ -5,8 +5,6 @@
 
 import contextlib
 import hashlib
-import importlib.machinery
-import importlib.util
 import os
 import pathlib
 import random
@@ -20,7 +18,7 @@ import threading
 import time
 import unittest
 
-from tests.support.operating import PROGRAM, SECONDS, TOOLS, Service, checked, make_world, said, use_tools
+from tests.support.operating import PROGRAM, SECONDS, TOOLS, Service, checked, make_world, said, tool, use_tools
 
 use_tools()
 
@@ -36,14 +34,6 @@ def children(file):
     """What is under #4 in the world of a file."""
     _, reply = said("ask", file, "-", text="batch as #3\nchildren(#4)\nend\n")
     return moo_client.read(reply.splitlines()[1])
-
-
-def moo_backup():
-    """The tool as a module."""
-    loader = importlib.machinery.SourceFileLoader("moo_backup", str(TOOLS / "moo-backup"))
-    module = importlib.util.module_from_spec(importlib.util.spec_from_loader("moo_backup", loader))
-    loader.exec_module(module)
-    return module
 
 
 def version(file):
@@ -139,7 +129,7 @@ class AtRest(Copies):
 
     def test_no_run_begins_while_it_copies(self):
         """Another program that opens the world before each file is copied is refused."""
-        module = moo_backup()
+        module = tool("moo-backup")
         copy, refusals = module.copy, []
 
         def copy_and_try(source, target):
