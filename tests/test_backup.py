@@ -8,6 +8,7 @@ import hashlib
 import os
 import pathlib
 import random
+import re
 import shutil
 import signal
 import sqlite3
@@ -182,6 +183,14 @@ class AtRest(Copies):
         self.assertEqual((version(self.file), version(restored)), (1, 1))
         self.assertEqual(checked(restored), 0)
         self.assertEqual((version(self.file), version(restored)), (1, 2))
+
+    def test_the_clock_was_set_back(self):
+        """The copy that was made just now stays, and the oldest others go."""
+        for year in (2098, 2099):
+            copy = self.copied()
+            copy.rename(self.folder / re.sub(r"-\d{4}", f"-{year}", copy.name))
+        copy = self.copied("--keep", "2")
+        self.assertEqual([path.name[:13] for path in sorted(self.folder.iterdir())], [copy.name[:13], "world.db-2099"])
 
     def test_backups_of_one_folder_wait_for_each_other(self):
         other = self.room / "other.db"
