@@ -249,6 +249,19 @@ class Units(InFolder):
         self.assertEqual(ran(PROGRAM, "check", world), "ok seq 0 objects 4\n")
 
 
+class Rehearsal(unittest.TestCase):
+    """packaging/rehearse, which follows the page on new machines."""
+
+    def test_the_page_has_its_blocks(self):
+        rehearse = tool("rehearse", TOP / "packaging")
+        for name in rehearse.BLOCKS:
+            with self.subTest(name):
+                self.assertTrue(rehearse.block(name))
+        with self.assertRaises(SystemExit):
+            rehearse.BLOCKS["another"] = ("Run", "apt-get")
+            rehearse.block("another")
+
+
 class End(InFolder):
     """tools/moo-end, on a folder that plays /proc: which process is of which unit is said there."""
 

@@ -88,10 +88,10 @@ def use_tools():
     sys.path.insert(0, str(TOOLS))
 
 
-def tool(name):
-    """A program of tools/ as a module."""
+def tool(name, folder=TOOLS):
+    """A program of tools/ or of another folder as a module."""
     sys.dont_write_bytecode = True
-    loader = importlib.machinery.SourceFileLoader(name.replace("-", "_"), str(TOOLS / name))
+    loader = importlib.machinery.SourceFileLoader(name.replace("-", "_"), str(folder / name))
     module = importlib.util.module_from_spec(importlib.util.spec_from_loader(loader.name, loader))
     loader.exec_module(module)
     return module
