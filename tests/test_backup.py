@@ -5,11 +5,10 @@
 
 import contextlib
 import hashlib
-import importlib.machinery
-import importlib.util
 import os
 import pathlib
 import random
+import re
 import shutil
 import signal
 import sqlite3
@@ -20,7 +19,7 @@ import threading
 import time
 import unittest
 
-from tests.support.operating import PROGRAM, SECONDS, TOOLS, Service, checked, make_world, said, use_tools
+from tests.support.operating import PROGRAM, SECONDS, TOOLS, Service, checked, make_world, said, tool, use_tools
 
 use_tools()
 
@@ -36,14 +35,6 @@ def children(file):
     """What is under #4 in the world of a file."""
     _, reply = said("ask", file, "-", text="batch as #3\nchildren(#4)\nend\n")
     return moo_client.read(reply.splitlines()[1])
-
-
-def moo_backup():
-    """The tool as a module."""
-    loader = importlib.machinery.SourceFileLoader("moo_backup", str(TOOLS / "moo-backup"))
-    module = importlib.util.module_from_spec(importlib.util.spec_from_loader("moo_backup", loader))
-    loader.exec_module(module)
-    return module
 
 
 def version(file):
@@ -139,7 +130,7 @@ class AtRest(Copies):
 
     def test_no_run_begins_while_it_copies(self):
         """Another program that opens the world before each file is copied is refused."""
-        module = moo_backup()
+        module = tool("moo-backup")
         copy, refusals = module.copy, []
 
         def copy_and_try(source, target):
@@ -192,6 +183,14 @@ class AtRest(Copies):
         self.assertEqual((version(self.file), version(restored)), (1, 1))
         self.assertEqual(checked(restored), 0)
         self.assertEqual((version(self.file), version(restored)), (1, 2))
+
+    def test_the_clock_was_set_back(self):
+        """The copy that was made just now stays, and the oldest others go."""
+        for year in (2098, 2099):
+            copy = self.copied()
+            copy.rename(self.folder / re.sub(r"-\d{4}", f"-{year}", copy.name))
+        copy = self.copied("--keep", "2")
+        self.assertEqual([path.name[:13] for path in sorted(self.folder.iterdir())], [copy.name[:13], "world.db-2099"])
 
     def test_backups_of_one_folder_wait_for_each_other(self):
         other = self.room / "other.db"

@@ -9,26 +9,31 @@ import os
 import pathlib
 import re
 import shutil
+import signal
 import stat
 import subprocess
 import sys
 import tempfile
+import time
 import unittest
+import unittest.mock
 import urllib.error
 import urllib.request
 
-from tests.support.operating import PROGRAM, SECONDS, TOP, free_port
+from tests.support.operating import PROGRAM, SECONDS, TOOLS, TOP, free_port, tool
 
 INSTALLED = {
     "bin/moo": 0o755,
     "bin/moo-backup": 0o755,
     "bin/moo-watch": 0o755,
+    "lib/moo/moo-end": 0o755,
     "lib/systemd/system/moo@.service": 0o644,
     "lib/systemd/system/moo-backup@.service": 0o644,
     "lib/systemd/system/moo-backup@.timer": 0o644,
     "lib/systemd/system/moo-watch@.service": 0o644,
     "lib/systemd/system/moo-watch@.timer": 0o644,
     "lib/sysusers.d/moo.conf": 0o644,
+    "lib/tmpfiles.d/moo.conf": 0o644,
     "share/bash-completion/completions/moo": 0o644,
     "share/man/man1/moo.1.gz": 0o644,
     "share/man/man1/moo-backup.1.gz": 0o644,
@@ -86,7 +91,9 @@ class Install(InFolder):
         self.assertEqual(modes(top), INSTALLED)
         for path in top.rglob("*@.*"):
             self.assertNotIn(str(self.room), path.read_text())
+            self.assertNotIn("/usr/", path.read_text())
         self.assertIn("ExecStart=/opt/moo/bin/moo serve", (top / "lib/systemd/system/moo@.service").read_text())
+        self.assertIn(" /opt/moo/lib/moo/moo-end ", (top / "lib/systemd/system/moo-watch@.service").read_text())
 
     def test_the_program_as_it_is(self):
         self.assertEqual((self.install() / "bin/moo").read_bytes(), pathlib.Path(PROGRAM).read_bytes())
@@ -140,13 +147,27 @@ class Units(InFolder):
             with self.subTest(unit.name):
                 self.assertEqual(ran("systemd-analyze", "verify", "--man=no", unit), "")
 
+    @wants("systemd-analyze")
+    def test_they_are_confined(self):
+        """What they are exposed to is at most 2.0 of 10, as systemd reckons."""
+        for unit in sorted(self.units.glob("*.service")):
+            with self.subTest(unit.name):
+                ran("systemd-analyze", "security", "--offline=yes", "--threshold=20", unit)
+
+    def test_nothing_in_them_runs_as_root(self):
+        for unit in sorted(self.units.glob("*.service")):
+            with self.subTest(unit.name):
+                self.assertRegex(unit.read_text(), r"(?m)^User=moo$")
+                self.assertNotRegex(unit.read_text(), r"(?m)^Exec\w*=[^/]")
+
     def command(self, unit, key, **values):
         """The words of a command in a unit, for the world `world` in this folder."""
-        found = re.search(f"^{key}=(.*)$", (self.units / unit).read_text(), re.M)
-        line = found[1].replace("%i", "world").replace("/var/lib/moo", str(self.room)).replace("/var/backups/moo", f"{self.room}/copies")
+        text = (self.units / unit).read_text()
+        values = dict(re.findall(r"(\w+)=(\S+)", re.search("^Environment=(.*)$", text, re.M)[1])) | values
+        line = re.search(f"^{key}=(.*)$", text, re.M)[1].replace("%i", "world")
         for name, value in values.items():
             line = line.replace("${" + name + "}", str(value))
-        return line
+        return line.replace("/var/lib/moo", str(self.room)).replace("/var/backups/moo", f"{self.room}/copies")
 
     def test_the_commands_of_the_service(self):
         ran(self.prefix / "bin/moo", "init", self.room / "world.db")
@@ -157,12 +178,14 @@ class Units(InFolder):
 
     def test_the_command_of_the_backup(self):
         ran(self.prefix / "bin/moo", "init", self.room / "world.db")
-        copy = pathlib.Path(ran("sh", "-c", self.command("moo-backup@.service", "ExecStart")).rstrip("\n"))
-        self.assertEqual(copy.parent, self.room / "copies")
+        for kept in (1, 2, 2):
+            copy = pathlib.Path(ran("sh", "-c", self.command("moo-backup@.service", "ExecStart", KEEP=2)).rstrip("\n"))
+            self.assertEqual(copy.parent, self.room / "copies")
+            self.assertEqual(len(list(copy.parent.iterdir())), kept)
 
-    def serve(self, world, before=""):
+    def serve(self, world, before="", port=None):
         """The service of a world, and its port. `before` is what the shell does first."""
-        port = free_port()
+        port = port or free_port()
         words = f'{before} exec "$0" serve "$1" {port} 1000'
         service = subprocess.Popen(["sh", "-c", words, PROGRAM, world], stdout=subprocess.PIPE, stderr=subprocess.DEVNULL, text=True)
         self.addCleanup(service.communicate, timeout=SECONDS)
@@ -171,26 +194,22 @@ class Units(InFolder):
         return service, port
 
     def with_stand_in(self, line, service):
-        """A command's status and what it printed, with a stand-in for systemctl that notes its words and ends the service."""
-        stand_in = self.room / "tools/systemctl"
-        stand_in.parent.mkdir(exist_ok=True)
-        stand_in.write_text(f'#!/bin/sh\necho "$@" >{self.room}/asked\nkill {service.pid}\n')
-        stand_in.chmod(0o755)
-        path = {"PATH": f"{stand_in.parent}:{os.environ['PATH']}"}
-        done = subprocess.run(["sh", "-c", line], env=path, stdout=subprocess.PIPE, stderr=subprocess.PIPE, text=True, timeout=SECONDS)
+        """A command's status and what it printed, with a stand-in for moo-end that notes its words and ends the service."""
+        (self.prefix / "lib/moo/moo-end").write_text(f'#!/bin/sh\necho "$@" >{self.room}/asked\nkill {service.pid}\n')
+        line = line.replace("--wait 60", "--wait 0.1")
+        done = subprocess.run(["sh", "-c", line], stdout=subprocess.PIPE, stderr=subprocess.PIPE, text=True, timeout=SECONDS)
         return done.returncode, done.stdout
 
     def asked(self):
-        """What was asked of systemctl."""
+        """What was asked of moo-end."""
         return (self.room / "asked").read_text() if (self.room / "asked").exists() else ""
 
-    def test_the_backup_restarts_the_service_of_its_world(self):
+    def test_the_backup_ends_the_run_of_its_world(self):
         world = self.room / "world.db"
         ran(self.prefix / "bin/moo", "init", world)
         service, _ = self.serve(world)
-        line = self.command("moo-backup@.service", "ExecStart").replace("--wait 60", "--wait 0.1")
-        status, printed = self.with_stand_in(line, service)
-        self.assertEqual((status, self.asked()), (0, "try-restart --no-block moo@world.service\n"))
+        status, printed = self.with_stand_in(self.command("moo-backup@.service", "ExecStart"), service)
+        self.assertEqual((status, self.asked()), (0, "moo@world.service\n"))
         self.assertIn("world.db-", printed)
 
     def test_the_watch_leaves_a_good_service(self):
@@ -204,7 +223,16 @@ class Units(InFolder):
         self.assertEqual(self.with_stand_in(line, service), (1, ""))
         self.assertEqual(self.asked(), "")
 
-    def test_the_watch_restarts_a_service_whose_disk_was_full(self):
+    def test_the_watch_waits_for_the_next_run(self):
+        world, port = self.room / "world.db", free_port()
+        ran(self.prefix / "bin/moo", "init", world)
+        line = self.command("moo-watch@.service", "ExecStart", PORT=port)
+        with subprocess.Popen(["sh", "-c", line], stdout=subprocess.PIPE, text=True) as watch:
+            time.sleep(0.5)
+            self.serve(world, port=port)
+            self.assertEqual((watch.communicate(timeout=SECONDS)[0], watch.returncode), ("seq 0\n", 0))
+
+    def test_the_watch_ends_the_run_of_a_service_whose_disk_was_full(self):
         """A limit on the size of files plays the full disk."""
         world = self.room / "world.db"
         ran(self.prefix / "bin/moo", "init", world)
@@ -217,8 +245,72 @@ class Units(InFolder):
         self.assertEqual(raised.exception.read(), b'{"error":"fault"}')
         raised.exception.close()
         status, printed = self.with_stand_in(self.command("moo-watch@.service", "ExecStart", PORT=port), service)
-        self.assertEqual((status, printed, self.asked()), (1, "", "try-restart --no-block moo@world.service\n"))
+        self.assertEqual((status, printed, self.asked()), (1, "", "moo@world.service\n"))
         self.assertEqual(ran(PROGRAM, "check", world), "ok seq 0 objects 4\n")
+
+
+class Rehearsal(unittest.TestCase):
+    """packaging/rehearse, which follows the page on new machines."""
+
+    def test_the_page_has_its_blocks(self):
+        rehearse = tool("rehearse", TOP / "packaging")
+        for name in rehearse.BLOCKS:
+            with self.subTest(name):
+                self.assertTrue(rehearse.block(name))
+        with self.assertRaises(SystemExit):
+            rehearse.BLOCKS["another"] = ("Run", "apt-get")
+            rehearse.block("another")
+
+
+class End(InFolder):
+    """tools/moo-end, on a folder that plays /proc: which process is of which unit is said there."""
+
+    def setUp(self):
+        super().setUp()
+        self.tool = tool("moo-end")
+        self.tool.PROCESSES = self.room
+
+    def process(self, groups):
+        """A process that runs, in these control groups."""
+        process = subprocess.Popen(["sleep", str(SECONDS)])
+        self.addCleanup(process.wait, SECONDS)
+        self.addCleanup(process.kill)
+        (self.room / str(process.pid)).mkdir()
+        (self.room / f"{process.pid}/cgroup").write_text(groups)
+        return process
+
+    def end(self, unit):
+        with unittest.mock.patch.object(sys, "argv", ["moo-end", unit]):
+            self.tool.main()
+
+    def test_the_processes_of_a_unit_and_no_others(self):
+        of_unit = [
+            self.process("0::/system.slice/system-moo.slice/moo@world.service\n"),
+            self.process("9:pids:/\n1:name=systemd:/system.slice/system-moo.slice/moo@world.service\n0::/\n"),
+        ]
+        others = [
+            self.process("0::/system.slice/system-moo.slice/moo@world2.service\n"),
+            self.process("0::/system.slice/system-moo.slice/moo@world.service/below\n"),
+            self.process("0::/user.slice/user-0.slice/session-1.scope\n"),
+            self.process(""),
+        ]
+        self.end("moo@world.service")
+        self.assertEqual([process.wait(SECONDS) for process in of_unit], [-signal.SIGTERM] * 2)
+        time.sleep(0.2)
+        self.assertEqual([process.poll() for process in others], [None] * 4)
+
+    def test_processes_that_have_ended(self):
+        for name, groups in (("4194305", "0::/moo@world.service\n"), ("4194306", None)):
+            (self.room / name).mkdir()
+            if groups:
+                (self.room / name / "cgroup").write_text(groups)
+        self.end("moo@world.service")
+
+    def test_wrong_words(self):
+        for words in ((), ("a", "b")):
+            with self.subTest(words):
+                done = subprocess.run([TOOLS / "moo-end", *words], stderr=subprocess.PIPE, timeout=SECONDS)
+                self.assertEqual((done.returncode, done.stderr), (2, b"usage: moo-end UNIT\n"))
 
 
 @wants("bash")

@@ -1,5 +1,7 @@
 """A service that is killed and started again, and what is in its world. For the tests of tools/."""
 
+import importlib.machinery
+import importlib.util
 import os
 import pathlib
 import re
@@ -84,3 +86,12 @@ def use_tools():
     """Makes the modules of tools/ known."""
     sys.dont_write_bytecode = True
     sys.path.insert(0, str(TOOLS))
+
+
+def tool(name, folder=TOOLS):
+    """A program of tools/ or of another folder as a module."""
+    sys.dont_write_bytecode = True
+    loader = importlib.machinery.SourceFileLoader(name.replace("-", "_"), str(folder / name))
+    module = importlib.util.module_from_spec(importlib.util.spec_from_loader(loader.name, loader))
+    loader.exec_module(module)
+    return module
