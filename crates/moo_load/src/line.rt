@@ -1,12 +1,14 @@
 //! The lines of a dump: a word and a literal.
 
-ghost use Rattle.std.specs.Prelude.{◌≤◌, ◌<◌, ◌+◌, length, IfOk, IfErr};
+ghost use Rattle.std.specs.Prelude.{◌≡◌, ◌≢◌, ◌≤◌, ◌<◌, ◌+◌, ◌∷◌, ◌++◌, ℕ, List, length, IfOk, IfErr};
+ghost use Rattle.moo_value.specs.declared.value.Value.{Value as A};
 ghost use Rattle.moo_load.specs.Loaded.{SaysOfText};
+ghost use Rattle.moo_load.specs.Printed.{ArePrinted};
 
 use crate::fault::{LineFault, LoadFault};
 use crate::place::line_from;
-use moo_value::{Value, read_whole_literal};
-use std::alloc::Global;
+use moo_value::{Value, read_literal};
+use std::alloc::{AllocError, Global};
 
 /// What the line of a row begins with.
 #[derive(Clone, Copy, Debug, PartialEq, Eq)]
@@ -38,11 +40,32 @@ pub(crate) fn split_word(line: &[u8]) -> Result<(Word, &[u8]), LineFault> {
     Err(LineFault::Unreadable)
 }
 
-/// The values of a literal list.
-pub(crate) fn values_of(alloc: Global, literal: &[u8]) -> Result<Vec<Value>, LineFault> {
-    match read_whole_literal(alloc, literal)? {
-        Value::List(values) => Ok(values.into_vec()),
-        _ => Err(LineFault::Unreadable),
+/// What follows a prefix of the bytes.
+pub(crate) fn after<'a>(prefix: &[u8], bytes: &'a [u8]) -> Result<&'a [u8], LineFault>
+    ensures ok { IfOk result (λ rest. bytes.now ≡ prefix.now ++ rest.now) }
+    ensures err { IfErr result (λ _. (rest : List ℕ) → bytes.now ≢ prefix.now ++ rest) }
+{
+    match bytes.strip_prefix(prefix) {
+        Some(rest) => Ok(rest),
+        None => Err(LineFault::Unreadable),
+    }
+}
+
+/// The values of a list that has one at least. Each may nest as deep as a value does: the list itself isn't counted.
+pub(crate) fn values_of(alloc: Global, literal: &[u8]) -> Result<Vec<Value>, LineFault>
+    ensures ok { IfOk result (λ r. (v : A) (vs : List A) → ArePrinted (v ∷ vs) literal.now → r.items ≡ v ∷ vs) }
+    ensures err { IfErr result (λ fault. fault ≡ LineFault.Unreadable → (v : A) (vs : List A) → ¬ (ArePrinted (v ∷ vs) literal.now)) }
+{
+    let mut values = Vec::new(alloc);
+    let mut rest = after(b"{", literal)?;
+    loop {
+        let (value, used) = read_literal(alloc, rest)?;
+        values.push(value).map_err(AllocError::from)?;
+        rest = &rest[used..];
+        if rest == b"}".as_slice() {
+            return Ok(values);
+        }
+        rest = after(b", ", rest)?;
     }
 }
 

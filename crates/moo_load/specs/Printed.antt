@@ -1,0 +1,27 @@
+-- The values of a line.
+use Rattle.std.specs.Prelude.{◌≡◌, ℕ, pos, List, [], ◌∷◌}
+use Rattle.std.specs.List.{AllByRecursion}
+use Rattle.moo_value.specs.declared.value.ObjNo.{ObjNo}
+use Rattle.moo_value.specs.declared.value.Value.{Value}
+use Rattle.moo_value.specs.declared.value.Value.TheVariants.{Int, Obj, Str, List as a_list}
+use Rattle.moo_value.specs.Literal.{Fits, print}
+use Rattle.moo_rows.specs.declared.row.PetitionId.{PetitionId}
+use Rattle.moo_rows.specs.declared.row.PetitionRow.{PetitionRow}
+use Rattle.moo_rows.specs.declared.row.SlotRow.{SlotRow}
+use Rattle.moo_rows.specs.Bits.{letters_of}
+use Rattle.moo_dump.specs.Dump.{state_values}
+use Rattle.moo_world.specs.Answers.{list_of}
+use Rattle.moo_world.specs.Objects.{Name}
+
+-- the text is printed from a list of these values, each within the limits
+pub record ArePrinted (values : List Value) (text : List ℕ) : Type 0 where
+  pub fit : AllByRecursion Fits values
+  pub printed : text ≡ print (list_of values)
+
+-- the values of a slot's line: an object, the property by its definer and its name, and the slot
+abbrev pub slot_values : ObjNo → ObjNo → Name → SlotRow → List Value
+slot_values x definer name s = Obj x ∷ Obj definer ∷ Str name ∷ Obj s.owner ∷ Str (letters_of s.bits) ∷ state_values s.state
+
+-- the values of a petition's line
+abbrev pub petition_values : PetitionId → PetitionRow → List Value
+petition_values id row = Int (pos id.0) ∷ Obj row.who ∷ a_list row.calls ∷ []
