@@ -9,7 +9,7 @@ use Rattle.moo_value.specs.declared.value.Value.{Value}
 use Rattle.moo_value.specs.declared.value.Value.TheVariants.{Int, Obj, Str, Error, List as a_list}
 use Rattle.moo_value.specs.Value.{gather}
 use Rattle.moo_value.specs.Literal.{Fits, Ends, Front, print, print_items}
-use Rattle.moo_value.proofs.Printed.{printed, one, prepend_printed}
+use Rattle.moo_value.proofs.Printed.{printed, prepend_printed}
 use Rattle.moo_load.specs.Printed.{ArePrinted}
 
 -- what is printed after a value of a list

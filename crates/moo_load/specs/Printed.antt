@@ -1,6 +1,6 @@
 -- The values of a line.
-use Rattle.std.specs.Prelude.{◌≡◌, ℕ, pos, List, [], ◌∷◌}
-use Rattle.std.specs.List.{AllByRecursion}
+use Rattle.std.specs.Prelude.{◌≡◌, ℕ, ◌==◌, not, true, pos, List, [], ◌∷◌, codes}
+use Rattle.std.specs.List.{AllByRecursion, list_all}
 use Rattle.moo_value.specs.declared.value.ObjNo.{ObjNo}
 use Rattle.moo_value.specs.declared.value.Value.{Value}
 use Rattle.moo_value.specs.declared.value.Value.TheVariants.{Int, Obj, Str, List as a_list}
@@ -12,6 +12,20 @@ use Rattle.moo_rows.specs.Bits.{letters_of}
 use Rattle.moo_dump.specs.Dump.{state_values}
 use Rattle.moo_world.specs.Answers.{list_of}
 use Rattle.moo_world.specs.Objects.{Name}
+use Rattle.moo_load.specs.declared.line.Word.{Word}
+use Rattle.moo_load.specs.declared.line.Word.TheVariants.{Object, Property, Slot, Verb, Petition}
+
+-- the bytes have no line end
+abbrev pub IsOneLine : List ℕ → Type 0
+IsOneLine bytes = list_all (λ byte. not (byte == 10)) bytes ≡ true
+
+-- what the line of a row begins with
+abbrev pub word_text : Word → List ℕ
+word_text Object = codes "object"
+word_text Property = codes "property"
+word_text Slot = codes "slot"
+word_text Verb = codes "verb"
+word_text Petition = codes "petition"
 
 -- the text is printed from a list of these values, each within the limits
 pub record ArePrinted (values : List Value) (text : List ℕ) : Type 0 where

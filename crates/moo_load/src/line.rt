@@ -1,9 +1,10 @@
 //! The lines of a dump: a word and a literal.
 
-ghost use Rattle.std.specs.Prelude.{◌≡◌, ◌≢◌, ◌≤◌, ◌<◌, ◌+◌, ◌∷◌, ◌++◌, ℕ, List, length, IfOk, IfErr};
+ghost use Rattle.std.specs.Prelude.{◌≡◌, ◌≢◌, ◌≤◌, ◌<◌, ◌+◌, ◌∷◌, ◌++◌, ℕ, List, length, drop, IfOk, IfErr, IsOkAnd};
 ghost use Rattle.moo_value.specs.declared.value.Value.{Value as A};
 ghost use Rattle.moo_load.specs.Loaded.{SaysOfText};
-ghost use Rattle.moo_load.specs.Printed.{ArePrinted};
+ghost use Rattle.moo_load.specs.Printed.{ArePrinted, IsOneLine, word_text};
+ghost use Rattle.moo_load.specs.declared.line.Word.{Word as AWord};
 
 use crate::fault::{LineFault, LoadFault};
 use crate::place::line_from;
@@ -21,20 +22,23 @@ pub(crate) enum Word {
 }
 
 /// The word that a line begins with, and what follows the space after it.
-pub(crate) fn split_word(line: &[u8]) -> Result<(Word, &[u8]), LineFault> {
-    if let Some(literal) = line.strip_prefix(b"object ") {
+pub(crate) fn split_word(line: &[u8]) -> Result<(Word, &[u8]), LineFault>
+    ensures ok { IfOk result (λ r. line.now ≡ word_text r.0 ++ 32 ∷ r.1.now) }
+    ensures err { IfErr result (λ _. (word : AWord) (rest : List ℕ) → line.now ≢ word_text word ++ 32 ∷ rest) }
+{
+    if let Ok(literal) = after(b"object ", line) {
         return Ok((Word::Object, literal));
     }
-    if let Some(literal) = line.strip_prefix(b"property ") {
+    if let Ok(literal) = after(b"property ", line) {
         return Ok((Word::Property, literal));
     }
-    if let Some(literal) = line.strip_prefix(b"slot ") {
+    if let Ok(literal) = after(b"slot ", line) {
         return Ok((Word::Slot, literal));
     }
-    if let Some(literal) = line.strip_prefix(b"verb ") {
+    if let Ok(literal) = after(b"verb ", line) {
         return Ok((Word::Verb, literal));
     }
-    if let Some(literal) = line.strip_prefix(b"petition ") {
+    if let Ok(literal) = after(b"petition ", line) {
         return Ok((Word::Petition, literal));
     }
     Err(LineFault::Unreadable)
@@ -78,6 +82,7 @@ pub(crate) fn is_end(line: &[u8]) -> bool {
 pub(crate) fn next_line(text: &[u8], at: usize) -> Result<&[u8], LoadFault>
     requires { at ≤ length text.now }
     ensures ok { IfOk result (λ line. at + length line.now < length text.now) }
+    ensures found { (line rest : List ℕ) → IsOneLine line → drop at text.now ≡ line ++ 10 ∷ rest → IsOkAnd result (λ l. l.now ≡ line) }
     ensures err { IfErr result (SaysOfText text.now) }
 {
     match line_from(text, at) {

@@ -1,7 +1,8 @@
 //! The rows of a dump. Its lines are gone over twice: the slots, which name their properties by definers that may come later,
 //! are put once all properties are.
 
-ghost use Rattle.std.specs.Prelude.{◌≤◌, length, IfOk, IfErr, OnOk};
+ghost use Rattle.std.specs.Prelude.{◌≡◌, ◌≢◌, ◌≤◌, ◌∷◌, ◌++◌, [], length, IfOk, IfErr, OnOk};
+ghost use Rattle.moo_load.specs.Entries.{Entry, entry_text, EntryFits, NumberIsLeft, entry_taken};
 ghost use Rattle.moo_load.specs.Loaded.{SaysOfText};
 ghost use Rattle.moo_load.specs.Rows.{AreRead};
 
@@ -17,7 +18,10 @@ use std::alloc::Global;
 /// Puts the row of a line, if it isn't a slot.
 fn take_line(alloc: Global, line: &[u8], rows: &mut Flat) -> Result<(), LineFault>
     requires { AreRead rows.old.maps }
-    ensures { OnOk result (AreRead rows.new.maps) }
+    ensures read { OnOk result (AreRead rows.new.maps) }
+    // The line of an entry is taken as the entry, unless there is no number or no memory left.
+    ensures put { OnOk result ((e : Entry) → EntryFits e → line.now ++ 10 ∷ [] ≡ entry_text e → rows.new.maps ≡ entry_taken e rows.old.maps) }
+    ensures err { IfErr result (λ fault. fault ≡ LineFault.Unreadable → (e : Entry) → EntryFits e → NumberIsLeft e rows.old.maps → line.now ++ 10 ∷ [] ≢ entry_text e) }
 {
     let (word, literal) = split_word(line)?;
     if word == Word::Slot {

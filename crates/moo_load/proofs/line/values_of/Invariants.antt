@@ -1,4 +1,4 @@
-use Rattle.std.proofs.Common.{List, ℕ, ◌∷◌, length}
+use Rattle.std.proofs.Common.{List, ◌∷◌, length}
 use Rattle.moo_value.specs.declared.value.Value.{Value as A}
 use Rattle.moo_load.specs.Printed.{ArePrinted}
 use Rattle.moo_load.proofs.Listed.{Left}

@@ -1,4 +1,4 @@
-use Rattle.std.proofs.Common.{◌<◌, ◌≤◌, ℕ, length, ap, sym, ◌∙◌, arith}
+use Rattle.std.proofs.Common.{◌≤◌, length, ap, sym, ◌∙◌, arith}
 use Rattle.moo_value.specs.declared.value.Value.TheVariants.{Str}
 use Rattle.moo_load.proofs.Items.{item, no_item}
 use Rattle.moo_load.proofs.object.read_object.Goals as goal
