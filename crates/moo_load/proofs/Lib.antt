@@ -1,4 +1,5 @@
 pub mod Accepting
+pub mod Ahead
 pub mod Ends
 pub mod Held
 pub mod Items

@@ -36,7 +36,7 @@ word_of (a_petition e) = Petition
 abbrev pub line_of : Entry → List ℕ
 line_of e = word_text (word_of e) ++ 32 ∷ print (list_of (entry_values e))
 
-text_is : (e : Entry) → entry_text e ≡ line_of e ++ 10 ∷ []
+pub text_is : (e : Entry) → entry_text e ≡ line_of e ++ 10 ∷ []
 text_is (an_object x row) = refl
 text_is (a_property x n) = refl
 text_is (a_slot x p s) = refl

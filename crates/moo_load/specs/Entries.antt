@@ -1,6 +1,6 @@
 -- What the lines of a dump tell, and what rows each of them puts.
-use Rattle.std.specs.Prelude.{◌≡◌, ◌<◌, ℕ, true, List, ◌∷◌, []}
-use Rattle.std.specs.List.{AllByRecursion}
+use Rattle.std.specs.Prelude.{◌≡◌, ◌<◌, ℕ, true, List, ◌∷◌, ◌++◌, [], codes}
+use Rattle.std.specs.List.{AllByRecursion, flat_map}
 use Rattle.std.specs.FinMap.{insert}
 use Rattle.moo_value.specs.declared.value.ObjNo.{ObjNo}
 use Rattle.moo_value.specs.declared.value.Value.{Value}
@@ -71,3 +71,17 @@ entry_taken (a_property x n) m = property_taken m (record { definer = x; name = 
 entry_taken (a_slot x p s) m = m
 entry_taken (a_verb x v) m = verb_taken m x v
 entry_taken (a_petition e) m = petition_taken m e.0 e.1
+
+-- the lines of entries, and the last line
+abbrev pub entry_lines : List Entry → List ℕ
+entry_lines es = flat_map entry_text es ++ codes "end\n"
+
+-- the maps with the rows of these entries put, one after another, but for the slots
+abbrev pub entries_taken : List Entry → Maps → Maps
+entries_taken [] m = m
+entries_taken (e ∷ es) m = entries_taken es (entry_taken e m)
+
+-- a number is left for each row
+abbrev pub NumbersAreLeft : List Entry → Maps → Type 0
+NumbersAreLeft [] m = Unit {0}
+NumbersAreLeft (e ∷ es) m = NumberIsLeft e m × NumbersAreLeft es (entry_taken e m)

@@ -1,6 +1,6 @@
 //! The lines of a dump: a word and a literal.
 
-ghost use Rattle.std.specs.Prelude.{◌≡◌, ◌≢◌, ◌≤◌, ◌<◌, ◌+◌, ◌∷◌, ◌++◌, ℕ, List, length, drop, IfOk, IfErr, IsOkAnd};
+ghost use Rattle.std.specs.Prelude.{◌≡◌, ◌≢◌, ◌≤◌, ◌<◌, ◌+◌, ◌∷◌, ◌++◌, ℕ, List, length, drop, IfOk, IfErr, IsOkAnd, IsTrue, ◌↔◌, codes};
 ghost use Rattle.moo_value.specs.declared.value.Value.{Value as A};
 ghost use Rattle.moo_load.specs.Loaded.{SaysOfText};
 ghost use Rattle.moo_load.specs.Printed.{ArePrinted, IsOneLine, word_text};
@@ -74,7 +74,9 @@ pub(crate) fn values_of(alloc: Global, literal: &[u8]) -> Result<Vec<Value>, Lin
 }
 
 /// Whether it is the last line of a dump.
-pub(crate) fn is_end(line: &[u8]) -> bool {
+pub(crate) fn is_end(line: &[u8]) -> bool
+    ensures { IsTrue result ↔ (line.now ≡ codes "end") }
+{
     line == b"end".as_slice()
 }
 
