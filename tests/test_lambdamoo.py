@@ -183,7 +183,7 @@ class Values(Temporary):
         (["4", "0"], "{}"),
         (["4", "2", "0", "1", "4", "1", "2", "x, {"], '{1, {"x, {"}}'),
         (["4", "3", "4", "0", "4", "0", "1", "5"], "{{}, {}, #5}"),
-        nested(31),
+        nested(32),
     ]
 
     def test_each_type(self):
@@ -228,13 +228,11 @@ class Values(Temporary):
         self.assertIn("strings over 65,535 bytes, cut there: 1,", said)
 
     def test_lists_over_the_limit(self):
-        for depth in (32, 33, 50000):
+        for depth in (33, 34, 50000):
             status, text, said = from_database(of_value(*nested(depth)[0]))
-            self.assertEqual((status, text), (0, value_dump("{" * 31 + "E_MAXREC" + "}" * 31)))
-            self.assertRegex(said, r"lists over 31 deep, replaced by E_MAXREC: 1, first at #0, line \d+\n")
+            self.assertEqual((status, text), (0, value_dump("{" * 32 + "E_MAXREC" + "}" * 32)))
+            self.assertRegex(said, r"lists over 32 deep, replaced by E_MAXREC: 1, first at #0, line \d+\n")
             self.through_moo(text)
-        # What moo dumps may be 32 deep.
-        self.assertEqual(to_database(value_dump(nested(32)[1])), (0, of_value(*nested(32)[0]), ""))
         self.assertEqual(to_database(value_dump(nested(33)[1]))[0], 1)
 
     def test_types_that_are_none(self):

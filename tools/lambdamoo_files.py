@@ -10,9 +10,8 @@ NOTHING = -1
 LEAST_OBJECT, GREATEST_OBJECT = -(2**31), 2**31 - 1
 LEAST_INTEGER, GREATEST_INTEGER = -(2**63), 2**63 - 1
 LONGEST_STRING = 65535
-# Lists nest 32 deep in moo. A line of a dump is a list too, and moo load counts it, so a value in it may nest 31 deep.
+# Lists nest 32 deep in moo. A line of a dump is a list too, which isn't counted.
 DEEPEST_LIST = 32
-DEEPEST_LOADED = DEEPEST_LIST - 1
 LONGEST_NAME = 255
 
 # The errors in the order of their numbers in a file.
@@ -54,7 +53,7 @@ REFUSED_FLOATS = "floats, refused (use --floats text to write them as strings)"
 BYTES = "strings with bytes other than 9 and 32 to 126, written as ~XX"
 REFUSED_BYTES = "strings with bytes other than 9 and 32 to 126, refused (use --bytes escape to write these bytes as ~XX)"
 LONG_STRINGS = "strings over 65,535 bytes, cut there"
-DEEP_LISTS = "lists over 31 deep, replaced by E_MAXREC"
+DEEP_LISTS = "lists over 32 deep, replaced by E_MAXREC"
 HANDLES = "old handles, left out"
 OLD_FLAGS = "objects with the obsolete flags 8 or 64, left out"
 STRANGE_PARENTS = "parents that aren't objects, replaced by #-1"
@@ -406,7 +405,7 @@ class Database:
         if kind != LIST:
             return self.plain(kind)
         count = self.lines.count("values in a list")
-        if depth == DEEPEST_LOADED:
+        if depth == DEEPEST_LIST:
             self.note(DEEP_LISTS)
             self.skip(count)
             return "E_MAXREC"

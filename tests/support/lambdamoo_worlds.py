@@ -104,8 +104,8 @@ CODE = ["return 1;", "", "  if (x)", "..", "#0:0", '"a string";', "0 clocks", " 
 
 
 def random_value(random, depth=0):
-    """A value of any type. Lists nest at most 31 deep, as moo load reads them."""
-    kind = random.randrange(6 if depth < 31 else 4)
+    """A value of any type. Lists nest at most 32 deep, as in moo."""
+    kind = random.randrange(6 if depth < 32 else 4)
     if kind == 0:
         return random.choice([0, 1, -1, 7, 2**31 - 1, -(2**31), random.randrange(-1000, 1000)])
     if kind == 1:

@@ -1,3 +1,10 @@
 pub mod Accepting
+pub mod Ahead
+pub mod Ends
 pub mod Held
+pub mod Items
+pub mod Listed
+pub mod One
+pub mod OneLine
+pub mod Taken
 pub mod Within

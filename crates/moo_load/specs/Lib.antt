@@ -1,3 +1,6 @@
 pub mod Lines
+pub mod Printed
 pub mod Rows
+pub mod Entries
 pub mod Loaded
+pub mod OneState

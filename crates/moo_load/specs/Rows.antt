@@ -1,5 +1,11 @@
 -- Rows as far as a text is read.
-use Rattle.std.specs.Prelude.{◌<◌, ◌^◌}
+use Rattle.std.specs.Prelude.{◌<◌, ◌^◌, ◌+◌, max}
+use Rattle.std.specs.FinMap.{insert}
+use Rattle.moo_value.specs.declared.value.ObjNo.{ObjNo}
+use Rattle.moo_rows.specs.declared.row.PetitionId.{PetitionId}
+use Rattle.moo_rows.specs.declared.row.PetitionRow.{PetitionRow}
+use Rattle.moo_rows.specs.declared.row.PropRow.{PropRow}
+use Rattle.moo_rows.specs.declared.row.VerbRow.{VerbRow}
 use Rattle.moo_rows.specs.Maps.{Maps}
 use Rattle.moo_damage.specs.Limits.{AreWithin}
 
@@ -7,3 +13,18 @@ use Rattle.moo_damage.specs.Limits.{AreWithin}
 pub record AreRead (m : Maps) : Type 0 where
   pub within : AreWithin m
   pub limit : m.head.seq < 2 ^ 63
+
+-- with a property more, under the next number
+abbrev pub property_taken : Maps → PropRow → Maps
+property_taken m row =
+    record m { head = record (m.head) { next_prop = m.head.next_prop + 1 }; props = insert m.props (record { 0 = m.head.next_prop }) row }
+
+-- with a verb of x more, under the next number
+abbrev pub verb_taken : Maps → ObjNo → VerbRow → Maps
+verb_taken m x row =
+    record m { head = record (m.head) { next_verb = m.head.next_verb + 1 }; verbs = insert m.verbs (x, record { 0 = m.head.next_verb }) row }
+
+-- with a petition more, and the next number above its own
+abbrev pub petition_taken : Maps → PetitionId → PetitionRow → Maps
+petition_taken m id row =
+    record m { head = record (m.head) { next_petition = max m.head.next_petition (id.0 + 1) }; petitions = insert m.petitions id row }

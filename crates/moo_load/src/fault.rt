@@ -64,7 +64,8 @@ impl LineFault {
     /// The fault of the text in which it is that of the line at this place.
     pub(crate) fn within(self, text: &[u8], at: usize) -> LoadFault
         requires { at ≤ length text.now }
-        ensures { SaysOfText text.now result }
+        ensures says { SaysOfText text.now result }
+        ensures line { result ≢ OutOfMemory → self ≡ Unreadable }
     {
         match self {
             LineFault::Unreadable => LoadFault::NotADump(line_at(text, at)),

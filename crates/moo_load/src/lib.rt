@@ -5,6 +5,7 @@ mod comparing;
 mod fault;
 mod heading;
 mod input;
+pub mod laws;
 mod line;
 mod loading;
 mod object;

@@ -1,6 +1,9 @@
 //! The values of an object's line.
 
-ghost use Rattle.std.specs.Prelude.{◌≡◌, true, IfOk};
+ghost use Rattle.std.specs.Prelude.{◌≡◌, ◌≢◌, true, IfOk, IfErr};
+ghost use Rattle.moo_value.specs.declared.value.ObjNo.{ObjNo as Object};
+ghost use Rattle.moo_rows.specs.declared.row.ObjRow.{ObjRow as Row};
+ghost use Rattle.moo_dump.specs.Dump.{object_values};
 ghost use Rattle.moo_world.specs.World.{row_fits};
 
 use crate::fault::LineFault;
@@ -11,7 +14,9 @@ use std::alloc::Global;
 
 /// The object with its number.
 pub(crate) fn read_object(alloc: Global, values: &[Value]) -> Result<(ObjNo, ObjRow), LineFault>
+    ensures shown { IfOk result (λ r. values.now ≡ object_values r.0 r.1) }
     ensures fits { IfOk result (λ r. row_fits r.1 ≡ true) }
+    ensures err { IfErr result (λ fault. fault ≡ LineFault.Unreadable → (x : Object) (row : Row) → row_fits row ≡ true → values.now ≢ object_values x row) }
 {
     let [
         number,

@@ -1,9 +1,13 @@
 //! The values of a petition's line.
 
-ghost use Rattle.std.specs.Prelude.{◌≡◌, ◌<◌, pos, true, ◌&&◌, IfOk};
+ghost use Rattle.std.specs.Prelude.{◌≡◌, ◌≢◌, ◌∷◌, [], ◌<◌, ℕ, pos, true, ◌&&◌, IfOk, IfErr};
 ghost use Rattle.std.specs.List.{list_all};
-ghost use Rattle.moo_value.specs.declared.value.Value.TheVariants.{Int, List as a_list};
+ghost use Rattle.moo_value.specs.declared.value.Value.TheVariants.{Int, Obj, List as a_list};
 ghost use Rattle.moo_value.specs.Value.{spread};
+ghost use Rattle.moo_value.specs.Values.{Values};
+ghost use Rattle.moo_rows.specs.declared.row.PetitionId.{PetitionId as Id};
+ghost use Rattle.moo_rows.specs.declared.row.PetitionRow.{PetitionRow as Row};
+ghost use Rattle.moo_load.specs.Printed.{petition_values};
 ghost use Rattle.moo_world.specs.Arguments.{all_within_limits};
 ghost use Rattle.moo_world.specs.Petitions.{are_few, are_shallow, is_named, petition_fits};
 
@@ -19,6 +23,7 @@ fn number_of(value: &Value) -> Result<u32, LineFault>
     ensures shown { IfOk result (λ number. value.now ≡ Int (pos number)) }
     ensures some { IfOk result (λ number. 0 < number) }
     ensures below { IfOk result (λ number. number < 4294967295) }
+    ensures err { IfErr result (λ _. (number : ℕ) → 0 < number → number < 4294967295 → value.now ≢ Int (pos number)) }
 {
     let Value::Int(number) = value else {
         return Err(LineFault::Unreadable);
@@ -40,6 +45,8 @@ fn may_be_held(calls: &ValueList) -> bool
 fn calls_of(alloc: Global, value: &Value) -> Result<ValueList, LineFault>
     ensures shown { IfOk result (λ calls. value.now ≡ a_list calls) }
     ensures fits { IfOk result (λ calls. (list_all is_named (spread calls) && (are_few calls && (are_shallow calls && all_within_limits calls))) ≡ true) }
+    ensures err { IfErr result (λ fault. fault ≡ LineFault.Unreadable → (calls : Values)
+        → (list_all is_named (spread calls) && (are_few calls && (are_shallow calls && all_within_limits calls))) ≡ true → value.now ≢ a_list calls) }
 {
     if !fits(value) {
         return Err(LineFault::Unreadable);
@@ -58,9 +65,12 @@ pub(crate) fn read_petition(
     alloc: Global,
     values: &[Value],
 ) -> Result<(PetitionId, PetitionRow), LineFault>
+    ensures shown { IfOk result (λ r. values.now ≡ petition_values r.0 r.1) }
     ensures fits { IfOk result (λ r. petition_fits r.1 ≡ true) }
     ensures some { IfOk result (λ r. 0 < r.0.0) }
     ensures below { IfOk result (λ r. r.0.0 < 4294967295) }
+    ensures err { IfErr result (λ fault. fault ≡ LineFault.Unreadable → (id : Id) (row : Row) → 0 < id.0 → id.0 < 4294967295 → petition_fits row ≡ true
+        → values.now ≢ petition_values id row) }
 {
     let [number, who, calls] = values else {
         return Err(LineFault::Unreadable);

@@ -1,7 +1,9 @@
 //! Lines of a text, by the places at which they begin.
 
-ghost use Rattle.std.specs.Prelude.{◌≡◌, ◌≤◌, ◌<◌, ◌+◌, ◌∷◌, ◌++◌, length, drop, IfSome};
+ghost use Rattle.std.specs.Prelude.{◌≡◌, ◌==◌, ◌≤◌, ◌<◌, ◌+◌, ◌∷◌, ◌++◌, ℕ, List, length, drop, IfSome, IsSomeAnd};
+ghost use Rattle.std.specs.List.{position_from};
 ghost use Rattle.moo_load.specs.Lines.{IsLineOf};
+ghost use Rattle.moo_load.specs.Printed.{IsOneLine};
 
 /// The number of the line that a place of the text is in, from 1.
 pub(crate) fn line_at(text: &[u8], at: usize) -> u64
@@ -17,12 +19,21 @@ pub(crate) fn line_at(text: &[u8], at: usize) -> u64
     number
 }
 
+/// The place of the first line end.
+fn end_of(bytes: &[u8]) -> Option<usize>
+    ensures first { result ≡ position_from (λ byte. byte == 10) 0 bytes.now }
+    ensures within { IfSome result (λ end. end < length bytes.now) }
+{
+    bytes.iter().position(|byte| *byte == b'\n')
+}
+
 /// The line that begins at a place of the text, without its end; `None` if no end follows.
 pub(crate) fn line_from(text: &[u8], at: usize) -> Option<&[u8]>
     requires { at ≤ length text.now }
-    ensures { IfSome result (λ line. at + length line.now < length text.now) }
+    ensures within { IfSome result (λ line. at + length line.now < length text.now) }
+    ensures found { (line rest : List ℕ) → IsOneLine line → drop at text.now ≡ line ++ 10 ∷ rest → IsSomeAnd result (λ l. l.now ≡ line) }
 {
     let rest = &text[at..];
-    let end = rest.iter().position(|byte| *byte == b'\n')?;
+    let end = end_of(rest)?;
     Some(&rest[..end])
 }

@@ -1,7 +1,8 @@
 //! The values of a property's line.
 
-ghost use Rattle.std.specs.Prelude.{◌≡◌, ◌∷◌, [], true, IfOk};
+ghost use Rattle.std.specs.Prelude.{◌≡◌, ◌≢◌, ◌∷◌, [], true, IfOk, IfErr};
 ghost use Rattle.moo_value.specs.declared.value.Value.TheVariants.{Obj, Str};
+ghost use Rattle.moo_rows.specs.declared.row.PropRow.{PropRow as Row};
 ghost use Rattle.moo_world.specs.World.{is_property_name};
 
 use crate::fault::LineFault;
@@ -26,6 +27,8 @@ fn is_property_name(name: &MooStr) -> bool
 pub(crate) fn read_property(alloc: Global, values: &[Value]) -> Result<PropRow, LineFault>
     ensures shown { IfOk result (λ row. values.now ≡ Obj row.definer ∷ Str row.name ∷ []) }
     ensures fits { IfOk result (λ row. is_property_name row.name ≡ true) }
+    ensures err { IfErr result (λ fault. fault ≡ LineFault.Unreadable → (row : Row) → is_property_name row.name ≡ true
+        → values.now ≢ Obj row.definer ∷ Str row.name ∷ []) }
 {
     let [definer, name] = values else {
         return Err(LineFault::Unreadable);

@@ -1,7 +1,9 @@
 //! The rows of a dump. Its lines are gone over twice: the slots, which name their properties by definers that may come later,
 //! are put once all properties are.
 
-ghost use Rattle.std.specs.Prelude.{◌≤◌, length, IfOk, IfErr, OnOk};
+ghost use Rattle.std.specs.Prelude.{◌≡◌, ◌≢◌, ◌≤◌, ◌∷◌, ◌++◌, [], List, length, drop, IfOk, IfErr, OnOk};
+ghost use Rattle.std.specs.List.{AllByRecursion};
+ghost use Rattle.moo_load.specs.Entries.{Entry, entry_text, entry_lines, EntryFits, NumberIsLeft, NumbersAreLeft, entry_taken, entries_taken};
 ghost use Rattle.moo_load.specs.Loaded.{SaysOfText};
 ghost use Rattle.moo_load.specs.Rows.{AreRead};
 
@@ -17,7 +19,10 @@ use std::alloc::Global;
 /// Puts the row of a line, if it isn't a slot.
 fn take_line(alloc: Global, line: &[u8], rows: &mut Flat) -> Result<(), LineFault>
     requires { AreRead rows.old.maps }
-    ensures { OnOk result (AreRead rows.new.maps) }
+    ensures read { OnOk result (AreRead rows.new.maps) }
+    // The line of an entry is taken as the entry, unless there is no number or no memory left.
+    ensures put { OnOk result ((e : Entry) → EntryFits e → line.now ++ 10 ∷ [] ≡ entry_text e → rows.new.maps ≡ entry_taken e rows.old.maps) }
+    ensures err { IfErr result (λ fault. fault ≡ LineFault.Unreadable → (e : Entry) → EntryFits e → NumberIsLeft e rows.old.maps → line.now ++ 10 ∷ [] ≢ entry_text e) }
 {
     let (word, literal) = split_word(line)?;
     if word == Word::Slot {
@@ -56,6 +61,11 @@ fn take_lines(alloc: Global, text: &[u8], start: usize, rows: &mut Flat) -> Resu
     requires start { start ≤ length text.now }
     requires read { AreRead rows.old.maps }
     ensures read { OnOk result (AreRead rows.new.maps) }
+    // The lines of entries are taken as the entries, unless there is no number or no memory left.
+    ensures put { OnOk result ((es : List Entry) → AllByRecursion EntryFits es → drop start text.now ≡ entry_lines es
+        → rows.new.maps ≡ entries_taken es rows.old.maps) }
+    ensures err { IfErr result (λ fault. fault ≢ LoadFault.OutOfMemory → (es : List Entry) → AllByRecursion EntryFits es → NumbersAreLeft es rows.old.maps
+        → drop start text.now ≢ entry_lines es) }
     ensures fault { IfErr result (SaysOfText text.now) }
 {
     let mut at = start;
@@ -64,10 +74,10 @@ fn take_lines(alloc: Global, text: &[u8], start: usize, rows: &mut Flat) -> Resu
         if is_end(line) {
             return Ok(());
         }
-        if let Err(fault) = take_line(alloc, line, rows) {
-            return Err(fault.within(text, at));
+        match take_line(alloc, line, rows) {
+            Ok(()) => at += line.len() + 1,
+            Err(fault) => return Err(fault.within(text, at)),
         }
-        at += line.len() + 1;
     }
 }
 

@@ -1,8 +1,16 @@
 //! The values of a slot's line.
 
-ghost use Rattle.std.specs.Prelude.{◌≡◌, true, ◌&&◌, IfOk};
+ghost use Rattle.std.specs.Prelude.{◌≡◌, ◌≢◌, ◌∷◌, true, ◌&&◌, IfOk, IfErr};
+ghost use Rattle.moo_value.specs.declared.value.ObjNo.{ObjNo as Object};
+ghost use Rattle.moo_value.specs.declared.value.Value.TheVariants.{Obj, Str};
+ghost use Rattle.moo_rows.specs.declared.row.Bits.{Bits as Rights};
+ghost use Rattle.moo_rows.specs.declared.row.SlotRow.{SlotRow as Row};
+ghost use Rattle.moo_rows.specs.declared.row.SlotState.{SlotState as State};
+ghost use Rattle.moo_rows.specs.Bits.{letters_of};
 ghost use Rattle.moo_dump.specs.Dump.{state_values};
+ghost use Rattle.moo_load.specs.Printed.{slot_values};
 ghost use Rattle.moo_world.specs.Arguments.{is_number};
+ghost use Rattle.moo_world.specs.Objects.{Name};
 ghost use Rattle.moo_world.specs.World.{state_fits};
 
 use crate::fault::LineFault;
@@ -20,10 +28,23 @@ pub(crate) struct SlotLine {
     pub(crate) row: SlotRow,
 }
 
+/// The rights that a value spells in their order.
+fn bits_of(value: &Value) -> Result<Bits, LineFault>
+    ensures ok { IfOk result (λ bits. value.now ≡ Str (letters_of bits)) }
+    ensures err { IfErr result (λ _. (bits : Rights) → value.now ≢ Str (letters_of bits)) }
+{
+    let text = text_of(value)?;
+    match Bits::read(text) {
+        Some(bits) if bits.letters().as_bytes() == text.bytes() => Ok(bits),
+        _ => Err(LineFault::Unreadable),
+    }
+}
+
 /// What a slot holds: 0 for nothing, or 1 with the value.
 fn state_of(alloc: Global, values: &[Value]) -> Result<SlotState, LineFault>
     ensures shown { IfOk result (λ state. values.now ≡ state_values state) }
     ensures fits { IfOk result (λ state. state_fits state ≡ true) }
+    ensures err { IfErr result (λ fault. fault ≡ LineFault.Unreadable → (state : State) → state_fits state ≡ true → values.now ≢ state_values state) }
 {
     match values {
         [Value::Int(0)] => Ok(SlotState::Clear),
@@ -40,7 +61,10 @@ fn state_of(alloc: Global, values: &[Value]) -> Result<SlotState, LineFault>
 
 /// The slot.
 pub(crate) fn read_slot(alloc: Global, values: &[Value]) -> Result<SlotLine, LineFault>
+    ensures shown { IfOk result (λ slot. values.now ≡ slot_values slot.object slot.definer slot.name slot.row) }
     ensures fits { IfOk result (λ slot. (is_number slot.row.owner && state_fits slot.row.state) ≡ true) }
+    ensures err { IfErr result (λ fault. fault ≡ LineFault.Unreadable → (x definer : Object) (name : Name) (row : Row) → state_fits row.state ≡ true
+        → values.now ≢ slot_values x definer name row) }
 {
     let [object, definer, name, owner, letters, state @ ..] = values else {
         return Err(LineFault::Unreadable);
@@ -49,9 +73,7 @@ pub(crate) fn read_slot(alloc: Global, values: &[Value]) -> Result<SlotLine, Lin
     let definer = object_of(definer)?;
     let name = text_of(name)?.copy(alloc)?;
     let owner = object_of(owner)?;
-    let Some(bits) = Bits::read(text_of(letters)?) else {
-        return Err(LineFault::Unreadable);
-    };
+    let bits = bits_of(letters)?;
     let state = state_of(alloc, state)?;
     Ok(SlotLine {
         object,

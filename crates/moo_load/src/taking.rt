@@ -1,7 +1,19 @@
 //! Rows, put as their lines say.
 
-ghost use Rattle.std.specs.Prelude.{OnOk};
-ghost use Rattle.moo_load.specs.Rows.{AreRead};
+ghost use Rattle.std.specs.Prelude.{◌≡◌, ◌≢◌, ◌<◌, ◌∷◌, [], true, OnOk, IfErr};
+ghost use Rattle.moo_value.specs.declared.value.ObjNo.{ObjNo as Object};
+ghost use Rattle.moo_value.specs.declared.value.Value.TheVariants.{Obj, Str};
+ghost use Rattle.moo_rows.specs.declared.row.ObjRow.{ObjRow as ObjectRow};
+ghost use Rattle.moo_rows.specs.declared.row.PetitionId.{PetitionId as Id};
+ghost use Rattle.moo_rows.specs.declared.row.PetitionRow.{PetitionRow as APetition};
+ghost use Rattle.moo_rows.specs.declared.row.PropRow.{PropRow as Property};
+ghost use Rattle.moo_rows.specs.declared.row.VerbRow.{VerbRow as Verb};
+ghost use Rattle.moo_rows.specs.Maps.{with_object};
+ghost use Rattle.moo_dump.specs.Dump.{object_values, verb_values};
+ghost use Rattle.moo_load.specs.Printed.{petition_values};
+ghost use Rattle.moo_load.specs.Rows.{AreRead, property_taken, verb_taken, petition_taken};
+ghost use Rattle.moo_world.specs.Petitions.{petition_fits};
+ghost use Rattle.moo_world.specs.World.{row_fits, verb_fits, is_property_name};
 
 use crate::fault::LineFault;
 use crate::object::read_object;
@@ -17,7 +29,9 @@ use std::alloc::Global;
 /// Puts an object.
 pub(crate) fn take_object(alloc: Global, values: &[Value], rows: &mut Flat) -> Result<(), LineFault>
     requires { AreRead rows.old.maps }
-    ensures { OnOk result (AreRead rows.new.maps) }
+    ensures read { OnOk result (AreRead rows.new.maps) }
+    ensures put { OnOk result ((x : Object) (row : ObjectRow) → values.now ≡ object_values x row → rows.new ≡ with_object rows.old x row) }
+    ensures err { IfErr result (λ fault. fault ≡ LineFault.Unreadable → (x : Object) (row : ObjectRow) → row_fits row ≡ true → values.now ≢ object_values x row) }
 {
     let (number, row) = read_object(alloc, values)?;
     rows.put_object(number, row)?;
@@ -31,7 +45,11 @@ pub(crate) fn take_property(
     rows: &mut Flat,
 ) -> Result<(), LineFault>
     requires { AreRead rows.old.maps }
-    ensures { OnOk result (AreRead rows.new.maps) }
+    ensures read { OnOk result (AreRead rows.new.maps) }
+    ensures put { OnOk result ((row : Property) → values.now ≡ Obj row.definer ∷ Str row.name ∷ [] → rows.new.maps ≡ property_taken rows.old.maps row) }
+    // Unless there is no number left.
+    ensures err { IfErr result (λ fault. fault ≡ LineFault.Unreadable → rows.old.maps.head.next_prop < 4294967295 → (row : Property) → is_property_name row.name ≡ true
+        → values.now ≢ Obj row.definer ∷ Str row.name ∷ []) }
 {
     let row = read_property(alloc, values)?;
     let mut head = rows.head();
@@ -48,7 +66,11 @@ pub(crate) fn take_property(
 /// Puts a verb under the next number.
 pub(crate) fn take_verb(alloc: Global, values: &[Value], rows: &mut Flat) -> Result<(), LineFault>
     requires { AreRead rows.old.maps }
-    ensures { OnOk result (AreRead rows.new.maps) }
+    ensures read { OnOk result (AreRead rows.new.maps) }
+    ensures put { OnOk result ((x : Object) (row : Verb) → values.now ≡ verb_values x row → rows.new.maps ≡ verb_taken rows.old.maps x row) }
+    // Unless there is no number left.
+    ensures err { IfErr result (λ fault. fault ≡ LineFault.Unreadable → rows.old.maps.head.next_verb < 4294967295 → (x : Object) (row : Verb) → verb_fits row ≡ true
+        → values.now ≢ verb_values x row) }
 {
     let (object, row) = read_verb(alloc, values)?;
     let mut head = rows.head();
@@ -69,7 +91,10 @@ pub(crate) fn take_petition(
     rows: &mut Flat,
 ) -> Result<(), LineFault>
     requires { AreRead rows.old.maps }
-    ensures { OnOk result (AreRead rows.new.maps) }
+    ensures read { OnOk result (AreRead rows.new.maps) }
+    ensures put { OnOk result ((id : Id) (row : APetition) → values.now ≡ petition_values id row → rows.new.maps ≡ petition_taken rows.old.maps id row) }
+    ensures err { IfErr result (λ fault. fault ≡ LineFault.Unreadable → (id : Id) (row : APetition) → 0 < id.0 → id.0 < 4294967295 → petition_fits row ≡ true
+        → values.now ≢ petition_values id row) }
 {
     let (id, row) = read_petition(alloc, values)?;
     rows.put_petition(id, row)?;

@@ -1,7 +1,14 @@
 //! The values of a verb's line.
 
-ghost use Rattle.std.specs.Prelude.{◌≡◌, true, IfOk};
+ghost use Rattle.std.specs.Prelude.{◌≡◌, ◌≢◌, true, IfOk, IfErr};
+ghost use Rattle.moo_value.specs.declared.value.ObjNo.{ObjNo as Object};
 ghost use Rattle.moo_value.specs.declared.value.Value.TheVariants.{Str};
+ghost use Rattle.moo_rows.specs.declared.row.Place.{Place as APlace};
+ghost use Rattle.moo_rows.specs.declared.row.Preposition.{Preposition as APreposition};
+ghost use Rattle.moo_rows.specs.declared.row.VerbBits.{VerbBits as Rights};
+ghost use Rattle.moo_rows.specs.declared.row.VerbRow.{VerbRow as Row};
+ghost use Rattle.moo_rows.specs.Bits.{verb_letters_of};
+ghost use Rattle.moo_dump.specs.Dump.{verb_values};
 ghost use Rattle.moo_world.specs.Prepositions.{prep_text, place_text};
 ghost use Rattle.moo_world.specs.World.{verb_fits};
 
@@ -15,6 +22,7 @@ use std::alloc::Global;
 /// The place that a value spells.
 fn place_of(value: &Value) -> Result<Place, LineFault>
     ensures shown { IfOk result (λ place. value.now ≡ Str (place_text place)) }
+    ensures err { IfErr result (λ _. (place : APlace) → value.now ≢ Str (place_text place)) }
 {
     match read_place_cell(text_of(value)?.bytes()) {
         Some(place) => Ok(place),
@@ -25,6 +33,7 @@ fn place_of(value: &Value) -> Result<Place, LineFault>
 /// The preposition that a value spells.
 fn prep_of(value: &Value) -> Result<Preposition, LineFault>
     ensures shown { IfOk result (λ prep. value.now ≡ Str (prep_text prep)) }
+    ensures err { IfErr result (λ _. (prep : APreposition) → value.now ≢ Str (prep_text prep)) }
 {
     match read_prep_cell(text_of(value)?.bytes()) {
         Some(prep) => Ok(prep),
@@ -32,9 +41,23 @@ fn prep_of(value: &Value) -> Result<Preposition, LineFault>
     }
 }
 
+/// The rights that a value spells in their order.
+fn bits_of(value: &Value) -> Result<VerbBits, LineFault>
+    ensures shown { IfOk result (λ bits. value.now ≡ Str (verb_letters_of bits)) }
+    ensures err { IfErr result (λ _. (bits : Rights) → value.now ≢ Str (verb_letters_of bits)) }
+{
+    let text = text_of(value)?;
+    match VerbBits::read(text) {
+        Some(bits) if bits.letters().as_bytes() == text.bytes() => Ok(bits),
+        _ => Err(LineFault::Unreadable),
+    }
+}
+
 /// The verb with the object that it is on.
 pub(crate) fn read_verb(alloc: Global, values: &[Value]) -> Result<(ObjNo, VerbRow), LineFault>
+    ensures shown { IfOk result (λ r. values.now ≡ verb_values r.0 r.1) }
     ensures fits { IfOk result (λ r. verb_fits r.1 ≡ true) }
+    ensures err { IfErr result (λ fault. fault ≡ LineFault.Unreadable → (x : Object) (row : Row) → verb_fits row ≡ true → values.now ≢ verb_values x row) }
 {
     let [object, names, owner, letters, dobj, prep, iobj] = values else {
         return Err(LineFault::Unreadable);
@@ -46,9 +69,7 @@ pub(crate) fn read_verb(alloc: Global, values: &[Value]) -> Result<(ObjNo, VerbR
     }
     let names = names.copy(alloc)?;
     let owner = object_of(owner)?;
-    let Some(bits) = VerbBits::read(text_of(letters)?) else {
-        return Err(LineFault::Unreadable);
-    };
+    let bits = bits_of(letters)?;
     let dobj = place_of(dobj)?;
     let prep = prep_of(prep)?;
     let iobj = place_of(iobj)?;

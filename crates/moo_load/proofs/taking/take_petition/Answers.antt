@@ -1,12 +1,16 @@
-use Rattle.std.proofs.Common.{◌≡◌, ◌+◌, sym, subst, refl, arith}
+use Rattle.std.proofs.Common.{◌≡◌, ◌+◌, ap, sym, subst, ◌∙◌, refl, arith}
 use Rattle.moo_rows.specs.declared.row.Head.{Head}
 use Rattle.moo_rows.specs.Maps.{Held}
 use Rattle.moo_load.specs.Rows.{AreRead}
 use Rattle.moo_load.proofs.Within.{petition_put, counted, IsNext}
+use Rattle.std.specs.FinMap.{insert}
+use Rattle.std.specs.Prelude.{max}
+use Rattle.moo_load.specs.Rows.{petition_taken}
+use Rattle.moo_load.proofs.One.Values.{one_petition}
 use Rattle.moo_load.proofs.taking.take_petition.Goals as goal
 
-pub returns-then-head-id : goal.returns-then-head-id
-returns-then-head-id c =
+pub returns-then-head-id-clause-read : goal.returns-then-head-id-clause-read
+returns-then-head-id-clause-read c =
     let put : AreRead c.put_petition.new.self.maps =
     subst (λ (h : Held). AreRead h.maps) (sym c.in_ok-put_petition.ensures.ok) (petition_put c.args.rows.now c.in_ok-id.id c.in_ok-id.row c.requires c.in_ok-id.ensures.some c.in_ok-id.ensures.fits) in
     let own : c.head-head.result ≡ c.put_petition.new.self.maps.head = c.head-head.ensures in
@@ -15,6 +19,28 @@ returns-then-head-id c =
     let above : IsNext (c.in_ok-id.id.0 + 1) = (omega arith, omega (arith, c.in_ok-id.ensures.below)) in
     subst (λ (h : Held). AreRead h.maps) (sym c.set_head.ensures) (counted c.put_petition.new.self.maps c.head-head.result _ put own refl refl props verbs above)
 
-pub returns-else-head-id : goal.returns-else-head-id
-returns-else-head-id c =
+pub returns-else-head-id-clause-read : goal.returns-else-head-id-clause-read
+returns-else-head-id-clause-read c =
     subst (λ (h : Held). AreRead h.maps) (sym c.in_ok-put_petition.ensures.ok) (petition_put c.args.rows.now c.in_ok-id.id c.in_ok-id.row c.requires c.in_ok-id.ensures.some c.in_ok-id.ensures.fits)
+
+pub returns-then-head-id-clause-put : goal.returns-then-head-id-clause-put
+returns-then-head-id-clause-put c id row is =
+    let maps = c.args.rows.now.maps in
+    let own : c.head-head.result ≡ maps.head = c.head-head.ensures ∙ ap (λ (h : Held). h.maps.head) c.in_ok-put_petition.ensures.ok in
+    let o = one_petition (c.in_ok-id.id, c.in_ok-id.row) (id, row) (sym c.in_ok-id.ensures.shown ∙ is) in
+    let above : c.in_ok-id.id.0 + 1 ≡ max c.head-head.result.next_petition (c.in_ok-id.id.0 + 1) = omega arith in
+    ap (λ (h : Held). h.maps) c.set_head.ensures
+    ∙ (λ i. record (c.put_petition.new.self.maps) { head = record (c.head-head.result) { next_petition = above i } })
+    ∙ (λ i. record ((c.in_ok-put_petition.ensures.ok i).maps) { head = record (own i) { next_petition = max (own i).next_petition (c.in_ok-id.id.0 + 1) } })
+    ∙ (λ i. petition_taken maps (o i).0 (o i).1)
+
+pub returns-else-head-id-clause-put : goal.returns-else-head-id-clause-put
+returns-else-head-id-clause-put c id row is =
+    let maps = c.args.rows.now.maps in
+    let own : c.head-head.result ≡ maps.head = c.head-head.ensures ∙ ap (λ (h : Held). h.maps.head) c.in_ok-put_petition.ensures.ok in
+    let o = one_petition (c.in_ok-id.id, c.in_ok-id.row) (id, row) (sym c.in_ok-id.ensures.shown ∙ is) in
+    let next : c.head-head.result.next_petition ≡ maps.head.next_petition = ap (λ (h : Head). h.next_petition) own in
+    let kept : maps.head.next_petition ≡ max maps.head.next_petition (c.in_ok-id.id.0 + 1) = omega arith in
+    ap (λ (h : Held). h.maps) c.in_ok-put_petition.ensures.ok
+    ∙ (λ i. record maps { head = record (maps.head) { next_petition = kept i }; petitions = insert maps.petitions c.in_ok-id.id c.in_ok-id.row })
+    ∙ (λ i. petition_taken maps (o i).0 (o i).1)

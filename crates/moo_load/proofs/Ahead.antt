@@ -1,0 +1,113 @@
+-- The entries that are ahead, as their lines are taken one after another.
+use Rattle.std.proofs.Common.{◌≡◌, ℕ, ◌+◌, List, [], ◌∷◌, ◌++◌, length, get_or, drop, refl, sym, ap, subst, ◌∙◌, append_assoc, length-append}
+use Rattle.std.specs.Prelude.{codes}
+use Rattle.std.specs.List.{flat_map, AllByRecursion}
+use Rattle.std.proofs.lemmas.Bool.{false≢true}
+use Rattle.std.proofs.lemmas.Bool.Decides.{Decides-eqb}
+use Rattle.std.proofs.lemmas.List.{drop_at}
+use Rattle.moo_value.specs.declared.value.Value.{Value}
+use Rattle.moo_value.specs.declared.value.Value.TheVariants.{Int, Obj, Str, Error, List as a_list}
+use Rattle.moo_value.specs.Literal.{Fits, HoldInside, InRange}
+use Rattle.moo_value.specs.Text.{IsText}
+use Rattle.moo_value.specs.Value.{gather}
+use Rattle.moo_rows.specs.Maps.{Maps}
+use Rattle.moo_load.specs.Entries.{Entry, an_object, a_property, a_slot, a_verb, a_petition, entry_text, entry_values, entry_lines, EntryFits, NumberIsLeft, NumbersAreLeft, entry_taken, entries_taken}
+use Rattle.moo_load.specs.Printed.{IsOneLine, word_text}
+use Rattle.moo_load.proofs.OneLine.{one_line_append, list_plain}
+use Rattle.moo_load.proofs.Taken.{word_of, line_of, text_is}
+
+-- the entries that are ahead: their lines are the rest of the text
+pub record Ahead (es : List Entry) (first now : Maps) (rest : List ℕ) : Type 0 where
+  pub left : List Entry
+  pub fit : AllByRecursion EntryFits left
+  pub printed : rest ≡ entry_lines left
+  pub same : entries_taken left now ≡ entries_taken es first
+  pub numbers : NumbersAreLeft es first → NumbersAreLeft left now
+
+pub all_ahead : (es : List Entry) (m : Maps) (rest : List ℕ) → AllByRecursion EntryFits es → rest ≡ entry_lines es → Ahead es m m rest
+all_ahead es m rest fit printed = record { left = es; fit = fit; printed = printed; same = refl; numbers = λ n. n }
+
+held_inside : (vs : List Value) → AllByRecursion Fits vs → HoldInside InRange IsText (gather vs)
+held_inside [] a = tt
+held_inside (Int n ∷ vs) a = (a.0.0, held_inside vs a.1)
+held_inside (Obj o ∷ vs) a = (a.0.0, held_inside vs a.1)
+held_inside (Str s ∷ vs) a = (a.0.0, held_inside vs a.1)
+held_inside (Error e ∷ vs) a = held_inside vs a.1
+held_inside (a_list us ∷ vs) a = (a.0.0, held_inside vs a.1)
+
+word_plain : (e : Entry) → IsOneLine (word_text (word_of e))
+word_plain (an_object x row) = refl
+word_plain (a_property x n) = refl
+word_plain (a_slot x p s) = refl
+word_plain (a_verb x v) = refl
+word_plain (a_petition e) = refl
+
+-- the line of an entry has no line end
+pub line_plain : (e : Entry) → EntryFits e → IsOneLine (line_of e)
+line_plain e fit = one_line_append (word_text (word_of e)) _ (word_plain e) (list_plain (gather (entry_values e)) (held_inside (entry_values e) fit.values))
+
+-- the first line, and those after it
+pub first_line : (e : Entry) (es : List Entry) → entry_lines (e ∷ es) ≡ line_of e ++ 10 ∷ entry_lines es
+first_line e es =
+    append_assoc (entry_text e) (flat_map entry_text es) (codes "end\n")
+    ∙ ap (λ (t : List ℕ). t ++ entry_lines es) (text_is e)
+    ∙ append_assoc (line_of e) (10 ∷ []) (entry_lines es)
+
+abbrev mark : List ℕ → ℕ
+mark text = get_or text 0 0 + get_or text 1 0
+
+no_end : (e : Entry) → line_of e ≡ codes "end" → ⊥
+no_end (an_object x row) is = false≢true ((Decides-eqb 209 211).1 (ap mark is))
+no_end (a_property x n) is = false≢true ((Decides-eqb 226 211).1 (ap mark is))
+no_end (a_slot x p s) is = false≢true ((Decides-eqb 223 211).1 (ap mark is))
+no_end (a_verb x v) is = false≢true ((Decides-eqb 219 211).1 (ap mark is))
+no_end (a_petition e) is = false≢true ((Decides-eqb 213 211).1 (ap mark is))
+
+-- the line is the one in front of the text
+abbrev pub IsFirst : List ℕ → List ℕ → Type 0
+IsFirst line rest = (l r : List ℕ) → IsOneLine l → rest ≡ l ++ 10 ∷ r → line ≡ l
+
+-- there is a line
+pub some_line : {es : List Entry} {first now : Maps} {rest : List ℕ} → Ahead es first now rest → ((l r : List ℕ) → IsOneLine l → rest ≡ l ++ 10 ∷ r → ⊥) → ⊥
+some_line {rest = rest} a none = by a.left a.fit a.printed
+  where
+    by : (left : List Entry) → AllByRecursion EntryFits left → rest ≡ entry_lines left → ⊥
+    by [] fit printed = none (codes "end") [] refl printed
+    by (e ∷ more) fit printed = none (line_of e) (entry_lines more) (line_plain e fit.0) (printed ∙ first_line e more)
+
+-- at the last line all are taken
+pub at_end : {es : List Entry} {first now : Maps} {rest : List ℕ} → Ahead es first now rest → (line : List ℕ) → IsFirst line rest → line ≡ codes "end" → now ≡ entries_taken es first
+at_end {es = es} {first = first} {now = now} {rest = rest} a line is end = by a.left a.fit a.printed a.same
+  where
+    by : (left : List Entry) → AllByRecursion EntryFits left → rest ≡ entry_lines left → entries_taken left now ≡ entries_taken es first → now ≡ entries_taken es first
+    by [] fit printed same = same
+    by (e ∷ more) fit printed same = absurd (no_end e (sym (is (line_of e) (entry_lines more) (line_plain e fit.0) (printed ∙ first_line e more)) ∙ end))
+
+-- another line that isn't taken is that of no entry
+pub not_refused : {es : List Entry} {first now : Maps} {rest : List ℕ} → Ahead es first now rest → (line : List ℕ) → IsFirst line rest → (line ≡ codes "end" → ⊥) → ((e : Entry) → EntryFits e → NumberIsLeft e now → line ++ 10 ∷ [] ≡ entry_text e → ⊥) → NumbersAreLeft es first → ⊥
+not_refused {now = now} {rest = rest} a line is on none numbers = by a.left a.fit a.printed (a.numbers numbers)
+  where
+    by : (left : List Entry) → AllByRecursion EntryFits left → rest ≡ entry_lines left → NumbersAreLeft left now → ⊥
+    by [] fit printed left = on (is (codes "end") [] refl printed)
+    by (e ∷ more) fit printed left =
+        let own = is (line_of e) (entry_lines more) (line_plain e fit.0) (printed ∙ first_line e more) in
+        none e fit.0 left.0 (ap (λ (t : List ℕ). t ++ 10 ∷ []) own ∙ sym (text_is e))
+
+-- after another line that is taken
+pub one_taken : {es : List Entry} {first now : Maps} {rest : List ℕ} → Ahead es first now rest → (new : Maps) (line : List ℕ) → IsFirst line rest → (line ≡ codes "end" → ⊥) → ((e : Entry) → EntryFits e → line ++ 10 ∷ [] ≡ entry_text e → new ≡ entry_taken e now) → Ahead es first new (drop (length line + 1) rest)
+one_taken {es = es} {first = first} {now = now} {rest = rest} a new line is on put = by a.left a.fit a.printed a.same a.numbers
+  where
+    by : (left : List Entry) → AllByRecursion EntryFits left → rest ≡ entry_lines left → entries_taken left now ≡ entries_taken es first → (NumbersAreLeft es first → NumbersAreLeft left now) → Ahead es first new (drop (length line + 1) rest)
+    by [] fit printed same numbers = absurd (on (is (codes "end") [] refl printed))
+    by (e ∷ more) fit printed same numbers =
+        let own = is (line_of e) (entry_lines more) (line_plain e fit.0) (printed ∙ first_line e more) in
+        let now_is : new ≡ entry_taken e now = put e fit.0 (ap (λ (t : List ℕ). t ++ 10 ∷ []) own ∙ sym (text_is e)) in
+        let whole : rest ≡ (line_of e ++ 10 ∷ []) ++ entry_lines more = printed ∙ first_line e more ∙ sym (append_assoc (line_of e) (10 ∷ []) (entry_lines more)) in
+        let count : length line + 1 ≡ length (line_of e ++ 10 ∷ []) = ap (λ (t : List ℕ). length t + 1) own ∙ sym (length-append (line_of e) (10 ∷ [])) in
+        record {
+          left = more;
+          fit = fit.1;
+          printed = ap (drop (length line + 1)) whole ∙ ap (λ (n : ℕ). drop n ((line_of e ++ 10 ∷ []) ++ entry_lines more)) count ∙ drop_at (line_of e ++ 10 ∷ []) (entry_lines more) (length (line_of e ++ 10 ∷ [])) refl;
+          same = ap (entries_taken more) now_is ∙ same;
+          numbers = λ n. subst (NumbersAreLeft more) (sym now_is) (numbers n).1;
+        }

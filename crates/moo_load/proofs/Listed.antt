@@ -1,0 +1,112 @@
+-- The printed values of a list, read one after another.
+use Rattle.std.proofs.Common.{◌≡◌, ℕ, true, false, Result, List, [], ◌∷◌, ◌++◌, length, drop, Ok, Err, ◌≢◌, refl, sym, ap, subst, ◌∙◌, append_assoc}
+use Rattle.std.specs.List.{AllByRecursion}
+use Rattle.std.proofs.lemmas.List.{drop_at}
+use Rattle.moo_value.specs.declared.fault.LiteralFault.{LiteralFault}
+use Rattle.moo_value.specs.declared.fault.LiteralFault.TheVariants.{NotALiteral, OutOfRange, BadByte, TooDeep, TooLong, OutOfMemory}
+use Rattle.moo_value.specs.Reading.{Fails}
+use Rattle.moo_value.specs.declared.value.Value.{Value}
+use Rattle.moo_value.specs.declared.value.Value.TheVariants.{Int, Obj, Str, Error, List as a_list}
+use Rattle.moo_value.specs.Value.{gather}
+use Rattle.moo_value.specs.Literal.{Fits, Ends, Front, print, print_items}
+use Rattle.moo_value.proofs.Printed.{printed, prepend_printed}
+use Rattle.moo_load.specs.Printed.{ArePrinted}
+
+-- what is printed after a value of a list
+abbrev pub after_value : List Value → List ℕ
+after_value more = print_items false (gather more)
+
+-- the values that are still to be read, the next one first, and their text
+pub record Left (values done : List Value) (rest : List ℕ) : Type 0 where
+  pub next : Value
+  pub more : List Value
+  pub all : values ≡ done ++ (next ∷ more)
+  pub fits : Fits next
+  pub fit : AllByRecursion Fits more
+  pub printed : rest ≡ print next ++ after_value more
+
+pub ends_before : (v : Value) (more : List Value) → Ends v (after_value more)
+ends_before (Int n) [] = refl
+ends_before (Obj o) [] = refl
+ends_before (Str s) [] = tt
+ends_before (Error e) [] = refl
+ends_before (a_list vs) [] = tt
+ends_before (Int n) (v ∷ more) = rw (prepend_printed false v (gather more)) refl
+ends_before (Obj o) (v ∷ more) = rw (prepend_printed false v (gather more)) refl
+ends_before (Str s) (v ∷ more) = tt
+ends_before (Error e) (v ∷ more) = rw (prepend_printed false v (gather more)) refl
+ends_before (a_list vs) (v ∷ more) = tt
+
+-- nothing is read yet
+pub left_first : (v : Value) (vs : List Value) (literal rest : List ℕ) → ArePrinted (v ∷ vs) literal → literal ≡ 123 ∷ rest → Left (v ∷ vs) [] rest
+left_first v vs literal rest are is =
+    let whole : 123 ∷ rest ≡ 123 ∷ print_items true (gather (v ∷ vs)) = sym is ∙ are.printed in
+    let inner : rest ≡ print_items true (gather (v ∷ vs)) = cc in
+    record { next = v; more = vs; all = refl; fits = are.fit.0; fit = are.fit.1; printed = inner ∙ prepend_printed true v (gather vs) }
+
+-- the text begins with the next value
+pub next_front : {values done : List Value} {rest : List ℕ} (l : Left values done rest) → Front rest l.next (length (print l.next))
+next_front {rest = rest} l = subst (λ (b : List ℕ). Front b l.next (length (print l.next))) (sym l.printed) (printed l.next (after_value l.more) l.fits (ends_before l.next l.more))
+
+abbrev Read : Value → ℕ → Result (Value × ℕ) LiteralFault
+Read v n = Ok (v, n)
+
+abbrev value_in : Value → Result (Value × ℕ) LiteralFault → Value
+value_in v (Ok r) = r.0
+value_in v (Err e) = v
+
+abbrev count_in : ℕ → Result (Value × ℕ) LiteralFault → ℕ
+count_in n (Ok r) = r.1
+count_in n (Err e) = n
+
+-- a value that is in front isn't refused
+pub refused : (f : LiteralFault) (v : Value) (n : ℕ) → Fails f (Read v n) → f ≢ OutOfMemory → ⊥
+refused NotALiteral v n is some = let e : Read v n ≡ Err NotALiteral = is in cc
+refused OutOfRange v n is some = let e : Read v n ≡ Err OutOfRange = is in cc
+refused BadByte v n is some = let e : Read v n ≡ Err BadByte = is in cc
+refused TooDeep v n is some = let e : Read v n ≡ Err TooDeep = is in cc
+refused TooLong v n is some = let e : Read v n ≡ Err TooLong = is in cc
+refused OutOfMemory v n is some = some refl
+
+-- the next value is what was read, and the text after it is that of the others
+pub next_read : {values done : List Value} {rest : List ℕ} (l : Left values done rest) (value : Value) (used : ℕ) → Read l.next (length (print l.next)) ≡ Read value used → (l.next ≡ value) × (drop used rest ≡ after_value l.more)
+next_read {rest = rest} l value used read =
+    let same : l.next ≡ value = ap (value_in l.next) read in
+    let count : length (print l.next) ≡ used = ap (count_in 0) read in
+    (same, ap (λ (n : ℕ). drop n rest) (sym count) ∙ ap (drop (length (print l.next))) l.printed ∙ drop_at (print l.next) (after_value l.more) (length (print l.next)) refl)
+
+-- it was the last one
+pub last_read : {values done : List Value} {rest : List ℕ} (l : Left values done rest) (value : Value) (used : ℕ) → Read l.next (length (print l.next)) ≡ Read value used → drop used rest ≡ 125 ∷ [] → done ++ (value ∷ []) ≡ values
+last_read {values = values} {done = done} l value used read end =
+    let n = next_read l value used read in by l.more refl (sym n.1 ∙ end) n.0
+  where
+    by : (more : List Value) → l.more ≡ more → after_value l.more ≡ 125 ∷ [] → l.next ≡ value → done ++ (value ∷ []) ≡ values
+    by [] is text same = sym (l.all ∙ ap (λ (m : List Value). done ++ (l.next ∷ m)) is ∙ ap (λ (v : Value). done ++ (v ∷ [])) same)
+    by (w ∷ ws) is text same = absurd (let e : 44 ∷ 32 ∷ (print w ++ after_value ws) ≡ 125 ∷ [] = sym (prepend_printed false w (gather ws)) ∙ sym (ap after_value is) ∙ text in cc)
+
+-- another one follows
+pub one_more : {values done : List Value} {rest : List ℕ} (l : Left values done rest) (value : Value) (used : ℕ) (after : List ℕ) → Read l.next (length (print l.next)) ≡ Read value used → drop used rest ≡ 44 ∷ 32 ∷ after → Left values (done ++ (value ∷ [])) after
+one_more {values = values} {done = done} l value used after read on =
+    let n = next_read l value used read in by l.more refl l.fit (sym n.1 ∙ on) n.0
+  where
+    by : (more : List Value) → l.more ≡ more → AllByRecursion Fits more → after_value l.more ≡ 44 ∷ 32 ∷ after → l.next ≡ value → Left values (done ++ (value ∷ [])) after
+    by [] is fit text same = absurd (let e : 125 ∷ [] ≡ 44 ∷ 32 ∷ after = sym (ap after_value is) ∙ text in cc)
+    by (w ∷ ws) is fit text same =
+        let e : 44 ∷ 32 ∷ (print w ++ after_value ws) ≡ 44 ∷ 32 ∷ after = sym (prepend_printed false w (gather ws)) ∙ sym (ap after_value is) ∙ text in
+        record {
+          next = w;
+          more = ws;
+          all = l.all ∙ ap (λ (m : List Value). done ++ (l.next ∷ m)) is ∙ ap (λ (v : Value). done ++ (v ∷ w ∷ ws)) same ∙ sym (append_assoc done (value ∷ []) (w ∷ ws));
+          fits = fit.0;
+          fit = fit.1;
+          printed = let a : print w ++ after_value ws ≡ after = cc in sym a;
+        }
+
+-- so one of the two follows
+pub no_other : {values done : List Value} {rest : List ℕ} (l : Left values done rest) (value : Value) (used : ℕ) → Read l.next (length (print l.next)) ≡ Read value used → (drop used rest ≡ 125 ∷ [] → ⊥) → ((after : List ℕ) → drop used rest ≡ 44 ∷ 32 ∷ after → ⊥) → ⊥
+no_other {rest = rest} l value used read end on =
+    let n = next_read l value used read in by l.more refl n.1
+  where
+    by : (more : List Value) → l.more ≡ more → drop used rest ≡ after_value l.more → ⊥
+    by [] is text = end (text ∙ ap after_value is)
+    by (w ∷ ws) is text = on (print w ++ after_value ws) (text ∙ ap after_value is ∙ prepend_printed false w (gather ws))

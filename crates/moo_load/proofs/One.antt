@@ -1,0 +1,8 @@
+pub mod Texts
+pub mod Entries
+pub mod Values
+pub mod Injective
+pub mod Fitting
+pub mod Blocks
+pub mod Records
+pub mod Told

@@ -1,0 +1,194 @@
+-- The values of a line tell the row that they are printed from.
+use Rattle.std.proofs.Common.{◌≡◌, ℕ, ℤ, Bool, true, false, List, [], ◌∷◌, map, get_or, drop, Option, Some, None, refl, sym, ap, ◌∙◌}
+use Rattle.std.specs.Prelude.{pos, not, ◌==◌}
+use Rattle.std.specs.Option.{option_map}
+use Rattle.std.proofs.lemmas.Option.{same_Some}
+use Rattle.moo_value.specs.declared.value.ObjNo.{ObjNo}
+use Rattle.moo_value.specs.declared.value.Value.{Value}
+use Rattle.moo_value.specs.declared.value.Value.TheVariants.{Int, Obj, Str, List as a_list}
+use Rattle.moo_value.specs.Value.{gather, spread}
+use Rattle.moo_value.specs.Values.{Values, no_values}
+use Rattle.moo_rows.specs.declared.row.Bits.{Bits}
+use Rattle.moo_rows.specs.declared.row.ObjRow.{ObjRow}
+use Rattle.moo_rows.specs.declared.row.PetitionId.{PetitionId}
+use Rattle.moo_rows.specs.declared.row.PetitionRow.{PetitionRow}
+use Rattle.moo_rows.specs.declared.row.Place.{Place}
+use Rattle.moo_rows.specs.declared.row.Place.TheVariants.{This, Any as any_object, None as no_object}
+use Rattle.moo_rows.specs.declared.row.Preposition.{Preposition}
+use Rattle.moo_rows.specs.declared.row.SlotState.{SlotState}
+use Rattle.moo_rows.specs.declared.row.SlotState.TheVariants.{Clear, Set}
+use Rattle.moo_rows.specs.declared.row.VerbBits.{VerbBits}
+use Rattle.moo_rows.specs.declared.row.VerbRow.{VerbRow}
+use Rattle.moo_rows.specs.Bits.{letters_of, verb_letters_of, bits_of, verb_bits_of}
+use Rattle.moo_world.specs.Answers.{flag}
+use Rattle.moo_world.specs.Arguments.{objects_among}
+use Rattle.moo_world.specs.Calls.{accept_value}
+use Rattle.moo_world.specs.Objects.{Name, Pair, same_text, folded}
+use Rattle.moo_world.specs.Prepositions.{prep_text, place_text}
+use Rattle.moo_world.specs.VerbReading.{place_of, prep_of}
+use Rattle.moo_world.specs.World.{Slot}
+use Rattle.moo_verbs.proofs.TableLaw.{prep_read_again}
+use Rattle.moo_dump.specs.Dump.{object_values, state_values, verb_values}
+use Rattle.moo_load.specs.Printed.{petition_values}
+
+-- ---- what a value holds
+
+abbrev pub at : ℕ → List Value → Value
+at i values = get_or values i (Int (pos 0))
+
+abbrev pub object_in : Value → ObjNo
+object_in (Obj x) = x
+object_in v = record { 0 = pos 0 }
+
+abbrev pub text_in : Value → List ℕ
+text_in (Str s) = s
+text_in v = []
+
+abbrev integer_in : Value → ℤ
+integer_in (Int n) = n
+integer_in v = pos 0
+
+abbrev size_in : ℤ → ℕ
+size_in (pos n) = n
+size_in n = 0
+
+abbrev values_in : Value → Values
+values_in (a_list vs) = vs
+values_in v = no_values
+
+abbrev flag_in : Value → Bool
+flag_in v = not (size_in (integer_in v) == 0)
+
+flag_again : (b : Bool) → flag_in (flag b) ≡ b
+flag_again true = refl
+flag_again false = refl
+
+one_flag : (a b : Bool) → flag a ≡ flag b → a ≡ b
+one_flag a b e = sym (flag_again a) ∙ ap flag_in e ∙ flag_again b
+
+objects_again : (l : List ObjNo) → objects_among (spread (gather (map Obj l))) ≡ Some l
+objects_again [] = refl
+objects_again (x ∷ l) = ap (option_map (λ m. x ∷ m)) (objects_again l)
+
+abbrev accept_in : Value → Option (List ObjNo)
+accept_in (a_list vs) = objects_among (spread vs)
+accept_in v = None
+
+accept_again : (a : Option (List ObjNo)) → accept_in (accept_value a) ≡ a
+accept_again None = refl
+accept_again (Some l) = objects_again l
+
+one_accept : (a b : Option (List ObjNo)) → accept_value a ≡ accept_value b → a ≡ b
+one_accept a b e = sym (accept_again a) ∙ ap accept_in e ∙ accept_again b
+
+letters_again : (r w c : Bool) → (let b : Bits = record { r = r; w = w; c = c } in bits_of (letters_of b) ≡ Some b)
+letters_again true true true = refl
+letters_again true true false = refl
+letters_again true false true = refl
+letters_again true false false = refl
+letters_again false true true = refl
+letters_again false true false = refl
+letters_again false false true = refl
+letters_again false false false = refl
+
+one_bits : (a b : Bits) → letters_of a ≡ letters_of b → a ≡ b
+one_bits a b e = same_Some a b (sym (letters_again a.r a.w a.c) ∙ ap bits_of e ∙ letters_again b.r b.w b.c)
+
+verb_letters_again : (r w x d : Bool) → (let b : VerbBits = record { r = r; w = w; x = x; d = d } in verb_bits_of (verb_letters_of b) ≡ Some b)
+verb_letters_again true true true true = refl
+verb_letters_again true true true false = refl
+verb_letters_again true true false true = refl
+verb_letters_again true true false false = refl
+verb_letters_again true false true true = refl
+verb_letters_again true false true false = refl
+verb_letters_again true false false true = refl
+verb_letters_again true false false false = refl
+verb_letters_again false true true true = refl
+verb_letters_again false true true false = refl
+verb_letters_again false true false true = refl
+verb_letters_again false true false false = refl
+verb_letters_again false false true true = refl
+verb_letters_again false false true false = refl
+verb_letters_again false false false true = refl
+verb_letters_again false false false false = refl
+
+one_verb_bits : (a b : VerbBits) → verb_letters_of a ≡ verb_letters_of b → a ≡ b
+one_verb_bits a b e = same_Some a b (sym (verb_letters_again a.r a.w a.x a.d) ∙ ap verb_bits_of e ∙ verb_letters_again b.r b.w b.x b.d)
+
+place_again : (p : Place) → place_of (place_text p) ≡ Some p
+unfolding same_text folded
+place_again This = refl
+place_again any_object = refl
+place_again no_object = refl
+
+one_place : (p q : Place) → place_text p ≡ place_text q → p ≡ q
+one_place p q e = same_Some p q (sym (place_again p) ∙ ap place_of e ∙ place_again q)
+
+one_prep : (p q : Preposition) → prep_text p ≡ prep_text q → p ≡ q
+one_prep p q e = same_Some p q (sym (prep_read_again p) ∙ ap prep_of e ∙ prep_read_again q)
+
+abbrev state_in : List Value → SlotState
+state_in (a ∷ v ∷ vs) = Set v
+state_in vs = Clear
+
+state_again : (s : SlotState) → state_in (state_values s) ≡ s
+state_again Clear = refl
+state_again (Set v) = refl
+
+-- ---- rows
+
+pub one_object : (x y : ObjNo) (a b : ObjRow) → object_values x a ≡ object_values y b → (x ≡ y) × (a ≡ b)
+one_object x y a b e =
+    let name : a.name ≡ b.name = ap (λ (l : List Value). text_in (at 1 l)) e in
+    let owner : a.owner ≡ b.owner = ap (λ (l : List Value). object_in (at 2 l)) e in
+    let parent : a.parent ≡ b.parent = ap (λ (l : List Value). object_in (at 3 l)) e in
+    let location : a.location ≡ b.location = ap (λ (l : List Value). object_in (at 4 l)) e in
+    let player : a.player ≡ b.player = one_flag a.player b.player (ap (at 5) e) in
+    let programmer : a.programmer ≡ b.programmer = one_flag a.programmer b.programmer (ap (at 6) e) in
+    let wizard : a.wizard ≡ b.wizard = one_flag a.wizard b.wizard (ap (at 7) e) in
+    let r : a.r ≡ b.r = one_flag a.r b.r (ap (at 8) e) in
+    let w : a.w ≡ b.w = one_flag a.w b.w (ap (at 9) e) in
+    let f : a.f ≡ b.f = one_flag a.f b.f (ap (at 10) e) in
+    let accept : a.accept ≡ b.accept = one_accept a.accept b.accept (ap (at 11) e) in (
+      ap (λ (l : List Value). object_in (at 0 l)) e,
+      λ i. record { name = name i; owner = owner i; parent = parent i; location = location i; player = player i; programmer = programmer i; wizard = wizard i; r = r i; w = w i; f = f i; accept = accept i },
+    )
+
+pub one_property : (x y : ObjNo) (m n : Name) → Obj x ∷ Str m ∷ [] ≡ Obj y ∷ Str n ∷ [] → (x ≡ y) × (m ≡ n)
+one_property x y m n e = (ap (λ (l : List Value). object_in (at 0 l)) e, ap (λ (l : List Value). text_in (at 1 l)) e)
+
+abbrev pub slot_values : ObjNo → Pair → Slot → List Value
+slot_values x p s = Obj x ∷ Obj p.0 ∷ Str p.1 ∷ Obj s.owner ∷ Str (letters_of s.bits) ∷ state_values s.state
+
+pub one_slot : (x y : ObjNo) (p q : Pair) (s t : Slot) → s.definer ≡ p.0 → t.definer ≡ q.0 → slot_values x p s ≡ slot_values y q t → (x ≡ y) × (p ≡ q) × (s ≡ t)
+one_slot x y p q s t own_s own_t e =
+    let definer : p.0 ≡ q.0 = ap (λ (l : List Value). object_in (at 1 l)) e in
+    let name : p.1 ≡ q.1 = ap (λ (l : List Value). text_in (at 2 l)) e in
+    let owner : s.owner ≡ t.owner = ap (λ (l : List Value). object_in (at 3 l)) e in
+    let bits : s.bits ≡ t.bits = one_bits s.bits t.bits (ap (λ (l : List Value). text_in (at 4 l)) e) in
+    let state : s.state ≡ t.state = sym (state_again s.state) ∙ ap (λ (l : List Value). state_in (drop 5 l)) e ∙ state_again t.state in
+    let own : s.definer ≡ t.definer = own_s ∙ definer ∙ sym own_t in (
+      ap (λ (l : List Value). object_in (at 0 l)) e,
+      λ i. (definer i, name i),
+      λ i. record { definer = own i; owner = owner i; bits = bits i; state = state i },
+    )
+
+pub one_verb : (x y : ObjNo) (a b : VerbRow) → verb_values x a ≡ verb_values y b → (x ≡ y) × (a ≡ b)
+one_verb x y a b e =
+    let names : a.names ≡ b.names = ap (λ (l : List Value). text_in (at 1 l)) e in
+    let owner : a.owner ≡ b.owner = ap (λ (l : List Value). object_in (at 2 l)) e in
+    let bits : a.bits ≡ b.bits = one_verb_bits a.bits b.bits (ap (λ (l : List Value). text_in (at 3 l)) e) in
+    let dobj : a.args.dobj ≡ b.args.dobj = one_place a.args.dobj b.args.dobj (ap (λ (l : List Value). text_in (at 4 l)) e) in
+    let prep : a.args.prep ≡ b.args.prep = one_prep a.args.prep b.args.prep (ap (λ (l : List Value). text_in (at 5 l)) e) in
+    let iobj : a.args.iobj ≡ b.args.iobj = one_place a.args.iobj b.args.iobj (ap (λ (l : List Value). text_in (at 6 l)) e) in
+    let args : a.args ≡ b.args = λ i. record { dobj = dobj i; prep = prep i; iobj = iobj i } in (
+      ap (λ (l : List Value). object_in (at 0 l)) e,
+      λ i. record { names = names i; owner = owner i; bits = bits i; args = args i },
+    )
+
+pub one_petition : (e f : PetitionId × PetitionRow) → petition_values e.0 e.1 ≡ petition_values f.0 f.1 → e ≡ f
+one_petition e f same =
+    let id : e.0.0 ≡ f.0.0 = ap (λ (l : List Value). size_in (integer_in (at 0 l))) same in
+    let who : e.1.who ≡ f.1.who = ap (λ (l : List Value). object_in (at 1 l)) same in
+    let calls : e.1.calls ≡ f.1.calls = ap (λ (l : List Value). values_in (at 2 l)) same in
+    λ i. (record { 0 = id i }, record { who = who i; calls = calls i })

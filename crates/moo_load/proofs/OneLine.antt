@@ -1,0 +1,99 @@
+-- What is printed has no line end.
+use Rattle.std.proofs.Common.{◌≡◌, ℕ, ℤ, Bool, true, false, cond, List, [], ◌∷◌, ◌++◌, refl, sym, ap, ◌∙◌}
+use Rattle.std.specs.Prelude.{◌==◌, ◌||◌, ◌&&◌, not, IsTrue}
+use Rattle.std.specs.Fmt.{signed_decimal}
+use Rattle.std.specs.List.{flat_map, list_all}
+use Rattle.std.proofs.lemmas.Bool.{false≢true, and_parts}
+use Rattle.std.proofs.lemmas.Bool.Decides.{Decides-eqb}
+use Rattle.std.proofs.lemmas.List.Folds.{list_all-append}
+use Rattle.moo_value.specs.declared.code.Code.{Code}
+use Rattle.moo_value.specs.declared.code.Code.TheVariants.{None}
+use Rattle.moo_value.specs.declared.value.Value.TheVariants.{Int, Obj, List as a_list}
+use Rattle.moo_value.specs.Text.{is_allowed, IsText}
+use Rattle.moo_value.specs.Values.{Values, no_values, int, object, string, error, list}
+use Rattle.moo_value.specs.Literal.{is_digit, is_blank, AreDigits, AreBlanks, Spaced, HoldInside, an_integer, an_object, InRange, SpellsNumber, SpellsObject, escape, name, print_string, print_comma, print_items, print}
+use Rattle.moo_value.proofs.Printed.{spelled}
+use Rattle.moo_load.specs.Printed.{IsOneLine}
+
+abbrev plain : ℕ → Bool
+plain byte = not (byte == 10)
+
+both : {a b : Bool} → a ≡ true → b ≡ true → (a && b) ≡ true
+both e h = λ i. e i && h i
+
+pub one_line_append : (a b : List ℕ) → IsOneLine a → IsOneLine b → IsOneLine (a ++ b)
+one_line_append a b p q = list_all-append plain a b ∙ both p q
+
+other : (c : ℕ) → (c ≡ 10 → ⊥) → plain c ≡ true
+other c differ = by (c == 10) refl
+  where
+    by : (b : Bool) → (c == 10) ≡ b → not b ≡ true
+    by true e = absurd (differ ((Decides-eqb c 10).0 e))
+    by false e = refl
+
+digit_plain : (c : ℕ) → IsTrue (is_digit c) → plain c ≡ true
+digit_plain c d = other c (λ e. false≢true (ap is_digit (sym e) ∙ d))
+
+digits_plain : (b : List ℕ) → AreDigits b → IsOneLine b
+digits_plain [] a = refl
+digits_plain (c ∷ b) a = both (digit_plain c a.0) (digits_plain b a.1)
+
+blank_plain : (c : ℕ) → IsTrue (is_blank c) → plain c ≡ true
+blank_plain c d = other c (λ e. false≢true (ap is_blank (sym e) ∙ d))
+
+blanks_plain : (b : List ℕ) → AreBlanks b → IsOneLine b
+blanks_plain [] a = refl
+blanks_plain (c ∷ b) a = both (blank_plain c a.0) (blanks_plain b a.1)
+
+spelled_plain : (z : ℤ) (b : List ℕ) → SpellsNumber z b → IsOneLine b
+spelled_plain z b s = by s.negative s.digits s.each s.whole
+  where
+    by : (negative : Bool) (digits : List ℕ) → AreDigits digits → b ≡ cond negative (45 ∷ digits) digits → IsOneLine b
+    by true digits each whole = ap (list_all plain) whole ∙ digits_plain digits each
+    by false digits each whole = ap (list_all plain) whole ∙ digits_plain digits each
+
+spaced_plain : (P : List ℕ → Type 0) → ((t : List ℕ) → P t → IsOneLine t) → (b : List ℕ) → Spaced P b → IsOneLine b
+spaced_plain P f b s = ap (list_all plain) s.4 ∙ one_line_append s.0 s.1 (blanks_plain s.0 s.2) (f s.1 s.3)
+
+integer_plain : (z : ℤ) → InRange an_integer z → IsOneLine (signed_decimal z)
+integer_plain z fits = spaced_plain (SpellsNumber z) (spelled_plain z) (signed_decimal z) (spelled (Int z) fits)
+
+object_plain : (z : ℤ) → InRange an_object z → IsOneLine (35 ∷ signed_decimal z)
+object_plain z fits = spaced_plain (SpellsObject z) (λ t o. ap (list_all plain) o.1 ∙ spelled_plain z o.0 o.2) (35 ∷ signed_decimal z) (spelled (Obj (record { 0 = z })) fits)
+
+escaped_plain : (c : ℕ) → is_allowed c ≡ true → IsOneLine (escape c)
+escaped_plain c allowed = by ((c == 34) || (c == 92)) (other c (λ e. false≢true (ap is_allowed (sym e) ∙ allowed)))
+  where
+    by : (b : Bool) → plain c ≡ true → IsOneLine (cond b (92 ∷ c ∷ []) (c ∷ []))
+    by true p = both p refl
+    by false p = both p refl
+
+bytes_plain : (s : List ℕ) → list_all is_allowed s ≡ true → IsOneLine (flat_map escape s)
+bytes_plain [] a = refl
+bytes_plain (c ∷ s) a = let p = and_parts (is_allowed c) (list_all is_allowed s) a in one_line_append (escape c) (flat_map escape s) (escaped_plain c p.0) (bytes_plain s p.1)
+
+string_plain : (s : List ℕ) → IsText s → IsOneLine (print_string s)
+string_plain s text = one_line_append (flat_map escape s) (34 ∷ []) (bytes_plain s text.allowed) refl
+
+name_plain : (e : Code) → IsOneLine (name e)
+name_plain None = refl
+name_plain _ = refl
+
+comma_plain : (first : Bool) → IsOneLine (print_comma first)
+comma_plain true = refl
+comma_plain false = refl
+
+item_plain : (first : Bool) (a b : List ℕ) → IsOneLine a → IsOneLine b → IsOneLine (print_comma first ++ (a ++ b))
+item_plain first a b p q = one_line_append (print_comma first) (a ++ b) (comma_plain first) (one_line_append a b p q)
+
+items_plain : (first : Bool) (vs : Values) → HoldInside InRange IsText vs → IsOneLine (print_items first vs)
+items_plain first no_values h = refl
+items_plain first (int n vs) h = item_plain first (signed_decimal n) (print_items false vs) (integer_plain n h.0) (items_plain false vs h.1)
+items_plain first (object n vs) h = item_plain first (35 ∷ signed_decimal n) (print_items false vs) (object_plain n h.0) (items_plain false vs h.1)
+items_plain first (string s vs) h = item_plain first (print_string s) (print_items false vs) (string_plain s h.0) (items_plain false vs h.1)
+items_plain first (error e vs) h = item_plain first (name e) (print_items false vs) (name_plain e) (items_plain false vs h)
+items_plain first (list us vs) h = item_plain first (123 ∷ print_items true us) (print_items false vs) (items_plain true us h.0) (items_plain false vs h.1)
+
+-- a printed list has no line end
+pub list_plain : (vs : Values) → HoldInside InRange IsText vs → IsOneLine (print (a_list vs))
+list_plain vs h = items_plain true vs h

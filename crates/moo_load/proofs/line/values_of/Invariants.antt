@@ -1,0 +1,11 @@
+use Rattle.std.proofs.Common.{List, ◌∷◌, length}
+use Rattle.moo_value.specs.declared.value.Value.{Value as A}
+use Rattle.moo_load.specs.Printed.{ArePrinted}
+use Rattle.moo_load.proofs.Listed.{Left}
+use Rattle.moo_load.proofs.line.values_of.Given as goal
+
+abbrev pub invariant-loop-values : goal.invariant-loop-values
+invariant-loop-values l = (v : A) (vs : List A) → ArePrinted (v ∷ vs) l.literal → Left (v ∷ vs) l.values.items l.rest
+
+abbrev pub decreases-loop-values : goal.decreases-loop-values
+decreases-loop-values l = length l.rest
