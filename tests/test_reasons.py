@@ -1,8 +1,9 @@
 """What standard error says of batches that aren't accepted: the line of the text, and why."""
+import re
 from pathlib import Path
 
 from tests.support.cases import ProgramTest
-from tests.support.program import ended
+from tests.support.program import TOP, ended
 from tests.support.worlds import make, text_of
 
 HEADER_FORM = "a batch begins with a line `batch as #N`, in small letters"
@@ -45,62 +46,174 @@ CALLS = [
     ("batch as #3", "`batch` inside a batch: the line `end` before it is missing"),
     ("x" * 262145, "a line of over 262144 bytes"),
 ]
-# What #4, which isn't a wizard, calls, and what is said of its refusal. #4 is made by #3, and owns itself.
+# What #4, which isn't a wizard, calls, and what is said of its refusal, perhaps among other checks with the same error. The calls are in the order of docs/CALLS.md.
 REFUSED = [
     ("valid()", "E_ARGS, it is written valid(O)"),
     ("parent(4)", "E_TYPE, it is written parent(O)"),
-    ("parent(#9)", "E_INVARG, the object isn't one"),
-    ("children(#9)", "E_INVARG, the object isn't one"),
-    ("is_player(#9)", "E_INVARG, the object isn't one"),
+    ("parent(#9)", "E_INVARG, #9 isn't an object"),
+    ("children(#9)", "E_INVARG, #9 isn't an object"),
+    ("is_player(#9)", "E_INVARG, #9 isn't an object"),
     ("players(1)", "E_ARGS, it is written players()"),
     ("max_object(1)", "E_ARGS, it is written max_object()"),
-    ("accept_list(#9)", "E_INVARG, the object isn't one"),
-    ("get(#9, \"name\")", "E_INVIND, the object isn't one"),
-    ("get(#4, \"none\")", "E_PROPNF, the object has no such property"),
-    ("get(#5, \"hidden\")", "E_PERM, the programmer may not read the property"),
-    ("properties(#5)", "E_PERM, the programmer may not read the object"),
-    ("property_info(#5, \"hidden\")", "E_PERM, the programmer may not read the property"),
-    ("is_clear_property(#5, \"hidden\")", "E_PERM, the programmer may not read the property"),
-    ("verbs(#5)", "E_PERM, the programmer may not read the object"),
-    ("verb_info(#5, 1)", "E_PERM, the programmer may not read the verb"),
-    ("verb_args(#5, 2)", "E_VERBNF, the object has no such verb"),
-    ("create(#5)", "E_PERM, the parent isn't the programmer's and isn't fertile, or the owner is somebody else"),
-    ("chparent(#5, #1)", "E_PERM, the object isn't the programmer's, or the new parent is neither the programmer's nor fertile"),
-    ("chparent(#4, #4)", "E_RECMOVE, the new parent is the object or one of its descendants"),
-    ("chparent(#4, #9)", "E_INVARG, one of the two isn't an object, or a property of one name is defined on both sides"),
-    ("recycle(#5)", "E_PERM, the object isn't the programmer's"),
-    ("move(#4, #5)", "E_NACC, the place doesn't accept the object"),
-    ("move(#4, #9)", "E_INVARG, the object isn't one, or the place is neither an object nor #-1"),
-    ("set_player_flag(#4, 1)", "E_PERM, the programmer isn't a wizard"),
-    ("set_accept(#5, 0)", "E_PERM, the object isn't the programmer's"),
-    ("set(#5, \"hidden\", 1)", "E_PERM, the programmer may not write the property, or nobody may"),
-    ("set(#4, \"contents\", {})", "E_PERM, the programmer may not write the property, or nobody may"),
-    ("set(#4, \"name\", 1)", "E_TYPE, it is written set(O, \"NAME\", VALUE)"),
-    ("add_property(#5, \"p\", 1, {#4, \"\"})", "E_PERM, the programmer may not write the object, or the owner is somebody else"),
-    ("add_property(#4, \"name\", 1, {#4, \"\"})", "E_INVARG, the object or the owner isn't one, the letters aren't of \"rwc\", or the name is taken or can't be one"),
-    ("delete_property(#5, \"hidden\")", "E_PERM, the programmer may not write the object"),
-    ("delete_property(#4, \"none\")", "E_PROPNF, the object has no such property"),
-    ("set_property_info(#5, \"hidden\", {#4, \"\"})", "E_PERM, the programmer may not write the property, or gives it to somebody else"),
-    ("clear_property(#5, \"hidden\")", "E_PERM, the programmer may not write the property"),
-    ("add_verb(#5, {#4, \"\", \"v\"}, {\"this\", \"none\", \"none\"})", "E_PERM, the programmer may not write the object, or the owner is somebody else"),
-    ("delete_verb(#5, 1)", "E_PERM, the programmer may not write the object"),
-    ("delete_verb(#4, \"none\")", "E_VERBNF, the object has no such verb"),
-    ("set_verb_info(#5, 1, {#4, \"\", \"v\"})", "E_PERM, the programmer may not write the verb, or the owner is somebody else"),
-    ("set_verb_args(#5, 1, {\"this\", \"none\", \"none\"})", "E_PERM, the programmer may not write the verb"),
-    ("petition({})", "E_INVARG, 1 to 64 calls on the world may be asked for, by their names, in lists at most 30 deep"),
+    ("accept_list(#9)", "E_INVARG, #9 isn't an object"),
+    ("get(#9, \"name\")", "E_INVIND, #9 isn't an object"),
+    ("get(#4, \"none\")", "E_PROPNF, #4 has no property \"none\""),
+    ("get(#5, \"hidden\")", "E_PERM, \"hidden\" has no r on #5, and #4 neither owns it there nor is a wizard"),
+    ("properties(#9)", "E_INVARG, #9 isn't an object"),
+    ("properties(#5)", "E_PERM, #5 has no r, and #4 neither owns it nor is a wizard"),
+    ("property_info(#9, \"hidden\")", "E_INVARG, #9 isn't an object"),
+    ("property_info(#5, \"owner\")", "E_PROPNF, \"owner\" is built in: `get` and `set` alone take it"),
+    ("property_info(#5, \"none\")", "E_PROPNF, #5 has no property \"none\""),
+    ("property_info(#5, \"hidden\")", "E_PERM, \"hidden\" has no r on #5, and #4 neither owns it there nor is a wizard"),
+    ("is_clear_property(#9, \"hidden\")", "E_INVARG, #9 isn't an object"),
+    ("is_clear_property(#5, \"none\")", "E_PROPNF, #5 has no property \"none\""),
+    ("is_clear_property(#5, \"hidden\")", "E_PERM, \"hidden\" has no r on #5, and #4 neither owns it there nor is a wizard"),
+    ("verbs(#9)", "E_INVARG, #9 isn't an object"),
+    ("verbs(#5)", "E_PERM, #5 has no r, and #4 neither owns it nor is a wizard"),
+    ("verb_info(#9, 1)", "E_INVARG, #9 isn't an object"),
+    ("verb_info(#5, 2)", "E_VERBNF, #5 has no verb 2"),
+    ("verb_info(#5, \"LOO\")", "E_VERBNF, #5 has no verb \"LOO\""),
+    ("verb_info(#5, 1)", "E_PERM, verb 1 of #5 has no r, and #4 neither owns it nor is a wizard"),
+    ("verb_args(#9, 1)", "E_INVARG, #9 isn't an object"),
+    ("verb_args(#5, 2)", "E_VERBNF, #5 has no verb 2"),
+    ("verb_args(#5, \"look\")", "E_PERM, verb \"look\" of #5 has no r, and #4 neither owns it nor is a wizard"),
+    ("create(#9)", "E_PERM, #9 isn't a fertile object, and #4 neither owns it nor is a wizard"),
+    ("create(#5)", "E_PERM, #5 isn't a fertile object, and #4 neither owns it nor is a wizard"),
+    ("create(#1, #3)", "E_PERM, only a wizard may make #3 the owner"),
+    ("create(#1)", "E_QUOTA, the ownership_quota of #4 is used up"),
+    ("chparent(#9, #1)", "E_INVARG, #9 isn't an object"),
+    ("chparent(#4, #9)", "E_INVARG, #9 is neither an object nor #-1"),
+    ("chparent(#5, #1)", "E_PERM, #4 neither owns #5 nor is a wizard"),
+    ("chparent(#4, #5)", "E_PERM, #5 isn't a fertile object, and #4 neither owns it nor is a wizard"),
+    ("chparent(#4, #4)", "E_RECMOVE, #4 can't be its own parent"),
+    ("chparent(#4, #6)", "E_RECMOVE, #6 is under #4"),
+    ("chparent(#4, #7)", "E_INVARG, #4 or one of its descendants defines a property of a name that #7 has"),
+    ("recycle(#9)", "E_INVARG, #9 isn't an object"),
+    ("recycle(#5)", "E_PERM, #4 neither owns #5 nor is a wizard"),
+    ("move(#9, #4)", "E_INVARG, #9 isn't an object"),
+    ("move(#4, #9)", "E_INVARG, #9 is neither an object nor #-1"),
+    ("move(#5, #4)", "E_PERM, #4 neither owns #5 nor is a wizard"),
+    ("move(#4, #5)", "E_NACC, #5 doesn't accept #4"),
+    ("move(#7, #7)", "E_RECMOVE, #7 can't be inside itself"),
+    ("set_player_flag(#9, 1)", "E_INVARG, #9 isn't an object"),
+    ("set_player_flag(#4, 1)", "E_PERM, #4 isn't a wizard"),
+    ("set_accept(#9, 0)", "E_INVARG, #9 isn't an object"),
+    ("set_accept(#5, 0)", "E_PERM, #4 neither owns #5 nor is a wizard"),
+    ("set(#9, \"name\", \"x\")", "E_INVIND, #9 isn't an object"),
+    ("set(#4, \"none\", 1)", "E_PROPNF, #4 has no property \"none\""),
+    ("set(#5, \"hidden\", 1)", "E_PERM, \"hidden\" has no w on #5, and #4 neither owns it there nor is a wizard"),
+    ("set(#4, \"contents\", {})", "E_PERM, nobody may set \"contents\": `move` changes it"),
+    ("set(#4, \"Location\", #5)", "E_PERM, nobody may set \"Location\": `move` changes it"),
+    ("set(#4, \"name\", 1)", "E_TYPE, \"name\" can't be 1"),
+    ("set(#4, \"owner\", \"me\")", "E_TYPE, \"owner\" can't be \"me\""),
+    ("set(#5, \"name\", \"x\")", "E_PERM, #4 neither owns #5 nor is a wizard"),
+    ("set(#7, \"name\", \"x\")", "E_PERM, only a wizard may name a player, as #7"),
+    ("set(#5, \"r\", 1)", "E_PERM, #4 neither owns #5 nor is a wizard"),
+    ("set(#4, \"owner\", #5)", "E_PERM, only a wizard may set owner"),
+    ("set(#4, \"wizard\", 1)", "E_PERM, only a wizard may set wizard"),
+    ("add_property(#9, \"p\", 1, {#4, \"\"})", "E_INVARG, #9 isn't an object"),
+    ("add_property(#4, \"p\", 1, {#9, \"\"})", "E_INVARG, #9 isn't an object"),
+    ("add_property(#4, \"p\", 1, {#4, \"rx\"})", "E_INVARG, \"rx\" has other letters than r, w and c"),
+    ("add_property(#5, \"p\", 1, {#4, \"\"})", "E_PERM, #5 has no w, and #4 neither owns it nor is a wizard"),
+    ("add_property(#4, \"p\", 1, {#3, \"\"})", "E_PERM, only a wizard may make #3 the owner"),
+    ("add_property(#4, \"name\", 1, {#4, \"\"})", "E_INVARG, \"name\" can't name a property: it is built in, or hasn't 1 to 255 bytes"),
+    ("add_property(#4, \"\", 1, {#4, \"\"})", "E_INVARG, \"\" can't name a property: it is built in, or hasn't 1 to 255 bytes"),
+    ("add_property(#4, \"COLOR\", 1, {#4, \"\"})", "E_INVARG, #4, an ancestor or a descendant of it defines \"COLOR\" already"),
+    ("add_property(#6, \"color\", 1, {#4, \"\"})", "E_INVARG, #6, an ancestor or a descendant of it defines \"color\" already"),
+    ("add_property(#6, \"Shade\", 1, {#4, \"\"})", "E_INVARG, #6, an ancestor or a descendant of it defines \"Shade\" already"),
+    ("delete_property(#9, \"hidden\")", "E_INVARG, #9 isn't an object"),
+    ("delete_property(#5, \"hidden\")", "E_PERM, #5 has no w, and #4 neither owns it nor is a wizard"),
+    ("delete_property(#4, \"none\")", "E_PROPNF, #4 itself doesn't define \"none\""),
+    ("delete_property(#6, \"shade\")", "E_PROPNF, #6 itself doesn't define \"shade\""),
+    ("delete_property(#4, \"name\")", "E_PROPNF, \"name\" is built in: `get` and `set` alone take it"),
+    ("set_property_info(#9, \"hidden\", {#4, \"\"})", "E_INVARG, #9 isn't an object"),
+    ("set_property_info(#4, \"none\", {#4, \"\"})", "E_PROPNF, #4 has no property \"none\""),
+    ("set_property_info(#5, \"hidden\", {#9, \"\"})", "E_INVARG, #9 isn't an object"),
+    ("set_property_info(#5, \"hidden\", {#4, \"x\"})", "E_INVARG, \"x\" has other letters than r, w and c"),
+    ("set_property_info(#5, \"hidden\", {#3, \"\"})", "E_PERM, \"hidden\" has no w on #5, and #4 neither owns it there nor is a wizard"),
+    ("set_property_info(#4, \"shade\", {#3, \"\"})", "E_PERM, only a wizard may give \"shade\" on #4 to #3"),
+    ("set_property_info(#6, \"shade\", {#4, \"\", \"hue\"})", "E_INVARG, #6 itself doesn't define \"shade\""),
+    ("set_property_info(#4, \"shade\", {#4, \"\", \"r\"})", "E_INVARG, \"r\" can't name a property: it is built in, or hasn't 1 to 255 bytes"),
+    ("set_property_info(#4, \"shade\", {#4, \"\", \"color\"})", "E_INVARG, #4, an ancestor or a descendant of it defines \"color\" already"),
+    ("clear_property(#9, \"hidden\")", "E_INVARG, #9 isn't an object"),
+    ("clear_property(#4, \"none\")", "E_PROPNF, #4 has no property \"none\""),
+    ("clear_property(#5, \"hidden\")", "E_PERM, \"hidden\" has no w on #5, and #4 neither owns it there nor is a wizard"),
+    ("clear_property(#4, \"shade\")", "E_INVARG, #4 itself defines \"shade\""),
+    ("add_verb(#9, {#4, \"\", \"v\"}, {\"this\", \"none\", \"none\"})", "E_INVARG, #9 isn't an object"),
+    ("add_verb(#4, {#9, \"\", \"v\"}, {\"this\", \"none\", \"none\"})", "E_INVARG, #9 isn't an object"),
+    ("add_verb(#4, {#4, \"c\", \"v\"}, {\"this\", \"none\", \"none\"})", "E_INVARG, \"c\" has other letters than r, w, x and d"),
+    ("add_verb(#4, {#4, \"\", \" \"}, {\"this\", \"none\", \"none\"})", "E_INVARG, \" \" names no verb"),
+    ("add_verb(#4, {#4, \"\", \"v\"}, {\"that\", \"none\", \"none\"})", "E_INVARG, \"that\" isn't \"this\", \"any\" or \"none\""),
+    ("add_verb(#4, {#4, \"\", \"v\"}, {\"this\", \"near\", \"none\"})", "E_INVARG, \"near\" isn't a preposition"),
+    ("add_verb(#4, {#4, \"\", \"v\"}, {\"this\", \"in\", \"them\"})", "E_INVARG, \"them\" isn't \"this\", \"any\" or \"none\""),
+    ("add_verb(#5, {#4, \"\", \"v\"}, {\"this\", \"none\", \"none\"})", "E_PERM, #5 has no w, and #4 neither owns it nor is a wizard"),
+    ("add_verb(#4, {#3, \"\", \"v\"}, {\"this\", \"none\", \"none\"})", "E_PERM, only a wizard may make #3 the owner"),
+    ("delete_verb(#9, 1)", "E_INVARG, #9 isn't an object"),
+    ("delete_verb(#5, 1)", "E_PERM, #5 has no w, and #4 neither owns it nor is a wizard"),
+    ("delete_verb(#4, \"none\")", "E_VERBNF, #4 has no verb \"none\""),
+    ("set_verb_info(#9, 1, {#4, \"\", \"v\"})", "E_INVARG, #9 isn't an object"),
+    ("set_verb_info(#4, 1, {#4, \"\", \"v\"})", "E_VERBNF, #4 has no verb 1"),
+    ("set_verb_info(#5, 1, {#9, \"\", \"v\"})", "E_INVARG, #9 isn't an object"),
+    ("set_verb_info(#5, 1, {#4, \"\", \"\"})", "E_INVARG, \"\" names no verb"),
+    ("set_verb_info(#5, 1, {#4, \"\", \"v\"})", "E_PERM, verb 1 of #5 has no w, and #4 neither owns it nor is a wizard"),
+    ("set_verb_info(#5, \"sit\", {#3, \"\", \"v\"})", "E_PERM, only a wizard may make #3 the owner"),
+    ("set_verb_args(#9, 1, {\"this\", \"none\", \"none\"})", "E_INVARG, #9 isn't an object"),
+    ("set_verb_args(#4, 1, {\"this\", \"none\", \"none\"})", "E_VERBNF, #4 has no verb 1"),
+    ("set_verb_args(#5, 1, {\"this\", \"none\", \"here\"})", "E_INVARG, \"here\" isn't \"this\", \"any\" or \"none\""),
+    ("set_verb_args(#5, 1, {\"this\", \"none\", \"none\"})", "E_PERM, verb 1 of #5 has no w, and #4 neither owns it nor is a wizard"),
     ("petition(1)", "E_TYPE, it is written petition({{\"CALL\", VALUE}})"),
+    ("petition({})", "E_INVARG, a petition asks for 1 to 64 calls"),
+    ("petition({{\"players\"}, {\"sing\"}})", "E_INVARG, \"sing\" is no call that a petition may ask for"),
+    ("petition({{\"grant\", 1}})", "E_INVARG, \"grant\" is no call that a petition may ask for"),
+    (f"petition({{{{\"valid\", {'{' * 29}{'}' * 29}}}}})", "E_INVARG, lists are over 30 deep in a petition"),
     ("petitions(1)", "E_ARGS, it is written petitions()"),
-    ("grant(1)", "E_PERM, the programmer isn't a wizard, or a call of the petition is refused so"),
-    ("decline(9)", "E_INVARG, there is no such petition"),
+    ("grant()", "E_ARGS, it is written grant(NUMBER)"),
+    ("grant(1)", "E_PERM, #4 isn't a wizard"),
+    ("decline(9)", "E_INVARG, there is no petition 9"),
+    ("decline(-1)", "E_INVARG, there is no petition -1"),
+    ("decline(1)", "E_PERM, #4 neither made petition 1 nor is a wizard"),
 ]
-# #4 is nobody's but its own; #5 is #3's, hides a property and a verb, and accepts nothing.
+# What the wizard #3 calls, and what is said of its refusal. The last of the calls is refused.
+REFUSED_TO_WIZARDS = [
+    (["create(#1, #9)"], "E_INVARG, #9 is neither an object nor #-1"),
+    (["set(#4, \"owner\", #9)"], "E_INVARG, #9 isn't an object"),
+    (["move(#6, #4)", "move(#4, #6)"], "E_RECMOVE, #6 is inside #4"),
+    (["create(#1)", "recycle(#8)", "get(#8, \"name\")"], "E_INVIND, #8 isn't an object"),
+    (["add_property(#6, \"new\", 1, {#3, \"\"})", "add_property(#1, \"NEW\", 1, {#3, \"\"})"], "E_INVARG, #1, an ancestor or a descendant of it defines \"NEW\" already"),
+    (["grant(9)"], "E_INVARG, there is no petition 9"),
+    (["grant(1)"], "E_INVARG, a call of petition 1 is refused so"),
+    (["grant(2)"], "E_ARGS, a call of petition 2 is refused so"),
+]
+# #4, #6 and #7 are #4's, and #6 is under #4; #7 is a fertile player, which accepts itself. #5 is #3's, hides a property and a verb, and
+# accepts nothing; its second verb may be changed by all.
 MADE = text_of([
     "create(#1)",
-    "set(#4, \"owner\", #4)",
     "create(#1)",
+    "create(#4)",
+    "create(#1)",
+    "set(#4, \"owner\", #4)",
+    "set(#6, \"owner\", #4)",
+    "set(#7, \"owner\", #4)",
     "add_property(#5, \"hidden\", 1, {#3, \"\"})",
     "add_verb(#5, {#3, \"\", \"look\"}, {\"this\", \"none\", \"none\"})",
+    "add_verb(#5, {#3, \"w\", \"sit\"}, {\"this\", \"none\", \"none\"})",
+    "add_property(#4, \"shade\", 1, {#4, \"rwc\"})",
+    "add_property(#6, \"Color\", 1, {#4, \"\"})",
+    "add_property(#7, \"color\", 1, {#4, \"\"})",
+    "add_property(#4, \"ownership_quota\", 0, {#3, \"r\"})",
+    "set(#7, \"f\", 1)",
+    "set_accept(#7, {#7})",
+    "set_player_flag(#7, 1)",
+    "petition({{\"recycle\", #9}})",
+    "petition({{\"create\"}})",
 ])
+
+
+def shown(call):
+    """A call as it is shown, its values cut at 60 bytes."""
+    name, values = call[:-1].split("(", 1)
+    parts = [values] if values.startswith("{") else values.split(", ", 1)
+    return f"{name}({', '.join(part if len(part) <= 60 else part[:60] + '..' for part in parts)})"
 
 
 class Reasons(ProgramTest):
@@ -124,15 +237,31 @@ class Reasons(ProgramTest):
         many = text_of(["max_object()"] * 1001)
         self.case("a call too many", self.said(many), ["moo: line 1002: malformed: a batch has at most 1000 calls"])
 
+    def is_told(self, name, text, place, why):
+        """The refusal at a place is told by the error and by checks that may have failed, of which this is one."""
+        code, check = why.split(", ", 1)
+        front = f"moo: {place}: {code}, "
+        told = self.said(text)
+        is_told = [line.startswith(front) and check in line.removeprefix(front).split("; or ") for line in told]
+        self.case(name, is_told if all(is_told) else told, [True])
+
     def test_refusals(self):
         for call, why in REFUSED:
             text = f"{text_of([])}\nbatch as #4\n\nmax_object()\n\n{call}\nend\n"
-            self.case(f"refused {call}", self.said(text), [f"moo: line 8: refused: {call}: {why}"])
-        long = "x" * 100
-        shown = "\"" + "x" * 59
-        self.case("a long value is cut", self.said(text_of([f"set(#9, \"name\", \"{long}\")"])), [f"moo: line 2: refused: set(#9, \"name\", {shown}..): E_INVIND, the object isn't one"])
+            self.is_told(f"refused {call[:60]}", text, f"line 8: refused: {shown(call)}", why)
+        for calls, why in REFUSED_TO_WIZARDS:
+            line = 1 + len(calls)
+            self.is_told(f"refused to a wizard {calls[-1]}", text_of(calls), f"line {line}: refused: {calls[-1]}", why)
+        many = f"set_accept(#4, {{{', '.join(['#1'] * 1001)}}})"
+        self.is_told("an accept list that is too long", text_of([many], "#4"), f"line 2: refused: {shown(many)}", "E_INVARG, the list has over 1000 entries")
+        long = f"get(#4, \"{'x' * 100}\")"
+        self.case("a long name is cut", self.said(text_of([long])), [f"moo: line 2: refused: {shown(long)}: E_PROPNF, #4 has no property \"{'x' * 59}.."])
         nobody = self.said(text_of(["max_object()"], "#99"))
-        self.case("a programmer that isn't an object", nobody, ["moo: line 2: refused: max_object(): E_PERM, the programmer isn't an object"])
+        self.case("a programmer that isn't an object", nobody, ["moo: line 2: refused: max_object(): E_PERM, the programmer #99 isn't an object"])
+
+    def test_every_call_is_refused(self):
+        names = set(re.findall(r"^\| `(\w+)\(", (TOP / "docs/CALLS.md").read_text(), re.M))
+        self.case("each call of docs/CALLS.md", names - {call.split("(")[0] for call, _ in REFUSED}, set())
 
     def test_other_replies(self):
         stale = self.said(text_of([], "#3 at 0"))

@@ -74,7 +74,7 @@ pub(crate) enum Right {
     Write(ObjNo),
     /// It may set this built-in property, as wizards may.
     Set(BuiltIn),
-    /// The object is no player, or the programmer is a wizard.
+    /// The object isn't a player, or the programmer is a wizard.
     Rename(ObjNo),
 }
 
