@@ -46,7 +46,7 @@ CALLS = [
     ("batch as #3", "`batch` inside a batch: the line `end` before it is missing"),
     ("x" * 262145, "a line of over 262144 bytes"),
 ]
-# What #4, which isn't a wizard, calls, and what is said of its refusal, perhaps among other checks with the same error. The calls are in the order of docs/CALLS.md.
+# What #4, which isn't a wizard, calls, and what is said of its refusal. The calls are in the order of docs/CALLS.md.
 REFUSED = [
     ("valid()", "E_ARGS, it is written valid(O)"),
     ("parent(4)", "E_TYPE, it is written parent(O)"),
@@ -60,7 +60,7 @@ REFUSED = [
     ("get(#4, \"none\")", "E_PROPNF, #4 has no property \"none\""),
     ("get(#5, \"hidden\")", "E_PERM, \"hidden\" has no r on #5, and #4 neither owns it there nor is a wizard"),
     ("properties(#9)", "E_INVARG, #9 isn't an object"),
-    ("properties(#5)", "E_PERM, #5 has no r, and #4 neither owns it nor is a wizard"),
+    ("properties(#5)", "E_PERM, r of #5 is 0, and #4 neither owns it nor is a wizard"),
     ("property_info(#9, \"hidden\")", "E_INVARG, #9 isn't an object"),
     ("property_info(#5, \"owner\")", "E_PROPNF, \"owner\" is built in: `get` and `set` alone take it"),
     ("property_info(#5, \"none\")", "E_PROPNF, #5 has no property \"none\""),
@@ -69,7 +69,7 @@ REFUSED = [
     ("is_clear_property(#5, \"none\")", "E_PROPNF, #5 has no property \"none\""),
     ("is_clear_property(#5, \"hidden\")", "E_PERM, \"hidden\" has no r on #5, and #4 neither owns it there nor is a wizard"),
     ("verbs(#9)", "E_INVARG, #9 isn't an object"),
-    ("verbs(#5)", "E_PERM, #5 has no r, and #4 neither owns it nor is a wizard"),
+    ("verbs(#5)", "E_PERM, r of #5 is 0, and #4 neither owns it nor is a wizard"),
     ("verb_info(#9, 1)", "E_INVARG, #9 isn't an object"),
     ("verb_info(#5, 2)", "E_VERBNF, #5 has no verb 2"),
     ("verb_info(#5, \"LOO\")", "E_VERBNF, #5 has no verb \"LOO\""),
@@ -77,17 +77,17 @@ REFUSED = [
     ("verb_args(#9, 1)", "E_INVARG, #9 isn't an object"),
     ("verb_args(#5, 2)", "E_VERBNF, #5 has no verb 2"),
     ("verb_args(#5, \"look\")", "E_PERM, verb \"look\" of #5 has no r, and #4 neither owns it nor is a wizard"),
-    ("create(#9)", "E_PERM, #9 isn't a fertile object, and #4 neither owns it nor is a wizard"),
-    ("create(#5)", "E_PERM, #5 isn't a fertile object, and #4 neither owns it nor is a wizard"),
+    ("create(#9)", "E_PERM, #9 is neither an object nor #-1"),
+    ("create(#5)", "E_PERM, #5 isn't fertile, and #4 neither owns it nor is a wizard"),
     ("create(#1, #3)", "E_PERM, only a wizard may make #3 the owner"),
     ("create(#1)", "E_QUOTA, the ownership_quota of #4 is used up"),
     ("chparent(#9, #1)", "E_INVARG, #9 isn't an object"),
     ("chparent(#4, #9)", "E_INVARG, #9 is neither an object nor #-1"),
     ("chparent(#5, #1)", "E_PERM, #4 neither owns #5 nor is a wizard"),
-    ("chparent(#4, #5)", "E_PERM, #5 isn't a fertile object, and #4 neither owns it nor is a wizard"),
+    ("chparent(#4, #5)", "E_PERM, #5 isn't fertile, and #4 neither owns it nor is a wizard"),
     ("chparent(#4, #4)", "E_RECMOVE, #4 can't be its own parent"),
     ("chparent(#4, #6)", "E_RECMOVE, #6 is under #4"),
-    ("chparent(#4, #7)", "E_INVARG, #4 or one of its descendants defines a property of a name that #7 has"),
+    ("chparent(#4, #7)", "E_INVARG, #6 defines \"Color\" already, which #7 has too"),
     ("recycle(#9)", "E_INVARG, #9 isn't an object"),
     ("recycle(#5)", "E_PERM, #4 neither owns #5 nor is a wizard"),
     ("move(#9, #4)", "E_INVARG, #9 isn't an object"),
@@ -114,15 +114,15 @@ REFUSED = [
     ("add_property(#9, \"p\", 1, {#4, \"\"})", "E_INVARG, #9 isn't an object"),
     ("add_property(#4, \"p\", 1, {#9, \"\"})", "E_INVARG, #9 isn't an object"),
     ("add_property(#4, \"p\", 1, {#4, \"rx\"})", "E_INVARG, \"rx\" has other letters than r, w and c"),
-    ("add_property(#5, \"p\", 1, {#4, \"\"})", "E_PERM, #5 has no w, and #4 neither owns it nor is a wizard"),
+    ("add_property(#5, \"p\", 1, {#4, \"\"})", "E_PERM, w of #5 is 0, and #4 neither owns it nor is a wizard"),
     ("add_property(#4, \"p\", 1, {#3, \"\"})", "E_PERM, only a wizard may make #3 the owner"),
     ("add_property(#4, \"name\", 1, {#4, \"\"})", "E_INVARG, \"name\" can't name a property: it is built in, or hasn't 1 to 255 bytes"),
     ("add_property(#4, \"\", 1, {#4, \"\"})", "E_INVARG, \"\" can't name a property: it is built in, or hasn't 1 to 255 bytes"),
-    ("add_property(#4, \"COLOR\", 1, {#4, \"\"})", "E_INVARG, #4, an ancestor or a descendant of it defines \"COLOR\" already"),
-    ("add_property(#6, \"color\", 1, {#4, \"\"})", "E_INVARG, #6, an ancestor or a descendant of it defines \"color\" already"),
-    ("add_property(#6, \"Shade\", 1, {#4, \"\"})", "E_INVARG, #6, an ancestor or a descendant of it defines \"Shade\" already"),
+    ("add_property(#4, \"COLOR\", 1, {#4, \"\"})", "E_INVARG, #6 defines \"COLOR\" already"),
+    ("add_property(#6, \"color\", 1, {#4, \"\"})", "E_INVARG, #6 defines \"color\" already"),
+    ("add_property(#6, \"Shade\", 1, {#4, \"\"})", "E_INVARG, #4 defines \"Shade\" already"),
     ("delete_property(#9, \"hidden\")", "E_INVARG, #9 isn't an object"),
-    ("delete_property(#5, \"hidden\")", "E_PERM, #5 has no w, and #4 neither owns it nor is a wizard"),
+    ("delete_property(#5, \"hidden\")", "E_PERM, w of #5 is 0, and #4 neither owns it nor is a wizard"),
     ("delete_property(#4, \"none\")", "E_PROPNF, #4 itself doesn't define \"none\""),
     ("delete_property(#6, \"shade\")", "E_PROPNF, #6 itself doesn't define \"shade\""),
     ("delete_property(#4, \"name\")", "E_PROPNF, \"name\" is built in: `get` and `set` alone take it"),
@@ -134,7 +134,7 @@ REFUSED = [
     ("set_property_info(#4, \"shade\", {#3, \"\"})", "E_PERM, only a wizard may give \"shade\" on #4 to #3"),
     ("set_property_info(#6, \"shade\", {#4, \"\", \"hue\"})", "E_INVARG, #6 itself doesn't define \"shade\""),
     ("set_property_info(#4, \"shade\", {#4, \"\", \"r\"})", "E_INVARG, \"r\" can't name a property: it is built in, or hasn't 1 to 255 bytes"),
-    ("set_property_info(#4, \"shade\", {#4, \"\", \"color\"})", "E_INVARG, #4, an ancestor or a descendant of it defines \"color\" already"),
+    ("set_property_info(#4, \"shade\", {#4, \"\", \"color\"})", "E_INVARG, #6 defines \"color\" already"),
     ("clear_property(#9, \"hidden\")", "E_INVARG, #9 isn't an object"),
     ("clear_property(#4, \"none\")", "E_PROPNF, #4 has no property \"none\""),
     ("clear_property(#5, \"hidden\")", "E_PERM, \"hidden\" has no w on #5, and #4 neither owns it there nor is a wizard"),
@@ -146,10 +146,10 @@ REFUSED = [
     ("add_verb(#4, {#4, \"\", \"v\"}, {\"that\", \"none\", \"none\"})", "E_INVARG, \"that\" isn't \"this\", \"any\" or \"none\""),
     ("add_verb(#4, {#4, \"\", \"v\"}, {\"this\", \"near\", \"none\"})", "E_INVARG, \"near\" isn't a preposition"),
     ("add_verb(#4, {#4, \"\", \"v\"}, {\"this\", \"in\", \"them\"})", "E_INVARG, \"them\" isn't \"this\", \"any\" or \"none\""),
-    ("add_verb(#5, {#4, \"\", \"v\"}, {\"this\", \"none\", \"none\"})", "E_PERM, #5 has no w, and #4 neither owns it nor is a wizard"),
+    ("add_verb(#5, {#4, \"\", \"v\"}, {\"this\", \"none\", \"none\"})", "E_PERM, w of #5 is 0, and #4 neither owns it nor is a wizard"),
     ("add_verb(#4, {#3, \"\", \"v\"}, {\"this\", \"none\", \"none\"})", "E_PERM, only a wizard may make #3 the owner"),
     ("delete_verb(#9, 1)", "E_INVARG, #9 isn't an object"),
-    ("delete_verb(#5, 1)", "E_PERM, #5 has no w, and #4 neither owns it nor is a wizard"),
+    ("delete_verb(#5, 1)", "E_PERM, w of #5 is 0, and #4 neither owns it nor is a wizard"),
     ("delete_verb(#4, \"none\")", "E_VERBNF, #4 has no verb \"none\""),
     ("set_verb_info(#9, 1, {#4, \"\", \"v\"})", "E_INVARG, #9 isn't an object"),
     ("set_verb_info(#4, 1, {#4, \"\", \"v\"})", "E_VERBNF, #4 has no verb 1"),
@@ -179,7 +179,7 @@ REFUSED_TO_WIZARDS = [
     (["set(#4, \"owner\", #9)"], "E_INVARG, #9 isn't an object"),
     (["move(#6, #4)", "move(#4, #6)"], "E_RECMOVE, #6 is inside #4"),
     (["create(#1)", "recycle(#8)", "get(#8, \"name\")"], "E_INVIND, #8 isn't an object"),
-    (["add_property(#6, \"new\", 1, {#3, \"\"})", "add_property(#1, \"NEW\", 1, {#3, \"\"})"], "E_INVARG, #1, an ancestor or a descendant of it defines \"NEW\" already"),
+    (["add_property(#6, \"new\", 1, {#3, \"\"})", "add_property(#1, \"NEW\", 1, {#3, \"\"})"], "E_INVARG, #6 defines \"NEW\" already"),
     (["grant(9)"], "E_INVARG, there is no petition 9"),
     (["grant(1)"], "E_INVARG, a call of petition 1 is refused so"),
     (["grant(2)"], "E_ARGS, a call of petition 2 is refused so"),
@@ -248,12 +248,12 @@ class Reasons(ProgramTest):
     def test_refusals(self):
         for call, why in REFUSED:
             text = f"{text_of([])}\nbatch as #4\n\nmax_object()\n\n{call}\nend\n"
-            self.is_told(f"refused {call[:60]}", text, f"line 8: refused: {shown(call)}", why)
+            self.case(f"refused {call[:60]}", self.said(text), [f"moo: line 8: refused: {shown(call)}: {why}"])
         for calls, why in REFUSED_TO_WIZARDS:
             line = 1 + len(calls)
-            self.is_told(f"refused to a wizard {calls[-1]}", text_of(calls), f"line {line}: refused: {calls[-1]}", why)
+            self.case(f"refused to a wizard {calls[-1]}", self.said(text_of(calls)), [f"moo: line {line}: refused: {calls[-1]}: {why}"])
         many = f"set_accept(#4, {{{', '.join(['#1'] * 1001)}}})"
-        self.is_told("an accept list that is too long", text_of([many], "#4"), f"line 2: refused: {shown(many)}", "E_INVARG, the list has over 1000 entries")
+        self.case("an accept list that is too long", self.said(text_of([many], "#4")), [f"moo: line 2: refused: {shown(many)}: E_INVARG, the list has over 1000 entries"])
         long = f"get(#4, \"{'x' * 100}\")"
         self.case("a long name is cut", self.said(text_of([long])), [f"moo: line 2: refused: {shown(long)}: E_PROPNF, #4 has no property \"{'x' * 59}.."])
         nobody = self.said(text_of(["max_object()"], "#99"))

@@ -1,11 +1,14 @@
 //! What is told of the replies of a text.
 
+ghost use Rattle.std.specs.Prelude.{IfSome};
+ghost use Rattle.moo_world.specs.Rows.{IsGood};
+
 use crate::calls::call_reason;
 use crate::headers::header_reason;
-use crate::refusals::refusal_reason;
 use crate::words::put_number;
+use moo_refusals::refusal_reason;
+use moo_rows::Rows;
 use moo_text::{Answer, Marks, Next, Notes, Reply};
-use moo_value::Code;
 use std::alloc::{AllocError, Global};
 use std::io::Eprint;
 
@@ -58,33 +61,42 @@ fn put_malformed(
     }
 }
 
-/// Appends why a call of a batch is refused.
-fn put_refused(
+/// Why a batch is refused, if it is and the rows are at hand. AllocError: memory ran out.
+fn told_refusal<R: Rows>(
     alloc: Global,
+    rows: Option<&R>,
     item: &Next,
-    call: u32,
-    code: Code,
-    out: &mut Vec<u8>,
-) -> Result<(), AllocError> {
-    out.extend_from_slice(b"refused: ")?;
-    if let Next::Batch(batch) = item {
-        if let Some(call) = batch.calls.items().get((call as usize).saturating_sub(1)) {
-            return refusal_reason(alloc, batch.programmer, call, code, out);
+    answer: &Answer,
+) -> Result<Option<String>, AllocError>
+    requires { IfSome rows (λ rows. IsGood (R.held rows.now).maps) }
+{
+    let Some(rows) = rows else {
+        return Ok(None);
+    };
+    let Next::Batch(batch) = item else {
+        return Ok(None);
+    };
+    match answer {
+        Answer::Replied(Reply::Refused { call, code }) => {
+            Ok(Some(refusal_reason(alloc, rows, batch, *call, *code)?))
         }
+        _ => Ok(None),
     }
-    out.extend_from_slice(code.name().as_bytes())
 }
 
-/// Appends why a batch that was read isn't accepted.
+/// Appends why a batch that was read isn't accepted; if it is refused, by what is told of that.
 fn put_reply(
     alloc: Global,
-    item: &Next,
     reply: &Reply,
+    told: Option<&str>,
     out: &mut Vec<u8>,
 ) -> Result<(), AllocError> {
     match reply {
         Reply::Accepted { seq: _, answers: _ } => Ok(()),
-        Reply::Refused { call, code } => put_refused(alloc, item, *call, *code, out),
+        Reply::Refused { call: _, code } => {
+            out.extend_from_slice(b"refused: ")?;
+            out.extend_from_slice(told.unwrap_or(code.name()).as_bytes())
+        }
         Reply::Full { call } => {
             out.extend_from_slice(b"full: no number is left for what ")?;
             out.extend_from_slice(if *call == 0 {
@@ -119,13 +131,13 @@ fn line_of(marks: &Marks, answer: &Answer) -> Option<u64> {
 /// Appends what an answer says, in words.
 fn put_answer(
     alloc: Global,
-    item: &Next,
     marks: &Marks,
     answer: &Answer,
+    told: Option<&str>,
     out: &mut Vec<u8>,
 ) -> Result<(), AllocError> {
     match answer {
-        Answer::Replied(reply) => put_reply(alloc, item, reply, out),
+        Answer::Replied(reply) => put_reply(alloc, reply, told, out),
         Answer::Malformed(number) => put_malformed(alloc, *number, marks, out),
         Answer::Truncated => {
             out.extend_from_slice(b"truncated: the text ends inside the batch that begins here")
@@ -139,13 +151,13 @@ fn put_answer(
 fn line_text(
     alloc: Global,
     path: Option<&str>,
-    item: &Next,
     marks: &Marks,
     answer: &Answer,
+    told: Option<&str>,
 ) -> Result<String, AllocError> {
     let mut text = Vec::new(alloc);
     put_line_place(alloc, path, line_of(marks, answer), &mut text)?;
-    put_answer(alloc, item, marks, answer, &mut text)?;
+    put_answer(alloc, marks, answer, told, &mut text)?;
     text.push(b'\n')?;
     match String::from_utf8(text) {
         Ok(text) => Ok(text),
@@ -176,7 +188,7 @@ impl<'a, C: Eprint> StandardNotes<'a, C> {
 }
 
 impl<'a, C: Eprint> Notes for StandardNotes<'a, C> {
-    fn note(&mut self, item: &Next, marks: &Marks, answer: &Answer) {
+    fn note<R: Rows>(&mut self, rows: Option<&R>, item: &Next, marks: &Marks, answer: &Answer) {
         if let Answer::Replied(Reply::Accepted { seq: _, answers: _ }) = answer {
             return;
         }
@@ -185,7 +197,8 @@ impl<'a, C: Eprint> Notes for StandardNotes<'a, C> {
             return;
         }
         self.told = self.told.saturating_add(1);
-        if let Ok(text) = line_text(self.alloc, self.path, item, marks, answer) {
+        let told = told_refusal(self.alloc, rows, item, answer).unwrap_or(None);
+        if let Ok(text) = line_text(self.alloc, self.path, marks, answer, told.as_deref()) {
             let _said = eprint!(self.rt; "{text}");
         }
     }

@@ -1,6 +1,7 @@
 //! Answering the items of a text in turn.
 
 ghost use Rattle.std.specs.Prelude.{◌≡◌, IfOk, IfErr, IfSome, IfNone};
+ghost use Rattle.moo_world.specs.Rows.{IsGood};
 ghost use Rattle.moo_world.specs.declared.call.Batch.{Batch};
 ghost use Rattle.moo_text.specs.declared.reply.Answer.{Answer};
 ghost use Rattle.moo_store.specs.Text.{answer_to};
@@ -9,8 +10,11 @@ ghost use Rattle.moo_store.specs.Turns.{Turn, Completes, Halts};
 use crate::fault::StoreFault;
 use crate::output::put_answer;
 use crate::tally::Tally;
+use crate::world::World;
+use moo_flat::Flat;
 use moo_text::{Answer, Feed, Next, Notes, Reply, TextFault};
 use moo_world::Batch;
+use sqlite::Alter;
 use std::alloc::Global;
 use std::io::{Read, Write};
 
@@ -22,6 +26,19 @@ pub(crate) trait Answering {
     /// Answers one batch.
     fn answer(&mut self, batch: &Batch) -> Answer
         ensures { answered self.old batch.now result self.new };
+
+    /// The rows by which it answers, if it isn't past answering.
+    fn rows(&self) -> Option<&Flat>
+        ensures { IfSome result (λ rows. IsGood rows.now.maps) };
+}
+
+impl<S: Alter + Drop> World<S> {
+    /// The rows, unless the World has failed.
+    pub(crate) fn good_rows(&self) -> Option<&Flat>
+        ensures { IfSome result (λ rows. IsGood rows.now.maps) }
+    {
+        if self.failed { None } else { Some(&self.rows) }
+    }
 }
 
 /// The answer to a batch that a World ran or was asked.
@@ -69,6 +86,6 @@ pub(crate) fn answer_all<R: Read + Drop, W: Write, A: Answering, N: Notes>(
         };
         tally.count(&answer);
         put_answer(alloc, writer, &answer)?;
-        notes.note(&item, feed.marks(), &answer);
+        notes.note(answering.rows(), &item, feed.marks(), &answer);
     }
 }

@@ -8,6 +8,7 @@ ghost use Rattle.moo_store.specs.Text.{RunsAndAnswers, Applies, StopsRun};
 use crate::answering::{Answering, answer_all, answered_by};
 use crate::tally::Tally;
 use crate::world::World;
+use moo_flat::Flat;
 use moo_text::{Answer, Notes, TextFault};
 use moo_world::Batch;
 use sqlite::Alter;
@@ -19,6 +20,10 @@ impl<S: Alter + Drop> Answering for World<S> {
 
     fn answer(&mut self, batch: &Batch) -> Answer {
         answered_by(self.run_one(batch))
+    }
+
+    fn rows(&self) -> Option<&Flat> {
+        self.good_rows()
     }
 }
 

@@ -8,6 +8,7 @@ ghost use Rattle.moo_store.specs.World.{StandsAt};
 use crate::answering::{Answering, answer_all, answered_by};
 use crate::tally::Tally;
 use crate::world::World;
+use moo_flat::Flat;
 use moo_text::{Answer, Notes, TextFault};
 use moo_world::Batch;
 use sqlite::Alter;
@@ -25,6 +26,10 @@ impl<'a, S: Alter + Drop> Answering for Questions<'a, S> {
 
     fn answer(&mut self, batch: &Batch) -> Answer {
         answered_by(self.world.ask(batch))
+    }
+
+    fn rows(&self) -> Option<&Flat> {
+        self.world.good_rows()
     }
 }
 

@@ -6,7 +6,7 @@ use crate::checks::{Asked, Check, Ladder, Part, PetitionCheck, Right, Rung, Tree
 use crate::property_ladders::property_ladder;
 use crate::verb_ladders::verb_ladder;
 use moo_value::{Code, ObjNo, Value};
-use moo_world::CallName;
+use moo_world::{Call, CallName};
 use std::alloc::Global;
 
 fn look<'a>(alloc: Global, object: ObjNo) -> Ladder<'a> {
@@ -15,6 +15,7 @@ fn look<'a>(alloc: Global, object: ObjNo) -> Ladder<'a> {
 
 fn create<'a>(alloc: Global, parent: ObjNo, owner: ObjNo) -> Ladder<'a> {
     Ok(vec![in alloc;
+        Rung::permission(Check::ObjectOrNothing(parent)),
         Rung::permission(Check::Right(Right::BeParent(parent))),
         Rung::permission(Check::Right(Right::Own(owner))),
         Rung::invalid(Check::ObjectOrNothing(owner)),
@@ -144,7 +145,7 @@ fn petition_ladder<'a>(alloc: Global, name: CallName, args: &'a [Value], code: C
 }
 
 /// The checks of a programmer's call that is refused with this error.
-pub(crate) fn ladder_of<'a>(
+fn ladder_of<'a>(
     alloc: Global,
     programmer: ObjNo,
     name: CallName,
@@ -173,4 +174,18 @@ pub(crate) fn ladder_of<'a>(
         | CallName::SetVerbArgs => verb_ladder(alloc, name, args),
         _ => object_ladder(alloc, programmer, name, args),
     }
+}
+
+/// The checks of a call from that of the programmer on.
+pub(crate) fn whole_ladder<'a>(
+    alloc: Global,
+    programmer: ObjNo,
+    call: &'a Call,
+    code: Code,
+) -> Ladder<'a> {
+    let mut ladder = vec![in alloc; Rung::permission(Check::Programmer)]?;
+    for rung in ladder_of(alloc, programmer, call.name, call.args.items(), code)? {
+        ladder.push(rung)?;
+    }
+    Ok(ladder)
 }

@@ -1,9 +1,8 @@
-//! Checks that the values of a call settle, without the world.
+//! Checks of the values of a call alone.
 
-use crate::checks::{Asked, Check, Part, PropertyCheck, Right, Tree};
+use crate::checks::{Asked, Part, PropertyCheck};
 use moo_rows::{Bits, VerbBits};
-use moo_tree::is_nothing;
-use moo_value::{MooStr, ObjNo, Value, ValueList};
+use moo_value::{MooStr, Value, ValueList};
 use moo_verbs::{check_names, read_prep};
 use moo_world::{BuiltIn, CallName, are_few, are_shallow};
 
@@ -48,7 +47,7 @@ fn is_verb_object(text: &MooStr) -> bool {
         || text.eq_ignore_ascii_case(b"none")
 }
 
-fn part_holds(part: Part<'_>) -> bool {
+pub(crate) fn part_holds(part: Part<'_>) -> bool {
     match part {
         Part::PropertyName(name) => is_property_name(name),
         Part::PropertyPerms(perms) => Bits::read(perms).is_some(),
@@ -60,7 +59,7 @@ fn part_holds(part: Part<'_>) -> bool {
     }
 }
 
-fn asked_holds(asked: Asked<'_>) -> bool {
+pub(crate) fn asked_holds(asked: Asked<'_>) -> bool {
     match asked {
         Asked::Count(calls) => are_few(calls),
         Asked::Names(calls) => first_unasked(calls).is_none(),
@@ -77,7 +76,8 @@ fn takes(name: &MooStr, value: &Value) -> bool {
     }
 }
 
-fn property_settled(name: &MooStr, check: PropertyCheck<'_>) -> Option<bool> {
+/// Whether a check of a property holds, if its name and the value say so.
+pub(crate) fn name_holds(name: &MooStr, check: PropertyCheck<'_>) -> Option<bool> {
     let field = BuiltIn::of_name(name);
     match check {
         PropertyCheck::NotBuiltIn => Some(field.is_none()),
@@ -85,45 +85,6 @@ fn property_settled(name: &MooStr, check: PropertyCheck<'_>) -> Option<bool> {
             Some(!matches!(field, Some(BuiltIn::Location | BuiltIn::Contents)))
         }
         PropertyCheck::Takes(value) => Some(takes(name, value)),
-        _ => None,
-    }
-}
-
-/// It holds if this is so, and else the world says.
-fn holds_if(is_so: bool) -> Option<bool> {
-    if is_so { Some(true) } else { None }
-}
-
-/// It fails if this is so, and else the world says.
-fn fails_if(is_so: bool) -> Option<bool> {
-    if is_so { Some(false) } else { None }
-}
-
-fn right_settled(programmer: ObjNo, right: Right) -> Option<bool> {
-    match right {
-        Right::BeParent(object) => holds_if(is_nothing(object)),
-        Right::Own(owner) => holds_if(owner == programmer),
-        _ => None,
-    }
-}
-
-fn tree_settled(tree: Tree) -> Option<bool> {
-    match tree {
-        Tree::Parent { object, new } => fails_if(object == new),
-        Tree::Place { object, place } => fails_if(object == place),
-        _ => None,
-    }
-}
-
-/// What settles a check of a programmer's call without the world, if something does.
-pub(crate) fn settled(programmer: ObjNo, check: Check<'_>) -> Option<bool> {
-    match check {
-        Check::ObjectOrNothing(object) => holds_if(is_nothing(object)),
-        Check::Right(right) => right_settled(programmer, right),
-        Check::Tree(tree) => tree_settled(tree),
-        Check::Property(_, name, check) => property_settled(name, check),
-        Check::Part(part) => Some(part_holds(part)),
-        Check::Asked(asked) => Some(asked_holds(asked)),
         _ => None,
     }
 }

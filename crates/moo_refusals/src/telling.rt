@@ -1,7 +1,7 @@
 //! What is said of a check that fails.
 
 use crate::checks::{Asked, Check, Part, PetitionCheck, PropertyCheck, Right, Tree, VerbCheck};
-use crate::settled::first_unasked;
+use crate::plain::first_unasked;
 use crate::shown::{shown, shown_object, shown_text};
 use moo_value::{MooStr, ObjNo, Value};
 use std::alloc::{AllocError, Global};
@@ -16,9 +16,7 @@ fn tell_right(alloc: Global, programmer: ObjNo, right: Right) -> Result<String, 
         }
         Right::BeParent(object) => {
             let object = shown_object(alloc, object)?;
-            format!(in alloc;
-                "{object} isn't a fertile object, and {who} neither owns it nor is a wizard"
-            )
+            format!(in alloc; "{object} isn't fertile, and {who} neither owns it nor is a wizard")
         }
         Right::Own(owner) => {
             let owner = shown_object(alloc, owner)?;
@@ -26,11 +24,11 @@ fn tell_right(alloc: Global, programmer: ObjNo, right: Right) -> Result<String, 
         }
         Right::Read(object) => {
             let object = shown_object(alloc, object)?;
-            format!(in alloc; "{object} has no r, and {who} neither owns it nor is a wizard")
+            format!(in alloc; "r of {object} is 0, and {who} neither owns it nor is a wizard")
         }
         Right::Write(object) => {
             let object = shown_object(alloc, object)?;
-            format!(in alloc; "{object} has no w, and {who} neither owns it nor is a wizard")
+            format!(in alloc; "w of {object} is 0, and {who} neither owns it nor is a wizard")
         }
         Right::Set(field) => match std::str::from_utf8(field.name()) {
             Ok(name) => format!(in alloc; "only a wizard may set {name}"),
