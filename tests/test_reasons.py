@@ -237,14 +237,6 @@ class Reasons(ProgramTest):
         many = text_of(["max_object()"] * 1001)
         self.case("a call too many", self.said(many), ["moo: line 1002: malformed: a batch has at most 1000 calls"])
 
-    def is_told(self, name, text, place, why):
-        """The refusal at a place is told by the error and by checks that may have failed, of which this is one."""
-        code, check = why.split(", ", 1)
-        front = f"moo: {place}: {code}, "
-        told = self.said(text)
-        is_told = [line.startswith(front) and check in line.removeprefix(front).split("; or ") for line in told]
-        self.case(name, is_told if all(is_told) else told, [True])
-
     def test_refusals(self):
         for call, why in REFUSED:
             text = f"{text_of([])}\nbatch as #4\n\nmax_object()\n\n{call}\nend\n"
