@@ -1,12 +1,15 @@
 -- The world that a task begins with.
-use Rattle.std.proofs.Common.{◌≡◌, ◌⊎◌, inl, inr, ℕ, List, Option, refl, sym, subst, ◌∙◌, true, false, IsTrue}
+use Rattle.std.proofs.Common.{◌≡◌, ◌⊎◌, inl, inr, ℕ, List, Option, refl, sym, subst, ◌∙◌, ◌<◌, ◌^◌, true, false, IsTrue}
 use Rattle.std.specs.Bool.{⊤}
 use Rattle.std.proofs.lemmas.Bool.{true≢false}
+use Rattle.moo_rows.specs.Maps.{Maps}
 use Rattle.moo_rows.specs.Opening.{opening_maps}
+use Rattle.moo_world.specs.Rows.{IsGood}
 use Rattle.moo_world.specs.Judge.{State, state_of}
 use Rattle.sqlite_disk.specs.declared.Disk.{Ghosts}
 use Rattle.sqlite_wal.specs.Recovery.{Image}
 use Rattle.sqlite.specs.Tree.{Trees}
+use Rattle.moo_load.specs.OneState.{IsHeld}
 use Rattle.moo_store.specs.Stand.{Stand}
 use Rattle.moo_store.specs.States.{LeavesState}
 use Rattle.moo_files.specs.Remains.{KeepsSuch, KeepsNothingBut}
@@ -26,14 +29,18 @@ begins_opening (Load file dump) given other = absurd (true≢false other)
 begins_opening (Check file) given other = refl
 begins_opening (Serve file port count) given other = refl
 
-pub begins_dumped : (task : Task) (given : Given) (dump : List ℕ) (s : State) → is_load task ≡ true → dump_word task ≡ dump → IsDumpedAs (given.text dump) s → BeginsWith task given s
-begins_dumped (Init file) given dump s loads is it = absurd (true≢false (sym loads))
-begins_dumped (Apply file batches) given dump s loads is it = absurd (true≢false (sym loads))
-begins_dumped (Ask file batches) given dump s loads is it = absurd (true≢false (sym loads))
-begins_dumped (Dump file) given dump s loads is it = absurd (true≢false (sym loads))
-begins_dumped (Load file word) given dump s loads is it = subst (λ w. IsDumpedAs (given.text w) s) (sym is) it
-begins_dumped (Check file) given dump s loads is it = absurd (true≢false (sym loads))
-begins_dumped (Serve file port count) given dump s loads is it = absurd (true≢false (sym loads))
+-- good rows after fewer than 2^63 batches show a well formed state
+pub held_rows : (rows : Maps) → IsGood rows → rows.head.seq < 2 ^ 63 → IsHeld (state_of rows)
+held_rows rows good limit = record { formed = record { world = good.formed; petitions = good.petitions }; limit = limit }
+
+pub begins_dumped : (task : Task) (given : Given) (dump : List ℕ) (s : State) → is_load task ≡ true → dump_word task ≡ dump → IsDumpedAs (given.text dump) s → IsHeld s → BeginsWith task given s
+begins_dumped (Init file) given dump s loads is it held = absurd (true≢false (sym loads))
+begins_dumped (Apply file batches) given dump s loads is it held = absurd (true≢false (sym loads))
+begins_dumped (Ask file batches) given dump s loads is it held = absurd (true≢false (sym loads))
+begins_dumped (Dump file) given dump s loads is it held = absurd (true≢false (sym loads))
+begins_dumped (Load file word) given dump s loads is it held = (subst (λ w. IsDumpedAs (given.text w) s) (sym is) it, held)
+begins_dumped (Check file) given dump s loads is it held = absurd (true≢false (sym loads))
+begins_dumped (Serve file port count) given dump s loads is it held = absurd (true≢false (sym loads))
 
 pub load_begins : (task : Task) → is_load task ≡ true → begins_anew task ≡ true
 load_begins (Init file) loads = refl

@@ -27,7 +27,8 @@ use Rattle.moo_files.specs.declared.remains.Remains.TheVariants as remains
 use Rattle.moo_words.specs.declared.task.Task.{Task}
 use Rattle.moo_words.specs.Tasks.{NamesTask, NamesAlone, mistakes}
 use Rattle.moo_commands.specs.Lines.{Reports, store_failure}
-use Rattle.moo_commands.specs.Run.{Given, file_of, begins_anew, only_reads, is_load, BeginsWith, FailsToBegin, RunsFrom, RunsUnseen, RunsTask, FailsAtOnce, RefusesFile, EndsUsage}
+use Rattle.moo_commands.specs.Run.{Given, file_of, begins_anew, only_reads, is_load, IsOfDump, BeginsWith, FailsToBegin, RunsFrom, RunsUnseen, RunsTask, FailsAtOnce, RefusesFile, EndsUsage}
+use Rattle.moo_commands.specs.declared.failure.Failure.{Failure}
 use Rattle.moo_commands.specs.declared.ends.Ends.{Ends}
 use Rattle.moo_commands.specs.declared.ends.Ends.TheVariants as variant
 
@@ -101,8 +102,8 @@ module _ {T D : Type 0} {g : Ghosts D} where
     pub begun : begins_anew task ≡ true → IsBlank image → MatchFile ends (λ conn. ⊤)
         (λ remains. IsCleanRemains remains → KeepsNothingBut (λ found. (s : State) × BeginsWith task given s × LeavesState found s) image remains)
     pub blank : begins_anew task ≡ false → IsNothing image → MatchFile ends (λ conn. ⊤) (λ remains. IsCleanRemains remains → KeepsNothingBut (λ _. ⊥) image remains)
-    -- if no file was opened, the line tells why, or why a dump shows no world
-    pub told : MatchFile ends (λ conn. ⊤) (λ remains. ((fault : StoreFault) × MayStopAs fault remains × Reports (store_failure fault) old new status) ⊎ (IsTrue (is_load task) × FailsToBegin task old new status))
+    -- if no file was opened, the line tells why; or the start is unspent, and the line tells why a dump gives no world
+    pub told : MatchFile ends (λ conn. ⊤) (λ remains. ((fault : StoreFault) × MayStopAs fault remains × Reports (store_failure fault) old new status) ⊎ (IsTrue (is_load task) × IsUntouched remains × (failure : Failure) × IsOfDump failure × Reports failure old new status))
 
   -- a task on a file runs over it, and one on `:memory:` over none, whatever file there is
   pub record EndsWith (task : Task) (image : Image) (ends : Ends T D g) (given : Given) (old new : Option (List ℕ)) (status : ℕ) : Type 0 where

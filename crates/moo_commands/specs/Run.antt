@@ -20,6 +20,7 @@ use Rattle.moo_cells.specs.Shows.{ShowsRows}
 use Rattle.moo_text.specs.declared.fault.TextFault.{TextFault}
 use Rattle.moo_text.specs.declared.reply.Answer.{Answer}
 use Rattle.moo_dump.specs.Dump.{dump as dump_of}
+use Rattle.moo_load.specs.OneState.{IsHeld}
 use Rattle.moo_store.specs.declared.fault.StoreFault.{StoreFault}
 use Rattle.moo_store.specs.Stand.{Stand, Works, RunsBatch, AsksBatch}
 use Rattle.moo_store.specs.Turns.{Completes, Halts}
@@ -109,9 +110,9 @@ given_by input files attends = record { text = texts_by input files; attends = a
 abbrev pub IsDumpedAs : Option (List ℕ) → State → Type 0
 IsDumpedAs text s = IfSome text (λ bytes. dump_of s ≡ bytes)
 
--- The state of the new world that a task begins with: one that is dumped as the text of the dump, or the opening state.
+-- The state of the new world that a task begins with: a well formed one that is dumped as the text of the dump, or the opening state.
 abbrev pub BeginsWith : Task → Given → State → Type 0
-BeginsWith (Load file dump) given s = IsDumpedAs (given.text dump.now) s
+BeginsWith (Load file dump) given s = IsDumpedAs (given.text dump.now) s × IsHeld s
 BeginsWith task given s = s ≡ state_of opening_maps
 
 -- 1 if an answer is `fault` or `closed`

@@ -7,6 +7,7 @@ use sqlite::{Connection, FileStore};
 use sqlite_disk::Disk;
 
 /// What a run leaves of the file of its words. `T` is the start that is spent on opening it.
+#[derive(Drop)]
 pub enum Ends<T, D: Disk> {
     /// The task ran over the world of this connection.
     Ran(Connection<FileStore<D>>),
@@ -14,17 +15,6 @@ pub enum Ends<T, D: Disk> {
     Refused(Remains<T, D>),
     /// It ran over a world in memory, or the words name no task. No file was opened: the start is unspent.
     NoFile(T),
-}
-
-// It is written out, so that a caller doesn't prove again how each part is dropped.
-impl<T: Drop, D: Disk + Drop> Drop for Ends<T, D> {
-    fn drop(self) {
-        match self {
-            Ends::Ran(_conn) => {}
-            Ends::Refused(_remains) => {}
-            Ends::NoFile(_start) => {}
-        }
-    }
 }
 
 impl<T: Drop, D: Disk + Drop> Ends<T, D> {

@@ -1,12 +1,21 @@
 -- From what a crash left to what the next open finds.
+use Rattle.std.proofs.Common.{ℕ, ◌≤◌, List, ◌++◌, take, Result, Ok, Err, IfOk, subst}
 use Rattle.sqlite_wal.specs.Recovery.{Image}
 use Rattle.sqlite.specs.Tree.{Trees}
 use Rattle.sqlite.specs.State.{State as Database}
+use Rattle.moo_rows.specs.Maps.{Maps}
+use Rattle.moo_world.specs.declared.call.Batch.{Batch}
 use Rattle.moo_world.specs.Judge.{State}
+use Rattle.moo_world.specs.Rows.{IsGood}
+use Rattle.moo_tables.specs.Tables.{Tables}
+use Rattle.moo_cells.specs.Shows.{ShowsRows}
+use Rattle.moo_cells.proofs.CellsLemmas.{one_good}
+use Rattle.moo_cells.proofs.GoodRows.{good_within}
+use Rattle.moo_store.specs.Led.{BatchesLead, LeavesLed}
 use Rattle.moo_store.specs.States.{LeavesState}
 use Rattle.moo_store.specs.Stand.{Stand, MayLeave}
 use Rattle.moo_store.specs.World.{CrashLeaves}
-use Rattle.moo_files.specs.Contents.{HoldsTrees, HoldsState}
+use Rattle.moo_files.specs.Contents.{HoldsTrees, HoldsTables, HoldsState, IsLeftBy}
 
 pub held_again : (image : Image) (trees : Trees) (s : State) → HoldsTrees image trees → LeavesState trees s → HoldsState image s
 held_again image trees s holds shows = record { trees = trees; holds = holds; such = shows }
@@ -16,3 +25,16 @@ pub held_after : (store : Database) (stand : Stand) (image : Image) (trees : Tre
 held_after store stand image trees leaves lies holds =
     let it = leaves trees lies in
     (it.0, it.1, held_again image trees it.0 holds it.2)
+
+-- the good rows that their tables show are those that the batches of a run led to
+pub led_again : (store : Database) (image : Image) (rows found : Maps) (batches others : List Batch) → LeavesLed store rows batches others → IsLeftBy store image
+    → ((tables : Tables) → HoldsTables image tables → ShowsRows tables found) → IsGood found → (more : ℕ) × (more ≤ 1) × BatchesLead (batches ++ take more others) rows found
+led_again store image rows found batches others led left shown good =
+    let it = led left.trees left.such in
+    let shows = shown it.5.tables (record { trees = left.trees; holds = left.holds; such = it.5.leaves }) in
+    (it.0, it.1, subst (BatchesLead (batches ++ take it.0 others) rows) (one_good it.5.tables it.2 found it.5.shows (good_within it.2 it.3) shows good) it.4)
+
+-- what is known of an answer for each of some tables, and what is known of it alone
+pub each_ok : {A E : Type 0} (r : Result A E) (H : Tables → Type 0) (P : Tables → A → Type 0) (Q R : A → Type 0) → ((t : Tables) → H t → IfOk r (P t)) → IfOk r Q → ((a : A) → ((t : Tables) → H t → P t a) → Q a → R a) → IfOk r R
+each_ok (Ok a) H P Q R each known f = f a each known
+each_ok (Err e) H P Q R each known f = tt

@@ -1,12 +1,11 @@
 -- Half a first page of 1,024 bytes isn't a whole page of any database.
-use Rattle.std.proofs.Common.{◌≡◌, ◌≤◌, ◌<◌, ℕ, List, [], ◌∷◌, length, slice_index, inl, inr, sym, ◌∙◌, arith, ap}
+use Rattle.std.proofs.Common.{◌≡◌, ◌<◌, ℕ, List, [], ◌∷◌, length, slice_index, inl, inr, sym, ◌∙◌, arith}
 use Rattle.std.proofs.lemmas.Bool.{cases_eq}
 use Rattle.std.proofs.lemmas.List.{length-map}
 use Rattle.std.proofs.lemmas.List.FromFn.{length-range_with_len}
 use Rattle.std.specs.List.{range_with_len}
 use Rattle.sqlite_wal.specs.Format.{be32}
-use Rattle.sqlite_wal.specs.Recovery as raw
-use Rattle.sqlite_wal.specs.Recovery.{Image, Pages, AreWhole, IsIgnored}
+use Rattle.sqlite_wal.specs.Recovery.{Image, IsIgnored}
 use Rattle.sqlite_wal.specs.PageSize.{size_in_file}
 use Rattle.sqlite_wal.proofs.AppendLemmas.{some_value}
 use Rattle.sqlite_wal.proofs.CreateLemmas.{begun_is_not_blank}

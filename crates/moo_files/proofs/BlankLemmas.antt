@@ -10,7 +10,7 @@ use Rattle.sqlite_wal.specs.PageSize.{IsPageSize}
 use Rattle.sqlite_pages.specs.PageMap.{PageMap}
 use Rattle.sqlite_pool.specs.File.{version_in, in_use}
 use Rattle.sqlite_pool.specs.Opening.{IsBlankFile, IsNew}
-use Rattle.sqlite_pool.specs.Stored.{reserved, stored_size, is_summed, Recovers, StandsAs, IsUnreadable}
+use Rattle.sqlite_pool.specs.Stored.{reserved, stored_size, Recovers, StandsAs, IsUnreadable}
 use Rattle.sqlite_pool.specs.StoredLaws.{trimmed_whole}
 use Rattle.sqlite_pool.proofs.ProbeLemmas.{not_blank}
 use Rattle.sqlite_pool.proofs.ResealLemmas.{adopts_of}

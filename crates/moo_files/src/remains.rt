@@ -26,6 +26,7 @@ use std::hash::{BuildHasher, RandomState};
 use std::io::ErrorKind;
 
 /// What is left of the files if no world was opened or made. `T` is the start that is spent on opening them.
+#[derive(Drop)]
 pub enum Remains<T, D: Disk> {
     /// No file was opened: there is none of this name, it holds no byte, or the name isn't a path. The start is unspent.
     Untouched(T),
@@ -35,18 +36,6 @@ pub enum Remains<T, D: Disk> {
     Leftover(Leftover<D>),
     /// The connection, outside a transaction.
     Connection(Connection<FileStore<D>>),
-}
-
-// It is written out, so that a caller doesn't prove again how each part is dropped.
-impl<T: Drop, D: Disk + Drop> Drop for Remains<T, D> {
-    fn drop(self) {
-        match self {
-            Remains::Untouched(_start) => {}
-            Remains::NotOpened(_seal) => {}
-            Remains::Leftover(_left) => {}
-            Remains::Connection(_conn) => {}
-        }
-    }
 }
 
 impl<T: Drop, D: Disk + Drop> Remains<T, D> {

@@ -28,6 +28,6 @@ pub use creating::create_in;
 pub use dumping::DumpFault;
 pub use fault::StoreFault;
 pub use loading::load_in;
-pub use reopening::{found_rows_are_led_to, parts_join, run_and_reopen, run_then_crash_then_adopt};
+pub use reopening::{parts_join, run_and_reopen, run_then_crash_then_adopt};
 pub use tally::Tally;
 pub use world::World;

@@ -1,18 +1,12 @@
 //! The headline: runs, a crash, and the opening of what it left.
 
-ghost use Rattle.std.specs.Prelude.{◌≡◌, List, [], ◌∷◌, ◌++◌, length, drop, IfOk, IfErr, IfSome, false, true};
+ghost use Rattle.std.specs.Prelude.{◌≡◌, List, [], ◌∷◌, ◌++◌, IfOk, IfErr, IfSome, false, true};
 ghost use Rattle.sqlite.specs.State.{HasCleanDisk};
 ghost use Rattle.sqlite.specs.Held.{state};
-ghost use Rattle.sqlite.specs.Tree.{Trees};
-ghost use Rattle.moo_rows.specs.Maps.{Maps};
-ghost use Rattle.moo_world.specs.Rows.{IsGood};
 ghost use Rattle.moo_world.specs.declared.call.Batch.{Batch};
 ghost use Rattle.moo_world.specs.Judge.{State, after};
 ghost use Rattle.moo_text.specs.declared.reply.Reply.{Reply};
-ghost use Rattle.moo_tables.specs.Tables.{Tables};
-ghost use Rattle.moo_tables.specs.Inside.{MayOpenAs, Leaves};
-ghost use Rattle.moo_cells.specs.Shows.{ShowsRows};
-ghost use Rattle.moo_store.specs.Led.{LeavesLed};
+ghost use Rattle.moo_tables.specs.Inside.{MayOpenAs};
 ghost use Rattle.moo_store.specs.Answered.{acknowledged, added};
 ghost use Rattle.moo_store.specs.Opening.{IsOfStore};
 ghost use Rattle.moo_store.specs.Reopened.{HoldsAcknowledged, AreLedTo, RunsInParts, IsKeptOf};
@@ -73,16 +67,6 @@ pub fn run_then_crash_then_adopt<S: Alter + Reopen + Drop>(
         Some(found) => Some(adopt(alloc, found)),
         None => None,
     }
-}
-
-/// What a crash left of a World shows no other good rows than those that the acknowledged batches lead to, or these and one more.
-///
-/// The World was left by a run: `LeavesLed` is the clause `led` of `World::run`. The call does nothing; its contract is what it is for.
-pub fn found_rows_are_led_to<S: Alter + Drop>(world: &World<S>)
-    ensures { (rows found : Maps) (batches : List Batch) (replies : List Reply) (trees : Trees) → LeavesLed (store_of S.Store world.now) rows (acknowledged batches replies) (drop (length replies) batches) →
-        (store_of S.Store world.now).may_leave trees → ((tables : Tables) → Leaves trees tables → ShowsRows tables found) → IsGood found → AreLedTo rows found batches replies }
-{
-    let _world = world;
 }
 
 /// Runs that each start from what the opening after the one before found join to one list of batches.

@@ -3,7 +3,7 @@ use Rattle.sqlite.specs.WalFiles.{image_at}
 use Rattle.moo_world.specs.Judge.{state_of}
 use Rattle.moo_http.specs.Turns.{AttendedOn}
 use Rattle.moo_commands.specs.Run.{given_by}
-use Rattle.moo_commands.proofs.Beginning.{begins_dumped, of_other_texts, fails_to_begin, unmade_begins, fresh_begins, load_begins, never_other}
+use Rattle.moo_commands.proofs.Beginning.{begins_dumped, held_rows, of_other_texts, fails_to_begin, unmade_begins, fresh_begins, load_begins, never_other}
 use Rattle.moo_commands.proofs.Connections.{surely}
 use Rattle.moo_commands.proofs.Refusals.{fails_at_once, tells_fault}
 use Rattle.moo_commands.proofs.files.run_loaded.Goals as goal
@@ -33,7 +33,7 @@ returns-in-Err g c =
       fresh = λ anew none clean. inl none;
       begun = λ anew half clean. inr (inl half);
       blank = λ other none. never_other c.args.task c.requires.load other;
-      told = inr (c.requires.load, (c.in-Err.failure, inr (c.requires.load, c.in-Err.ensures.failure), c.report.ensures));
+      told = inr (c.requires.load, (c.args.start, refl), c.in-Err.failure, c.in-Err.ensures.failure, c.report.ensures);
     }
 
 pub returns-in-Ok-load_from : goal.returns-in-Ok-load_from
@@ -45,7 +45,7 @@ returns-in-Ok-load_from g c =
     record {
       anew = λ anew. (
         s,
-        begins_dumped c.args.task given c.args.dump.now s c.requires.load c.requires.word c.in-Ok.ensures.dumped,
+        begins_dumped c.args.task given c.args.dump.now s c.requires.load c.requires.word c.in-Ok.ensures.dumped (held_rows c.in-Ok.rows.maps c.in-Ok.ensures.good c.in-Ok.ensures.limit),
         of_other_texts c.args.task c.requires.load s _ given _ _ _ _ _ _ (surely _ _ _ _ _ _ _ _ _ (ran.runs true s stands)),
       );
       taken = λ t anew holds clean. c.in-Ok-load_from.ensures.taken t holds (ran.clean true s stands clean);
@@ -77,7 +77,7 @@ returns-in-Err-load_from g c =
     let image = image_at g.T.Start in
     let given = given_by (g.R.Read.remaining c.args.input) (g.H.BatchFiles.text c.args.host.now) (AttendedOn g.H.Source.Arrivals.hands_out g.H.Source.Arrivals.takes_back g.H.Source.Reader.Read.remaining g.H.Source.Writer.Write.contents (g.H.Ports.opens c.args.host.now)) in
     let s = state_of c.in-Ok.rows.maps in
-    let begins = begins_dumped c.args.task given c.args.dump.now s c.requires.load c.requires.word c.in-Ok.ensures.dumped in
+    let begins = begins_dumped c.args.task given c.args.dump.now s c.requires.load c.requires.word c.in-Ok.ensures.dumped (held_rows c.in-Ok.rows.maps c.in-Ok.ensures.good c.in-Ok.ensures.limit) in
     let old = g.W.Write.contents c.args.output.now in
     let new = g.W.Write.contents c.report-in-Err-load_from.new.output in
     let status = c.report-in-Err-load_from.result in

@@ -2,7 +2,7 @@ use Rattle.std.proofs.Common.{inl, inr, true}
 use Rattle.moo_world.specs.Judge.{state_of}
 use Rattle.moo_http.specs.Turns.{AttendedOn}
 use Rattle.moo_commands.specs.Run.{given_by}
-use Rattle.moo_commands.proofs.Beginning.{begins_dumped, of_other_texts}
+use Rattle.moo_commands.proofs.Beginning.{begins_dumped, held_rows, of_other_texts}
 use Rattle.moo_commands.proofs.Connections.{of_making, surely}
 use Rattle.moo_commands.proofs.over.run_loaded.Goals as goal
 
@@ -12,7 +12,7 @@ returns-in-Ok-load_in g c =
     let s = state_of c.in-Ok.rows.maps in
     inr (
       s,
-      begins_dumped c.args.task given c.args.dump.now s c.requires.load c.requires.word c.in-Ok.ensures.dumped,
+      begins_dumped c.args.task given c.args.dump.now s c.requires.load c.requires.word c.in-Ok.ensures.dumped (held_rows c.in-Ok.rows.maps c.in-Ok.ensures.good c.in-Ok.ensures.limit),
       of_other_texts c.args.task c.requires.load s _ given _ _ _ _ _ _ (surely _ _ _ _ _ _ _ _ _ (c.run_in.ensures.runs true s c.in-Ok-load_in.ensures.stands)),
     )
 

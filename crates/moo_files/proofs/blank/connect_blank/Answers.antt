@@ -1,4 +1,4 @@
-use Rattle.std.proofs.Common.{◌≡◌, ◌∙◌, false, ap, ap₂, sym, subst, subst₂, inl, inr, arith}
+use Rattle.std.proofs.Common.{◌≡◌, ◌∙◌, false, ap, sym, subst, subst₂, inl, inr, arith}
 use Rattle.sqlite_wal.specs.Files.{seen_image, outcomes}
 use Rattle.sqlite_wal.specs.PageSize.{bytes_of, IsPageSize}
 use Rattle.sqlite_wal.specs.Reads.{are_clean, AreClean}

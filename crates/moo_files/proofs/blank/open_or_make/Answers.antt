@@ -1,9 +1,6 @@
-use Rattle.std.proofs.Common.{◌≡◌, ◌∙◌, ap, sym, subst, inl, inr, rules, arith, true, false, IsTrue, ◌↔◌}
+use Rattle.std.proofs.Common.{◌≡◌, ◌∙◌, sym, subst, inl, inr, rules, true, false}
 use Rattle.sqlite_wal.specs.PageSize.{bytes_of}
-use Rattle.sqlite_wal.specs.Reads.{AreClean}
-use Rattle.sqlite_wal.proofs.CleanLemmas.{both_clean}
 use Rattle.sqlite_pool.specs.Opening.{IsBlankFile}
-use Rattle.sqlite_trees.specs.Tree.{Trees}
 use Rattle.sqlite.specs.Files.{HoldsDatabase, image_of}
 use Rattle.sqlite.proofs.FileLemmas.{same_image}
 use Rattle.moo_files.specs.Blank.{IsBlank}

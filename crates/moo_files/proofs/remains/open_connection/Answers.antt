@@ -1,7 +1,7 @@
-use Rattle.std.proofs.Common.{◌≡◌, ℕ, List, Bool, None, cond, ap₂, sym, subst, inl, inr}
+use Rattle.std.proofs.Common.{ℕ, List, Bool, cond, ap₂, sym, subst, inl}
 use Rattle.sqlite_disk.specs.Events.{Event, replay}
 use Rattle.sqlite_wal.specs.Recovery.{Image}
-use Rattle.sqlite.specs.Files.{HoldsDatabase, AreFoundIn, file_state, image_of}
+use Rattle.sqlite.specs.Files.{HoldsDatabase, AreFoundIn, file_state}
 use Rattle.sqlite.specs.WalFiles.{image_at}
 use Rattle.moo_files.proofs.RemainsLemmas.{left_fresh, leftover_keeps, leftover_blank, leftover_spares, unopened_keeps, unopened_blank, unopened_spares}
 use Rattle.moo_files.proofs.remains.open_connection.Goals as goal

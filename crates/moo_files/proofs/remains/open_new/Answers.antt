@@ -1,7 +1,7 @@
-use Rattle.std.proofs.Common.{◌≡◌, ℕ, List, Bool, None, cond, ap₂, sym, subst, inl, inr}
+use Rattle.std.proofs.Common.{ℕ, List, Bool, cond, ap₂, sym, subst, inl, inr}
 use Rattle.sqlite_disk.specs.Events.{Event, replay}
 use Rattle.sqlite_wal.specs.Recovery.{Image}
-use Rattle.sqlite.specs.Files.{HoldsDatabase, AreFoundIn, file_state, image_of}
+use Rattle.sqlite.specs.Files.{HoldsDatabase, AreFoundIn, file_state}
 use Rattle.sqlite.specs.WalFiles.{image_at}
 use Rattle.moo_files.specs.Blank.{IsBlank}
 use Rattle.moo_files.proofs.RemainsLemmas.{left_fresh, spared_keeps, spared_blank, spared_begun, spared_spares, unopened_keeps, unopened_blank, unopened_spares}

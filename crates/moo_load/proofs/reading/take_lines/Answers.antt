@@ -29,7 +29,7 @@ loop-line-preserved c = record {
   within = omega (arith, c.in_ok-line.ensures.ok);
   read = c.in-Ok.ensures.read;
   ahead = λ es fit same.
-    subst (λ (r : List ℕ). Ahead es c.args.rows.now.maps c.take_line.new.rows.maps r) (drop-drop (length c.in_ok-line.line.now + 1) c.loop-line.at c.args.text.now)
-    (one_taken (c.loop-line.invariant.ahead es fit same) c.take_line.new.rows.maps c.in_ok-line.line.now (λ l r one is. c.in_ok-line.ensures.found l r one is)
-    (λ end. false≢true (sym c.if-is_end.false ∙ c.is_end.ensures.1 end)) (λ e fits text. c.in-Ok.ensures.put e fits text));
+      subst (λ (r : List ℕ). Ahead es c.args.rows.now.maps c.take_line.new.rows.maps r) (drop-drop (length c.in_ok-line.line.now + 1) c.loop-line.at c.args.text.now)
+      (one_taken (c.loop-line.invariant.ahead es fit same) c.take_line.new.rows.maps c.in_ok-line.line.now (λ l r one is. c.in_ok-line.ensures.found l r one is)
+      (λ end. false≢true (sym c.if-is_end.false ∙ c.is_end.ensures.1 end)) (λ e fits text. c.in-Ok.ensures.put e fits text));
 }
