@@ -1,8 +1,7 @@
-use Rattle.std.proofs.Common.{rules, ◌≡◌, ◌≤◌, ◌+◌, ◌++◌, ◌∷◌, [], List, ℕ, length, drop, sym, subst, ◌∙◌, arith}
+use Rattle.std.proofs.Common.{◌+◌, List, ℕ, length, drop, sym, subst, ◌∙◌, arith}
 use Rattle.std.proofs.lemmas.Bool.{false≢true}
 use Rattle.std.proofs.lemmas.List.{drop-drop}
 use Rattle.std.proofs.lemmas.Result.{err_from_is_err_and}
-use Rattle.moo_load.specs.Entries.{Entry, EntryFits, entry_text, entry_taken}
 use Rattle.moo_load.proofs.Ahead.{Ahead, all_ahead, some_line, at_end, not_refused, one_taken}
 use Rattle.moo_load.proofs.reading.take_lines.Goals as goal
 
@@ -29,7 +28,7 @@ loop-line-preserved c = record {
   within = omega (arith, c.in_ok-line.ensures.ok);
   read = c.in-Ok.ensures.read;
   ahead = λ es fit same.
-    subst (λ (r : List ℕ). Ahead es c.args.rows.now.maps c.take_line.new.rows.maps r) (drop-drop (length c.in_ok-line.line.now + 1) c.loop-line.at c.args.text.now)
-    (one_taken (c.loop-line.invariant.ahead es fit same) c.take_line.new.rows.maps c.in_ok-line.line.now (λ l r one is. c.in_ok-line.ensures.found l r one is)
-    (λ end. false≢true (sym c.if-is_end.false ∙ c.is_end.ensures.1 end)) (λ e fits text. c.in-Ok.ensures.put e fits text));
+      subst (λ (r : List ℕ). Ahead es c.args.rows.now.maps c.take_line.new.rows.maps r) (drop-drop (length c.in_ok-line.line.now + 1) c.loop-line.at c.args.text.now)
+      (one_taken (c.loop-line.invariant.ahead es fit same) c.take_line.new.rows.maps c.in_ok-line.line.now (λ l r one is. c.in_ok-line.ensures.found l r one is)
+      (λ end. false≢true (sym c.if-is_end.false ∙ c.is_end.ensures.1 end)) (λ e fits text. c.in-Ok.ensures.put e fits text));
 }
