@@ -1,8 +1,7 @@
-use Rattle.std.proofs.Common.{rules, ◌≡◌, ◌≤◌, ◌+◌, ◌++◌, ◌∷◌, [], List, ℕ, length, drop, sym, subst, ◌∙◌, arith}
+use Rattle.std.proofs.Common.{◌+◌, List, ℕ, length, drop, sym, subst, ◌∙◌, arith}
 use Rattle.std.proofs.lemmas.Bool.{false≢true}
 use Rattle.std.proofs.lemmas.List.{drop-drop}
 use Rattle.std.proofs.lemmas.Result.{err_from_is_err_and}
-use Rattle.moo_load.specs.Entries.{Entry, EntryFits, entry_text, entry_taken}
 use Rattle.moo_load.proofs.Ahead.{Ahead, all_ahead, some_line, at_end, not_refused, one_taken}
 use Rattle.moo_load.proofs.reading.take_lines.Goals as goal
 
