@@ -1,34 +1,12 @@
 -- Rows in which the objects and slots are as after a change of parent show the reparented world.
-use Rattle.std.proofs.Common.{◌≡◌, ℕ, ◌<◌, Bool, true, false, Option, None, Some, List, ◌++◌, refl, sym, ap, ◌∙◌, subst}
-use Rattle.std.specs.Prelude.{is_some, unwrap_or, if◌then◌else◌}
-use Rattle.std.specs.Option.{option_map, option_or}
-use Rattle.std.specs.FinMap.{FinMap, get}
-use Rattle.std.proofs.lemmas.Bool.{false≢true, both_ways}
-use Rattle.std.proofs.lemmas.Option.{none-some, same_Some}
-use Rattle.moo_value.specs.declared.value.ObjNo.{ObjNo}
-use Rattle.moo_rows.specs.declared.row.ObjRow.{ObjRow}
-use Rattle.moo_rows.specs.declared.row.PropRow.{PropRow}
-use Rattle.moo_rows.specs.declared.row.PropId.{PropId}
-use Rattle.moo_rows.specs.declared.row.SlotRow.{SlotRow}
-use Rattle.moo_rows.specs.Maps.{Maps, object_cmp, slot_cmp}
-use Rattle.moo_world.specs.Objects.{Name, Pair, same_object, folded, is_among}
-use Rattle.moo_world.specs.World.{World, Record, Slot, IsWellFormed, NamesDiffer, is_object, chain, owed_by, pair_named, slot_of, owner_of, fresh, with_parent, with_slots, without_slots, reparented}
-use Rattle.moo_world.specs.Rows.{LookUps, IsSound, look_ups, world_of, prop_id, record_of, slot_seen, world_shown}
-use Rattle.moo_world.specs.Laws.{MayReparent}
-use Rattle.moo_world.specs.Manual.{lost, gained, kept_from, manual_slot}
-use Rattle.moo_world.proofs.Inheritance.ManualLaw.{below as below_of, no_new, definer_of_slot, new_split, lost_is, gained_is, manual_law}
-use Rattle.moo_world.proofs.Inheritance.Owed.{definer_among, named_owed, named_so, named_once, some_named, owed_by-append, named-append}
-use Rattle.moo_world.proofs.Inheritance.Rebuilding.{no_slot, objects_same, SameButSlots-rebuilt, same_world}
-use Rattle.moo_world.proofs.Shown.RowLaws.{slot_shown}
-use Rattle.moo_world.proofs.Shown.Seen.{is_object_seen}
-use Rattle.moo_world.proofs.Ancestry.Subtrees.{owed_listed}
-use Rattle.moo_world.proofs.Ancestry.Trees.{Chain-chain, chain_of_none}
-use Rattle.moo_props.specs.Touched.{is_defined_among, slot_after, row_after}
-use Rattle.moo_props.specs.Slots.{fresh_row}
+use Rattle.moo_props.proofs.Words.{◌≡◌, ℕ, ◌<◌, Bool, true, false, Option, None, Some, List, ◌++◌, refl, sym, ap, ◌∙◌, subst, is_some, unwrap_or, if◌then◌else◌, option_map, option_or, FinMap, get, false≢true, both_ways, none-some, same_Some, ObjNo, ObjRow, PropRow, PropId, SlotRow, Maps, object_cmp, slot_cmp, Name, Pair, same_object, folded, is_among, World, Record, Slot, IsWellFormed, NamesDiffer, is_object, chain, owed_by, pair_named, slot_of, owner_of, fresh, with_slots, without_slots, reparented, LookUps, IsSound, look_ups, world_of, prop_id, record_of, slot_seen, world_shown, MayReparent, lost, gained, kept_from, new_split, lost_is, gained_is, definer_among, named_owed, no_slot, objects_same, SameButSlots-rebuilt, same_world, slot_shown, is_object_seen, owed_listed, Chain-chain, chain_of_none, is_defined_among, slot_after, row_after, fresh_row, some_of, SlotHere, slot_from}
+use Rattle.moo_world.specs.World.{with_parent}
+use Rattle.moo_world.specs.Manual.{manual_slot}
+use Rattle.moo_world.proofs.Inheritance.ManualLaw.{below as below_of, no_new, definer_of_slot, manual_law}
+use Rattle.moo_world.proofs.Inheritance.Owed.{named_so, named_once, some_named, owed_by-append, named-append}
 use Rattle.moo_props.proofs.Definers.{new_is, no_clash, leaving, arriving, staying}
-use Rattle.moo_world.proofs.Shown.PairLists.{some_of}
 use Rattle.moo_props.proofs.Gains.{object_row, defines_pair, new_object, slot_of_owed}
-use Rattle.moo_world.proofs.Shown.Slots.{SlotHere, slot_from, no_slot_from}
+use Rattle.moo_world.proofs.Shown.Slots.{no_slot_from}
 
 module _ (t : Maps) (sound : IsSound t) (x q : ObjNo) (may : MayReparent (world_of t) x q) where
   abbrev m : LookUps

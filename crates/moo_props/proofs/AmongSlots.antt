@@ -1,24 +1,5 @@
 -- The properties that some of an object's chain define are among its slots.
-use Rattle.std.proofs.Common.{◌≡◌, Bool, true, false, Option, None, Some, List, [], ◌∷◌, refl, sym, ap, ◌∙◌, inl, inr}
-use Rattle.std.specs.Prelude.{◌&&◌, unwrap_or}
-use Rattle.std.specs.Option.{option_map}
-use Rattle.std.specs.List.{filter, list_any}
-use Rattle.std.specs.FinMap.{get, entries, get-entries, entries_sorted}
-use Rattle.std.proofs.lemmas.Bool.{false≢true, and_parts, or_cases}
-use Rattle.moo_value.specs.declared.value.ObjNo.{ObjNo}
-use Rattle.moo_rows.specs.declared.row.PropId.{PropId}
-use Rattle.moo_rows.specs.declared.row.PropRow.{PropRow}
-use Rattle.moo_rows.specs.Exact.{prop_exact}
-use Rattle.moo_rows.specs.Maps.{Maps, prop_cmp}
-use Rattle.moo_rows.proofs.Orders.{prop_total}
-use Rattle.moo_world.specs.Objects.{is_among}
-use Rattle.moo_world.specs.Rows.{IsGood, world_of}
-use Rattle.moo_world.specs.World.{World, chain}
-use Rattle.moo_world.proofs.Shown.Listed.{listed}
-use Rattle.moo_world.proofs.Shown.MapLaws.{decided_alike}
-use Rattle.moo_world.proofs.Shown.PairLists.{some_of, any_map}
-use Rattle.moo_props.specs.Dropping.{ids_among}
-use Rattle.moo_props.specs.Reparent.{is_only_of, is_defined_only, props_only_of}
+use Rattle.moo_props.proofs.Words.{◌≡◌, Bool, true, false, Option, None, Some, List, [], ◌∷◌, refl, sym, ap, ◌∙◌, inl, inr, ◌&&◌, unwrap_or, option_map, filter, list_any, get, entries, get-entries, entries_sorted, false≢true, and_parts, or_cases, ObjNo, PropId, PropRow, prop_exact, Maps, prop_cmp, prop_total, is_among, IsGood, world_of, World, chain, listed, decided_alike, some_of, any_map, ids_among, is_only_of, is_defined_only, props_only_of}
 use Rattle.moo_props.proofs.Ascending.{rises_made, ascend}
 use Rattle.moo_props.proofs.Folding.{is_id, has_id, is_id-Decides}
 use Rattle.moo_props.proofs.Gains.{object_of_chain, slot_on_heir}

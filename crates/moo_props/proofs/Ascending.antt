@@ -1,24 +1,7 @@
 -- The keys that a change touches are in order.
-use Rattle.std.proofs.Common.{◌≡◌, Bool, true, false, cond, T, List, [], ◌∷◌, ◌++◌, map, Ordering, Less, refl, sym, ap, ◌∙◌, subst}
-use Rattle.std.specs.Cmp.{tied_itself}
-use Rattle.std.specs.Ordering.{int_eq, ordering_then}
-use Rattle.std.specs.List.{filter, AllByRecursion}
-use Rattle.std.specs.FinMap.{entries, is_sorted, entries_sorted}
+use Rattle.moo_props.proofs.Words.{◌≡◌, Bool, true, false, cond, T, List, [], ◌∷◌, ◌++◌, map, Ordering, Less, refl, sym, ap, ◌∙◌, subst, tied_itself, int_eq, ordering_then, filter, AllByRecursion, entries, is_sorted, entries_sorted, ObjNo, PropId, Maps, object_cmp, prop_cmp, slot_cmp, verb_cmp, object_total, first_of, chain, is_among, world_of, lost, gained, links_to, linked_among, verbs_among, AreAscending, owners_under, props_of, removed_keys, added_keys, keys_on, keys_over}
 use Rattle.std.specs.FinMap.Entries.{below_all}
-use Rattle.moo_value.specs.declared.value.ObjNo.{ObjNo}
-use Rattle.moo_rows.specs.declared.row.PropId.{PropId}
-use Rattle.moo_rows.specs.Maps.{Maps, object_cmp, prop_cmp, slot_cmp, verb_cmp}
-use Rattle.moo_rows.proofs.Orders.{object_total}
-use Rattle.moo_rows.proofs.Walking.{first_of, second_of, less_of}
-use Rattle.moo_world.specs.World.{chain}
-use Rattle.moo_world.specs.Objects.{is_among}
-use Rattle.moo_world.specs.Rows.{world_of}
-use Rattle.moo_world.specs.Manual.{lost, gained}
-use Rattle.moo_props.specs.Dropping.{links_to, linked_among, verbs_among}
-use Rattle.moo_props.specs.Present.{AreAscending}
-use Rattle.moo_tree.specs.Under.{owners_under}
-use Rattle.moo_props.specs.Touched.{props_of, removed_keys, added_keys}
-use Rattle.moo_props.specs.Slots.{keys_on, keys_over}
+use Rattle.moo_rows.proofs.Walking.{second_of, less_of}
 
 -- each is below all after it, by a key
 abbrev pub Rises : {K A : Type 0} → (K → K → Ordering) → (A → K) → List A → Type 0

@@ -1,26 +1,10 @@
 -- The names that an object defines are those of the properties' entries that have it as definer.
-use Rattle.std.proofs.Common.{◌≡◌, ◌≢◌, ℕ, zero, suc, ◌≤◌, Bool, true, false, cond, T, Option, None, Some, List, [], ◌∷◌, ◌++◌, map, Less, refl, sym, ap, ◌∙◌, subst, inl, inr, arith, append-nil}
-use Rattle.std.specs.Prelude.{is_some, unwrap_or, nat_lt, if◌then◌else◌}
-use Rattle.std.specs.Option.{option_map, option_and_then}
-use Rattle.std.specs.Cmp.{nat_cmp_is}
-use Rattle.std.specs.List.{filter, filter_map, cons_option, AllByRecursion}
-use Rattle.std.specs.Ordering.{eq_by_cmp}
-use Rattle.std.specs.FinMap.{get, get-entries, find, is_sorted, entries, entries_sorted}
+use Rattle.moo_props.proofs.Words.{◌≡◌, ◌≢◌, ℕ, zero, suc, ◌≤◌, Bool, true, false, cond, T, Option, None, Some, List, [], ◌∷◌, ◌++◌, map, Less, refl, sym, ap, ◌∙◌, subst, inl, inr, arith, append-nil, is_some, unwrap_or, if◌then◌else◌, option_map, option_and_then, nat_cmp_is, filter, filter_map, cons_option, AllByRecursion, eq_by_cmp, get, get-entries, is_sorted, entries, entries_sorted, false≢true, filter_map-append, ObjNo, ObjRow, PropId, PropRow, Maps, prop_cmp, prop_exact, prop_total, Name, same_object, same_object-Decides, Record, names_of, IsSound, look_ups, world_of, world_shown, record_of, numbers_below, name_on, prop_id, key-Decides}
+use Rattle.std.specs.Prelude.{nat_lt}
+use Rattle.std.specs.FinMap.{find}
 use Rattle.std.specs.FinMap.Entries.{same_entries, find-append}
-use Rattle.std.proofs.lemmas.Bool.{cases_eq, cases_lt, false≢true, lt-ltb, le-ltb}
-use Rattle.std.proofs.lemmas.List.Elements.{filter_map-append}
-use Rattle.moo_value.specs.declared.value.ObjNo.{ObjNo}
-use Rattle.moo_rows.specs.declared.row.ObjRow.{ObjRow}
-use Rattle.moo_rows.specs.declared.row.PropId.{PropId}
-use Rattle.moo_rows.specs.declared.row.PropRow.{PropRow}
-use Rattle.moo_rows.specs.Maps.{Maps, prop_cmp}
-use Rattle.moo_rows.specs.Exact.{prop_exact}
-use Rattle.moo_rows.proofs.Orders.{prop_total}
-use Rattle.moo_world.specs.Objects.{Name, same_object, same_object-Decides}
-use Rattle.moo_world.specs.World.{Record, names_of}
-use Rattle.moo_world.specs.Rows.{IsSound, look_ups, world_of, world_shown, record_of, numbers_below, name_on, prop_id}
+use Rattle.std.proofs.lemmas.Bool.{cases_eq, cases_lt, lt-ltb, le-ltb}
 use Rattle.moo_world.proofs.Shown.EntriesInOrder.{all_then, sorted_then, past_each}
-use Rattle.moo_world.proofs.Shown.MapLaws.{key-Decides}
 
 -- the names of those of these entries that x defines
 abbrev pub names_among : ObjNo → List (PropId × PropRow) → List Name

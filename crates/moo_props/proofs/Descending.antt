@@ -1,30 +1,17 @@
 -- The walk down from an object meets what is under it, and nothing else.
-use Rattle.std.proofs.Common.{◌≡◌, ℕ, zero, suc, ◌+◌, ◌≤◌, Bool, true, false, cond, ◌||◌, Option, None, Some, List, [], ◌∷◌, ◌++◌, map, length, drop, refl, sym, ap, ◌∙◌, subst, inl, inr, arith, append_assoc, append-nil, ◌⊎◌}
-use Rattle.std.specs.Prelude.{is_some}
-use Rattle.std.specs.List.{flat_map, list_any}
-use Rattle.std.specs.FinMap.{get}
-use Rattle.std.proofs.lemmas.Bool.{true≢false, or_left, or_right, or_cases}
-use Rattle.moo_value.specs.declared.value.ObjNo.{ObjNo}
-use Rattle.moo_rows.specs.declared.row.ObjRow.{ObjRow}
-use Rattle.moo_rows.specs.declared.row.Link.TheVariants.{ChildOf}
-use Rattle.moo_rows.specs.Links.{IsFirst, is_linked, row_has}
-use Rattle.moo_rows.specs.Maps.{Maps, object_cmp}
+use Rattle.moo_props.proofs.Words.{◌≡◌, ℕ, zero, suc, ◌+◌, ◌≤◌, Bool, true, false, cond, ◌||◌, Option, None, Some, List, [], ◌∷◌, ◌++◌, map, length, drop, refl, sym, ap, ◌∙◌, subst, inl, inr, arith, append_assoc, append-nil, ◌⊎◌, is_some, list_any, get, true≢false, or_left, or_right, or_cases, ObjNo, ObjRow, ChildOf, IsFirst, is_linked, Maps, object_cmp, nothing, same_object, is_among, same_object-Decides, same_object-eq, subtree_of, look_ups, world_of, World, IsTree, Chain, is_object, parent_of, chain, numbers_to, Chain-chain, no_parent, is_among-append, decided_alike, chain_of_row, chain_of_no_row, is_object_seen, after_below, walk_after, from_here}
+use Rattle.std.specs.List.{flat_map}
+use Rattle.moo_rows.specs.Links.{row_has}
 use Rattle.moo_rows.proofs.Linking.{linked-end, linked-step}
-use Rattle.moo_world.specs.Objects.{nothing, same_object, is_among, same_object-Decides, same_object-eq}
-use Rattle.moo_world.specs.ObjectLists.{objects_of, subtree_of}
-use Rattle.moo_world.specs.Rows.{look_ups, world_of}
-use Rattle.moo_world.specs.World.{World, IsTree, Chain, is_object, parent_of, chain, numbers_to}
+use Rattle.moo_world.specs.ObjectLists.{objects_of}
 use Rattle.moo_world.proofs.Ancestry.Ancestors.{same_object-self}
 use Rattle.moo_world.proofs.Ancestry.Chains.{Climbs-bound, Climbs-once}
 use Rattle.moo_world.proofs.Ancestry.Subtrees.{among_filter, object_listed}
-use Rattle.moo_world.proofs.Ancestry.Trees.{Chain-chain, no_parent, parents_below}
+use Rattle.moo_world.proofs.Ancestry.Trees.{parents_below}
 use Rattle.moo_world.proofs.Ancestry.Upward.{filter_passes}
-use Rattle.moo_world.proofs.Inheritance.Owed.{is_among-append}
-use Rattle.moo_world.proofs.Shown.MapLaws.{decided_alike}
-use Rattle.moo_world.proofs.Shown.Seen.{chain_of_row, chain_of_no_row, is_object_seen}
 use Rattle.moo_tree.proofs.Listing.{children_listed}
 use Rattle.moo_tree.proofs.Searching.{child_listed, listed_child, is_there}
-use Rattle.moo_props.specs.Descent.{children_past, below, levels_below, descendants, branches, after_branch, after_below, walk_after, from_here}
+use Rattle.moo_props.specs.Descent.{children_past, below, levels_below, descendants, branches, after_branch}
 
 -- ---- lists
 

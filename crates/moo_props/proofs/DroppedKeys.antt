@@ -1,38 +1,10 @@
 -- The slots that are removed with an object are those that go with it.
-use Rattle.std.proofs.Common.{◌≡◌, Bool, true, false, ◌||◌, Option, None, Some, List, [], ◌∷◌, ◌++◌, refl, sym, ap, ◌∙◌, subst, inl, inr}
-use Rattle.std.specs.Prelude.{◌&&◌, is_some, unwrap_or, if◌then◌else◌}
-use Rattle.std.specs.Option.{option_map}
-use Rattle.std.specs.Ordering.{eq_by_cmp, int_eq}
-use Rattle.std.specs.List.{list_any, AllByRecursion}
-use Rattle.std.specs.FinMap.{get, entries, find, get-entries, entries_sorted}
-use Rattle.std.proofs.lemmas.Bool.{false≢true, or_cases}
-use Rattle.moo_value.specs.declared.value.ObjNo.{ObjNo}
-use Rattle.moo_rows.specs.declared.row.ObjRow.{ObjRow}
-use Rattle.moo_rows.specs.declared.row.PropId.{PropId}
-use Rattle.moo_rows.specs.declared.row.PropRow.{PropRow}
-use Rattle.moo_rows.specs.declared.row.SlotRow.{SlotRow}
-use Rattle.moo_rows.specs.Exact.{slot_exact}
-use Rattle.moo_rows.specs.Maps.{Maps, prop_cmp, slot_cmp}
-use Rattle.moo_rows.proofs.Orders.{slot_total}
-use Rattle.moo_world.specs.Objects.{same_object, is_among, same_object-Decides}
-use Rattle.moo_world.specs.World.{chain}
-use Rattle.moo_world.specs.Rows.{IsGood, LookUps, look_ups, world_of}
-use Rattle.moo_world.proofs.Shown.MapLaws.{decided_alike}
-use Rattle.moo_world.proofs.Inheritance.Owed.{any-append}
-use Rattle.moo_world.proofs.Shown.Seen.{chain_of_row}
-use Rattle.moo_props.specs.Dropped.{goes_with, dropped_keys}
-use Rattle.moo_props.specs.Dropping.{ids_for, ids_among, dropped_over}
-use Rattle.moo_props.specs.Names.{defines}
-use Rattle.moo_props.specs.Present.{ArePresent, AreAscending}
-use Rattle.moo_tree.specs.Under.{owners_under}
-use Rattle.moo_props.specs.Touched.{props_of}
-use Rattle.moo_props.specs.Slots.{keys_on}
+use Rattle.moo_props.proofs.Words.{◌≡◌, Bool, true, false, ◌||◌, Option, None, Some, List, [], ◌∷◌, ◌++◌, refl, sym, ap, ◌∙◌, subst, inl, inr, ◌&&◌, is_some, unwrap_or, if◌then◌else◌, option_map, eq_by_cmp, int_eq, list_any, AllByRecursion, get, entries, get-entries, entries_sorted, false≢true, or_cases, ObjNo, ObjRow, PropId, PropRow, SlotRow, slot_exact, Maps, prop_cmp, slot_cmp, slot_total, same_object, is_among, same_object-Decides, chain, IsGood, LookUps, look_ups, world_of, decided_alike, any-append, chain_of_row, goes_with, dropped_keys, ids_for, ids_among, dropped_over, defines, ArePresent, AreAscending, owners_under, props_of, keys_on, some_of, listed, own_entries, all_made}
+use Rattle.std.specs.FinMap.{find}
 use Rattle.moo_props.proofs.Ascending.{Rises, rises_made, keys_by, keys_rise, props_rise, under_rise, ascend}
 use Rattle.moo_props.proofs.Folding.{has_id, is_id, key_parts, is_id-Decides}
-use Rattle.moo_world.proofs.Shown.PairLists.{some_of}
 use Rattle.moo_props.proofs.Gains.{object_of_chain, slot_on_heir}
 use Rattle.moo_props.proofs.LessRows.{is_own_id}
-use Rattle.moo_world.proofs.Shown.Listed.{listed, own_entries, all_made}
 use Rattle.moo_props.proofs.Moved.{under_is}
 use Rattle.moo_props.proofs.NewSlots.{has_all}
 use Rattle.moo_props.proofs.SameKeys.{holds, unique}

@@ -1,24 +1,5 @@
 -- What the slots are after they are removed and put one by one.
-use Rattle.std.proofs.Common.{◌≡◌, Bool, true, false, cond, ◌||◌, Option, None, Some, List, [], ◌∷◌, refl, sym, ap, ◌∙◌}
-use Rattle.std.specs.Prelude.{◌&&◌, is_some}
-use Rattle.std.specs.Option.{option_map}
-use Rattle.std.specs.Bool.{Decides}
-use Rattle.std.specs.Ordering.{eq_by_cmp}
-use Rattle.std.specs.List.{list_any, cons_option, AllByRecursion}
-use Rattle.std.specs.FinMap.{FinMap, get, get-insert, get-remove}
-use Rattle.std.proofs.lemmas.Bool.{and_parts}
-use Rattle.std.proofs.lemmas.Option.{none-some, same_Some}
-use Rattle.moo_value.specs.declared.value.ObjNo.{ObjNo}
-use Rattle.moo_rows.specs.declared.row.PropId.{PropId}
-use Rattle.moo_rows.specs.declared.row.SlotRow.{SlotRow}
-use Rattle.moo_rows.specs.Maps.{Held, prop_cmp, slot_cmp}
-use Rattle.moo_rows.specs.Exact.{prop_exact, slot_exact}
-use Rattle.moo_rows.proofs.Orders.{prop_total, slot_total}
-use Rattle.moo_world.specs.Objects.{same_object, same_object-Decides}
-use Rattle.moo_world.proofs.Shown.MapLaws.{key-Decides, decided_alike}
-use Rattle.moo_props.specs.declared.slots.Origin.{Origin}
-use Rattle.moo_props.specs.Reparent.{slots_moved}
-use Rattle.moo_props.specs.Slots.{origin_of, origins, fresh_of, slot_removed, slot_put, without_on, with_fresh, fresh_row}
+use Rattle.moo_props.proofs.Words.{◌≡◌, Bool, true, false, cond, ◌||◌, Option, None, Some, List, [], ◌∷◌, refl, sym, ap, ◌∙◌, ◌&&◌, is_some, option_map, Decides, eq_by_cmp, list_any, cons_option, AllByRecursion, FinMap, get, get-insert, get-remove, and_parts, none-some, same_Some, ObjNo, PropId, SlotRow, Held, prop_cmp, slot_cmp, prop_exact, slot_exact, prop_total, slot_total, same_object, same_object-Decides, key-Decides, decided_alike, Origin, slots_moved, origin_of, origins, fresh_of, slot_removed, slot_put, without_on, with_fresh, fresh_row}
 
 abbrev pub is_id : PropId → PropId → Bool
 is_id j id = eq_by_cmp prop_cmp j id

@@ -1,19 +1,5 @@
 -- Who defines a property that is found by its name.
-use Rattle.std.proofs.Common.{◌≡◌, true, false, Some, sym, ap, ◌∙◌}
-use Rattle.std.specs.Prelude.{is_some, unwrap_or}
-use Rattle.std.specs.Option.{option_map}
-use Rattle.std.specs.FinMap.{get}
-use Rattle.std.proofs.lemmas.Option.{same_Some}
-use Rattle.moo_value.specs.declared.value.ObjNo.{ObjNo}
-use Rattle.moo_rows.specs.declared.row.PropId.{PropId}
-use Rattle.moo_rows.specs.declared.row.PropRow.{PropRow}
-use Rattle.moo_rows.specs.declared.row.SlotRow.{SlotRow}
-use Rattle.moo_rows.specs.Maps.{Maps}
-use Rattle.moo_world.specs.Objects.{Name, same_object}
-use Rattle.moo_world.specs.World.{Slot, slot_of}
-use Rattle.moo_world.specs.Rows.{IsSound, world_of, slot_seen}
-use Rattle.moo_props.specs.Names.{name_of, defines}
-use Rattle.moo_world.proofs.Shown.PairLists.{some_of}
+use Rattle.moo_props.proofs.Words.{◌≡◌, true, false, Some, sym, ap, ◌∙◌, is_some, unwrap_or, option_map, get, same_Some, ObjNo, PropId, PropRow, SlotRow, Maps, Name, same_object, Slot, slot_of, IsSound, world_of, slot_seen, name_of, defines, some_of}
 use Rattle.moo_props.proofs.Walked.{slot_here}
 
 -- x defines the property of its slot just where the slot has it as definer

@@ -1,28 +1,12 @@
 -- A property that x gains has a slot on q.
-use Rattle.std.proofs.Common.{◌≡◌, ℕ, ◌<◌, Bool, true, false, Option, None, Some, ◌∷◌, ◌++◌, refl, sym, ap, ◌∙◌, subst, ◌⊎◌, inl, inr}
-use Rattle.std.specs.Prelude.{is_some, if◌then◌else◌}
-use Rattle.std.specs.Option.{option_map, option_and_then}
-use Rattle.std.specs.List.{filter_map, list_any, IsDistinct}
-use Rattle.std.proofs.lemmas.Bool.{false≢true, and_parts, cases_order}
-use Rattle.std.proofs.lemmas.Option.{none-some, same_Some}
-use Rattle.moo_value.specs.declared.value.ObjNo.{ObjNo}
-use Rattle.moo_rows.specs.declared.row.ObjRow.{ObjRow}
-use Rattle.moo_rows.specs.declared.row.PropRow.{PropRow}
-use Rattle.moo_rows.specs.Maps.{Maps}
-use Rattle.moo_world.specs.Objects.{Name, Pair, same_object, same_text, same_pair, folded, is_among, same_object-Decides, same_text-Decides, same_pair-self}
-use Rattle.moo_world.specs.World.{World, Slot, IsWellFormed, NamesDiffer, is_object, chain, names_of, defined_by, owed_by, pair_named, slot_of}
-use Rattle.moo_world.specs.Rows.{LookUps, IsSound, look_ups, world_of, numbers_below, name_on, record_of}
-use Rattle.moo_world.specs.Laws.{MayReparent}
-use Rattle.moo_world.specs.Manual.{gained}
+use Rattle.moo_props.proofs.Words.{◌≡◌, ℕ, ◌<◌, Bool, true, false, Option, None, Some, ◌∷◌, ◌++◌, refl, sym, ap, ◌∙◌, subst, ◌⊎◌, inl, inr, is_some, if◌then◌else◌, option_map, option_and_then, filter_map, list_any, false≢true, and_parts, none-some, same_Some, ObjNo, ObjRow, PropRow, Maps, Name, Pair, same_object, same_text, same_pair, folded, is_among, same_object-Decides, same_text-Decides, World, Slot, IsWellFormed, NamesDiffer, is_object, chain, names_of, defined_by, owed_by, pair_named, slot_of, LookUps, IsSound, look_ups, world_of, numbers_below, name_on, record_of, MayReparent, gained, names_shown, is_object_seen, object_seen, owed_listed, Chain-chain, chain_of_none, chain-step, some_of, any_map, SlotHere, slot_from}
+use Rattle.std.specs.List.{IsDistinct}
+use Rattle.std.proofs.lemmas.Bool.{cases_order}
+use Rattle.moo_world.specs.Objects.{same_pair-self}
 use Rattle.moo_world.proofs.Inheritance.Keeping.{named_is}
-use Rattle.moo_world.proofs.Shown.RowLaws.{names_shown}
-use Rattle.moo_world.proofs.Shown.Seen.{is_object_seen, object_seen}
-use Rattle.moo_world.proofs.Ancestry.Subtrees.{owed_listed}
-use Rattle.moo_world.proofs.Ancestry.Trees.{Chain-chain, chain_of_none, chain-step}
-use Rattle.moo_world.proofs.Shown.PairLists.{some_of, any_map, distinct_map, pairs_left}
+use Rattle.moo_world.proofs.Shown.PairLists.{distinct_map, pairs_left}
 use Rattle.moo_props.proofs.Definers.{only_gained}
 use Rattle.moo_world.proofs.Shown.Numbered.{any_from, no_later}
-use Rattle.moo_world.proofs.Shown.Slots.{SlotHere, slot_from}
 
 -- what has a chain with objects in it is an object
 pub object_of_chain : (w : World) (d z : ObjNo) → is_among d (chain w z) ≡ true → is_object w z ≡ true

@@ -1,35 +1,12 @@
 -- The rows once an object is dropped, key by key, and how many were written.
-use Rattle.std.proofs.Common.{◌≡◌, ◌≤◌, ◌+◌, Bool, true, false, Option, None, Some, List, [], ◌∷◌, length, refl, sym, ap, ◌∙◌, arith, length-append}
-use Rattle.std.specs.Prelude.{◌&&◌, ◌||◌, is_some, unwrap_or, if◌then◌else◌}
-use Rattle.std.specs.Option.{option_map}
-use Rattle.std.specs.FinMap.{get, remove, entries, find, get-entries, entries_sorted}
-use Rattle.std.proofs.lemmas.Bool.{false≢true, both_ways}
-use Rattle.std.proofs.lemmas.Option.{same_Some}
-use Rattle.moo_value.specs.declared.value.ObjNo.{ObjNo}
-use Rattle.moo_rows.specs.declared.row.ObjRow.{ObjRow}
-use Rattle.moo_rows.specs.declared.row.PropId.{PropId}
-use Rattle.moo_rows.specs.declared.row.PropRow.{PropRow}
-use Rattle.moo_rows.specs.declared.row.SlotRow.{SlotRow}
-use Rattle.moo_rows.specs.declared.row.VerbId.{VerbId}
-use Rattle.moo_rows.specs.Exact.{object_exact, slot_exact}
-use Rattle.moo_rows.specs.Maps.{Maps, Held, wrote, object_cmp, slot_cmp}
-use Rattle.moo_rows.proofs.Orders.{object_total, slot_total}
+use Rattle.moo_props.proofs.Words.{◌≡◌, ◌≤◌, ◌+◌, Bool, true, false, Option, None, Some, List, [], ◌∷◌, length, refl, sym, ap, ◌∙◌, arith, length-append, ◌&&◌, ◌||◌, is_some, unwrap_or, if◌then◌else◌, option_map, get, remove, entries, get-entries, entries_sorted, false≢true, both_ways, same_Some, ObjNo, ObjRow, PropId, PropRow, SlotRow, VerbId, object_exact, slot_exact, Maps, Held, wrote, object_cmp, slot_cmp, object_total, slot_total, nothing, same_object, is_among, same_object-Decides, Record, chain, is_object, parent_of, IsGood, look_ups, world_of, record_of, object_seen, no_parent, goes_with, dropped_keys, links_to, released_row, ids_for, ids_among, verbs_among, linked_among, dropped_over, slots_dropped, props_removed, verbs_removed, with_released, row_released, rows_released, defines, ArePresent, AreAbsent, owners_under, props_of, keys_on, without_on, own_entries, all_made}
+use Rattle.std.specs.FinMap.{find}
 use Rattle.moo_world.specs.Numbers.{not_of}
-use Rattle.moo_world.specs.Objects.{nothing, same_object, is_among, same_object-Decides}
-use Rattle.moo_world.specs.World.{Record, Climbs, chain, is_object, parent_of, location_of}
-use Rattle.moo_world.specs.Rows.{IsGood, look_ups, world_of, record_of}
+use Rattle.moo_world.specs.World.{Climbs, location_of}
 use Rattle.moo_world.proofs.Ancestry.Chains.{Climbs-unique}
-use Rattle.moo_world.proofs.Shown.Seen.{object_seen}
-use Rattle.moo_world.proofs.Ancestry.Trees.{no_parent, nothing_is_no_object}
-use Rattle.moo_props.specs.Dropped.{goes_with, dropped_keys, slot_left, prop_left, verb_left, heir, row_left}
-use Rattle.moo_props.specs.Dropping.{links_to, released_row, ids_for, ids_among, verbs_among, linked_among, dropped_over, slots_dropped, props_removed, verbs_removed, with_released, row_released, rows_released}
-use Rattle.moo_props.specs.Names.{defines}
-use Rattle.moo_props.specs.Present.{ArePresent, AreAbsent}
-use Rattle.moo_tree.specs.Under.{owners_under}
-use Rattle.moo_props.specs.Touched.{props_of}
-use Rattle.moo_props.specs.Slots.{keys_on, without_on}
+use Rattle.moo_world.proofs.Ancestry.Trees.{nothing_is_no_object}
+use Rattle.moo_props.specs.Dropped.{slot_left, prop_left, verb_left, heir, row_left}
 use Rattle.moo_props.proofs.LessRows.{held1, held2, held3, held5, only5, slots5, props5, verbs5, objects5, own_under}
-use Rattle.moo_world.proofs.Shown.Listed.{own_entries, all_made}
 use Rattle.moo_props.proofs.Moved.{writes-without, length-made}
 use Rattle.moo_props.proofs.Walked.{walk}
 

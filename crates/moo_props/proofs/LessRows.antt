@@ -1,38 +1,10 @@
 -- The rows once an object is dropped, by their look-ups.
-use Rattle.std.proofs.Common.{◌≡◌, ℕ, Bool, true, false, cond, ◌||◌, Option, None, Some, List, [], ◌∷◌, refl, sym, ap, ◌∙◌}
-use Rattle.std.specs.Prelude.{◌&&◌, is_some, unwrap_or, if◌then◌else◌}
-use Rattle.std.specs.Option.{option_map}
-use Rattle.std.specs.Ordering.{eq_by_cmp, int_eq}
-use Rattle.std.specs.List.{list_any}
-use Rattle.std.specs.FinMap.{get, remove, entries, get-insert, get-remove, get-entries, entries_sorted}
-use Rattle.std.proofs.lemmas.Bool.{false≢true, both_ways, or_parts}
-use Rattle.std.proofs.lemmas.Option.{none-some, same_Some}
-use Rattle.moo_value.specs.declared.value.ObjNo.{ObjNo}
-use Rattle.moo_rows.specs.declared.row.ObjRow.{ObjRow}
-use Rattle.moo_rows.specs.declared.row.PropId.{PropId}
-use Rattle.moo_rows.specs.declared.row.PropRow.{PropRow}
-use Rattle.moo_rows.specs.declared.row.SlotRow.{SlotRow}
-use Rattle.moo_rows.specs.declared.row.VerbId.{VerbId}
-use Rattle.moo_rows.specs.declared.row.VerbRow.{VerbRow}
-use Rattle.moo_rows.specs.Exact.{object_exact, verb_exact}
-use Rattle.moo_rows.specs.Maps.{Maps, Held, wrote, object_cmp, verb_cmp}
-use Rattle.moo_rows.proofs.Orders.{object_total, prop_total, verb_total}
-use Rattle.moo_world.specs.Objects.{Pair, nothing, same_object, is_among, same_object-Decides, same_object-eq}
-use Rattle.moo_world.specs.World.{Slot, is_object, chain, owed_by, pair_named}
-use Rattle.moo_world.specs.Rows.{IsGood, LookUps, look_ups, world_of, prop_id, verb_id}
-use Rattle.moo_world.proofs.Shown.MapLaws.{object_key}
-use Rattle.moo_world.proofs.Inheritance.Owed.{definer_among, named_owed}
-use Rattle.moo_world.proofs.Shown.Seen.{is_object_seen, chain_of_row}
-use Rattle.moo_world.proofs.Ancestry.Trees.{Chain-chain}
-use Rattle.moo_props.specs.Dropping.{links_to, released_row, ids_for, ids_among, verbs_among, linked_among, slots_dropped, props_removed, verbs_removed, with_released, row_released, rows_released}
-use Rattle.moo_props.specs.Names.{name_of}
-use Rattle.moo_tree.specs.Under.{owners_under}
-use Rattle.moo_props.specs.Touched.{props_of}
-use Rattle.moo_props.specs.Slots.{without_on}
+use Rattle.moo_props.proofs.Words.{◌≡◌, ℕ, Bool, true, false, cond, ◌||◌, Option, None, Some, List, [], ◌∷◌, refl, sym, ap, ◌∙◌, ◌&&◌, is_some, unwrap_or, if◌then◌else◌, option_map, eq_by_cmp, int_eq, list_any, get, remove, entries, get-insert, get-remove, get-entries, entries_sorted, false≢true, both_ways, none-some, same_Some, ObjNo, ObjRow, PropId, PropRow, SlotRow, VerbId, VerbRow, object_exact, Maps, Held, wrote, object_cmp, verb_cmp, object_total, prop_total, Pair, nothing, same_object, is_among, same_object-Decides, same_object-eq, Slot, is_object, chain, owed_by, pair_named, IsGood, LookUps, look_ups, world_of, prop_id, verb_id, object_key, definer_among, named_owed, is_object_seen, chain_of_row, Chain-chain, links_to, released_row, ids_for, ids_among, verbs_among, linked_among, slots_dropped, props_removed, verbs_removed, with_released, row_released, rows_released, name_of, owners_under, props_of, without_on, some_of, listed}
+use Rattle.std.proofs.lemmas.Bool.{or_parts}
+use Rattle.moo_rows.specs.Exact.{verb_exact}
+use Rattle.moo_rows.proofs.Orders.{verb_total}
 use Rattle.moo_props.proofs.Folding.{has_id, is_id, slot_at-without}
-use Rattle.moo_world.proofs.Shown.PairLists.{some_of}
 use Rattle.moo_props.proofs.Lessened.{is_own, less_object}
-use Rattle.moo_world.proofs.Shown.Listed.{listed}
 use Rattle.moo_props.proofs.Moved.{IsSlotsOnly, onward, only-without, base-without, under_is, has}
 use Rattle.moo_props.proofs.NewSlots.{has_all}
 use Rattle.moo_props.proofs.Walked.{walk, slot_here}

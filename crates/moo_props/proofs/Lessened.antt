@@ -1,25 +1,7 @@
 -- Rows without an object show the world without it, and are sound.
-use Rattle.std.proofs.Common.{◌≡◌, ℕ, Bool, true, false, ◌||◌, Option, None, Some, [], ◌∷◌, refl, sym, ap, ◌∙◌}
-use Rattle.std.specs.Prelude.{is_some, unwrap_or, if◌then◌else◌}
-use Rattle.std.specs.Option.{option_map, option_and_then}
-use Rattle.std.specs.List.{filter_map}
-use Rattle.std.proofs.lemmas.Bool.{false≢true, both_ways}
-use Rattle.std.proofs.lemmas.Option.{none-some}
-use Rattle.moo_value.specs.declared.value.ObjNo.{ObjNo}
-use Rattle.moo_rows.specs.declared.row.ObjRow.{ObjRow}
-use Rattle.moo_rows.specs.declared.row.PropRow.{PropRow}
-use Rattle.moo_world.specs.Manual.{kept_from}
-use Rattle.moo_world.specs.Objects.{Name, nothing, same_object, same_object-Decides}
-use Rattle.moo_world.specs.Recycling.{released, without_record, recycled}
-use Rattle.moo_world.specs.World.{World, Record, Slot, IsWellFormed, is_object, parent_of, slot_of, with_slots, without_slots}
-use Rattle.moo_world.specs.Rows.{LookUps, AreSound, numbers_below, name_on, slot_seen, record_of, world_shown}
-use Rattle.moo_world.proofs.Inheritance.Rebuilding.{SameButSlots-rebuilt, same_world, no_slot, objects_same}
+use Rattle.moo_props.proofs.Words.{◌≡◌, ℕ, Bool, true, false, ◌||◌, Option, None, Some, [], ◌∷◌, refl, sym, ap, ◌∙◌, is_some, unwrap_or, if◌then◌else◌, option_map, option_and_then, filter_map, false≢true, both_ways, none-some, ObjNo, ObjRow, PropRow, kept_from, Name, nothing, same_object, same_object-Decides, recycled, World, Record, Slot, IsWellFormed, is_object, parent_of, slot_of, with_slots, without_slots, LookUps, AreSound, numbers_below, name_on, slot_seen, record_of, world_shown, SameButSlots-rebuilt, same_world, no_slot, objects_same, slot_shown, is_object_seen, object_seen, released_row, some_of, SlotHere, slot_from}
+use Rattle.moo_world.specs.Recycling.{released, without_record}
 use Rattle.moo_world.proofs.Inheritance.Recycling.{IsWellFormed-recycled, recycle_law}
-use Rattle.moo_world.proofs.Shown.RowLaws.{slot_shown}
-use Rattle.moo_world.proofs.Shown.Seen.{is_object_seen, object_seen}
-use Rattle.moo_props.specs.Dropping.{released_row}
-use Rattle.moo_world.proofs.Shown.PairLists.{some_of}
-use Rattle.moo_world.proofs.Shown.Slots.{SlotHere, slot_from}
 
 -- x defines the property under a number
 abbrev pub is_own : LookUps → ObjNo → ℕ → Bool

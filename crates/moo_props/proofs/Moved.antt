@@ -1,32 +1,6 @@
 -- What the steps of a change of parent come to.
-use Rattle.std.proofs.Common.{◌≡◌, ◌+◌, Bool, true, false, cond, Option, None, Some, List, [], ◌∷◌, map, length, refl, sym, ap, ◌∙◌, subst, arith, length-append}
-use Rattle.std.specs.Prelude.{◌&&◌, is_some, unwrap_or, drop, if◌then◌else◌}
-use Rattle.std.specs.Option.{option_map}
-use Rattle.std.specs.List.{filter, list_any, cons_option, AllByRecursion}
-use Rattle.std.specs.FinMap.{FinMap, get, insert, entries, find, get-entries, get-insert, entries_sorted}
-use Rattle.std.proofs.lemmas.Bool.{false≢true}
-use Rattle.std.proofs.lemmas.Option.{none-some, same_Some}
-use Rattle.moo_value.specs.declared.value.ObjNo.{ObjNo}
-use Rattle.moo_rows.specs.declared.row.ObjRow.{ObjRow}
-use Rattle.moo_rows.specs.declared.row.PropId.{PropId}
-use Rattle.moo_rows.specs.declared.row.PropRow.{PropRow}
-use Rattle.moo_rows.specs.declared.row.SlotRow.{SlotRow}
-use Rattle.moo_rows.specs.Maps.{Maps, Held, wrote, object_cmp, prop_cmp, slot_cmp}
-use Rattle.moo_rows.specs.Exact.{object_exact, prop_exact}
-use Rattle.moo_rows.proofs.Orders.{object_total, prop_total}
-use Rattle.moo_world.specs.Objects.{same_object, is_among, nothing, same_object-Decides}
-use Rattle.moo_world.specs.World.{World, Record, chain, owner_of, reparented}
-use Rattle.moo_world.specs.Rows.{IsSound, look_ups, world_of}
-use Rattle.moo_world.specs.Laws.{MayReparent}
-use Rattle.moo_world.specs.Manual.{ancestors, lost, gained}
-use Rattle.moo_world.proofs.Shown.Seen.{chain_of_row, chain_of_no_row, object_seen}
-use Rattle.moo_world.proofs.Shown.MapLaws.{object_key}
-use Rattle.moo_props.specs.declared.slots.Origin.{Origin}
-use Rattle.moo_tree.specs.Under.{owners_under}
-use Rattle.moo_props.specs.Reparent.{props_only_of, slots_moved, relinked, relinked_list}
-use Rattle.moo_props.specs.Touched.{props_of, is_defined_among, slot_after, row_after, IsSameButSlotsAndObjects}
-use Rattle.moo_props.specs.Slots.{id_of, origin_of, origins, fresh_of, slot_removed, slot_put, without_on, with_fresh, keys_on, keys_over, fresh_row}
-use Rattle.moo_world.proofs.Shown.Listed.{listed, own_entries, all_made}
+use Rattle.moo_props.proofs.Words.{◌≡◌, ◌+◌, Bool, true, false, cond, Option, None, Some, List, [], ◌∷◌, map, length, refl, sym, ap, ◌∙◌, subst, arith, length-append, ◌&&◌, is_some, unwrap_or, drop, if◌then◌else◌, option_map, filter, list_any, cons_option, AllByRecursion, FinMap, get, insert, entries, get-entries, get-insert, entries_sorted, false≢true, none-some, same_Some, ObjNo, ObjRow, PropId, PropRow, SlotRow, Maps, Held, wrote, object_cmp, prop_cmp, slot_cmp, object_exact, prop_exact, object_total, prop_total, same_object, is_among, nothing, same_object-Decides, World, Record, chain, owner_of, reparented, IsSound, look_ups, world_of, MayReparent, ancestors, lost, gained, chain_of_row, chain_of_no_row, object_seen, object_key, Origin, owners_under, props_only_of, slots_moved, relinked, relinked_list, props_of, is_defined_among, slot_after, row_after, IsSameButSlotsAndObjects, id_of, origin_of, origins, fresh_of, slot_removed, slot_put, without_on, with_fresh, keys_on, keys_over, fresh_row, listed, own_entries, all_made}
+use Rattle.std.specs.FinMap.{find}
 use Rattle.moo_props.proofs.Folding.{has_id, is_id, all_moved}
 use Rattle.moo_props.proofs.Definers.{only_lost, only_gained}
 use Rattle.moo_props.proofs.Gains.{slot_on_new}

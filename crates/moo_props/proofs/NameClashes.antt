@@ -1,26 +1,8 @@
 -- Clashes of names, by what each object defines itself.
-use Rattle.std.proofs.Common.{◌≡◌, Bool, true, false, cond, ◌||◌, Some, List, [], ◌∷◌, Less, refl, sym, ap, ◌∙◌}
-use Rattle.std.specs.Prelude.{is_some}
-use Rattle.std.specs.Cmp.{nat_cmp_is}
-use Rattle.std.specs.Ordering.{is_lt, int_eq}
-use Rattle.std.specs.List.{find, filter, list_any, AllByRecursion}
-use Rattle.std.specs.FinMap.{get, entries}
-use Rattle.moo_value.specs.declared.value.ObjNo.{ObjNo}
-use Rattle.moo_rows.specs.declared.row.PropId.{PropId}
-use Rattle.moo_rows.specs.declared.row.PropRow.{PropRow}
-use Rattle.moo_rows.specs.Links.{defined_left}
-use Rattle.moo_rows.specs.Maps.{Maps, prop_cmp}
-use Rattle.moo_rows.specs.Walk.{is_past}
-use Rattle.moo_world.specs.Changes.{clashes}
-use Rattle.moo_world.specs.ObjectLists.{subtree_of, meets}
-use Rattle.moo_world.specs.Objects.{Name, Pair, same_object, same_text, folded}
-use Rattle.moo_world.specs.PropertyCalls.{defines_name}
-use Rattle.moo_world.specs.World.{World, IsWellFormed, chain, names_of, defined_by, owed_by, pair_named, slot_of}
-use Rattle.moo_world.specs.Rows.{IsSound, world_of, prop_id}
+use Rattle.moo_props.proofs.Words.{◌≡◌, Bool, true, false, cond, ◌||◌, Some, List, [], ◌∷◌, Less, refl, sym, ap, ◌∙◌, is_some, nat_cmp_is, is_lt, int_eq, filter, list_any, AllByRecursion, get, entries, ObjNo, PropId, PropRow, defined_left, Maps, prop_cmp, is_past, clashes, subtree_of, Name, Pair, same_object, same_text, folded, defines_name, World, IsWellFormed, chain, names_of, defined_by, owed_by, pair_named, slot_of, IsSound, world_of, prop_id, any-append, any_map, meets_on}
+use Rattle.std.specs.List.{find}
+use Rattle.moo_world.specs.ObjectLists.{meets}
 use Rattle.moo_world.proofs.Shown.EntriesInOrder.{all_weaker}
-use Rattle.moo_world.proofs.Inheritance.Owed.{any-append}
-use Rattle.moo_world.proofs.Shown.PairLists.{any_map}
-use Rattle.moo_props.specs.Clashes.{meets_on}
 use Rattle.moo_props.proofs.DefinedNames.{names_listed}
 use Rattle.moo_props.proofs.Owing.{entries_held, has_owed}
 

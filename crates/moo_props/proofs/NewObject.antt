@@ -1,30 +1,15 @@
 -- Rows with a new object show the world with that object, and are good ones.
-use Rattle.std.proofs.Common.{◌≡◌, ℕ, Bool, true, false, ◌||◌, Option, None, Some, List, [], ◌∷◌, map, refl, sym, ap, ◌∙◌, subst, ◌⊎◌, inl, inr, pos, arith}
-use Rattle.std.specs.Prelude.{is_some, unwrap_or, slice_get, ◌<ℤ◌, ◌+ℤ◌, int_lt, if◌then◌else◌}
-use Rattle.std.specs.Option.{option_map, option_and_then}
-use Rattle.std.specs.List.{filter_map, cons_option, list_any}
-use Rattle.std.proofs.lemmas.Bool.{false≢true, or_cases}
-use Rattle.std.proofs.lemmas.Int.{ints}
-use Rattle.std.proofs.lemmas.Option.{none-some, same_Some}
-use Rattle.moo_value.specs.declared.value.ObjNo.{ObjNo}
-use Rattle.moo_rows.specs.declared.row.ObjRow.{ObjRow}
-use Rattle.moo_rows.specs.declared.row.PropRow.{PropRow}
-use Rattle.moo_rows.specs.declared.row.SlotRow.{SlotRow}
-use Rattle.moo_world.specs.Creation.{born, with_new_record, created, next_object}
-use Rattle.moo_world.specs.Objects.{Name, Pair, nothing, same_object, same_text, same_pair, folded, same_object-Decides}
+use Rattle.moo_props.proofs.Words.{◌≡◌, ℕ, Bool, true, false, ◌||◌, Option, None, Some, List, [], ◌∷◌, map, refl, sym, ap, ◌∙◌, subst, ◌⊎◌, inl, inr, pos, arith, is_some, unwrap_or, slice_get, ◌+ℤ◌, int_lt, if◌then◌else◌, option_map, option_and_then, filter_map, cons_option, list_any, false≢true, or_cases, ints, none-some, same_Some, ObjNo, ObjRow, PropRow, SlotRow, created, Name, Pair, nothing, same_object, same_text, same_pair, folded, same_object-Decides, World, Record, Slot, IsWellFormed, Chain, is_object, chain, owed_by, owner_of, pair_named, slot_of, fresh, with_slots, without_slots, numbers_to, read_in, read_along, read_of, LookUps, AreSound, numbers_below, name_on, slot_on, slot_seen, record_of, world_shown, named_owed, SameButSlots-rebuilt, same_world, no_slot, objects_same, is_object_seen, Chain-chain, chain_of_none, new_row, fresh_row, slots_shown}
+use Rattle.std.specs.Prelude.{◌<ℤ◌}
+use Rattle.moo_world.specs.Creation.{born, with_new_record, next_object}
 use Rattle.moo_world.specs.Arguments.{is_number}
-use Rattle.moo_world.specs.World.{World, Record, Slot, IsWellFormed, Chain, is_object, chain, owed_by, owner_of, owes, pair_named, slot_of, fresh, slot_for, with_slots, without_slots, SameButSlots, climb, numbers_to, read_in, read_along, read_of}
-use Rattle.moo_world.specs.Rows.{LookUps, AreSound, numbers_below, name_on, slot_on, slot_seen, record_of, world_shown}
+use Rattle.moo_world.specs.World.{owes, slot_for, SameButSlots, climb}
 use Rattle.moo_world.proofs.Inheritance.Creating.{IsWellFormed-created, chain_x, chain_other, owed_still, owed_x}
-use Rattle.moo_world.proofs.Inheritance.Owed.{named_owed}
-use Rattle.moo_world.proofs.Inheritance.Rebuilding.{SameButSlots-rebuilt, slot_of-rebuilt, same_world, no_slot, objects_same, parents_same}
-use Rattle.moo_world.proofs.Shown.Seen.{is_object_seen}
-use Rattle.moo_world.proofs.Ancestry.Trees.{Chain-chain, chain_of_none, linked}
-use Rattle.moo_props.specs.Birth.{new_row}
-use Rattle.moo_props.specs.Slots.{fresh_row}
+use Rattle.moo_world.proofs.Inheritance.Rebuilding.{slot_of-rebuilt, parents_same}
+use Rattle.moo_world.proofs.Ancestry.Trees.{linked}
 use Rattle.moo_props.proofs.NewSlots.{with_new}
 use Rattle.moo_world.proofs.Shown.Numbered.{first_from, no_first}
-use Rattle.moo_world.proofs.Shown.Slots.{here-slot_on, slots_shown}
+use Rattle.moo_world.proofs.Shown.Slots.{here-slot_on}
 
 -- ---- lists
 

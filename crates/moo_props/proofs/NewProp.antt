@@ -1,30 +1,11 @@
 -- Rows with a new property show the world with it, and are sound.
-use Rattle.std.proofs.Common.{◌≡◌, ℕ, zero, suc, ◌+◌, ◌<◌, Bool, true, false, eqb, Option, None, Some, List, [], ◌∷◌, ◌++◌, refl, sym, ap, ◌∙◌, subst, arith, add-one}
-use Rattle.std.specs.Prelude.{◌&&◌, is_some, unwrap_or, slice_get, if◌then◌else◌}
-use Rattle.std.specs.Option.{option_map, option_and_then, option_or}
-use Rattle.std.specs.List.{filter_map, cons_option}
-use Rattle.std.proofs.lemmas.Bool.{false≢true, eqb-true, ne_eqb, eq-eqb}
-use Rattle.std.proofs.lemmas.List.Elements.{filter_map-append}
-use Rattle.std.proofs.lemmas.Option.{none-some, same_Some}
-use Rattle.moo_value.specs.declared.value.ObjNo.{ObjNo}
-use Rattle.moo_value.specs.declared.value.Value.{Value}
+use Rattle.moo_props.proofs.Words.{◌≡◌, ℕ, zero, suc, ◌+◌, ◌<◌, Bool, true, false, eqb, Option, None, Some, List, [], ◌∷◌, ◌++◌, refl, sym, ap, ◌∙◌, subst, arith, ◌&&◌, is_some, unwrap_or, slice_get, if◌then◌else◌, option_map, option_and_then, option_or, filter_map, cons_option, false≢true, eqb-true, eq-eqb, filter_map-append, none-some, same_Some, ObjNo, Value, ObjRow, PropRow, SlotRow, Set, clashes, defined, Name, nothing, same_object, same_text, folded, is_among, same_object-Decides, same_text-Decides, World, Record, Slot, IsWellFormed, is_object, is_property_name, chain, owner_of, slot_of, names_of, fresh, slot_fits, LookUps, AreSound, numbers_below, name_on, slot_on, slot_seen, record_of, world_shown, names_shown, slot_shown, is_object_seen, object_seen, Chain-chain, chain_of_none, fresh_of, some_of, slots_shown}
+use Rattle.std.proofs.Common.{add-one}
+use Rattle.std.proofs.lemmas.Bool.{ne_eqb}
 use Rattle.moo_rows.specs.declared.row.Bits.{Bits}
-use Rattle.moo_rows.specs.declared.row.ObjRow.{ObjRow}
-use Rattle.moo_rows.specs.declared.row.PropRow.{PropRow}
-use Rattle.moo_rows.specs.declared.row.SlotRow.{SlotRow}
-use Rattle.moo_rows.specs.declared.row.SlotState.TheVariants.{Set}
-use Rattle.moo_world.specs.Changes.{clashes, defined}
-use Rattle.moo_world.specs.Objects.{Name, nothing, same_object, same_text, folded, is_among, same_object-Decides, same_text-Decides}
-use Rattle.moo_world.specs.World.{World, Record, Slot, IsWellFormed, is_object, is_property_name, chain, owner_of, slot_of, names_of, fresh, slot_fits}
-use Rattle.moo_world.specs.Rows.{LookUps, AreSound, numbers_below, name_on, slot_on, slot_seen, record_of, world_shown}
-use Rattle.moo_world.proofs.Shown.RowLaws.{with_prop, names_shown, names_with_prop, other_names_with_prop, slot_shown}
-use Rattle.moo_world.proofs.Shown.Seen.{is_object_seen, object_seen}
-use Rattle.moo_world.proofs.Ancestry.Trees.{Chain-chain, chain_of_none}
-use Rattle.moo_props.specs.Slots.{fresh_of}
-use Rattle.moo_world.proofs.Shown.PairLists.{some_of}
+use Rattle.moo_world.proofs.Shown.RowLaws.{with_prop, names_with_prop, other_names_with_prop}
 use Rattle.moo_world.proofs.Inheritance.Insertion.{IsWellFormed-defined, none_owed}
 use Rattle.moo_props.proofs.Owing.{has_owed}
-use Rattle.moo_world.proofs.Shown.Slots.{slots_shown}
 
 -- the look-ups with a property of the next number: on x its slot, on each descendant a fresh one
 abbrev pub with_property : LookUps → ObjNo → Name → SlotRow → LookUps

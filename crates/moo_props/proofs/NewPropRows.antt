@@ -1,25 +1,6 @@
 -- The rows once a property is defined, by their look-ups.
-use Rattle.std.proofs.Common.{◌≡◌, ℕ, ◌+◌, Bool, true, false, cond, eqb, ◌||◌, Option, Some, List, [], ◌∷◌, refl, sym, ap, ◌∙◌}
-use Rattle.std.specs.Prelude.{◌&&◌, if◌then◌else◌}
-use Rattle.std.specs.Cmp.{unsigned_tied}
-use Rattle.std.specs.List.{list_any, AllByRecursion}
-use Rattle.std.specs.FinMap.{get, insert, get-insert}
-use Rattle.std.proofs.lemmas.Bool.{false≢true}
-use Rattle.moo_value.specs.declared.value.ObjNo.{ObjNo}
-use Rattle.moo_rows.specs.declared.row.PropId.{PropId}
-use Rattle.moo_rows.specs.declared.row.SlotRow.{SlotRow}
-use Rattle.moo_rows.specs.Maps.{Maps, Held, wrote}
-use Rattle.moo_rows.proofs.Orders.{prop_total, slot_total}
-use Rattle.moo_world.specs.Objects.{Name, same_object, is_among, same_object-Decides}
-use Rattle.moo_world.specs.World.{IsTree, is_object, chain, owner_of}
-use Rattle.moo_world.specs.Rows.{LookUps, look_ups, world_of, prop_id}
-use Rattle.moo_world.proofs.Shown.Seen.{is_object_seen, chain_of_row}
-use Rattle.moo_props.specs.declared.slots.Origin.{Origin}
-use Rattle.moo_props.specs.Defining.{fresh_over, with_definition}
-use Rattle.moo_tree.specs.Under.{owners_under}
-use Rattle.moo_props.specs.Slots.{fresh_of, slot_put}
+use Rattle.moo_props.proofs.Words.{◌≡◌, ℕ, ◌+◌, Bool, true, false, cond, eqb, ◌||◌, Option, Some, List, [], ◌∷◌, refl, sym, ap, ◌∙◌, ◌&&◌, if◌then◌else◌, unsigned_tied, list_any, AllByRecursion, get, insert, get-insert, false≢true, ObjNo, PropId, SlotRow, Maps, Held, wrote, prop_total, slot_total, Name, same_object, is_among, same_object-Decides, IsTree, is_object, chain, owner_of, LookUps, look_ups, world_of, prop_id, is_object_seen, chain_of_row, Origin, fresh_over, with_definition, owners_under, fresh_of, slot_put, some_of}
 use Rattle.moo_props.proofs.Folding.{is_id, key_parts}
-use Rattle.moo_world.proofs.Shown.PairLists.{some_of}
 use Rattle.moo_props.proofs.Moved.{IsSlotsOnly, onward, under_is, owners_are}
 use Rattle.moo_props.proofs.NewProp.{with_property}
 

@@ -1,25 +1,6 @@
 -- The rows once a new object has its slots.
-use Rattle.std.proofs.Common.{◌≡◌, Bool, true, false, cond, Option, None, Some, List, [], ◌∷◌, map, refl, sym, ap, ◌∙◌}
-use Rattle.std.specs.Prelude.{◌&&◌, is_some, if◌then◌else◌}
-use Rattle.std.specs.Option.{option_map}
-use Rattle.std.specs.Ordering.{int_eq}
-use Rattle.std.specs.List.{cons_option, AllByRecursion}
-use Rattle.std.specs.FinMap.{get, insert, get-insert}
-use Rattle.std.proofs.lemmas.Bool.{false≢true}
-use Rattle.std.proofs.lemmas.Bool.Decides.{Decides-int_eq}
-use Rattle.moo_value.specs.declared.value.ObjNo.{ObjNo}
-use Rattle.moo_rows.specs.declared.row.PropId.{PropId}
-use Rattle.moo_rows.specs.declared.row.SlotRow.{SlotRow}
-use Rattle.moo_rows.specs.Maps.{Maps, Held}
-use Rattle.moo_rows.proofs.Orders.{object_total}
-use Rattle.moo_world.specs.Objects.{same_object, same_object-Decides}
-use Rattle.moo_world.specs.Rows.{LookUps, IsSound, look_ups, prop_id}
-use Rattle.moo_world.proofs.Shown.MapLaws.{object_key}
-use Rattle.moo_props.specs.declared.slots.Origin.{Origin}
-use Rattle.moo_props.specs.Birth.{new_row, with_new_row}
-use Rattle.moo_props.specs.Slots.{origins_among, origin_of, origins, fresh_of, slot_put, with_fresh, fresh_row}
+use Rattle.moo_props.proofs.Words.{◌≡◌, Bool, true, false, cond, Option, None, Some, List, [], ◌∷◌, map, refl, sym, ap, ◌∙◌, ◌&&◌, is_some, if◌then◌else◌, option_map, int_eq, cons_option, AllByRecursion, get, insert, get-insert, false≢true, Decides-int_eq, ObjNo, PropId, SlotRow, Maps, Held, object_total, same_object, same_object-Decides, LookUps, IsSound, look_ups, prop_id, object_key, Origin, new_row, with_new_row, origins_among, origin_of, origins, fresh_of, slot_put, with_fresh, fresh_row, any_map}
 use Rattle.moo_props.proofs.Folding.{is_id, has_id, is_id-Decides, slot_at-fresh, fresh_in, fresh_in-origins}
-use Rattle.moo_world.proofs.Shown.PairLists.{any_map}
 use Rattle.moo_props.proofs.Moved.{only-fresh}
 use Rattle.moo_props.proofs.Walked.{Entry, walk, walk_held, walk_meets}
 

@@ -1,33 +1,8 @@
 -- What is owed along a list of definers, by the rows of properties.
-use Rattle.std.proofs.Common.{◌≡◌, ℕ, Bool, true, false, ◌||◌, Option, None, Some, List, [], ◌∷◌, refl, sym, ap, ◌∙◌, ◌⊎◌, inl, inr}
-use Rattle.std.specs.Prelude.{◌&&◌, is_some, unwrap_or, if◌then◌else◌}
-use Rattle.std.specs.Option.{option_map, option_and_then}
-use Rattle.std.specs.List.{filter_map, list_any, cons_option, AllByRecursion}
-use Rattle.std.specs.FinMap.{get, entries, get-entries, entries_sorted}
+use Rattle.moo_props.proofs.Words.{◌≡◌, ℕ, Bool, true, false, ◌||◌, Option, None, Some, List, [], ◌∷◌, refl, sym, ap, ◌∙◌, ◌⊎◌, inl, inr, ◌&&◌, is_some, unwrap_or, if◌then◌else◌, option_map, option_and_then, filter_map, list_any, cons_option, AllByRecursion, get, entries, get-entries, entries_sorted, false≢true, and_parts, or_cases, or_right, none-some, same_Some, ObjNo, ObjRow, PropId, PropRow, Maps, prop_cmp, prop_exact, prop_total, Name, Pair, same_object, same_pair, is_among, same_object-Decides, World, Record, Slot, IsWellFormed, is_object, chain, names_of, defined_by, owed_by, pair_named, slot_of, LookUps, IsSound, look_ups, world_of, numbers_below, name_on, prop_id, decided_alike, any-append, no_slot, names_shown, is_object_seen, owed_listed, Chain-chain, chain_of_none, any_map, own_entries}
 use Rattle.std.specs.FinMap as map
-use Rattle.std.proofs.lemmas.Bool.{false≢true, and_parts, or_cases, or_right}
-use Rattle.std.proofs.lemmas.Option.{none-some, same_Some}
-use Rattle.moo_value.specs.declared.value.ObjNo.{ObjNo}
-use Rattle.moo_rows.specs.declared.row.ObjRow.{ObjRow}
-use Rattle.moo_rows.specs.declared.row.PropId.{PropId}
-use Rattle.moo_rows.specs.declared.row.PropRow.{PropRow}
-use Rattle.moo_rows.specs.Maps.{Maps, prop_cmp}
-use Rattle.moo_rows.specs.Exact.{prop_exact}
-use Rattle.moo_rows.proofs.Orders.{prop_total}
-use Rattle.moo_world.specs.Objects.{Name, Pair, same_object, same_pair, is_among, same_object-Decides}
-use Rattle.moo_world.specs.World.{World, Record, Slot, IsWellFormed, is_object, chain, names_of, defined_by, owed_by, pair_named, slot_of}
-use Rattle.moo_world.specs.Rows.{LookUps, IsSound, look_ups, world_of, numbers_below, name_on, prop_id}
 use Rattle.moo_world.proofs.Inheritance.Keeping.{same_pair-is}
-use Rattle.moo_world.proofs.Shown.MapLaws.{decided_alike}
-use Rattle.moo_world.proofs.Inheritance.Owed.{any-append}
-use Rattle.moo_world.proofs.Inheritance.Rebuilding.{no_slot}
-use Rattle.moo_world.proofs.Shown.RowLaws.{names_shown}
-use Rattle.moo_world.proofs.Shown.Seen.{is_object_seen}
-use Rattle.moo_world.proofs.Ancestry.Subtrees.{owed_listed}
-use Rattle.moo_world.proofs.Ancestry.Trees.{Chain-chain, chain_of_none}
-use Rattle.moo_world.proofs.Shown.PairLists.{any_map}
 use Rattle.moo_props.proofs.Gains.{defines_pair}
-use Rattle.moo_world.proofs.Shown.Listed.{own_entries}
 use Rattle.moo_props.proofs.Walked.{any_held}
 
 -- ---- lists

@@ -1,30 +1,9 @@
 -- Removed keys had rows and have none, added ones had none and have rows.
-use Rattle.std.proofs.Common.{◌≡◌, Bool, true, false, not, Option, None, Some, List, [], ◌∷◌, ◌++◌, refl, sym, ap, ◌∙◌}
-use Rattle.std.specs.Prelude.{is_some, if◌then◌else◌}
-use Rattle.std.specs.Option.{option_map}
-use Rattle.std.specs.List.{AllByRecursion}
-use Rattle.std.specs.FinMap.{FinMap, get, entries, find, get-entries, entries_sorted}
-use Rattle.std.proofs.lemmas.Bool.{false≢true, and_parts, false_from_ne_true, both_ways}
-use Rattle.moo_value.specs.declared.value.ObjNo.{ObjNo}
-use Rattle.moo_rows.specs.declared.row.PropId.{PropId}
-use Rattle.moo_rows.specs.declared.row.PropRow.{PropRow}
-use Rattle.moo_rows.specs.declared.row.SlotRow.{SlotRow}
-use Rattle.moo_rows.specs.Maps.{Maps, object_cmp, prop_cmp, slot_cmp}
-use Rattle.moo_rows.specs.Exact.{object_exact, prop_exact}
-use Rattle.moo_rows.proofs.Orders.{object_total, prop_total}
-use Rattle.moo_world.specs.Objects.{folded, is_among}
-use Rattle.moo_world.specs.World.{World, Slot, is_object, chain, owner_of}
-use Rattle.moo_world.specs.Rows.{IsSound, world_of}
-use Rattle.moo_world.specs.Laws.{MayReparent}
-use Rattle.moo_world.specs.Manual.{ancestors, lost, gained}
+use Rattle.moo_props.proofs.Words.{◌≡◌, Bool, true, false, not, Option, None, Some, List, [], ◌∷◌, ◌++◌, refl, sym, ap, ◌∙◌, is_some, if◌then◌else◌, option_map, AllByRecursion, FinMap, get, entries, get-entries, entries_sorted, false≢true, and_parts, both_ways, ObjNo, PropId, PropRow, SlotRow, Maps, object_cmp, prop_cmp, slot_cmp, object_exact, prop_exact, object_total, prop_total, folded, is_among, World, Slot, is_object, chain, owner_of, IsSound, world_of, MayReparent, ancestors, lost, gained, chain_of_none, owners_under, props_of, is_defined_among, slot_after, removed_keys, added_keys, ArePresent, AreAbsent, keys_on, keys_over, fresh_row, own_entries, all_made}
+use Rattle.std.specs.FinMap.{find}
+use Rattle.std.proofs.lemmas.Bool.{false_from_ne_true}
 use Rattle.moo_world.proofs.Inheritance.ManualLaw.{chain_y}
 use Rattle.moo_world.proofs.Inheritance.Owed.{is_among-right}
-use Rattle.moo_world.proofs.Ancestry.Trees.{chain_of_none}
-use Rattle.moo_tree.specs.Under.{owners_under}
-use Rattle.moo_props.specs.Touched.{props_of, is_defined_among, slot_after, removed_keys, added_keys}
-use Rattle.moo_props.specs.Present.{ArePresent, AreAbsent}
-use Rattle.moo_props.specs.Slots.{keys_on, keys_over, fresh_row}
-use Rattle.moo_world.proofs.Shown.Listed.{own_entries, all_made}
 use Rattle.moo_props.proofs.Definers.{new_is, no_clash, only_lost, only_gained}
 use Rattle.moo_props.proofs.Gains.{object_row, slot_on_heir, slot_on_new}
 use Rattle.moo_props.proofs.After.{slot_is, tests, gained_named, no_both}

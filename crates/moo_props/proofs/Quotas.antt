@@ -1,23 +1,7 @@
 -- What an object reads as its quota.
-use Rattle.std.proofs.Common.{◌≡◌, true, false, [], FitsSigned, w64, pos, negsuc, arith, Option, Some, None, refl, sym, ap, ◌∙◌, ℤ}
-use Rattle.std.specs.Prelude.{is_some, unwrap_or, ◌+ℤ◌, int_lt}
-use Rattle.std.specs.Option.{option_map}
-use Rattle.std.specs.FinMap.{get}
-use Rattle.std.proofs.lemmas.Bool.{false≢true}
-use Rattle.std.proofs.lemmas.Int.{ints}
-use Rattle.moo_value.specs.declared.value.ObjNo.{ObjNo}
-use Rattle.moo_value.specs.declared.value.Value.{Value}
-use Rattle.moo_value.specs.declared.value.Value.TheVariants.{Int}
-use Rattle.moo_rows.specs.declared.row.PropId.{PropId}
-use Rattle.moo_rows.specs.declared.row.PropRow.{PropRow}
-use Rattle.moo_rows.specs.declared.row.SlotState.TheVariants.{Set}
-use Rattle.moo_rows.specs.Maps.{Maps}
-use Rattle.moo_world.specs.Changes.{with_slot_of}
-use Rattle.moo_world.specs.Objects.{Name, folded}
-use Rattle.moo_world.specs.Quota.{quota_name, quota_in, quota_of, quota_moved, set_slot}
-use Rattle.moo_world.specs.World.{World, Record, IsTree, with_record, read_in, read_along, read_of, slot_of}
-use Rattle.moo_world.proofs.Ancestry.Trees.{chain-step, chain_of_none}
-use Rattle.moo_props.specs.Names.{name_of, spelling_of}
+use Rattle.moo_props.proofs.Words.{◌≡◌, true, false, [], FitsSigned, w64, pos, negsuc, arith, Option, Some, None, refl, sym, ap, ◌∙◌, is_some, unwrap_or, ◌+ℤ◌, int_lt, option_map, get, false≢true, ints, ObjNo, Value, Int, PropId, PropRow, Set, Maps, with_slot_of, Name, folded, quota_in, quota_of, World, Record, IsTree, with_record, read_in, read_along, read_of, slot_of, chain-step, chain_of_none, name_of, spelling_of}
+use Rattle.std.proofs.Common.{ℤ}
+use Rattle.moo_world.specs.Quota.{quota_name, quota_moved, set_slot}
 use Rattle.moo_props.specs.Quotas.{HasRoom}
 
 -- without a slot nothing is read

@@ -1,32 +1,10 @@
 -- Rows whose property has another name show the world with that name, and are sound.
-use Rattle.std.proofs.Common.{◌≡◌, ℕ, Bool, true, false, cond, eqb, Option, None, Some, List, [], ◌∷◌, map, refl, sym, ap, ◌∙◌}
-use Rattle.std.specs.Prelude.{is_some, unwrap_or, slice_get, if◌then◌else◌}
-use Rattle.std.specs.Cmp.{unsigned_tied}
-use Rattle.std.specs.Option.{option_map, option_and_then}
-use Rattle.std.specs.List.{filter_map, cons_option, list_any}
-use Rattle.std.specs.FinMap.{get, insert, get-insert}
-use Rattle.std.proofs.lemmas.Bool.{false≢true, both_ways, eqb-true, eq-eqb}
-use Rattle.std.proofs.lemmas.Option.{none-some, same_Some}
-use Rattle.moo_value.specs.declared.value.ObjNo.{ObjNo}
-use Rattle.moo_rows.specs.declared.row.ObjRow.{ObjRow}
-use Rattle.moo_rows.specs.declared.row.PropRow.{PropRow}
-use Rattle.moo_rows.specs.declared.row.SlotRow.{SlotRow}
-use Rattle.moo_rows.specs.Maps.{Maps}
-use Rattle.moo_rows.proofs.Orders.{prop_total}
-use Rattle.moo_world.specs.Changes.{clashes, renamed}
-use Rattle.moo_world.specs.Objects.{Name, same_object, same_text, same_pair, folded, is_among, same_object-Decides, same_text-Decides}
-use Rattle.moo_world.specs.World.{World, Record, Slot, IsWellFormed, is_object, is_property_name, chain, defined_by, slot_of}
-use Rattle.moo_world.specs.Rows.{LookUps, AreSound, IsGood, look_ups, world_of, world_shown, numbers_below, name_on, slot_on, slot_seen, record_of, prop_id}
-use Rattle.moo_world.proofs.Shown.RowLaws.{slot_shown}
-use Rattle.moo_world.proofs.Shown.Seen.{is_object_seen}
-use Rattle.moo_world.proofs.Ancestry.Trees.{Chain-chain}
-use Rattle.moo_world.proofs.Shown.PairLists.{some_of}
+use Rattle.moo_props.proofs.Words.{◌≡◌, ℕ, Bool, true, false, cond, eqb, Option, None, Some, List, [], ◌∷◌, map, refl, sym, ap, ◌∙◌, is_some, unwrap_or, slice_get, if◌then◌else◌, unsigned_tied, option_map, option_and_then, filter_map, cons_option, list_any, get, insert, get-insert, false≢true, both_ways, eqb-true, eq-eqb, none-some, same_Some, ObjNo, ObjRow, PropRow, SlotRow, Maps, prop_total, clashes, renamed, Name, same_object, same_text, same_pair, folded, is_among, same_object-Decides, same_text-Decides, World, Record, Slot, IsWellFormed, is_object, is_property_name, chain, defined_by, slot_of, LookUps, AreSound, IsGood, look_ups, world_of, world_shown, numbers_below, name_on, slot_on, slot_seen, record_of, prop_id, slot_shown, is_object_seen, Chain-chain, some_of, SlotHere, slots_shown, slot_from}
 use Rattle.moo_props.proofs.Gains.{one_prop, defines_pair, slot_on_heir}
 use Rattle.moo_props.proofs.LessRows.{own_under}
 use Rattle.moo_props.proofs.NewProp.{same_below}
 use Rattle.moo_props.proofs.Owing.{has_owed}
 use Rattle.moo_world.proofs.Inheritance.Replacement.{renames, none_of_name, IsWellFormed-renamed}
-use Rattle.moo_world.proofs.Shown.Slots.{SlotHere, slots_shown, slot_from}
 
 -- the look-ups with a property of x under another name
 abbrev pub with_new_name : LookUps → ObjNo → ℕ → Name → LookUps

@@ -1,13 +1,6 @@
 -- Ascending lists of the same keys are the same.
-use Rattle.std.proofs.Common.{◌≡◌, Bool, true, ◌||◌, List, [], ◌∷◌, Ordering, Less, refl, sym, ap, ◌∙◌, subst, ◌⊎◌, inl, inr}
-use Rattle.std.specs.Bool.{Decides}
-use Rattle.std.specs.Cmp.{IsTotalOrder, tied_itself}
-use Rattle.std.specs.Ordering.{eq_by_cmp, is_lt, ordering_reverse}
-use Rattle.std.specs.List.{list_any, AllByRecursion}
-use Rattle.std.proofs.lemmas.Bool.{false≢true, or_cases, or_right}
-use Rattle.std.proofs.lemmas.Map.Lookups.{CmpEqualImpliesEq}
-use Rattle.moo_world.proofs.Shown.MapLaws.{key-Decides}
-use Rattle.moo_props.specs.Present.{AreAscending}
+use Rattle.moo_props.proofs.Words.{◌≡◌, Bool, true, ◌||◌, List, [], ◌∷◌, Ordering, Less, refl, sym, ap, ◌∙◌, subst, ◌⊎◌, inl, inr, Decides, IsTotalOrder, tied_itself, eq_by_cmp, is_lt, list_any, AllByRecursion, false≢true, or_cases, or_right, CmpEqualImpliesEq, key-Decides, AreAscending}
+use Rattle.std.specs.Ordering.{ordering_reverse}
 
 module _ {K : Type 0} (cmp : K → K → Ordering) (total : IsTotalOrder cmp) (exact : CmpEqualImpliesEq cmp) where
   abbrev pub holds : List K → K → Bool

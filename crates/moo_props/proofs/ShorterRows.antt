@@ -1,38 +1,11 @@
 -- Rows without a property show the world without it, and are sound.
-use Rattle.std.proofs.Common.{◌≡◌, ℕ, Bool, true, false, cond, eqb, ◌||◌, Option, None, Some, List, [], ◌∷◌, refl, sym, ap, ◌∙◌, subst}
-use Rattle.std.specs.Prelude.{◌&&◌, not, is_some, unwrap_or, if◌then◌else◌}
-use Rattle.std.specs.Cmp.{unsigned_tied}
-use Rattle.std.specs.Option.{option_map, option_and_then}
-use Rattle.std.specs.List.{filter, filter_map, cons_option, list_any}
-use Rattle.std.specs.FinMap.{get, remove, get-remove}
-use Rattle.std.proofs.lemmas.Bool.{false≢true, both_ways, and_parts, eqb-true, eq-eqb}
-use Rattle.std.proofs.lemmas.Option.{none-some, same_Some}
-use Rattle.moo_value.specs.declared.value.ObjNo.{ObjNo}
-use Rattle.moo_rows.specs.declared.row.ObjRow.{ObjRow}
-use Rattle.moo_rows.specs.declared.row.PropId.{PropId}
-use Rattle.moo_rows.specs.declared.row.PropRow.{PropRow}
-use Rattle.moo_rows.specs.declared.row.SlotRow.{SlotRow}
-use Rattle.moo_rows.specs.Maps.{Maps, Held, wrote}
-use Rattle.moo_rows.proofs.Orders.{prop_total, slot_total}
-use Rattle.moo_world.specs.Changes.{undefined}
-use Rattle.moo_world.specs.Objects.{Name, nothing, same_object, same_text, folded, is_among, same_object-Decides, same_text-Decides}
-use Rattle.moo_world.specs.World.{World, Record, Slot, IsWellFormed, is_object, chain, slot_of, with_slots, without_slots}
-use Rattle.moo_world.specs.Rows.{LookUps, AreSound, IsGood, look_ups, world_of, world_shown, numbers_below, name_on, slot_seen, record_of, prop_id}
-use Rattle.moo_world.proofs.Inheritance.Rebuilding.{SameButSlots-rebuilt, same_world, no_slot, objects_same}
-use Rattle.moo_world.proofs.Shown.RowLaws.{slot_shown}
-use Rattle.moo_world.proofs.Shown.Seen.{is_object_seen}
-use Rattle.moo_props.specs.Names.{defines, spelling_of}
-use Rattle.moo_tree.specs.Under.{owners_under}
-use Rattle.moo_props.specs.Undefining.{less_over}
-use Rattle.moo_props.specs.Slots.{slot_removed}
+use Rattle.moo_props.proofs.Words.{◌≡◌, ℕ, Bool, true, false, cond, eqb, ◌||◌, Option, None, Some, List, [], ◌∷◌, refl, sym, ap, ◌∙◌, subst, ◌&&◌, not, is_some, unwrap_or, if◌then◌else◌, unsigned_tied, option_map, option_and_then, filter, filter_map, cons_option, list_any, get, remove, get-remove, false≢true, both_ways, and_parts, eqb-true, eq-eqb, none-some, same_Some, ObjNo, ObjRow, PropId, PropRow, SlotRow, Maps, Held, wrote, prop_total, slot_total, undefined, Name, nothing, same_object, same_text, folded, is_among, same_object-Decides, same_text-Decides, World, Record, Slot, IsWellFormed, is_object, chain, slot_of, with_slots, without_slots, LookUps, AreSound, IsGood, look_ups, world_of, world_shown, numbers_below, name_on, slot_seen, record_of, prop_id, SameButSlots-rebuilt, same_world, no_slot, objects_same, slot_shown, is_object_seen, defines, spelling_of, owners_under, less_over, slot_removed, some_of, SlotHere, slot_from}
 use Rattle.moo_props.proofs.Folding.{is_id, key_parts}
-use Rattle.moo_world.proofs.Shown.PairLists.{some_of}
 use Rattle.moo_props.proofs.Gains.{one_prop}
 use Rattle.moo_props.proofs.Lessened.{is_own}
 use Rattle.moo_props.proofs.LessRows.{own_under}
 use Rattle.moo_props.proofs.Moved.{IsSlotsOnly, onward, under_is}
 use Rattle.moo_world.proofs.Inheritance.Shorter.{s, kept_slot, objects, undefined_law, IsWellFormed-undefined}
-use Rattle.moo_world.proofs.Shown.Slots.{SlotHere, slot_from}
 
 -- the look-ups without a property and its slots
 abbrev pub less_property : LookUps → ℕ → LookUps

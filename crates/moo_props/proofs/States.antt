@@ -1,27 +1,9 @@
 -- What another row of one slot does to the World.
-use Rattle.std.proofs.Common.{◌≡◌, ℕ, Bool, true, false, eqb, Option, None, Some, [], refl, sym, ap, subst, ◌∙◌}
-use Rattle.std.specs.Prelude.{◌&&◌, is_some, unwrap_or, if◌then◌else◌}
-use Rattle.std.specs.Option.{option_map, option_and_then}
-use Rattle.std.specs.FinMap.{get, insert}
-use Rattle.std.proofs.lemmas.Bool.{and_parts, both_ways, eqb-true}
-use Rattle.std.proofs.lemmas.Option.{same_Some}
-use Rattle.moo_value.specs.declared.value.ObjNo.{ObjNo}
-use Rattle.moo_rows.specs.declared.row.ObjRow.{ObjRow}
-use Rattle.moo_rows.specs.declared.row.PropId.{PropId}
-use Rattle.moo_rows.specs.declared.row.PropRow.{PropRow}
-use Rattle.moo_rows.specs.declared.row.SlotRow.{SlotRow}
-use Rattle.moo_rows.specs.declared.row.SlotState.TheVariants.{Clear}
-use Rattle.moo_rows.specs.Maps.{Maps}
-use Rattle.moo_world.specs.Changes.{with_slot_of}
-use Rattle.moo_world.specs.Objects.{Name, same_object, same_text, folded, same_object-Decides, same_text-Decides}
-use Rattle.moo_world.specs.World.{World, Record, IsWellFormed, Slot, slot_of, with_record, slot_fits}
+use Rattle.moo_props.proofs.Words.{◌≡◌, ℕ, Bool, true, false, eqb, Option, None, Some, [], refl, sym, ap, subst, ◌∙◌, ◌&&◌, is_some, unwrap_or, if◌then◌else◌, option_map, option_and_then, get, insert, and_parts, both_ways, eqb-true, same_Some, ObjNo, ObjRow, PropId, PropRow, SlotRow, Clear, Maps, with_slot_of, Name, same_object, same_text, folded, same_object-Decides, same_text-Decides, World, Record, IsWellFormed, Slot, slot_of, with_record, slot_fits, LookUps, IsSound, IsGood, look_ups, world_of, world_shown, slot_seen, prop_id, slot_shown, name_of, spelling_of, defines, some_of}
 use Rattle.moo_world.specs.Petitions.{PetitionsStand}
-use Rattle.moo_world.specs.Rows.{LookUps, IsSound, IsGood, look_ups, world_of, world_shown, slot_seen, prop_id}
-use Rattle.moo_world.proofs.Shown.RowLaws.{slot_shown, world_shown-with_slot_row}
+use Rattle.moo_world.proofs.Shown.RowLaws.{world_shown-with_slot_row}
 use Rattle.moo_world.proofs.Shown.MapLaws.{look_ups-put_slot}
-use Rattle.moo_props.specs.Names.{name_of, spelling_of, defines}
 use Rattle.moo_world.proofs.Form.Slots.{IsWellFormed-with_slot_of}
-use Rattle.moo_world.proofs.Shown.PairLists.{some_of}
 use Rattle.moo_props.proofs.Walked.{slot_here}
 
 module _ (t : Maps) (sound : IsSound t) (x : ObjNo) (id : PropId) (k : SlotRow) (held : get t.slots (x, id) ≡ Some k) (next : SlotRow) (change : Slot → Slot) (agrees : (d : ObjNo) → change (slot_seen d k) ≡ slot_seen d next) where

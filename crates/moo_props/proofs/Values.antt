@@ -1,28 +1,6 @@
 -- What an object reads, by the rows.
-use Rattle.std.proofs.Common.{◌≡◌, Bool, true, false, Option, None, Some, [], refl, sym, ap, ◌∙◌, ◌⊎◌, inl, inr}
-use Rattle.std.specs.Prelude.{is_some, unwrap_or}
-use Rattle.std.specs.Option.{option_map}
-use Rattle.std.specs.FinMap.{get}
-use Rattle.std.proofs.lemmas.Bool.{false≢true, or_cases}
-use Rattle.std.proofs.lemmas.Option.{none-some, same_Some}
-use Rattle.moo_value.specs.declared.value.ObjNo.{ObjNo}
-use Rattle.moo_value.specs.declared.value.Value.{Value}
-use Rattle.moo_rows.specs.declared.row.ObjRow.{ObjRow}
-use Rattle.moo_rows.specs.declared.row.PropId.{PropId}
-use Rattle.moo_rows.specs.declared.row.PropRow.{PropRow}
-use Rattle.moo_rows.specs.declared.row.SlotRow.{SlotRow}
-use Rattle.moo_rows.specs.declared.row.SlotState.TheVariants.{Clear, Set}
-use Rattle.moo_rows.specs.Maps.{Maps}
-use Rattle.moo_world.specs.Objects.{Pair, same_object, folded, is_among, same_object-Decides}
-use Rattle.moo_world.specs.World.{World, Slot, IsWellFormed, is_object, chain, owed_by, pair_named, slot_of, read_of}
-use Rattle.moo_world.specs.Rows.{LookUps, IsSound, look_ups, world_of, slot_seen}
-use Rattle.moo_world.proofs.Inheritance.Owed.{definer_among, named_owed}
+use Rattle.moo_props.proofs.Words.{◌≡◌, Bool, true, false, Option, None, Some, [], refl, sym, ap, ◌∙◌, ◌⊎◌, inl, inr, is_some, unwrap_or, option_map, get, false≢true, or_cases, none-some, same_Some, ObjNo, Value, ObjRow, PropId, PropRow, SlotRow, Clear, Set, Maps, Pair, same_object, folded, is_among, same_object-Decides, World, Slot, IsWellFormed, is_object, chain, owed_by, pair_named, slot_of, read_of, LookUps, IsSound, look_ups, world_of, slot_seen, definer_among, named_owed, slot_shown, is_object_seen, chain_of_row, object_seen, Chain-chain, chain_of_none, name_of, some_of}
 use Rattle.moo_world.proofs.Shown.Reading.{read_step}
-use Rattle.moo_world.proofs.Shown.RowLaws.{slot_shown}
-use Rattle.moo_world.proofs.Shown.Seen.{is_object_seen, chain_of_row, object_seen}
-use Rattle.moo_world.proofs.Ancestry.Trees.{Chain-chain, chain_of_none}
-use Rattle.moo_props.specs.Names.{name_of}
-use Rattle.moo_world.proofs.Shown.PairLists.{some_of}
 use Rattle.moo_props.proofs.Gains.{slot_on_heir}
 
 module _ (t : Maps) (sound : IsSound t) (wf : IsWellFormed (world_of t)) (x : ObjNo) (id : PropId) (k : SlotRow) (held : get t.slots (x, id) ≡ Some k) where

@@ -1,14 +1,5 @@
 -- The walk over an object's slots gives its properties in order.
-use Rattle.std.proofs.Common.{◌≡◌, Bool, true, false, cond, Some, List, [], ◌∷◌, map, Ordering, Less, sym, ap, ◌∙◌, refl, subst}
-use Rattle.std.specs.Cmp.{tied_itself}
-use Rattle.std.specs.Ordering.{int_eq, ordering_then}
-use Rattle.std.specs.List.{filter, AllByRecursion}
-use Rattle.std.specs.FinMap.{get, entries, entries_sorted}
-use Rattle.std.proofs.lemmas.Bool.Decides.{Decides-int_eq}
-use Rattle.moo_value.specs.declared.value.ObjNo.{ObjNo}
-use Rattle.moo_rows.specs.Maps.{Maps, object_cmp, prop_cmp, slot_cmp}
-use Rattle.moo_rows.proofs.Orders.{object_total}
-use Rattle.moo_props.specs.Dropping.{ids_among}
+use Rattle.moo_props.proofs.Words.{◌≡◌, Bool, true, false, cond, Some, List, [], ◌∷◌, map, Ordering, Less, sym, ap, ◌∙◌, refl, subst, tied_itself, int_eq, ordering_then, filter, AllByRecursion, get, entries, entries_sorted, Decides-int_eq, ObjNo, Maps, object_cmp, prop_cmp, slot_cmp, object_total, ids_among}
 use Rattle.moo_props.proofs.Ascending.{Rises, rises_made}
 use Rattle.moo_props.proofs.Walked.{Entry, all_filter, walk, walk_held}
 

@@ -1,35 +1,9 @@
 -- The walk over an object's slots finds the property of a name.
-use Rattle.std.proofs.Common.{◌≡◌, ℕ, Bool, true, false, cond, Option, None, Some, List, [], ◌∷◌, Ordering, Less, refl, sym, ap, ◌∙◌, subst}
-use Rattle.std.specs.Prelude.{◌&&◌, ◌||◌, is_some, unwrap_or}
-use Rattle.std.specs.Option.{option_map, option_and_then}
-use Rattle.std.specs.Cmp.{IsTotalOrder, tied_itself, nat_cmp_is}
-use Rattle.std.specs.Ordering.{eq_by_cmp, is_lt, int_eq, ordering_then}
-use Rattle.std.specs.List.{find, filter, list_any, AllByRecursion}
-use Rattle.std.specs.FinMap.{get, entries, get-entries, entries_sorted}
+use Rattle.moo_props.proofs.Words.{◌≡◌, ℕ, Bool, true, false, cond, Option, None, Some, List, [], ◌∷◌, Ordering, Less, refl, sym, ap, ◌∙◌, subst, ◌&&◌, ◌||◌, is_some, unwrap_or, option_map, option_and_then, IsTotalOrder, tied_itself, nat_cmp_is, eq_by_cmp, is_lt, int_eq, ordering_then, filter, list_any, AllByRecursion, get, entries, get-entries, entries_sorted, false≢true, both_ways, or_right, Decides-int_eq, CmpEqualImpliesEq, none-some, same_Some, ObjNo, PropId, PropRow, SlotRow, Maps, prop_cmp, slot_cmp, slots_of_left, is_past, slot_exact, object_total, slot_total, Name, same_text, folded, same_text-Decides, Record, Slot, slot_of, IsSound, look_ups, world_of, slot_seen, key-Decides, slot_shown, is_object_seen, name_of, some_of, own_entries, SlotHere, slot_from}
+use Rattle.std.specs.List.{find}
 use Rattle.std.specs.FinMap as map
-use Rattle.std.proofs.lemmas.Bool.{false≢true, both_ways, or_right}
-use Rattle.std.proofs.lemmas.Bool.Decides.{Decides-int_eq}
-use Rattle.std.proofs.lemmas.Map.Lookups.{CmpEqualImpliesEq}
-use Rattle.std.proofs.lemmas.Option.{none-some, same_Some}
-use Rattle.moo_value.specs.declared.value.ObjNo.{ObjNo}
-use Rattle.moo_rows.specs.declared.row.PropId.{PropId}
-use Rattle.moo_rows.specs.declared.row.PropRow.{PropRow}
-use Rattle.moo_rows.specs.declared.row.SlotRow.{SlotRow}
-use Rattle.moo_rows.specs.Maps.{Maps, prop_cmp, slot_cmp}
-use Rattle.moo_rows.specs.Walk.{slots_of_left, is_past}
-use Rattle.moo_rows.specs.Exact.{slot_exact}
-use Rattle.moo_rows.proofs.Orders.{object_total, slot_total}
-use Rattle.moo_world.specs.Objects.{Name, same_text, folded, same_text-Decides}
-use Rattle.moo_world.specs.World.{Record, Slot, slot_of}
-use Rattle.moo_world.specs.Rows.{IsSound, look_ups, world_of, slot_seen}
-use Rattle.moo_world.proofs.Shown.MapLaws.{key-Decides}
 use Rattle.moo_world.proofs.Inheritance.Owed.{find_passes}
-use Rattle.moo_world.proofs.Shown.RowLaws.{slot_shown}
-use Rattle.moo_world.proofs.Shown.Seen.{is_object_seen}
-use Rattle.moo_props.specs.Names.{name_of, is_called}
-use Rattle.moo_world.proofs.Shown.PairLists.{some_of}
-use Rattle.moo_world.proofs.Shown.Listed.{own_entries}
-use Rattle.moo_world.proofs.Shown.Slots.{SlotHere, slot_from}
+use Rattle.moo_props.specs.Names.{is_called}
 
 abbrev pub Entry : Type 0
 Entry = (ObjNo × PropId) × SlotRow

@@ -1,35 +1,15 @@
 -- In a good world the walks that begin below the least number go over all rows.
-use Rattle.std.proofs.Common.{◌≡◌, ◌≢◌, ◌<◌, T, ◌||◌, Option, None, Some, List, [], ◌∷◌, map, Less, Ordering, negsuc, refl, sym, ap, ◌∙◌, arith}
-use Rattle.std.specs.Prelude.{is_some}
-use Rattle.std.specs.Cmp.{IsTotalOrder, tied_itself, nat_cmp_is, int_cmp_is}
-use Rattle.std.specs.Ordering.{int_eq, is_eq}
-use Rattle.std.specs.List.{filter}
-use Rattle.std.specs.FinMap.{FinMap, get, find, is_sorted, entries, entries_sorted, get-entries}
+use Rattle.moo_props.proofs.Words.{◌≡◌, ◌≢◌, ◌<◌, T, ◌||◌, Option, None, Some, List, [], ◌∷◌, map, Less, Ordering, negsuc, refl, sym, ap, ◌∙◌, arith, is_some, IsTotalOrder, tied_itself, nat_cmp_is, int_eq, filter, FinMap, get, is_sorted, entries, entries_sorted, get-entries, true≢false, ints, ObjNo, ObjRow, PropId, PropRow, VerbId, VerbRow, ChildOf, Within, object_exact, IsFirst, defined_left, Maps, object_cmp, prop_cmp, is_past, entries_past, verbs_of_left, object_total, prop_total, first_of, nothing, same_object, same_object-eq, IsGood, look_ups, prop_id, verb_id, is_object_seen, links_to, linked_among, verbs_among, props_of}
+use Rattle.std.specs.Cmp.{int_cmp_is}
+use Rattle.std.specs.Ordering.{is_eq}
+use Rattle.std.specs.FinMap.{find}
 use Rattle.std.proofs.Math.Bool.{or-false}
-use Rattle.std.proofs.lemmas.Bool.{true≢false}
-use Rattle.std.proofs.lemmas.Int.{ints}
-use Rattle.moo_value.specs.declared.value.ObjNo.{ObjNo}
-use Rattle.moo_rows.specs.declared.row.ObjRow.{ObjRow}
-use Rattle.moo_rows.specs.declared.row.PropId.{PropId}
-use Rattle.moo_rows.specs.declared.row.PropRow.{PropRow}
-use Rattle.moo_rows.specs.declared.row.VerbId.{VerbId}
-use Rattle.moo_rows.specs.declared.row.VerbRow.{VerbRow}
-use Rattle.moo_rows.specs.declared.row.Link.TheVariants.{ChildOf, Within}
-use Rattle.moo_rows.specs.Exact.{object_exact}
-use Rattle.moo_rows.specs.Links.{IsFirst, defined_left}
 use Rattle.moo_rows.specs.Links as links
-use Rattle.moo_rows.specs.Maps.{Maps, object_cmp, prop_cmp}
-use Rattle.moo_rows.specs.Walk.{is_past, entries_past, verbs_of_left}
 use Rattle.moo_rows.proofs.Firsts.{first-alike, first-end, first-step}
 use Rattle.moo_rows.proofs.OfObject.{verbs_of_left-all}
-use Rattle.moo_rows.proofs.Orders.{object_total, prop_total}
-use Rattle.moo_rows.proofs.Walking.{first_of, here, keeps, past_test, all_past}
-use Rattle.moo_world.specs.Objects.{nothing, same_object, same_object-eq}
-use Rattle.moo_world.specs.Rows.{IsGood, look_ups, prop_id, verb_id}
+use Rattle.moo_rows.proofs.Walking.{here, keeps, past_test, all_past}
 use Rattle.moo_world.proofs.Shown.ObjectEntries.{same_object-symm}
-use Rattle.moo_world.proofs.Shown.Seen.{is_object_seen}
-use Rattle.moo_props.specs.Dropping.{links_to, row_linked, linked_among, verbs_among}
-use Rattle.moo_props.specs.Touched.{props_of}
+use Rattle.moo_props.specs.Dropping.{row_linked}
 
 -- where each held key is past one, the entries past it are all
 module _ {K X : Type 0} {cmp : K → K → Ordering} (total : IsTotalOrder cmp) (from : K) where

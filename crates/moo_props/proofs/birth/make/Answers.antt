@@ -1,18 +1,8 @@
-use Rattle.std.proofs.Common.{FitsSigned, w32, rules, ◌≡◌, refl, sym, ap, ◌∙◌, subst}
-use Rattle.moo_rows.specs.Maps.{Maps, Held}
-use Rattle.moo_world.specs.Creation.{created}
-use Rattle.moo_world.specs.Rows.{LookUps, AreSound, look_ups, world_of, world_shown}
-use Rattle.moo_world.specs.World.{World, IsWellFormed, read_of}
-use Rattle.moo_world.proofs.Form.Limits.{number_within}
-use Rattle.moo_props.specs.Birth.{with_new_row}
-use Rattle.moo_props.specs.Slots.{origins_among, with_fresh}
+use Rattle.moo_props.proofs.Words.{FitsSigned, w32, rules, ◌≡◌, refl, sym, ap, ◌∙◌, subst, Maps, Held, created, LookUps, AreSound, look_ups, world_of, world_shown, World, IsWellFormed, read_of, number_within, with_new_row, origins_among, with_fresh, numbers_same, beside_world, petitions_stay}
 use Rattle.moo_props.proofs.NewSlots.{with_new, look_ups-new}
 use Rattle.moo_props.proofs.Moved.{base-fresh, only-fresh}
 use Rattle.moo_props.proofs.NewObject.{world_new, formed_new, sound_new, reads_new, no_row}
 use Rattle.moo_props.proofs.Walked.{walk}
-use Rattle.moo_world.proofs.Shown.NumbersKept.{numbers_same}
-use Rattle.moo_world.specs.Keeps.{beside_world}
-use Rattle.moo_world.proofs.Shown.Beside.{petitions_stay}
 use Rattle.moo_props.proofs.birth.make.Goals as goal
 
 abbrev t : (g : _) → goal.After-drop-inherited-2 g → Maps

@@ -1,9 +1,4 @@
-use Rattle.std.proofs.Common.{◌≡◌, true, false, ◌||◌, sym, ap, ◌∙◌}
-use Rattle.std.specs.Prelude.{is_some}
-use Rattle.moo_world.specs.Objects.{folded}
-use Rattle.moo_world.specs.ObjectLists.{subtree_of}
-use Rattle.moo_world.specs.Rows.{world_of}
-use Rattle.moo_world.specs.World.{owed_by, pair_named, slot_of}
+use Rattle.moo_props.proofs.Words.{◌≡◌, true, false, ◌||◌, sym, ap, ◌∙◌, is_some, folded, subtree_of, world_of, owed_by, pair_named, slot_of}
 use Rattle.moo_props.proofs.NameClashes.{slot_or_under}
 use Rattle.moo_props.proofs.clashing.clashes.Goals as goal
 

@@ -1,9 +1,4 @@
-use Rattle.std.proofs.Common.{rules, ◌∙◌}
-use Rattle.std.proofs.lemmas.Iterator.Consumers.{YieldsList-from_first}
-use Rattle.std.proofs.lemmas.Iterator.Search.{any_from_yields_List}
-use Rattle.moo_rows.specs.Links.{defined_left}
-use Rattle.moo_world.specs.Objects.{same_text, folded}
-use Rattle.moo_world.specs.Rows.{prop_id}
+use Rattle.moo_props.proofs.Words.{rules, ◌∙◌, YieldsList-from_first, any_from_yields_List, defined_left, same_text, folded, prop_id}
 use Rattle.moo_props.proofs.NameClashes.{any_defined}
 use Rattle.moo_props.proofs.clashing.defines_named.Goals as goal
 use borrow.Author.Tests.{tests}

@@ -1,11 +1,4 @@
-use Rattle.std.proofs.Common.{Bool, sym, ap, ◌∙◌}
-use Rattle.std.specs.List.{list_any}
-use Rattle.std.proofs.lemmas.Bool.{or_left}
-use Rattle.moo_value.specs.declared.value.ObjNo.{ObjNo}
-use Rattle.moo_world.specs.ObjectLists.{subtree_of}
-use Rattle.moo_world.specs.PropertyCalls.{defines_name}
-use Rattle.moo_world.specs.Rows.{world_of}
-use Rattle.moo_props.specs.Descent.{walk_after, from_here}
+use Rattle.moo_props.proofs.Words.{Bool, sym, ap, ◌∙◌, list_any, or_left, ObjNo, subtree_of, defines_name, world_of, walk_after, from_here}
 use Rattle.moo_props.proofs.NameClashes.{any_defines}
 use Rattle.moo_props.proofs.clashing.is_defined_under.Goals as goal
 

@@ -1,11 +1,4 @@
-use Rattle.std.proofs.Common.{◌≡◌, true, length, IfSome}
-use Rattle.std.specs.List.{list_any}
-use Rattle.moo_world.specs.ObjectLists.{subtree_of}
-use Rattle.moo_world.specs.Objects.{is_among}
-use Rattle.moo_world.specs.PropertyCalls.{defines_name}
-use Rattle.moo_world.specs.Rows.{world_of}
-use Rattle.moo_world.specs.World.{chain}
-use Rattle.moo_props.specs.Descent.{from_here}
+use Rattle.moo_props.proofs.Words.{◌≡◌, true, length, IfSome, list_any, subtree_of, is_among, defines_name, world_of, chain, from_here}
 use Rattle.moo_props.proofs.clashing.is_defined_under.Given as goal
 
 -- one that is still to come defines the name if one of the subtree does

@@ -1,9 +1,4 @@
-use Rattle.std.proofs.Common.{sym, ap, ◌∙◌}
-use Rattle.std.specs.List.{list_any}
-use Rattle.std.proofs.lemmas.Bool.{or_left}
-use Rattle.moo_world.specs.Rows.{world_of}
-use Rattle.moo_props.specs.Clashes.{meets_on}
-use Rattle.moo_props.specs.Descent.{walk_after, from_here}
+use Rattle.moo_props.proofs.Words.{sym, ap, ◌∙◌, list_any, or_left, world_of, meets_on, walk_after, from_here}
 use Rattle.moo_props.proofs.NameClashes.{any_meets}
 use Rattle.moo_props.proofs.clashing.meets.Goals as goal
 

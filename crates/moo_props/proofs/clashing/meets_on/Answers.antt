@@ -1,11 +1,4 @@
-use Rattle.std.proofs.Common.{rules, ◌∙◌}
-use Rattle.std.proofs.lemmas.Iterator.Consumers.{YieldsList-from_first}
-use Rattle.std.proofs.lemmas.Iterator.Search.{any_from_yields_List}
-use Rattle.std.specs.Prelude.{is_some}
-use Rattle.moo_rows.specs.Links.{defined_left}
-use Rattle.moo_world.specs.Objects.{folded}
-use Rattle.moo_world.specs.Rows.{world_of, prop_id}
-use Rattle.moo_world.specs.World.{slot_of}
+use Rattle.moo_props.proofs.Words.{rules, ◌∙◌, YieldsList-from_first, any_from_yields_List, is_some, defined_left, folded, world_of, prop_id, slot_of}
 use Rattle.moo_props.proofs.NameClashes.{any_defined, meets_by_slots}
 use Rattle.moo_props.proofs.clashing.meets_on.Goals as goal
 use borrow.Author.Tests.{tests}

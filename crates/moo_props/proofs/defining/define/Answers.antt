@@ -1,22 +1,8 @@
-use Rattle.std.proofs.Common.{FitsSigned, w32, rules, ◌≡◌, ◌+◌, refl, sym, ap, ◌∙◌, subst}
-use Rattle.moo_rows.specs.Maps.{Maps, Held, wrote}
-use Rattle.moo_rows.specs.declared.row.PropId.{PropId}
-use Rattle.moo_rows.specs.declared.row.SlotRow.{SlotRow}
-use Rattle.moo_rows.specs.declared.row.SlotState.TheVariants.{Set}
-use Rattle.moo_world.specs.Changes.{defined}
-use Rattle.moo_world.specs.Rows.{AreSound, look_ups, world_of, world_shown, prop_id}
-use Rattle.moo_world.specs.World.{IsWellFormed}
-use Rattle.moo_world.proofs.Form.Limits.{number_within, slot_within}
-use Rattle.std.specs.FinMap.{insert}
-use Rattle.moo_props.specs.declared.slots.Origin.{Origin}
-use Rattle.moo_props.specs.Defining.{fresh_over, with_definition}
-use Rattle.moo_tree.specs.Under.{owners_under}
+use Rattle.moo_props.proofs.Words.{FitsSigned, w32, rules, ◌≡◌, ◌+◌, refl, sym, ap, ◌∙◌, subst, Maps, Held, wrote, PropId, SlotRow, Set, defined, AreSound, look_ups, world_of, world_shown, prop_id, IsWellFormed, number_within, slot_within, insert, Origin, fresh_over, with_definition, owners_under, verbs_stay, as_high, beside_world, petitions_stay}
 use Rattle.moo_props.proofs.NewProp.{sound_with, world_with, formed_with, with_property}
 use Rattle.moo_props.proofs.NewPropRows.{base-over, look_ups-with, held2, only2}
-use Rattle.moo_world.specs.Numbers.{prop_added, verbs_stay}
-use Rattle.moo_world.proofs.Shown.NumbersKept.{as_high, one_higher}
-use Rattle.moo_world.specs.Keeps.{beside_world}
-use Rattle.moo_world.proofs.Shown.Beside.{petitions_stay}
+use Rattle.moo_world.specs.Numbers.{prop_added}
+use Rattle.moo_world.proofs.Shown.NumbersKept.{one_higher}
 use Rattle.moo_props.proofs.defining.define.Goals as goal
 
 abbrev t : (g : _) → goal.After-drop-under-2 g → Maps

@@ -1,16 +1,4 @@
-use Rattle.std.proofs.Common.{◌≡◌, Bool, true, false, Some, length, refl, sym, ap, ◌∙◌, arith}
-use Rattle.std.specs.Prelude.{not}
-use Rattle.std.proofs.lemmas.Bool.{true≢false}
-use Rattle.std.specs.FinMap.{get}
-use Rattle.std.specs.Ordering.{int_eq}
-use Rattle.moo_value.specs.declared.value.ObjNo.{ObjNo}
-use Rattle.moo_rows.specs.declared.row.ObjRow.{ObjRow}
-use Rattle.moo_rows.specs.Maps.{Maps}
-use Rattle.moo_world.specs.Objects.{is_among, same_object-eq, same_object-Decides}
-use Rattle.moo_world.specs.Rows.{look_ups, world_of}
-use Rattle.moo_world.specs.World.{IsTree, chain}
-use Rattle.moo_world.proofs.Shown.Seen.{chain_of_no_row}
-use Rattle.moo_props.specs.Descent.{after_below}
+use Rattle.moo_props.proofs.Words.{◌≡◌, Bool, true, false, Some, length, refl, sym, ap, ◌∙◌, arith, not, true≢false, get, int_eq, ObjNo, ObjRow, Maps, is_among, same_object-eq, same_object-Decides, look_ups, world_of, IsTree, chain, chain_of_no_row, after_below}
 use Rattle.moo_props.proofs.Descending.{linked_child, chain_up, parent_under, still_under, sideward, upward, at_top}
 use Rattle.moo_props.proofs.descent.next_beside.Goals as goal
 

@@ -1,8 +1,4 @@
-use Rattle.std.proofs.Common.{◌≡◌, true, length}
-use Rattle.moo_world.specs.Objects.{is_among}
-use Rattle.moo_world.specs.Rows.{world_of}
-use Rattle.moo_world.specs.World.{chain}
-use Rattle.moo_props.specs.Descent.{after_below}
+use Rattle.moo_props.proofs.Words.{◌≡◌, true, length, is_among, world_of, chain, after_below}
 use Rattle.moo_props.proofs.descent.next_beside.Given as goal
 
 -- what comes after all that is below y comes after all that is below this ancestor of y

@@ -1,7 +1,4 @@
-use Rattle.std.proofs.Common.{None, Some, ◌∙◌, subst}
-use Rattle.moo_rows.specs.declared.row.Link.TheVariants.{ChildOf}
-use Rattle.moo_rows.specs.Links.{IsFirst, is_linked}
-use Rattle.moo_rows.specs.Maps.{object_cmp}
+use Rattle.moo_props.proofs.Words.{None, Some, ◌∙◌, subst, ChildOf, IsFirst, is_linked, object_cmp}
 use Rattle.moo_props.proofs.Descending.{linked_child, still_under, downward, leaf}
 use Rattle.moo_props.proofs.descent.next_under.Goals as goal
 

@@ -1,4 +1,4 @@
-use Rattle.std.proofs.Common.{sym, ◌∙◌}
+use Rattle.moo_props.proofs.Words.{sym, ◌∙◌}
 use Rattle.moo_props.proofs.Descending.{top_any, none_met, own_among}
 use Rattle.moo_props.proofs.descent.subtree_top.Goals as goal
 

@@ -1,16 +1,4 @@
-use Rattle.std.proofs.Common.{◌≡◌, refl, sym, ap, ◌∙◌, subst, [], ◌∷◌, ◌++◌, length, arith, Some}
-use Rattle.std.specs.Prelude.{is_some}
-use Rattle.std.specs.FinMap.{get, entries, remove}
-use Rattle.std.proofs.lemmas.Bool.{false≢true}
-use Rattle.moo_rows.specs.Maps.{Held, wrote, object_cmp, prop_cmp, slot_cmp, verb_cmp}
-use Rattle.moo_world.specs.Recycling.{recycled}
-use Rattle.moo_world.specs.Rows.{AreSound, look_ups, world_of, world_shown}
-use Rattle.moo_world.specs.World.{IsWellFormed}
-use Rattle.moo_world.proofs.Shown.Seen.{is_object_seen}
-use Rattle.moo_props.specs.Dropped.{dropped_keys}
-use Rattle.moo_props.specs.Dropping.{linked_among, dropped_over, slots_dropped, props_removed, verbs_removed, rows_released}
-use Rattle.moo_props.specs.Present.{ArePresent, AreAbsent, AreAscending}
-use Rattle.moo_props.specs.Touched.{props_of}
+use Rattle.moo_props.proofs.Words.{◌≡◌, refl, sym, ap, ◌∙◌, subst, [], ◌∷◌, ◌++◌, length, arith, Some, is_some, get, entries, remove, false≢true, Held, wrote, object_cmp, prop_cmp, slot_cmp, verb_cmp, recycled, AreSound, look_ups, world_of, world_shown, IsWellFormed, is_object_seen, dropped_keys, linked_among, dropped_over, slots_dropped, props_removed, verbs_removed, rows_released, ArePresent, AreAbsent, AreAscending, props_of, as_high, beside_world, petitions_stay}
 use Rattle.moo_props.proofs.Lessened.{world_less, sound_less, formed_less, less_object}
 use Rattle.moo_props.proofs.LessRows.{look_ups-less, held1, held2, held3, held4, held5, only5, base5}
 use Rattle.moo_props.proofs.Ascending.{ascend, props_rise, verbs_ascend, linked_ascend}
@@ -18,9 +6,6 @@ use Rattle.moo_props.proofs.DroppedKeys.{dropped_list, dropped_ascend, dropped_h
 use Rattle.moo_props.proofs.LeftRows.{writes5, slots_left, props_left, verbs_left, objects_left, head5, left_is, dropped_gone, relinked_there}
 use Rattle.moo_rows.specs.declared.row.Head.{Head}
 use Rattle.moo_world.specs.Numbers.{props_dropped, verbs_dropped}
-use Rattle.moo_world.proofs.Shown.NumbersKept.{as_high}
-use Rattle.moo_world.specs.Keeps.{beside_world}
-use Rattle.moo_world.proofs.Shown.Beside.{petitions_stay}
 use Rattle.moo_props.proofs.dropping.drop_object.Goals as goal
 
 abbrev before : (g : _) → goal.After-drop-under-2 g → Held

@@ -1,5 +1,4 @@
-use Rattle.std.proofs.Common.{◌≡◌, ◌++◌, drop}
-use Rattle.moo_props.specs.Dropping.{slots_dropped, dropped_over}
+use Rattle.moo_props.proofs.Words.{◌≡◌, ◌++◌, drop, slots_dropped, dropped_over}
 use Rattle.moo_props.proofs.dropping.drop_slots.Given as goal
 
 -- after the objects that are left, it is as after all

@@ -1,6 +1,4 @@
-use Rattle.std.proofs.Common.{◌≡◌, ◌++◌}
-use Rattle.moo_rows.specs.Walk.{slots_of_left}
-use Rattle.moo_props.specs.Dropping.{ids_among}
+use Rattle.moo_props.proofs.Words.{◌≡◌, ◌++◌, slots_of_left, ids_among}
 use Rattle.moo_props.proofs.dropping.ids_on.Given as goal
 
 -- those so far, and those of the slots that are left

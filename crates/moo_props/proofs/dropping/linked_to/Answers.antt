@@ -1,9 +1,4 @@
-use Rattle.std.proofs.Common.{◌++◌, negsuc, [], ◌∷◌, Some, List, sym, ap, ◌∙◌, append_assoc, append-nil}
-use Rattle.std.specs.FinMap.{entries}
-use Rattle.moo_value.specs.declared.value.ObjNo.{ObjNo}
-use Rattle.moo_rows.specs.Maps.{Maps, object_cmp}
-use Rattle.moo_rows.specs.Walk.{entries_past}
-use Rattle.moo_props.specs.Dropping.{linked_among}
+use Rattle.moo_props.proofs.Words.{◌++◌, negsuc, [], ◌∷◌, Some, List, sym, ap, ◌∙◌, append_assoc, append-nil, entries, ObjNo, Maps, object_cmp, entries_past, linked_among}
 use Rattle.moo_props.proofs.WholeWalks.{linked_all, linked-end, linked-step}
 use Rattle.moo_props.proofs.dropping.linked_to.Goals as goal
 

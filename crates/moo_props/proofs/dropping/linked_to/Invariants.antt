@@ -1,8 +1,5 @@
-use Rattle.std.proofs.Common.{◌≡◌, ◌++◌, Some, pos, ◌-ℤ◌, nat_abs}
-use Rattle.std.specs.FinMap.{entries}
-use Rattle.moo_rows.specs.Maps.{object_cmp}
-use Rattle.moo_rows.specs.Walk.{entries_past}
-use Rattle.moo_props.specs.Dropping.{linked_among}
+use Rattle.moo_props.proofs.Words.{◌≡◌, ◌++◌, Some, pos, entries, object_cmp, entries_past, linked_among}
+use Rattle.std.proofs.Common.{◌-ℤ◌, nat_abs}
 use Rattle.moo_props.proofs.dropping.linked_to.Given as goal
 
 -- those so far, and those among the objects past the last

@@ -1,10 +1,5 @@
-use Rattle.std.proofs.Common.{◌||◌, sym, subst}
-use Rattle.moo_rows.specs.declared.row.Link.TheVariants.{ChildOf, Within}
-use Rattle.moo_rows.specs.Exact.{object_exact}
-use Rattle.moo_rows.specs.Links.{IsFirst, is_linked}
-use Rattle.moo_rows.specs.Maps.{object_cmp}
+use Rattle.moo_props.proofs.Words.{◌||◌, sym, subst, ChildOf, Within, object_exact, IsFirst, is_linked, object_cmp, object_total}
 use Rattle.moo_rows.proofs.Firsts.{either-first}
-use Rattle.moo_rows.proofs.Orders.{object_total}
 use Rattle.moo_props.proofs.WholeWalks.{linked-first}
 use Rattle.moo_props.proofs.dropping.next_linked_to.Goals as goal
 

@@ -1,8 +1,4 @@
-use Rattle.std.proofs.Common.{◌≡◌, IfOk, subst, rules}
-use Rattle.std.proofs.lemmas.Iterator.{items_from_collect, YieldsList-from_map}
-use Rattle.std.proofs.lemmas.Iterator.Consumers.{YieldsList-from_first, YieldsList-at}
-use Rattle.moo_rows.specs.Links.{defined_left}
-use Rattle.moo_world.specs.Rows.{prop_id}
+use Rattle.moo_props.proofs.Words.{◌≡◌, IfOk, subst, rules, items_from_collect, YieldsList-from_map, YieldsList-from_first, YieldsList-at, defined_left, prop_id}
 use Rattle.moo_props.proofs.WholeWalks.{defined_keys}
 use Rattle.moo_props.proofs.dropping.props_on.Goals as goal
 

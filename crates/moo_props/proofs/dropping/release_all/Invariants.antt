@@ -1,5 +1,4 @@
-use Rattle.std.proofs.Common.{◌≡◌, drop}
-use Rattle.moo_props.specs.Dropping.{rows_released}
+use Rattle.moo_props.proofs.Words.{◌≡◌, drop, rows_released}
 use Rattle.moo_props.proofs.dropping.release_all.Given as goal
 
 -- after the objects that are left, it is as after all

@@ -1,5 +1,4 @@
-use Rattle.std.proofs.Common.{◌≡◌, drop}
-use Rattle.moo_props.specs.Dropping.{props_removed}
+use Rattle.moo_props.proofs.Words.{◌≡◌, drop, props_removed}
 use Rattle.moo_props.proofs.dropping.remove_props.Given as goal
 
 -- without those that are left, it is as without all

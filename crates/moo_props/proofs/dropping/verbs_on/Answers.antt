@@ -1,8 +1,4 @@
-use Rattle.std.proofs.Common.{◌≡◌, IfOk, subst, rules}
-use Rattle.std.proofs.lemmas.Iterator.{items_from_collect, YieldsList-from_map}
-use Rattle.std.proofs.lemmas.Iterator.Consumers.{YieldsList-from_first, YieldsList-at}
-use Rattle.moo_rows.specs.Walk.{verbs_of_left}
-use Rattle.moo_world.specs.Rows.{verb_id}
+use Rattle.moo_props.proofs.Words.{◌≡◌, IfOk, subst, rules, items_from_collect, YieldsList-from_map, YieldsList-from_first, YieldsList-at, verbs_of_left, verb_id}
 use Rattle.moo_props.proofs.WholeWalks.{verb_keys}
 use Rattle.moo_props.proofs.dropping.verbs_on.Goals as goal
 

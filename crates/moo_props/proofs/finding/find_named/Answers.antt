@@ -1,10 +1,5 @@
-use Rattle.std.proofs.Common.{◌≡◌, cond, None, Some, sym, ap, ◌∙◌}
-use Rattle.std.specs.Prelude.{is_some}
-use Rattle.moo_rows.specs.Walk.{slots_of_left}
-use Rattle.moo_world.specs.Objects.{folded}
+use Rattle.moo_props.proofs.Words.{◌≡◌, cond, None, Some, sym, ap, ◌∙◌, is_some, slots_of_left, folded, SlotHere, look_ups}
 use Rattle.moo_props.proofs.Walked.{walk, first_called, found_here, none_here, here_seen, here_name}
-use Rattle.moo_world.proofs.Shown.Slots.{SlotHere}
-use Rattle.moo_world.specs.Rows.{look_ups}
 use Rattle.moo_props.proofs.finding.find_named.Goals as goal
 
 found : (g : _) (c : goal.After-result-1 g) → first_called (g.R.Rows.held c.args.rows.now).maps (folded c.args.name.now) (walk (g.R.Rows.held c.args.rows.now).maps c.args.x) ≡ Some (c.in-Some.key, c.in-Some._slot.now)

@@ -1,6 +1,4 @@
-use Rattle.std.proofs.Common.{◌≡◌}
-use Rattle.moo_rows.specs.Walk.{slots_of_left}
-use Rattle.moo_world.specs.Objects.{folded}
+use Rattle.moo_props.proofs.Words.{◌≡◌, slots_of_left, folded}
 use Rattle.moo_props.proofs.Walked.{walk, first_called}
 use Rattle.moo_props.proofs.finding.find_named.Given as goal
 

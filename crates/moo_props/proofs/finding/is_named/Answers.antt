@@ -1,8 +1,5 @@
-use Rattle.std.proofs.Common.{◌≡◌, map, sym, subst}
-use Rattle.std.specs.Bool.{Decides}
+use Rattle.moo_props.proofs.Words.{◌≡◌, map, sym, subst, Decides, decided_alike, same_text, folded, same_text-Decides}
 use Rattle.std.specs.Char.{to_ascii_lowercase}
-use Rattle.moo_world.proofs.Shown.MapLaws.{decided_alike}
-use Rattle.moo_world.specs.Objects.{same_text, folded, same_text-Decides}
 use Rattle.moo_props.proofs.finding.is_named.Goals as goal
 
 pub returns : goal.returns

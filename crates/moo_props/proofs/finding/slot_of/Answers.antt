@@ -1,6 +1,4 @@
-use Rattle.std.proofs.Common.{sym, ap, ◌∙◌}
-use Rattle.moo_world.specs.World.{slot_of}
-use Rattle.moo_world.specs.Rows.{world_of}
+use Rattle.moo_props.proofs.Words.{sym, ap, ◌∙◌, slot_of, world_of}
 use Rattle.moo_props.proofs.Walked.{slot_here}
 use Rattle.moo_props.proofs.finding.slot_of.Goals as goal
 

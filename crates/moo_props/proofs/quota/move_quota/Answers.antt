@@ -1,11 +1,5 @@
-use Rattle.std.proofs.Common.{◌+ℤ◌, FitsSigned, w64, rules, sym, ◌∙◌, ap}
-use Rattle.std.proofs.lemmas.Int.{to_z-of_z}
-use Rattle.moo_value.specs.declared.value.Value.TheVariants.{Int}
-use Rattle.moo_rows.specs.declared.row.SlotState.TheVariants.{Set}
+use Rattle.moo_props.proofs.Words.{◌+ℤ◌, FitsSigned, w64, rules, sym, ◌∙◌, ap, to_z-of_z, Int, Set, with_slot_of, world_of, spelling_of}
 use Rattle.moo_rows.specs.declared.row.SlotState.{SlotState}
-use Rattle.moo_world.specs.Changes.{with_slot_of}
-use Rattle.moo_world.specs.Rows.{world_of}
-use Rattle.moo_props.specs.Names.{spelling_of}
 use Rattle.moo_props.proofs.Quotas.{moved, folded_spelling}
 use Rattle.moo_props.proofs.quota.move_quota.Goals as goal
 

@@ -1,9 +1,4 @@
-use Rattle.std.proofs.Common.{FitsSigned, w64, rules, Some, sym, ap, ◌∙◌}
-use Rattle.std.proofs.lemmas.Int.{to_z-of_z}
-use Rattle.moo_world.specs.Objects.{folded}
-use Rattle.moo_world.specs.Quota.{quota_in}
-use Rattle.moo_world.specs.Rows.{world_of}
-use Rattle.moo_props.specs.Names.{name_of}
+use Rattle.moo_props.proofs.Words.{FitsSigned, w64, rules, Some, sym, ap, ◌∙◌, to_z-of_z, folded, quota_in, world_of, name_of}
 use Rattle.moo_props.proofs.Quotas.{no_quota, no_integer, none_of, quota_is}
 use Rattle.moo_props.proofs.quota.quota_here.Goals as goal
 

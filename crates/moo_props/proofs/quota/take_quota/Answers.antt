@@ -1,5 +1,4 @@
-use Rattle.moo_world.specs.Quota.{quota_of}
-use Rattle.moo_world.specs.Rows.{world_of}
+use Rattle.moo_props.proofs.Words.{quota_of, world_of}
 use Rattle.moo_props.proofs.Quotas.{room_below}
 use Rattle.moo_props.proofs.quota.take_quota.Goals as goal
 

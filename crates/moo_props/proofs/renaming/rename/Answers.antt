@@ -1,16 +1,7 @@
-use Rattle.std.proofs.Common.{◌≡◌, Some, sym, ap, ◌∙◌, subst}
-use Rattle.std.specs.FinMap.{get, insert}
-use Rattle.moo_rows.specs.declared.row.PropRow.{PropRow}
-use Rattle.moo_rows.specs.Maps.{Maps, Held}
-use Rattle.moo_world.specs.Changes.{renamed}
-use Rattle.moo_world.specs.Rows.{AreSound, look_ups, world_of, world_shown}
-use Rattle.moo_world.specs.World.{IsWellFormed}
+use Rattle.moo_props.proofs.Words.{◌≡◌, Some, sym, ap, ◌∙◌, subst, get, insert, PropRow, Maps, Held, renamed, AreSound, look_ups, world_of, world_shown, IsWellFormed, verbs_stay, as_high, beside_world, petitions_stay}
 use Rattle.moo_props.proofs.RenamedRows.{with_new_name, look_ups-renamed, world_renamed, sound_renamed, formed_renamed}
 use Rattle.moo_props.proofs.ShorterRows.{own_row, spelled}
-use Rattle.moo_world.specs.Numbers.{prop_renamed, verbs_stay}
-use Rattle.moo_world.proofs.Shown.NumbersKept.{as_high}
-use Rattle.moo_world.specs.Keeps.{beside_world}
-use Rattle.moo_world.proofs.Shown.Beside.{petitions_stay}
+use Rattle.moo_world.specs.Numbers.{prop_renamed}
 use Rattle.moo_props.proofs.renaming.rename.Goals as goal
 
 abbrev t : (g : _) → goal.In_ok-put_prop g → Maps

@@ -1,6 +1,4 @@
-use Rattle.std.proofs.Common.{ap, ◌∙◌}
-use Rattle.std.specs.List.{list_any}
-use Rattle.moo_world.specs.Objects.{same_object-eq}
+use Rattle.moo_props.proofs.Words.{ap, ◌∙◌, list_any, same_object-eq}
 use Rattle.moo_props.proofs.reparenting.is_among.Goals as goal
 
 pub returns : goal.returns

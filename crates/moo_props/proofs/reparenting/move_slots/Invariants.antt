@@ -1,6 +1,4 @@
-use Rattle.std.proofs.Common.{◌≡◌, ◌++◌, drop, map}
-use Rattle.moo_props.specs.Reparent.{slots_moved}
-use Rattle.moo_props.specs.Slots.{keys_over, id_of}
+use Rattle.moo_props.proofs.Words.{◌≡◌, ◌++◌, drop, map, slots_moved, keys_over, id_of}
 use Rattle.moo_props.proofs.reparenting.move_slots.Given as goal
 
 -- after the objects that are left, it is as after all

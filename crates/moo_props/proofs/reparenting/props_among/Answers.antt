@@ -1,8 +1,4 @@
-use Rattle.std.proofs.Common.{◌++◌, ap, ◌∙◌}
-use Rattle.std.specs.List.{filter}
-use Rattle.moo_rows.specs.Walk.{slots_of_left}
-use Rattle.moo_props.specs.Dropping.{ids_among}
-use Rattle.moo_props.specs.Reparent.{is_defined_only}
+use Rattle.moo_props.proofs.Words.{◌++◌, ap, ◌∙◌, filter, slots_of_left, ids_among, is_defined_only}
 use Rattle.moo_props.proofs.AmongSlots.{slots_are_props}
 use Rattle.moo_props.proofs.reparenting.props_among.Goals as goal
 

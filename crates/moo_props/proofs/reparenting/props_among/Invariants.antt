@@ -1,9 +1,4 @@
-use Rattle.std.proofs.Common.{◌≡◌, ◌++◌}
-use Rattle.std.specs.FinMap.{entries}
-use Rattle.std.specs.List.{filter}
-use Rattle.moo_rows.specs.Walk.{slots_of_left}
-use Rattle.moo_props.specs.Dropping.{ids_among}
-use Rattle.moo_props.specs.Reparent.{is_defined_only, props_only_of}
+use Rattle.moo_props.proofs.Words.{◌≡◌, ◌++◌, entries, filter, slots_of_left, ids_among, is_defined_only, props_only_of}
 use Rattle.moo_props.proofs.reparenting.props_among.Given as goal
 
 -- those so far, and those of the slots that are left

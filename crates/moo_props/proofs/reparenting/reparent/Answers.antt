@@ -1,29 +1,9 @@
-use Rattle.std.proofs.Common.{◌≡◌, ◌++◌, map, length, Some, sym, ap, subst, ◌∙◌, arith}
-use Rattle.std.specs.Prelude.{is_some, unwrap_or, []}
-use Rattle.std.specs.Option.{option_map}
-use Rattle.std.specs.FinMap.{get, entries}
-use Rattle.std.proofs.lemmas.Bool.{false≢true, or_right}
-use Rattle.moo_value.specs.declared.value.ObjNo.{ObjNo}
-use Rattle.moo_rows.specs.declared.row.PropId.{PropId}
-use Rattle.moo_rows.specs.Maps.{Maps, Held, slot_cmp}
-use Rattle.moo_world.specs.Manual.{lost, gained}
-use Rattle.moo_world.specs.Objects.{same_object, is_among}
-use Rattle.moo_world.specs.World.{IsWellFormed, chain}
-use Rattle.moo_world.specs.Rows.{look_ups, world_of, IsSound}
+use Rattle.moo_props.proofs.Words.{◌≡◌, ◌++◌, map, length, Some, sym, ap, subst, ◌∙◌, arith, is_some, unwrap_or, [], option_map, get, entries, false≢true, or_right, ObjNo, PropId, Maps, Held, slot_cmp, lost, gained, same_object, is_among, IsWellFormed, chain, look_ups, world_of, IsSound, chain_of_row, is_object_seen, owners_under, props_only_of, slots_moved, relinked, relinked_list, props_of, removed_keys, added_keys, slot_after, IsSameButSlotsAndObjects, AreAscending, id_of, origins, keys_over, numbers_same, beside_world, petitions_stay}
 use Rattle.moo_world.proofs.Inheritance.Reparenting.{IsWellFormed-reparented}
-use Rattle.moo_world.proofs.Shown.Seen.{chain_of_row, is_object_seen}
-use Rattle.moo_tree.specs.Under.{owners_under}
-use Rattle.moo_props.specs.Reparent.{props_only_of, slots_moved, relinked, relinked_list}
-use Rattle.moo_props.specs.Touched.{props_of, removed_keys, added_keys, slot_after, IsSameButSlotsAndObjects}
 use Rattle.moo_props.proofs.Definers.{new_is, no_clash}
 use Rattle.moo_props.proofs.Moved.{lost_list, gained_list, all_on_new, slots2, objects2, rest2, world2, sound2, base2, writes2}
-use Rattle.moo_props.specs.Present.{AreAscending}
-use Rattle.moo_props.specs.Slots.{id_of, origins, keys_over}
 use Rattle.moo_props.proofs.Ascending.{removed_ascend, added_ascend}
 use Rattle.moo_props.proofs.Presence.{removed_had, added_had, removed_gone, added_there}
-use Rattle.moo_world.proofs.Shown.NumbersKept.{numbers_same}
-use Rattle.moo_world.specs.Keeps.{beside_world}
-use Rattle.moo_world.proofs.Shown.Beside.{petitions_stay}
 use Rattle.moo_props.proofs.reparenting.reparent.Goals as goal
 
 abbrev before : (g : _) → goal.After-drop-above-2 g → Held

@@ -1,9 +1,4 @@
-use Rattle.std.proofs.Common.{rules, ◌≡◌, ℕ, ◌+◌, ◌<◌, List, [], ◌∷◌, ◌++◌, length, drop, pos, false, get_or, map, sym, ap, ◌∙◌, append_assoc, arith}
-use Rattle.std.proofs.lemmas.List.{at_drop_more}
-use Rattle.moo_value.specs.declared.value.ObjNo.{ObjNo}
-use Rattle.moo_rows.specs.declared.row.PropId.{PropId}
-use Rattle.moo_props.specs.declared.slots.Origin.{Origin}
-use Rattle.moo_props.specs.Slots.{keys_on, id_of}
+use Rattle.moo_props.proofs.Words.{rules, ◌≡◌, ℕ, ◌+◌, ◌<◌, List, [], ◌∷◌, ◌++◌, length, drop, pos, false, get_or, map, sym, ap, ◌∙◌, append_assoc, arith, at_drop_more, ObjNo, PropId, Origin, keys_on, id_of}
 use Rattle.moo_props.proofs.slots.list_on.Goals as goal
 
 one_key : (y : ObjNo) (os : List Origin) (i : ℕ) (d : Origin) (now next : List (ObjNo × PropId)) → i < length os → next ≡ now ++ (y, (get_or os i d).id) ∷ [] → next ++ keys_on y (map id_of (drop (i + 1) os)) ≡ now ++ keys_on y (map id_of (drop i os))

@@ -1,5 +1,4 @@
-use Rattle.std.proofs.Common.{◌≡◌, ◌++◌, drop}
-use Rattle.moo_props.specs.Slots.{origins}
+use Rattle.moo_props.proofs.Words.{◌≡◌, ◌++◌, drop, origins}
 use Rattle.moo_props.proofs.slots.origins.Given as goal
 
 -- those so far, and those of the properties that are left

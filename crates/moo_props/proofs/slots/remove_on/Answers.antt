@@ -1,9 +1,4 @@
-use Rattle.std.proofs.Common.{rules, ◌≡◌, ℕ, ◌+◌, ◌<◌, List, [], ◌∷◌, ◌++◌, length, drop, get_or, sym, ap, ◌∙◌, append_assoc, arith}
-use Rattle.std.proofs.lemmas.List.{at_drop_more}
-use Rattle.moo_value.specs.declared.value.ObjNo.{ObjNo}
-use Rattle.moo_rows.specs.declared.row.PropId.{PropId}
-use Rattle.moo_rows.specs.Maps.{Held}
-use Rattle.moo_props.specs.Slots.{slot_removed, without_on, keys_on}
+use Rattle.moo_props.proofs.Words.{rules, ◌≡◌, ℕ, ◌+◌, ◌<◌, List, [], ◌∷◌, ◌++◌, length, drop, get_or, sym, ap, ◌∙◌, append_assoc, arith, at_drop_more, ObjNo, PropId, Held, slot_removed, without_on, keys_on}
 use Rattle.moo_props.proofs.slots.remove_on.Goals as goal
 
 one_slot : (y : ObjNo) (ids : List PropId) (i : ℕ) (d : PropId) (now next : Held) → i < length ids → next ≡ slot_removed y (get_or ids i d) now → without_on y (drop (i + 1) ids) next ≡ without_on y (drop i ids) now

@@ -1,11 +1,6 @@
-use Rattle.std.proofs.Common.{refl, sym, ap, ◌∙◌, subst}
-use Rattle.moo_rows.specs.Maps.{Held}
-use Rattle.moo_world.specs.Rows.{world_of, IsGood}
-use Rattle.moo_world.proofs.Form.Limits.{slot_owner, slot_within}
+use Rattle.moo_props.proofs.Words.{refl, sym, ap, ◌∙◌, subst, Held, world_of, IsGood, slot_within, IsSameButSlots, slots_only, beside_world}
+use Rattle.moo_world.proofs.Form.Limits.{slot_owner}
 use Rattle.moo_props.proofs.States.{put_slot_world, put_slot_good}
-use Rattle.moo_world.specs.Numbers.{IsSameButSlots}
-use Rattle.moo_world.proofs.Shown.NumbersKept.{slots_only}
-use Rattle.moo_world.specs.Keeps.{beside_world}
 use Rattle.moo_props.proofs.state.put_state.Goals as goal
 
 rest : (g : _) (c : goal.In_ok-put_slot g) → IsSameButSlots (g.R.Rows.held c.args.rows.now).maps (g.R.Rows.held c.put_slot.new.self).maps

@@ -1,16 +1,6 @@
-use Rattle.std.proofs.Common.{FitsSigned, w32, rules, ◌≡◌, false, refl, sym, ap, ◌∙◌, subst}
-use Rattle.moo_value.specs.declared.value.ObjNo.{ObjNo}
-use Rattle.moo_rows.specs.Maps.{Held}
-use Rattle.moo_rows.specs.declared.row.SlotRow.{SlotRow}
-use Rattle.moo_rows.specs.declared.row.SlotState.TheVariants.{Clear}
-use Rattle.moo_world.specs.Rows.{world_of, IsGood, slot_seen}
-use Rattle.moo_world.specs.World.{Slot}
-use Rattle.moo_world.proofs.Form.Limits.{number_within, slot_state, slot_within}
-use Rattle.moo_props.specs.Names.{defines}
+use Rattle.moo_props.proofs.Words.{FitsSigned, w32, rules, ◌≡◌, false, refl, sym, ap, ◌∙◌, subst, ObjNo, Held, SlotRow, Clear, world_of, IsGood, slot_seen, Slot, number_within, slot_within, defines, IsSameButSlots, slots_only, beside_world}
+use Rattle.moo_world.proofs.Form.Limits.{slot_state}
 use Rattle.moo_props.proofs.States.{put_slot_world, put_slot_good, clear_inherited}
-use Rattle.moo_world.specs.Numbers.{IsSameButSlots}
-use Rattle.moo_world.proofs.Shown.NumbersKept.{slots_only}
-use Rattle.moo_world.specs.Keeps.{beside_world}
 use Rattle.moo_props.proofs.state.set_info.Goals as goal
 
 abbrev next : (g : _) → goal.In_ok-put_slot g → SlotRow

@@ -1,19 +1,6 @@
-use Rattle.std.proofs.Common.{◌≡◌, Some, refl, sym, ap, ◌∙◌, subst}
-use Rattle.std.specs.FinMap.{get, remove}
-use Rattle.moo_rows.specs.declared.row.ObjRow.{ObjRow}
-use Rattle.moo_rows.specs.declared.row.PropRow.{PropRow}
-use Rattle.moo_rows.specs.Maps.{Maps, Held, wrote}
-use Rattle.moo_world.specs.Changes.{undefined}
-use Rattle.moo_world.specs.Rows.{AreSound, look_ups, world_of, world_shown}
-use Rattle.moo_world.specs.World.{IsWellFormed}
-use Rattle.moo_props.specs.Undefining.{less_over}
-use Rattle.moo_world.proofs.Shown.PairLists.{some_of}
+use Rattle.moo_props.proofs.Words.{◌≡◌, Some, refl, sym, ap, ◌∙◌, subst, get, remove, ObjRow, PropRow, Maps, Held, wrote, undefined, AreSound, look_ups, world_of, world_shown, IsWellFormed, less_over, some_of, owners_under, verbs_stay, as_high, beside_world, petitions_stay}
 use Rattle.moo_props.proofs.ShorterRows.{own_row, spelled, world_shorter, sound_shorter, formed_shorter, less_property, look_ups-shorter, only2, held1, held2, base-over}
-use Rattle.moo_tree.specs.Under.{owners_under}
-use Rattle.moo_world.specs.Numbers.{prop_removed, verbs_stay}
-use Rattle.moo_world.proofs.Shown.NumbersKept.{as_high}
-use Rattle.moo_world.specs.Keeps.{beside_world}
-use Rattle.moo_world.proofs.Shown.Beside.{petitions_stay}
+use Rattle.moo_world.specs.Numbers.{prop_removed}
 use Rattle.moo_props.proofs.undefining.undefine.Goals as goal
 
 abbrev t : (g : _) → goal.After-drop-under-2 g → Maps

@@ -1,7 +1,4 @@
-use Rattle.std.proofs.Common.{◌≡◌, length, sym, ap, ◌∙◌, arith}
-use Rattle.moo_rows.specs.declared.row.SlotState.TheVariants.{Clear}
-use Rattle.moo_world.specs.Rows.{look_ups}
-use Rattle.moo_world.proofs.Shown.Seen.{chain_of_row}
+use Rattle.moo_props.proofs.Words.{◌≡◌, length, sym, ap, ◌∙◌, arith, Clear, look_ups, chain_of_row}
 use Rattle.moo_props.proofs.Values.{set_read, clear_read, parent_has}
 use Rattle.moo_props.proofs.value.value_of.Goals as goal
 

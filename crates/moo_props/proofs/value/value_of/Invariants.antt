@@ -1,9 +1,4 @@
-use Rattle.std.proofs.Common.{◌≡◌, length, true}
-use Rattle.std.specs.Prelude.{is_some}
-use Rattle.std.specs.FinMap.{get}
-use Rattle.moo_world.specs.World.{chain, read_of}
-use Rattle.moo_world.specs.Rows.{world_of}
-use Rattle.moo_props.specs.Names.{name_of}
+use Rattle.moo_props.proofs.Words.{◌≡◌, length, true, is_some, get, chain, read_of, world_of, name_of}
 use Rattle.moo_props.proofs.value.value_of.Given as goal
 
 -- what is read from here is what x reads, and the property is here
