@@ -1,33 +1,12 @@
 -- With good rows nothing is wrong.
-use Rattle.std.proofs.Common.{◌≡◌, ℕ, ◌<◌, ℤ, pos, Bool, true, false, ◌||◌, ◌&&◌, Option, None, Some, List, [], ◌∷◌, refl, sym, ap, ◌∙◌, subst, inl, inr, arith}
-use Rattle.std.specs.Prelude.{◌≤ℤ◌, int_lt, nat_lt, nat_le, not, is_some, unwrap_or}
-use Rattle.std.specs.Option.{option_map}
-use Rattle.std.specs.FinMap.{get, entries}
-use Rattle.std.proofs.lemmas.Bool.{false≢true, and_parts, or_cases}
-use Rattle.std.proofs.lemmas.Bool.Decides.{nat_tests}
-use Rattle.std.proofs.lemmas.Int.{ints}
-use Rattle.std.proofs.lemmas.Option.{none-some, same_Some}
-use Rattle.moo_value.specs.declared.value.ObjNo.{ObjNo}
-use Rattle.moo_rows.specs.declared.row.ObjRow.{ObjRow}
-use Rattle.moo_rows.specs.declared.row.PropId.{PropId}
-use Rattle.moo_rows.specs.declared.row.PropRow.{PropRow}
-use Rattle.moo_rows.specs.declared.row.SlotRow.{SlotRow}
+use Rattle.moo_damage.proofs.Words.{◌≡◌, ℕ, ◌<◌, ℤ, pos, Bool, true, false, ◌||◌, ◌&&◌, Option, None, Some, List, [], ◌∷◌, refl, sym, ap, ◌∙◌, subst, inl, inr, arith, ◌≤ℤ◌, int_lt, nat_lt, nat_le, not, is_some, unwrap_or, option_map, get, entries, false≢true, and_parts, or_cases, nat_tests, ints, none-some, same_Some, ObjNo, ObjRow, PropId, PropRow, SlotRow, Clear, Maps, Pair, same_object, same_text, folded, is_among, same_object-Decides, same_text-Decides, IsGood, look_ups, world_of, world_shown, prop_id, World, Climbs, Chain, is_object, chain, owed_by, pair_named, some_of, is_object_seen, Chain-chain, chain_of_none, nothing_is_no_object, entries_held, is_clear, share_name, is_double, is_owed, IsClean, defines}
 use Rattle.moo_rows.specs.declared.row.SlotState.{SlotState}
-use Rattle.moo_rows.specs.declared.row.SlotState.TheVariants.{Clear, Set}
-use Rattle.moo_rows.specs.Maps.{Maps}
-use Rattle.moo_world.specs.Objects.{Pair, same_object, same_text, folded, is_among, same_object-Decides, same_text-Decides}
-use Rattle.moo_world.specs.Rows.{IsGood, look_ups, world_of, world_shown, prop_id, slot_seen}
-use Rattle.moo_world.specs.World.{World, Slot, Climbs, Chain, is_object, chain, owed_by, pair_named}
+use Rattle.moo_rows.specs.declared.row.SlotState.TheVariants.{Set}
+use Rattle.moo_world.specs.Rows.{slot_seen}
+use Rattle.moo_world.specs.World.{Slot}
 use Rattle.moo_world.proofs.Inheritance.Owed.{named_owed, definer_among}
-use Rattle.moo_world.proofs.Shown.PairLists.{some_of}
 use Rattle.moo_world.proofs.Shown.RowLaws.{slot_shown}
-use Rattle.moo_world.proofs.Shown.Seen.{is_object_seen}
-use Rattle.moo_world.proofs.Ancestry.Trees.{Chain-chain, chain_of_none, nothing_is_no_object}
 use Rattle.moo_props.proofs.Gains.{slot_on_heir}
-use Rattle.moo_props.proofs.Owing.{entries_held}
-use Rattle.moo_world.specs.PropertyCalls.{is_clear}
-use Rattle.moo_damage.specs.Damage.{share_name, is_double, is_owed, IsClean}
-use Rattle.moo_props.specs.Names.{defines}
 use Rattle.moo_damage.proofs.Apart.{one_passing}
 use Rattle.moo_damage.proofs.Good.{parents_seen, places_seen}
 

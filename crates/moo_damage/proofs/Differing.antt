@@ -1,101 +1,60 @@
 -- Where two lots of rows differ first.
-use Rattle.std.proofs.Common.{◌≡◌, ◌≢◌, pos, negsuc, None, Some, Less, sym, arith}
-use Rattle.std.specs.Cmp.{int_cmp_is}
+use Rattle.moo_damage.proofs.Words.{◌≡◌, ◌≢◌, pos, negsuc, None, Some, Less, sym, arith, int_cmp_is, get, ObjNo, PetitionId, PropId, VerbId, object_exact, prop_exact, slot_exact, verb_exact, petition_exact, Maps, object_total, prop_total, slot_total, verb_total, petition_total, Key, Head, Object, Prop, Verb, Petition, IsFirstUnlike, IsBelow}
 use Rattle.std.specs.FinMap.{same_map}
-use Rattle.moo_value.specs.declared.value.ObjNo.{ObjNo}
-use Rattle.moo_rows.specs.declared.row.PetitionId.{PetitionId}
-use Rattle.moo_rows.specs.declared.row.PropId.{PropId}
-use Rattle.moo_rows.specs.declared.row.VerbId.{VerbId}
-use Rattle.moo_rows.specs.Exact.{object_exact, prop_exact, slot_exact, verb_exact, petition_exact}
-use Rattle.moo_rows.specs.Maps.{Maps}
-use Rattle.moo_rows.proofs.Orders.{object_total, prop_total, slot_total, verb_total, petition_total}
-use Rattle.moo_damage.specs.declared.kind.Key.{Key}
-use Rattle.moo_damage.specs.declared.kind.Key.TheVariants.{Head, Object, Prop, Slot, Verb, Petition}
-use Rattle.moo_damage.specs.Differences.{AgreeAt, IsFirstDifference, IsFirstUnlike}
-use Rattle.moo_damage.specs.Kinds.{IsBelow}
+use Rattle.moo_damage.specs.declared.kind.Key.TheVariants.{Slot}
+use Rattle.moo_damage.specs.Differences.{AgreeAt, IsFirstDifference}
 use Rattle.moo_damage.proofs.Least.{number_less, pair_less}
 
 module _ (a b : Maps) where
-  pub in_head : a.head ≢ b.head → IsFirstDifference a b Head
-  in_head d = (d, by)
+  -- a key at which they differ, and below which no row of any map does
+  first_at : (key : Key) → ¬ (AgreeAt a b key) → (IsBelow Head key → a.head ≡ b.head) → ((x : ObjNo) → IsBelow (Object x.0) key → get a.objects x ≡ get b.objects x)
+      → ((id : PropId) → IsBelow (Prop (pos id.0)) key → get a.props id ≡ get b.props id) → ((k : ObjNo × PropId) → IsBelow (Slot k.0.0 (pos k.1.0)) key → get a.slots k ≡ get b.slots k)
+      → ((k : ObjNo × VerbId) → IsBelow (Verb k.0.0 (pos k.1.0)) key → get a.verbs k ≡ get b.verbs k) → ((id : PetitionId) → IsBelow (Petition (pos id.0)) key → get a.petitions id ≡ get b.petitions id)
+      → IsFirstDifference a b key
+  first_at key n head o p s v r = (n, by)
     where
-      by : (other : Key) → IsBelow other Head → AgreeAt a b other
-      by Head l = absurd (omega (arith, l))
-      by (Object n) l = absurd (omega (arith, l))
-      by (Prop i) l = absurd (omega (arith, l))
-      by (Slot n i) l = absurd (omega (arith, l))
-      by (Verb n i) l = absurd (omega (arith, l))
-      by (Petition i) l = absurd (omega (arith, l))
+      by : (other : Key) → IsBelow other key → AgreeAt a b other
+      by Head l = head l
+      by (Object n) l = o (record { 0 = n }) l
+      by (Prop (pos i)) l = p (record { 0 = i }) l
+      by (Prop (negsuc i)) l = tt
+      by (Slot n (pos i)) l = s (record { 0 = n }, record { 0 = i }) l
+      by (Slot n (negsuc i)) l = tt
+      by (Verb n (pos i)) l = v (record { 0 = n }, record { 0 = i }) l
+      by (Verb n (negsuc i)) l = tt
+      by (Petition (pos i)) l = r (record { 0 = i }) l
+      by (Petition (negsuc i)) l = tt
+
+  pub in_head : a.head ≢ b.head → IsFirstDifference a b Head
+  in_head d = first_at Head d (λ l. absurd (omega (arith, l))) (λ x l. absurd (omega (arith, l))) (λ i l. absurd (omega (arith, l))) (λ k l. absurd (omega (arith, l))) (λ k l. absurd (omega (arith, l))) (λ i l. absurd (omega (arith, l)))
 
   module _ (head : a.head ≡ b.head) where
     pub in_objects : (x : ObjNo) → IsFirstUnlike a.objects b.objects (Some x) → IsFirstDifference a b (Object x.0)
-    in_objects x f = (f.0, by)
-      where
-        by : (other : Key) → IsBelow other (Object x.0) → AgreeAt a b other
-        by Head l = head
-        by (Object n) l = f.1 (record { 0 = n }) (sym (int_cmp_is n x.0 Less l))
-        by (Prop i) l = absurd (omega (arith, l))
-        by (Slot n i) l = absurd (omega (arith, l))
-        by (Verb n i) l = absurd (omega (arith, l))
-        by (Petition i) l = absurd (omega (arith, l))
+    in_objects x f =
+        first_at (Object x.0) f.0 (λ l. head) (λ y l. f.1 y (sym (int_cmp_is y.0 x.0 Less l)))
+        (λ i l. absurd (omega (arith, l))) (λ k l. absurd (omega (arith, l))) (λ k l. absurd (omega (arith, l))) (λ i l. absurd (omega (arith, l)))
 
     module _ (objects : IsFirstUnlike a.objects b.objects None) where
       pub in_props : (id : PropId) → IsFirstUnlike a.props b.props (Some id) → IsFirstDifference a b (Prop (pos id.0))
-      in_props id f = (f.0, by)
-        where
-          by : (other : Key) → IsBelow other (Prop (pos id.0)) → AgreeAt a b other
-          by Head l = head
-          by (Object n) l = objects (record { 0 = n })
-          by (Prop (pos i)) l = f.1 (record { 0 = i }) (number_less i id.0 l)
-          by (Prop (negsuc i)) l = tt
-          by (Slot n i) l = absurd (omega (arith, l))
-          by (Verb n i) l = absurd (omega (arith, l))
-          by (Petition i) l = absurd (omega (arith, l))
+      in_props id f =
+          first_at (Prop (pos id.0)) f.0 (λ l. head) (λ y l. objects y) (λ i l. f.1 i (number_less i.0 id.0 l))
+          (λ k l. absurd (omega (arith, l))) (λ k l. absurd (omega (arith, l))) (λ i l. absurd (omega (arith, l)))
 
       module _ (props : IsFirstUnlike a.props b.props None) where
         pub in_slots : (key : ObjNo × PropId) → IsFirstUnlike a.slots b.slots (Some key) → IsFirstDifference a b (Slot key.0.0 (pos key.1.0))
-        in_slots key f = (f.0, by)
-          where
-            by : (other : Key) → IsBelow other (Slot key.0.0 (pos key.1.0)) → AgreeAt a b other
-            by Head l = head
-            by (Object n) l = objects (record { 0 = n })
-            by (Prop (pos i)) l = props (record { 0 = i })
-            by (Prop (negsuc i)) l = tt
-            by (Slot n (pos i)) l = f.1 (record { 0 = n }, record { 0 = i }) (pair_less n key.0.0 i key.1.0 l)
-            by (Slot n (negsuc i)) l = tt
-            by (Verb n i) l = absurd (omega (arith, l))
-            by (Petition i) l = absurd (omega (arith, l))
+        in_slots key f =
+            first_at (Slot key.0.0 (pos key.1.0)) f.0 (λ l. head) (λ y l. objects y) (λ i l. props i) (λ k l. f.1 k (pair_less k.0.0 key.0.0 k.1.0 key.1.0 l))
+            (λ k l. absurd (omega (arith, l))) (λ i l. absurd (omega (arith, l)))
 
         module _ (slots : IsFirstUnlike a.slots b.slots None) where
           pub in_verbs : (key : ObjNo × VerbId) → IsFirstUnlike a.verbs b.verbs (Some key) → IsFirstDifference a b (Verb key.0.0 (pos key.1.0))
-          in_verbs key f = (f.0, by)
-            where
-              by : (other : Key) → IsBelow other (Verb key.0.0 (pos key.1.0)) → AgreeAt a b other
-              by Head l = head
-              by (Object n) l = objects (record { 0 = n })
-              by (Prop (pos i)) l = props (record { 0 = i })
-              by (Prop (negsuc i)) l = tt
-              by (Slot n (pos i)) l = slots (record { 0 = n }, record { 0 = i })
-              by (Slot n (negsuc i)) l = tt
-              by (Verb n (pos i)) l = f.1 (record { 0 = n }, record { 0 = i }) (pair_less n key.0.0 i key.1.0 l)
-              by (Verb n (negsuc i)) l = tt
-              by (Petition i) l = absurd (omega (arith, l))
+          in_verbs key f =
+              first_at (Verb key.0.0 (pos key.1.0)) f.0 (λ l. head) (λ y l. objects y) (λ i l. props i) (λ k l. slots k) (λ k l. f.1 k (pair_less k.0.0 key.0.0 k.1.0 key.1.0 l))
+              (λ i l. absurd (omega (arith, l)))
 
           module _ (verbs : IsFirstUnlike a.verbs b.verbs None) where
             pub in_petitions : (id : PetitionId) → IsFirstUnlike a.petitions b.petitions (Some id) → IsFirstDifference a b (Petition (pos id.0))
-            in_petitions id f = (f.0, by)
-              where
-                by : (other : Key) → IsBelow other (Petition (pos id.0)) → AgreeAt a b other
-                by Head l = head
-                by (Object n) l = objects (record { 0 = n })
-                by (Prop (pos i)) l = props (record { 0 = i })
-                by (Prop (negsuc i)) l = tt
-                by (Slot n (pos i)) l = slots (record { 0 = n }, record { 0 = i })
-                by (Slot n (negsuc i)) l = tt
-                by (Verb n (pos i)) l = verbs (record { 0 = n }, record { 0 = i })
-                by (Verb n (negsuc i)) l = tt
-                by (Petition (pos i)) l = f.1 (record { 0 = i }) (number_less i id.0 l)
-                by (Petition (negsuc i)) l = tt
+            in_petitions id f = first_at (Petition (pos id.0)) f.0 (λ l. head) (λ y l. objects y) (λ i l. props i) (λ k l. slots k) (λ k l. verbs k) (λ i l. f.1 i (number_less i.0 id.0 l))
 
             pub nowhere : IsFirstUnlike a.petitions b.petitions None → a ≡ b
             nowhere petitions =

@@ -1,27 +1,7 @@
 -- Chains of links among rows: how long they are, and one step along them.
-use Rattle.std.proofs.Common.{◌≡◌, suc, ◌≤◌, Bool, true, false, cond, Option, None, Some, List, [], ◌∷◌, length, Ordering, refl, sym, ap, ◌∙◌, subst, ◌⊎◌, inl, inr}
-use Rattle.std.specs.Prelude.{is_some}
-use Rattle.std.specs.Option.{option_map}
+use Rattle.moo_damage.proofs.Words.{◌≡◌, suc, ◌≤◌, Bool, true, false, cond, Option, None, Some, List, [], ◌∷◌, length, Ordering, refl, sym, ap, ◌∙◌, subst, ◌⊎◌, inl, inr, is_some, option_map, eq_by_cmp, list_any, IsDistinct, AllByRecursion, FinMap, get, insert, find, entries, get-entries, get-insert, lookup, false≢true, or_parts, or_cases, none-some, same_Some, ObjNo, ObjRow, Maps, object_cmp, object_exact, object_total, nothing, same_object, is_among, same_object-Decides, Climbs, Climbs-once, decided_alike, key-Decides, Link, link_of, next_of, HasEnd, LinksHold, AreEnding}
 use Rattle.std.specs.Cmp.{eq_by_cmp_equiv}
-use Rattle.std.specs.Ordering.{eq_by_cmp}
-use Rattle.std.specs.List.{list_any, IsDistinct, AllByRecursion}
-use Rattle.std.specs.FinMap.{FinMap, get, insert, find, entries, get-entries, get-insert}
-use Rattle.std.specs.Map.{lookup}
-use Rattle.std.proofs.lemmas.Bool.{false≢true, or_parts, or_cases}
 use Rattle.std.proofs.lemmas.Map.Steps.{length-le_from_keys}
-use Rattle.std.proofs.lemmas.Option.{none-some, same_Some}
-use Rattle.moo_value.specs.declared.value.ObjNo.{ObjNo}
-use Rattle.moo_rows.specs.declared.row.ObjRow.{ObjRow}
-use Rattle.moo_rows.specs.Maps.{Maps, object_cmp}
-use Rattle.moo_rows.specs.Exact.{object_exact}
-use Rattle.moo_rows.proofs.Orders.{object_total}
-use Rattle.moo_world.specs.Objects.{nothing, same_object, is_among, same_object-Decides}
-use Rattle.moo_world.specs.World.{Climbs}
-use Rattle.moo_world.proofs.Ancestry.Chains.{Climbs-once}
-use Rattle.moo_world.proofs.Shown.MapLaws.{decided_alike, key-Decides}
-use Rattle.moo_damage.specs.declared.trees.Link.{Link}
-use Rattle.moo_damage.specs.Damage.{link_of, next_of, HasEnd, LinksHold}
-use Rattle.moo_damage.specs.Noted.{AreEnding}
 
 find-lookup : {K X : Type 0} (cmp : K → K → Ordering) (q : K) (es : List (K × X)) → lookup (eq_by_cmp cmp q) es ≡ find cmp q es
 find-lookup cmp q [] = refl

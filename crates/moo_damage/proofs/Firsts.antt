@@ -1,16 +1,10 @@
 -- The first bad row of a map, found by going through its entries in order.
-use Rattle.std.proofs.Common.{◌≡◌, Bool, true, false, cond, T, Option, None, Some, List, [], ◌∷◌, Ordering, Less, refl, sym, ap, ◌∙◌, subst, ◌⊎◌, inl, inr}
-use Rattle.std.specs.Cmp.{IsTotalOrder, tied_itself}
-use Rattle.std.specs.Ordering.{eq_by_cmp, is_eq, ordering_reverse}
-use Rattle.std.specs.List.{AllByRecursion}
-use Rattle.std.specs.FinMap.{FinMap, get, find, is_sorted, entries, entries_sorted, get-entries}
+use Rattle.moo_damage.proofs.Words.{◌≡◌, Bool, true, false, cond, Option, None, Some, List, [], ◌∷◌, Ordering, Less, refl, sym, ap, ◌∙◌, subst, ◌⊎◌, inl, inr, IsTotalOrder, tied_itself, eq_by_cmp, is_eq, ordering_reverse, AllByRecursion, FinMap, get, find, entries, get-entries, CmpEqualImpliesEq, none-some, same_Some, key-Decides, IsLeastBad}
+use Rattle.std.proofs.Common.{T}
+use Rattle.std.specs.FinMap.{is_sorted, entries_sorted}
 use Rattle.std.specs.FinMap.Entries.{below_all}
-use Rattle.std.proofs.lemmas.Map.Lookups.{CmpEqualImpliesEq}
-use Rattle.std.proofs.lemmas.Option.{none-some, same_Some}
 use Rattle.moo_rows.proofs.Walking.{first_of, second_of, less_of, elsewhere, here}
 use Rattle.moo_world.proofs.Shown.EntriesInOrder.{own_entries}
-use Rattle.moo_world.proofs.Shown.MapLaws.{key-Decides}
-use Rattle.moo_damage.specs.First.{IsLeastBad}
 
 module _ {K X : Type 0} (right bad : K → X → Type 0) where
   -- the first bad one of a list of entries, or none
@@ -83,10 +77,14 @@ module _ {K X : Type 0} {cmp : K → K → Ordering} (right bad : K → X → Ty
       held [] a = tt
       held (e ∷ es) a = (get-entries m e.0 ∙ a.0, held es a.1)
 
+  pub least_in : (o : Option K) → FirstIn right bad (entries m) o → IsLeastBad m right bad o
+  least_in None f = λ k r e. each_right right bad cmp total exact (entries m) f k r (sym (get-entries m k) ∙ e)
+  least_in (Some key) f =
+      let g = found_at right bad cmp total exact (entries m) (entries_sorted m) key f in
+      (g.0, get-entries m key ∙ g.1, g.2, λ k r l h. g.3 k r l (sym (get-entries m k) ∙ h))
+
   pub ended : (left : List (K × X)) → left ≡ [] → FirstLeft right bad left (entries m) → IsLeastBad m right bad None
-  ended left is f k r e = each_right right bad cmp total exact (entries m) (f None (subst (λ l. FirstIn right bad l None) (sym is) refl)) k r (sym (get-entries m k) ∙ e)
+  ended left is f = least_in None (f None (subst (λ l. FirstIn right bad l None) (sym is) refl))
 
   pub stopped : (left es : List (K × X)) (e : K × X) → left ≡ e ∷ es → FirstLeft right bad left (entries m) → bad e.0 e.1 → IsLeastBad m right bad (Some e.0)
-  stopped left es e is f b =
-      let g = found_at right bad cmp total exact (entries m) (entries_sorted m) e.0 (f (Some e.0) (subst (λ l. FirstIn right bad l (Some e.0)) (sym is) (inr (b, refl)))) in
-      (g.0, get-entries m e.0 ∙ g.1, g.2, λ k r l h. g.3 k r l (sym (get-entries m k) ∙ h))
+  stopped left es e is f b = least_in (Some e.0) (f (Some e.0) (subst (λ l. FirstIn right bad l (Some e.0)) (sym is) (inr (b, refl))))

@@ -1,41 +1,17 @@
 -- Rows within the limits that nothing is wrong with are sound, their world is well formed, and petitions stand as they may.
-use Rattle.std.proofs.Common.{◌≡◌, ◌≢◌, ℕ, ◌<◌, ◌≤◌, ℤ, pos, negsuc, Bool, true, false, ◌||◌, ◌&&◌, Option, None, Some, List, [], ◌∷◌, refl, sym, ap, ◌∙◌, subst, ◌⊎◌, inl, inr, arith}
-use Rattle.std.specs.Prelude.{◌≤ℤ◌, int_lt, nat_lt, nat_le, not, is_some, unwrap_or, if◌then◌else◌}
-use Rattle.std.specs.Option.{option_map, option_and_then}
-use Rattle.std.specs.List.{filter_map, list_any, list_all, IsDistinct, AllByRecursion}
-use Rattle.std.specs.FinMap.{get, entries, get-entries}
-use Rattle.std.proofs.lemmas.Bool.{false≢true, both_ways, and_parts, or_parts, or_cases, or_left, or_right, cases_lt}
-use Rattle.std.proofs.lemmas.Bool.Decides.{nat_tests}
-use Rattle.std.proofs.lemmas.Int.{ints}
-use Rattle.std.proofs.lemmas.Option.{none-some, same_Some}
-use Rattle.moo_value.specs.declared.value.ObjNo.{ObjNo}
-use Rattle.moo_rows.specs.declared.row.ObjRow.{ObjRow}
-use Rattle.moo_rows.specs.declared.row.PropRow.{PropRow}
-use Rattle.moo_rows.specs.declared.row.SlotRow.{SlotRow}
-use Rattle.moo_rows.specs.declared.row.SlotState.TheVariants.{Clear}
-use Rattle.moo_rows.specs.Exact.{prop_exact}
-use Rattle.moo_rows.specs.Maps.{Maps, prop_cmp}
-use Rattle.moo_rows.proofs.Orders.{prop_total}
-use Rattle.moo_world.specs.Objects.{Name, Pair, nothing, same_object, same_text, folded, is_among, same_object-Decides, same_text-Decides}
+use Rattle.moo_damage.proofs.Words.{◌≡◌, ◌≢◌, ℕ, ◌<◌, ◌≤◌, ℤ, pos, negsuc, Bool, true, false, ◌||◌, ◌&&◌, Option, None, Some, List, [], ◌∷◌, refl, sym, ap, ◌∙◌, subst, ◌⊎◌, inl, inr, arith, ◌≤ℤ◌, int_lt, nat_lt, nat_le, not, is_some, unwrap_or, if◌then◌else◌, option_map, filter_map, list_any, list_all, IsDistinct, AllByRecursion, get, entries, get-entries, false≢true, both_ways, and_parts, or_parts, or_cases, or_left, or_right, cases_lt, nat_tests, ints, none-some, same_Some, ObjNo, ObjRow, PropRow, SlotRow, Clear, prop_exact, Maps, prop_cmp, prop_total, Name, Pair, nothing, same_object, same_text, folded, is_among, same_object-Decides, same_text-Decides, IsGood, look_ups, world_of, world_shown, numbers_below, prop_id, World, Climbs, IsTree, Chain, is_object, parent_of, chain, owed_by, pair_named, Climbs-once, some_of, is_object_seen, chain_is, Chain-chain, chain_of_none, no_parent, entries_held, any_held, Link, Parent, Place, is_clear, next_of, link_of, share_name, is_double, is_clear_definer, is_lost, LinksEnd, LinksHold, IsClean}
+use Rattle.std.specs.Option.{option_and_then}
 use Rattle.moo_world.specs.Petitions.{PetitionsStand}
-use Rattle.moo_world.specs.Rows.{LookUps, AreSound, IsGood, look_ups, world_of, world_shown, record_of, numbers_below, name_on, prop_id, verb_id}
-use Rattle.moo_world.specs.World.{World, Record, Slot, Climbs, IsTree, KeepsLimits, Chain, NamesDiffer, is_object, parent_of, location_of, chain, names_of, defined_by, owed_by, pair_named, slot_of, slot_fits, row_fits, verb_fits, is_property_name, without_slots}
-use Rattle.moo_world.proofs.Ancestry.Chains.{Climbs-once}
+use Rattle.moo_world.specs.Rows.{LookUps, AreSound, record_of, name_on, verb_id}
+use Rattle.moo_world.specs.World.{Record, Slot, KeepsLimits, NamesDiffer, location_of, names_of, defined_by, slot_of, slot_fits, row_fits, verb_fits, is_property_name, without_slots}
 use Rattle.moo_world.proofs.Inheritance.Keeping.{named_is}
 use Rattle.moo_world.proofs.Inheritance.Owed.{named_so, found_among}
-use Rattle.moo_world.proofs.Shown.PairLists.{some_of}
 use Rattle.moo_world.proofs.Shown.RowLaws.{names_shown}
-use Rattle.moo_world.proofs.Shown.Seen.{is_object_seen}
 use Rattle.moo_world.proofs.Shown.Slots.{SlotHere, slot_from, no_slot_from}
 use Rattle.moo_world.proofs.Ancestry.Subtrees.{owed_listed}
-use Rattle.moo_world.proofs.Ancestry.Trees.{chain_is, Chain-chain, chain_of_none, no_parent}
 use Rattle.moo_props.proofs.Gains.{defines_pair}
-use Rattle.moo_props.proofs.Owing.{any_owed, entries_held}
-use Rattle.moo_props.proofs.Walked.{any_held}
-use Rattle.moo_damage.specs.declared.trees.Link.{Link}
-use Rattle.moo_damage.specs.declared.trees.Link.TheVariants.{Parent, Place}
-use Rattle.moo_world.specs.PropertyCalls.{is_clear}
-use Rattle.moo_damage.specs.Damage.{next_of, link_of, share_name, is_double, is_clear_definer, is_lost, NumbersGiven, LinksEnd, LinksHold, IsClean}
+use Rattle.moo_props.proofs.Owing.{any_owed}
+use Rattle.moo_damage.specs.Damage.{NumbersGiven}
 use Rattle.moo_damage.specs.Limits.{AreWithin}
 use Rattle.moo_damage.proofs.Apart.{both_true, all_map, none_any, one_passing, all_made, distinct_append, all_numbers, distinct_numbers, distinct_mapped}
 

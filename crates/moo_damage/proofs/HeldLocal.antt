@@ -1,29 +1,5 @@
 -- Slots that are just those that are owed, with names apart, hold locally.
-use Rattle.std.proofs.Common.{◌≡◌, ◌<◌, ◌≤◌, Bool, true, false, ◌||◌, ◌&&◌, Option, None, Some, List, [], ◌∷◌, refl, sym, ap, ◌∙◌, subst, ◌⊎◌, inl, inr, arith}
-use Rattle.std.specs.Prelude.{nat_lt, not, is_some, unwrap_or}
-use Rattle.std.specs.Option.{option_map}
-use Rattle.std.specs.FinMap.{get, entries, get-entries}
-use Rattle.std.proofs.lemmas.Bool.{false≢true, both_ways, or_cases, or_left, or_right, cases_lt}
-use Rattle.std.proofs.lemmas.Bool.Decides.{nat_tests}
-use Rattle.std.proofs.lemmas.Option.{none-some, same_Some}
-use Rattle.moo_value.specs.declared.value.ObjNo.{ObjNo}
-use Rattle.moo_rows.specs.declared.row.ObjRow.{ObjRow}
-use Rattle.moo_rows.specs.declared.row.PropId.{PropId}
-use Rattle.moo_rows.specs.declared.row.PropRow.{PropRow}
-use Rattle.moo_rows.specs.Exact.{prop_exact}
-use Rattle.moo_rows.specs.Maps.{Maps, prop_cmp}
-use Rattle.moo_rows.proofs.Orders.{prop_total}
-use Rattle.moo_world.specs.Objects.{same_object, folded, is_among, same_object-Decides, same_text-Decides}
-use Rattle.moo_world.specs.Rows.{look_ups, world_of}
-use Rattle.moo_world.specs.World.{World, IsTree, Chain, is_object, parent_of, chain}
-use Rattle.moo_world.proofs.Shown.PairLists.{some_of}
-use Rattle.moo_world.proofs.Shown.Seen.{is_object_seen}
-use Rattle.moo_world.proofs.Ancestry.Trees.{Chain-chain, chain_is, chain_of_none, no_parent}
-use Rattle.moo_props.specs.Names.{defines}
-use Rattle.moo_props.proofs.Walked.{any_held}
-use Rattle.moo_damage.specs.declared.trees.Link.TheVariants.{Parent}
-use Rattle.moo_damage.specs.Damage.{link_of, lacks_definer, share_name, is_double}
-use Rattle.moo_damage.specs.Local.{has_slot, comes_down, AreLocal, SlotsHold}
+use Rattle.moo_damage.proofs.Words.{◌≡◌, ◌<◌, ◌≤◌, Bool, true, false, ◌||◌, ◌&&◌, Option, None, Some, List, [], ◌∷◌, refl, sym, ap, ◌∙◌, subst, ◌⊎◌, inl, inr, arith, nat_lt, not, is_some, unwrap_or, option_map, get, entries, get-entries, false≢true, both_ways, or_cases, or_left, or_right, cases_lt, nat_tests, none-some, same_Some, ObjNo, ObjRow, PropId, PropRow, prop_exact, Maps, prop_cmp, prop_total, same_object, folded, is_among, same_object-Decides, same_text-Decides, look_ups, world_of, World, IsTree, Chain, is_object, parent_of, chain, some_of, is_object_seen, Chain-chain, chain_is, chain_of_none, no_parent, defines, any_held, Parent, link_of, lacks_definer, share_name, is_double, has_slot, comes_down, AreLocal, SlotsHold}
 use Rattle.moo_damage.proofs.Apart.{both_true}
 use Rattle.moo_damage.proofs.Good.{parents_seen}
 

@@ -1,11 +1,7 @@
 -- Kinds one after another.
-use Rattle.std.proofs.Common.{◌≡◌, ℕ, suc, ◌<◌, Bool, true, false, Option, None, Some, List, [], ◌∷◌, get_or, refl, sym, ap, ◌∙◌, subst, arith}
-use Rattle.std.specs.Prelude.{nat_lt, IfSome}
-use Rattle.std.proofs.lemmas.Bool.Decides.{nat_tests}
-use Rattle.moo_damage.specs.declared.kind.Kind.{Kind}
-use Rattle.moo_damage.specs.declared.kind.Kind.TheVariants.{BadHead, BadCell, PastHead, NoParent, ParentLoop, NoPlace, PlaceLoop, NoDefiner, DoubleName, StrangeSlot, MissingSlot, ClearDefiner, StrangeVerb, Mismatch}
-use Rattle.moo_damage.specs.declared.kind.Key.{Key}
-use Rattle.moo_damage.specs.Kinds.{place, NoneBefore, IsLeast, IsFirstMet, IsFirstBefore}
+use Rattle.moo_damage.proofs.Words.{◌≡◌, ℕ, suc, ◌<◌, Bool, true, false, Option, None, Some, List, [], ◌∷◌, get_or, refl, sym, ap, ◌∙◌, subst, arith, nat_lt, nat_tests, Kind, BadHead, BadCell, PastHead, NoParent, ParentLoop, NoPlace, PlaceLoop, NoDefiner, DoubleName, StrangeSlot, MissingSlot, ClearDefiner, StrangeVerb, Mismatch, Key, place, NoneBefore, IsLeast, IsFirstMet}
+use Rattle.std.specs.Prelude.{IfSome}
+use Rattle.moo_damage.specs.Kinds.{IsFirstBefore}
 
 abbrev kinds : List Kind
 kinds = BadHead ∷ BadHead ∷ BadCell ∷ PastHead ∷ NoParent ∷ ParentLoop ∷ NoPlace ∷ PlaceLoop ∷ NoDefiner ∷ DoubleName ∷ StrangeSlot ∷ MissingSlot ∷ ClearDefiner ∷ StrangeVerb ∷ Mismatch ∷ []

@@ -1,24 +1,7 @@
 -- The first slot that is missing, as the least key at which one is.
-use Rattle.std.proofs.Common.{◌≡◌, Bool, true, false, Option, None, Some, Less, sym, ap, subst, inl, inr}
-use Rattle.std.specs.Prelude.{◌<ℤ◌, not, pos, is_some, unwrap_or, ◌⊎◌}
-use Rattle.std.specs.Cmp.{int_cmp_is}
-use Rattle.std.specs.Option.{option_map}
-use Rattle.std.specs.FinMap.{get}
-use Rattle.std.proofs.lemmas.Bool.{false≢true, and_parts, both_ways}
-use Rattle.moo_value.specs.declared.value.ObjNo.{ObjNo}
-use Rattle.moo_rows.specs.declared.row.PropId.{PropId}
-use Rattle.moo_rows.specs.declared.row.PropRow.{PropRow}
-use Rattle.moo_rows.specs.Maps.{Maps}
-use Rattle.moo_world.specs.Objects.{is_among}
-use Rattle.moo_world.specs.Rows.{world_of}
-use Rattle.moo_world.specs.World.{chain}
-use Rattle.moo_world.proofs.Shown.PairLists.{some_of}
+use Rattle.moo_damage.proofs.Words.{◌≡◌, Bool, true, false, Option, None, Some, Less, sym, ap, subst, inl, inr, ◌<ℤ◌, not, pos, is_some, unwrap_or, ◌⊎◌, int_cmp_is, option_map, get, false≢true, and_parts, both_ways, ObjNo, PropId, PropRow, Maps, is_among, world_of, chain, some_of, MissingSlot, is_owed, is_missing, AtSlot, InRows, IsLeast, IsFirstMissing, Misses}
 use Rattle.moo_damage.specs.declared.kind.Key.TheVariants.{Slot}
-use Rattle.moo_damage.specs.declared.kind.Kind.TheVariants.{MissingSlot}
-use Rattle.moo_damage.specs.Damage.{is_owed, is_missing}
-use Rattle.moo_damage.specs.Kinds.{AtSlot, InRows, IsLeast}
-use Rattle.moo_damage.specs.Missing.{IsFirstMissing, Misses}
-use Rattle.moo_damage.proofs.Least.{least_slot, number_less}
+use Rattle.moo_damage.proofs.Least.{least_at, number_less}
 
 mapped_some : {A : Type 0} (o : Option A) (f : A → Bool) → unwrap_or (option_map f o) false ≡ true → is_some o ≡ true
 mapped_some None f e = absurd (false≢true e)
@@ -36,7 +19,7 @@ module _ (m : Maps) where
   none_missing f key h = let row = some_of (get m.objects key.0) h.0 in none_of key.0 (f key.0 row.0 row.1) key.1 h.1
 
   pub missing_first : (key : ObjNo × PropId) → IsFirstMissing m (Some key) → IsLeast (InRows m MissingSlot) (Some (Slot key.0.0 (pos key.1.0)))
-  missing_first key f = least_slot m MissingSlot key (λ x h. h) (λ id h. h) (ap is_some f.1, f.2.2) by
+  missing_first key f = least_at m MissingSlot (Slot key.0.0 (pos key.1.0)) (ap is_some f.1, f.2.2) (λ x l h. h) (λ id l h. h) by (λ k l h. h) (λ id l h. h)
     where
       by : (k : ObjNo × PropId) → (k.0.0 <ℤ key.0.0) ⊎ ((k.0.0 ≡ key.0.0) × (pos k.1.0 <ℤ pos key.1.0)) → ¬ (AtSlot m MissingSlot k)
       by k (inl l) h =

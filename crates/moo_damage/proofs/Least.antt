@@ -1,25 +1,8 @@
 -- From the first bad row of a map to the least key at which a kind is met.
-use Rattle.std.proofs.Common.{◌≡◌, ℕ, ℤ, pos, negsuc, None, Some, Ordering, Less, Equal, sym, ap, ◌∙◌, ◌⊎◌, inl, inr, arith}
-use Rattle.std.specs.Prelude.{◌<ℤ◌}
-use Rattle.std.specs.Cmp.{int_cmp_is, nat_cmp_is}
-use Rattle.std.specs.Ordering.{int_cmp, nat_cmp, ordering_then}
-use Rattle.std.specs.FinMap.{FinMap, get}
-use Rattle.std.proofs.lemmas.Int.{ints}
-use Rattle.moo_value.specs.declared.value.ObjNo.{ObjNo}
-use Rattle.moo_rows.specs.declared.row.ObjRow.{ObjRow}
-use Rattle.moo_rows.specs.declared.row.PetitionId.{PetitionId}
-use Rattle.moo_rows.specs.declared.row.PetitionRow.{PetitionRow}
-use Rattle.moo_rows.specs.declared.row.PropId.{PropId}
-use Rattle.moo_rows.specs.declared.row.PropRow.{PropRow}
-use Rattle.moo_rows.specs.declared.row.SlotRow.{SlotRow}
-use Rattle.moo_rows.specs.declared.row.VerbId.{VerbId}
-use Rattle.moo_rows.specs.declared.row.VerbRow.{VerbRow}
-use Rattle.moo_rows.specs.Maps.{Maps}
-use Rattle.moo_damage.specs.declared.kind.Kind.{Kind}
-use Rattle.moo_damage.specs.declared.kind.Key.{Key}
-use Rattle.moo_damage.specs.declared.kind.Key.TheVariants.{Head, Object, Prop, Slot, Verb, Petition}
-use Rattle.moo_damage.specs.First.{IsLeastBad}
-use Rattle.moo_damage.specs.Kinds.{IsBelow, Has, AtObject, AtProp, AtSlot, AtVerb, AtPetition, InRows, IsLeast}
+use Rattle.moo_damage.proofs.Words.{◌≡◌, ℕ, ℤ, pos, negsuc, None, Some, Ordering, Less, Equal, sym, ap, ◌∙◌, ◌⊎◌, inl, inr, arith, ◌<ℤ◌, int_cmp_is, nat_cmp_is, nat_cmp, ordering_then, FinMap, get, ints, ObjNo, ObjRow, PetitionId, PetitionRow, PropId, PropRow, SlotRow, VerbId, VerbRow, Maps, Kind, Key, Head, Object, Prop, Verb, Petition, IsLeastBad, IsBelow, AtSlot, InRows, IsLeast}
+use Rattle.std.specs.Ordering.{int_cmp}
+use Rattle.moo_damage.specs.declared.kind.Key.TheVariants.{Slot}
+use Rattle.moo_damage.specs.Kinds.{Has, AtObject, AtProp, AtVerb, AtPetition}
 
 pub number_less : (i j : ℕ) → pos i <ℤ pos j → nat_cmp i j ≡ Less
 number_less i j l = sym (nat_cmp_is i j Less (omega (arith, ints, l)))
@@ -45,73 +28,22 @@ module _ (m : Maps) (kind : Kind) where
   none_met a b c d e (Petition (pos i)) h = e (record { 0 = i }) h
   none_met a b c d e (Petition (negsuc i)) h = h
 
-  -- below the first object
-  pub least_object : (x : ObjNo) → AtObject m kind x → ((y : ObjNo) → y.0 <ℤ x.0 → ¬ (AtObject m kind y)) → IsLeast (InRows m kind) (Some (Object x.0))
-  least_object x h f = (h, by)
+  -- a key at which the kind is met, and below which no row of any map has it
+  pub least_at : (key : Key) → InRows m kind key → ((x : ObjNo) → IsBelow (Object x.0) key → ¬ (AtObject m kind x)) → ((id : PropId) → IsBelow (Prop (pos id.0)) key → ¬ (AtProp m kind id))
+      → ((k : ObjNo × PropId) → IsBelow (Slot k.0.0 (pos k.1.0)) key → ¬ (AtSlot m kind k)) → ((k : ObjNo × VerbId) → IsBelow (Verb k.0.0 (pos k.1.0)) key → ¬ (AtVerb m kind k))
+      → ((id : PetitionId) → IsBelow (Petition (pos id.0)) key → ¬ (AtPetition m kind id)) → IsLeast (InRows m kind) (Some key)
+  least_at key h a b c d e = (h, by)
     where
-      by : (other : Key) → IsBelow other (Object x.0) → ¬ (InRows m kind other)
+      by : (other : Key) → IsBelow other key → ¬ (InRows m kind other)
       by Head l k = k
-      by (Object n) l k = f (record { 0 = n }) l k
-      by (Prop i) l k = omega (arith, l)
-      by (Slot n i) l k = omega (arith, l)
-      by (Verb n i) l k = omega (arith, l)
-      by (Petition i) l k = omega (arith, l)
-
-  pub least_prop : (id : PropId) → ((y : ObjNo) → ¬ (AtObject m kind y)) → AtProp m kind id → ((i : PropId) → pos i.0 <ℤ pos id.0 → ¬ (AtProp m kind i)) → IsLeast (InRows m kind) (Some (Prop (pos id.0)))
-  least_prop id a h f = (h, by)
-    where
-      by : (other : Key) → IsBelow other (Prop (pos id.0)) → ¬ (InRows m kind other)
-      by Head l k = k
-      by (Object n) l k = a (record { 0 = n }) k
-      by (Prop (pos i)) l k = f (record { 0 = i }) l k
+      by (Object n) l k = a (record { 0 = n }) l k
+      by (Prop (pos i)) l k = b (record { 0 = i }) l k
       by (Prop (negsuc i)) l k = k
-      by (Slot n i) l k = omega (arith, l)
-      by (Verb n i) l k = omega (arith, l)
-      by (Petition i) l k = omega (arith, l)
-
-  pub least_slot : (key : ObjNo × PropId) → ((y : ObjNo) → ¬ (AtObject m kind y)) → ((id : PropId) → ¬ (AtProp m kind id)) → AtSlot m kind key
-      → ((k : ObjNo × PropId) → (k.0.0 <ℤ key.0.0) ⊎ ((k.0.0 ≡ key.0.0) × (pos k.1.0 <ℤ pos key.1.0)) → ¬ (AtSlot m kind k)) → IsLeast (InRows m kind) (Some (Slot key.0.0 (pos key.1.0)))
-  least_slot key a b h f = (h, by)
-    where
-      by : (other : Key) → IsBelow other (Slot key.0.0 (pos key.1.0)) → ¬ (InRows m kind other)
-      by Head l k = k
-      by (Object n) l k = a (record { 0 = n }) k
-      by (Prop (pos i)) l k = b (record { 0 = i }) k
-      by (Prop (negsuc i)) l k = k
-      by (Slot n (pos i)) l k = f (record { 0 = n }, record { 0 = i }) l k
+      by (Slot n (pos i)) l k = c (record { 0 = n }, record { 0 = i }) l k
       by (Slot n (negsuc i)) l k = k
-      by (Verb n i) l k = omega (arith, l)
-      by (Petition i) l k = omega (arith, l)
-
-  pub least_verb : (key : ObjNo × VerbId) → ((y : ObjNo) → ¬ (AtObject m kind y)) → ((id : PropId) → ¬ (AtProp m kind id)) → ((key : ObjNo × PropId) → ¬ (AtSlot m kind key)) → AtVerb m kind key
-      → ((k : ObjNo × VerbId) → (k.0.0 <ℤ key.0.0) ⊎ ((k.0.0 ≡ key.0.0) × (pos k.1.0 <ℤ pos key.1.0)) → ¬ (AtVerb m kind k)) → IsLeast (InRows m kind) (Some (Verb key.0.0 (pos key.1.0)))
-  least_verb key a b c h f = (h, by)
-    where
-      by : (other : Key) → IsBelow other (Verb key.0.0 (pos key.1.0)) → ¬ (InRows m kind other)
-      by Head l k = k
-      by (Object n) l k = a (record { 0 = n }) k
-      by (Prop (pos i)) l k = b (record { 0 = i }) k
-      by (Prop (negsuc i)) l k = k
-      by (Slot n (pos i)) l k = c (record { 0 = n }, record { 0 = i }) k
-      by (Slot n (negsuc i)) l k = k
-      by (Verb n (pos i)) l k = f (record { 0 = n }, record { 0 = i }) l k
+      by (Verb n (pos i)) l k = d (record { 0 = n }, record { 0 = i }) l k
       by (Verb n (negsuc i)) l k = k
-      by (Petition i) l k = omega (arith, l)
-
-  pub least_petition : (id : PetitionId) → ((y : ObjNo) → ¬ (AtObject m kind y)) → ((id : PropId) → ¬ (AtProp m kind id)) → ((key : ObjNo × PropId) → ¬ (AtSlot m kind key)) → ((key : ObjNo × VerbId) → ¬ (AtVerb m kind key))
-      → AtPetition m kind id → ((i : PetitionId) → pos i.0 <ℤ pos id.0 → ¬ (AtPetition m kind i)) → IsLeast (InRows m kind) (Some (Petition (pos id.0)))
-  least_petition id a b c d h f = (h, by)
-    where
-      by : (other : Key) → IsBelow other (Petition (pos id.0)) → ¬ (InRows m kind other)
-      by Head l k = k
-      by (Object n) l k = a (record { 0 = n }) k
-      by (Prop (pos i)) l k = b (record { 0 = i }) k
-      by (Prop (negsuc i)) l k = k
-      by (Slot n (pos i)) l k = c (record { 0 = n }, record { 0 = i }) k
-      by (Slot n (negsuc i)) l k = k
-      by (Verb n (pos i)) l k = d (record { 0 = n }, record { 0 = i }) k
-      by (Verb n (negsuc i)) l k = k
-      by (Petition (pos i)) l k = f (record { 0 = i }) l k
+      by (Petition (pos i)) l k = e (record { 0 = i }) l k
       by (Petition (negsuc i)) l k = k
 
 -- ---- the first bad row of a map, as the least key at which the kind is met
@@ -120,32 +52,36 @@ module _ (m : Maps) where
   pub object_first : (kind : Kind) (right bad : ObjNo → ObjRow → Type 0) → ((x : ObjNo) → Has (get m.objects) bad x → AtObject m kind x) → ((x : ObjNo) → AtObject m kind x → Has (get m.objects) bad x)
       → ((x : ObjNo) (row : ObjRow) → right x row → ¬ (bad x row)) → (x : ObjNo) → IsLeastBad m.objects right bad (Some x) → IsLeast (InRows m kind) (Some (Object x.0))
   object_first kind right bad to from apart x f =
-      least_object m kind x (to x (f.0, f.1, f.2))
+      least_at m kind (Object x.0) (to x (f.0, f.1, f.2))
       (λ y l h. let b = from y h in apart y b.0 (f.3 y b.0 (sym (int_cmp_is y.0 x.0 Less l)) b.1) b.2)
+      (λ i l h. omega (arith, l)) (λ k l h. omega (arith, l)) (λ k l h. omega (arith, l)) (λ i l h. omega (arith, l))
 
   pub prop_first : (kind : Kind) (right bad : PropId → PropRow → Type 0) → ((id : PropId) → Has (get m.props) bad id → AtProp m kind id) → ((id : PropId) → AtProp m kind id → Has (get m.props) bad id)
       → ((id : PropId) (row : PropRow) → right id row → ¬ (bad id row)) → ((y : ObjNo) → ¬ (AtObject m kind y)) → (id : PropId) → IsLeastBad m.props right bad (Some id) → IsLeast (InRows m kind) (Some (Prop (pos id.0)))
   prop_first kind right bad to from apart a id f =
-      least_prop m kind id a (to id (f.0, f.1, f.2))
+      least_at m kind (Prop (pos id.0)) (to id (f.0, f.1, f.2)) (λ y l. a y)
       (λ i l h. let b = from i h in apart i b.0 (f.3 i b.0 (number_less i.0 id.0 l) b.1) b.2)
+      (λ k l h. omega (arith, l)) (λ k l h. omega (arith, l)) (λ i l h. omega (arith, l))
 
   pub slot_first : (kind : Kind) (right bad : ObjNo × PropId → SlotRow → Type 0) → ((key : ObjNo × PropId) → Has (get m.slots) bad key → AtSlot m kind key) → ((key : ObjNo × PropId) → AtSlot m kind key → Has (get m.slots) bad key)
       → ((key : ObjNo × PropId) (row : SlotRow) → right key row → ¬ (bad key row)) → ((y : ObjNo) → ¬ (AtObject m kind y)) → ((id : PropId) → ¬ (AtProp m kind id))
       → (key : ObjNo × PropId) → IsLeastBad m.slots right bad (Some key) → IsLeast (InRows m kind) (Some (Slot key.0.0 (pos key.1.0)))
   slot_first kind right bad to from apart a b key f =
-      least_slot m kind key a b (to key (f.0, f.1, f.2))
+      least_at m kind (Slot key.0.0 (pos key.1.0)) (to key (f.0, f.1, f.2)) (λ y l. a y) (λ i l. b i)
       (λ k l h. let t = from k h in apart k t.0 (f.3 k t.0 (pair_less k.0.0 key.0.0 k.1.0 key.1.0 l) t.1) t.2)
+      (λ k l h. omega (arith, l)) (λ i l h. omega (arith, l))
 
   pub verb_first : (kind : Kind) (right bad : ObjNo × VerbId → VerbRow → Type 0) → ((key : ObjNo × VerbId) → Has (get m.verbs) bad key → AtVerb m kind key) → ((key : ObjNo × VerbId) → AtVerb m kind key → Has (get m.verbs) bad key)
       → ((key : ObjNo × VerbId) (row : VerbRow) → right key row → ¬ (bad key row)) → ((y : ObjNo) → ¬ (AtObject m kind y)) → ((id : PropId) → ¬ (AtProp m kind id)) → ((key : ObjNo × PropId) → ¬ (AtSlot m kind key))
       → (key : ObjNo × VerbId) → IsLeastBad m.verbs right bad (Some key) → IsLeast (InRows m kind) (Some (Verb key.0.0 (pos key.1.0)))
   verb_first kind right bad to from apart a b c key f =
-      least_verb m kind key a b c (to key (f.0, f.1, f.2))
+      least_at m kind (Verb key.0.0 (pos key.1.0)) (to key (f.0, f.1, f.2)) (λ y l. a y) (λ i l. b i) (λ k l. c k)
       (λ k l h. let t = from k h in apart k t.0 (f.3 k t.0 (pair_less k.0.0 key.0.0 k.1.0 key.1.0 l) t.1) t.2)
+      (λ i l h. omega (arith, l))
 
   pub petition_first : (kind : Kind) (right bad : PetitionId → PetitionRow → Type 0) → ((id : PetitionId) → Has (get m.petitions) bad id → AtPetition m kind id) → ((id : PetitionId) → AtPetition m kind id → Has (get m.petitions) bad id)
       → ((id : PetitionId) (row : PetitionRow) → right id row → ¬ (bad id row)) → ((y : ObjNo) → ¬ (AtObject m kind y)) → ((id : PropId) → ¬ (AtProp m kind id)) → ((key : ObjNo × PropId) → ¬ (AtSlot m kind key))
       → ((key : ObjNo × VerbId) → ¬ (AtVerb m kind key)) → (id : PetitionId) → IsLeastBad m.petitions right bad (Some id) → IsLeast (InRows m kind) (Some (Petition (pos id.0)))
   petition_first kind right bad to from apart a b c d id f =
-      least_petition m kind id a b c d (to id (f.0, f.1, f.2))
+      least_at m kind (Petition (pos id.0)) (to id (f.0, f.1, f.2)) (λ y l. a y) (λ i l. b i) (λ k l. c k) (λ k l. d k)
       (λ i l h. let t = from i h in apart i t.0 (f.3 i t.0 (number_less i.0 id.0 l) t.1) t.2)

@@ -1,4 +1,6 @@
+pub mod Words
 pub mod Firsts
+pub mod Found
 pub mod Ending
 pub mod Apart
 pub mod Naming

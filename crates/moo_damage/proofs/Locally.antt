@@ -1,28 +1,5 @@
 -- Slots that hold locally are just those that are owed, and their names are apart.
-use Rattle.std.proofs.Common.{◌≡◌, ◌<◌, Bool, true, false, ◌||◌, ◌&&◌, Option, None, Some, List, [], ◌∷◌, refl, sym, ap, ◌∙◌, subst, ◌⊎◌, inl, inr, arith}
-use Rattle.std.specs.Prelude.{nat_lt, not, is_some, unwrap_or}
-use Rattle.std.specs.Option.{option_map}
-use Rattle.std.specs.FinMap.{get, entries}
-use Rattle.std.proofs.lemmas.Bool.{false≢true, and_parts, or_cases, or_left, or_right}
-use Rattle.std.proofs.lemmas.Bool.Decides.{nat_tests}
-use Rattle.std.proofs.lemmas.Option.{none-some, same_Some}
-use Rattle.moo_value.specs.declared.value.ObjNo.{ObjNo}
-use Rattle.moo_rows.specs.declared.row.ObjRow.{ObjRow}
-use Rattle.moo_rows.specs.declared.row.PropId.{PropId}
-use Rattle.moo_rows.specs.declared.row.PropRow.{PropRow}
-use Rattle.moo_rows.specs.Exact.{prop_exact}
-use Rattle.moo_rows.specs.Maps.{Maps}
-use Rattle.moo_rows.proofs.Orders.{prop_total}
-use Rattle.moo_world.specs.Objects.{same_object, same_text, folded, is_among, same_object-Decides, same_text-Decides}
-use Rattle.moo_world.specs.Rows.{look_ups, world_of}
-use Rattle.moo_world.specs.World.{World, IsTree, Chain, is_object, parent_of, chain}
-use Rattle.moo_world.proofs.Shown.PairLists.{some_of}
-use Rattle.moo_world.proofs.Shown.Seen.{is_object_seen}
-use Rattle.moo_world.proofs.Ancestry.Trees.{Chain-chain, chain_of_none, nothing_is_no_object}
-use Rattle.moo_props.specs.Names.{defines}
-use Rattle.moo_damage.specs.declared.trees.Link.TheVariants.{Parent}
-use Rattle.moo_damage.specs.Damage.{link_of, share_name, is_double}
-use Rattle.moo_damage.specs.Local.{has_slot, AreLocal, SlotsHold}
+use Rattle.moo_damage.proofs.Words.{◌≡◌, ◌<◌, Bool, true, false, ◌||◌, ◌&&◌, Option, None, Some, List, [], ◌∷◌, refl, sym, ap, ◌∙◌, subst, ◌⊎◌, inl, inr, arith, nat_lt, not, is_some, unwrap_or, option_map, get, entries, false≢true, and_parts, or_cases, or_left, or_right, nat_tests, none-some, same_Some, ObjNo, ObjRow, PropId, PropRow, prop_exact, Maps, prop_total, same_object, same_text, folded, is_among, same_object-Decides, same_text-Decides, look_ups, world_of, World, IsTree, Chain, is_object, parent_of, chain, some_of, is_object_seen, Chain-chain, chain_of_none, nothing_is_no_object, defines, Parent, link_of, share_name, is_double, has_slot, AreLocal, SlotsHold}
 use Rattle.moo_damage.proofs.Apart.{one_passing}
 use Rattle.moo_damage.proofs.Firsts.{held_entries}
 use Rattle.moo_damage.proofs.Good.{parents_seen}

@@ -1,25 +1,7 @@
 -- What the tests of all rows say of each.
-use Rattle.std.proofs.Common.{◌≡◌, ◌<◌, Bool, true, false, ◌&&◌, ◌||◌, cond, Some, List, [], ◌∷◌, Ordering, Less, refl, sym, ap, ◌∙◌}
-use Rattle.std.specs.Prelude.{not}
-use Rattle.std.specs.Cmp.{IsTotalOrder, tied_itself, nat_cmp_is}
-use Rattle.std.specs.Ordering.{is_lt, int_eq, ordering_then}
-use Rattle.std.specs.List.{list_any, filter}
-use Rattle.std.specs.FinMap.{FinMap, get, entries, get-entries}
-use Rattle.std.proofs.lemmas.Bool.{false≢true, both_ways}
-use Rattle.std.proofs.lemmas.Bool.Decides.{Decides-int_eq}
-use Rattle.std.proofs.lemmas.Map.Lookups.{CmpEqualImpliesEq}
-use Rattle.moo_value.specs.declared.value.ObjNo.{ObjNo}
-use Rattle.moo_rows.specs.declared.row.PropId.{PropId}
-use Rattle.moo_rows.specs.declared.row.PropRow.{PropRow}
-use Rattle.moo_rows.specs.declared.row.SlotRow.{SlotRow}
-use Rattle.moo_rows.specs.Exact.{object_exact, prop_exact, slot_exact}
-use Rattle.moo_rows.specs.Maps.{Maps, prop_cmp, slot_cmp}
-use Rattle.moo_rows.specs.Walk.{slots_of_left, is_past}
-use Rattle.moo_rows.proofs.Orders.{object_total, prop_total, slot_total}
-use Rattle.moo_world.proofs.Shown.PairLists.{some_of}
-use Rattle.moo_props.proofs.Walked.{any_held}
-use Rattle.moo_damage.specs.Apart.{NamesApart}
-use Rattle.moo_damage.specs.Local.{has_slot, comes_down, lacks_one_of, AreLocal}
+use Rattle.moo_damage.proofs.Words.{◌≡◌, ◌<◌, Bool, true, false, ◌&&◌, ◌||◌, cond, Some, List, [], ◌∷◌, Ordering, Less, refl, sym, ap, ◌∙◌, not, IsTotalOrder, tied_itself, nat_cmp_is, int_eq, ordering_then, list_any, FinMap, get, entries, get-entries, false≢true, both_ways, Decides-int_eq, CmpEqualImpliesEq, ObjNo, PropId, PropRow, SlotRow, object_exact, prop_exact, slot_exact, Maps, prop_cmp, slot_cmp, slots_of_left, is_past, object_total, prop_total, slot_total, some_of, any_held, NamesApart, has_slot, comes_down, lacks_one_of, AreLocal}
+use Rattle.std.specs.Ordering.{is_lt}
+use Rattle.std.specs.List.{filter}
 
 not_false : (b : Bool) → not b ≡ false → b ≡ true
 not_false true e = refl

@@ -1,32 +1,12 @@
 -- Names that are noted as an object's slots are gone over.
-use Rattle.std.proofs.Common.{◌≡◌, ◌<◌, ℕ, Bool, true, false, cond, Option, None, Some, List, [], ◌∷◌, map, Ordering, Less, Equal, Greater, refl, sym, ap, ◌∙◌, subst, ◌⊎◌, inl, inr}
-use Rattle.std.specs.Prelude.{is_some, nat_eq, if◌then◌else◌}
+use Rattle.moo_damage.proofs.Words.{◌≡◌, ◌<◌, ℕ, Bool, true, false, cond, Option, None, Some, List, [], ◌∷◌, map, Ordering, Less, Equal, Greater, refl, sym, ap, ◌∙◌, subst, ◌⊎◌, inl, inr, is_some, nat_eq, if◌then◌else◌, to_ascii_lowercase, FinMap, get, insert, get-insert, list_any, AllByRecursion, lookup, nat_cmp, int_eq, is_eq, eq_by_cmp, match_ordering, both_ways, or_cases, false≢true, Decides-int_eq, none-some, same_Some, ObjNo, PropId, PropRow, SlotRow, object_exact, Maps, object_cmp, object_total, Name, same_text, folded, same_text-Decides, key-Decides, some_of, walk, has_slot, AreApart, NamesApart, noted_as, is_alone, NotesProp}
 use Rattle.std.specs.BTreeMap.{insert_entry, is_at}
-use Rattle.std.specs.Char.{to_ascii_lowercase}
 use Rattle.std.specs.Cmp.Lexicographic.{slice_cmp, texts_ties}
-use Rattle.std.specs.FinMap.{FinMap, get, insert, get-insert}
 use Rattle.std.specs.Global.{Vec}
-use Rattle.std.specs.List.{list_any, AllByRecursion}
-use Rattle.std.specs.Map.{lookup}
-use Rattle.std.specs.Ordering.{nat_cmp, int_eq, is_eq, eq_by_cmp, match_ordering}
-use Rattle.std.proofs.lemmas.Bool.{both_ways, or_cases, false≢true}
 use Rattle.std.specs.Cmp.{unsigned_Decides}
-use Rattle.std.proofs.lemmas.Bool.Decides.{Decides-int_eq}
-use Rattle.std.proofs.lemmas.Option.{none-some, same_Some}
-use Rattle.moo_value.specs.declared.value.ObjNo.{ObjNo}
-use Rattle.moo_rows.specs.declared.row.PropId.{PropId}
-use Rattle.moo_rows.specs.declared.row.PropRow.{PropRow}
-use Rattle.moo_rows.specs.declared.row.SlotRow.{SlotRow}
-use Rattle.moo_rows.specs.Exact.{object_exact}
-use Rattle.moo_rows.specs.Maps.{Maps, object_cmp}
-use Rattle.moo_rows.proofs.Orders.{object_total}
-use Rattle.moo_world.specs.Objects.{Name, same_text, folded, same_text-Decides}
 use Rattle.moo_world.specs.Rows.{IsSound}
-use Rattle.moo_world.proofs.Shown.MapLaws.{key-Decides}
-use Rattle.moo_world.proofs.Shown.PairLists.{some_of}
-use Rattle.moo_props.proofs.Walked.{walk, walk_held}
-use Rattle.moo_damage.specs.Local.{has_slot}
-use Rattle.moo_damage.specs.Apart.{AreApart, NamesApart, Noted, noted_as, is_alone, NotesProp}
+use Rattle.moo_props.proofs.Walked.{walk_held}
+use Rattle.moo_damage.specs.Apart.{Noted}
 use Rattle.moo_damage.proofs.Nearby.{met}
 
 -- ---- a map by name

@@ -1,20 +1,5 @@
 -- Where no property has a clear slot on its definer, no slot is one.
-use Rattle.std.proofs.Common.{◌≡◌, Bool, true, false, ◌&&◌, Option, None, Some, refl, sym, ap, ◌∙◌}
-use Rattle.std.specs.Prelude.{unwrap_or}
-use Rattle.std.specs.Option.{option_map}
-use Rattle.std.specs.List.{list_any}
-use Rattle.std.specs.FinMap.{get, entries}
-use Rattle.moo_value.specs.declared.value.ObjNo.{ObjNo}
-use Rattle.moo_rows.specs.declared.row.PropId.{PropId}
-use Rattle.moo_rows.specs.declared.row.PropRow.{PropRow}
-use Rattle.moo_rows.specs.declared.row.SlotRow.{SlotRow}
-use Rattle.moo_rows.specs.Exact.{prop_exact}
-use Rattle.moo_rows.specs.Maps.{Maps, prop_cmp}
-use Rattle.moo_rows.proofs.Orders.{prop_total}
-use Rattle.moo_world.specs.Objects.{same_object, same_object-Decides}
-use Rattle.moo_world.specs.PropertyCalls.{is_clear}
-use Rattle.moo_damage.specs.Damage.{is_clear_definer}
-use Rattle.moo_damage.specs.OwnClear.{has_clear}
+use Rattle.moo_damage.proofs.Words.{◌≡◌, Bool, true, false, ◌&&◌, Option, None, Some, refl, sym, ap, ◌∙◌, unwrap_or, option_map, list_any, get, entries, ObjNo, PropId, PropRow, SlotRow, prop_exact, Maps, prop_cmp, prop_total, same_object, same_object-Decides, is_clear, is_clear_definer, has_clear}
 use Rattle.moo_damage.proofs.Nearby.{none_held}
 
 and_none : (b : Bool) → (b && false) ≡ false

@@ -1,22 +1,6 @@
 -- What each search found, as the least key at which its kind is met.
-use Rattle.std.proofs.Common.{◌≡◌, pos, Bool, true, false, Option, None, Some, sym, subst}
-use Rattle.std.specs.Option.{option_map}
-use Rattle.std.proofs.lemmas.Bool.{both_ways}
-use Rattle.moo_value.specs.declared.value.ObjNo.{ObjNo}
-use Rattle.moo_rows.specs.declared.row.PetitionId.{PetitionId}
-use Rattle.moo_rows.specs.declared.row.PropId.{PropId}
-use Rattle.moo_rows.specs.declared.row.VerbId.{VerbId}
-use Rattle.moo_rows.specs.Maps.{Maps}
-use Rattle.moo_damage.specs.declared.kind.Kind.{Kind}
-use Rattle.moo_damage.specs.declared.kind.Kind.TheVariants.{PastHead, NoParent, ParentLoop, NoPlace, PlaceLoop, NoDefiner, DoubleName, StrangeSlot, MissingSlot, ClearDefiner, StrangeVerb}
-use Rattle.moo_damage.specs.declared.kind.Key.{Key}
-use Rattle.moo_damage.specs.declared.kind.Key.TheVariants.{Object, Prop, Slot, Verb, Petition}
-use Rattle.moo_damage.specs.declared.trees.Link.{Link}
-use Rattle.moo_damage.specs.declared.trees.Link.TheVariants.{Parent, Place}
-use Rattle.moo_damage.specs.Damage.{HasEnd, Loops, is_object_past, is_prop_past, is_verb_past, is_petition_past, is_lost, lacks_definer, is_double, is_strange, is_clear_definer, is_strange_verb}
-use Rattle.moo_damage.specs.First.{IsLeastBad}
-use Rattle.moo_damage.specs.Kinds.{place, lost_kind, loop_kind, InRows, NoneBefore, IsLeast, IsFirstMet}
-use Rattle.moo_damage.specs.Missing.{IsFirstMissing}
+use Rattle.moo_damage.proofs.Words.{◌≡◌, pos, Bool, true, false, Option, None, Some, sym, subst, option_map, both_ways, ObjNo, PetitionId, PropId, VerbId, Maps, Kind, PastHead, NoParent, ParentLoop, NoPlace, PlaceLoop, NoDefiner, DoubleName, StrangeSlot, MissingSlot, ClearDefiner, StrangeVerb, Key, Object, Prop, Verb, Petition, Link, Parent, Place, HasEnd, Loops, is_object_past, is_prop_past, is_verb_past, is_petition_past, is_lost, lacks_definer, is_double, is_strange, is_clear_definer, is_strange_verb, IsLeastBad, place, lost_kind, loop_kind, InRows, NoneBefore, IsLeast, IsFirstMet, IsFirstMissing}
+use Rattle.moo_damage.specs.declared.kind.Key.TheVariants.{Slot}
 use Rattle.moo_damage.proofs.InTurn.{none_more}
 use Rattle.moo_damage.proofs.Lacking.{none_missing, missing_first}
 use Rattle.moo_damage.proofs.Least.{no_bad, none_met, object_first, prop_first, slot_first, verb_first, petition_first}

@@ -1,22 +1,5 @@
 -- Of good rows the tests of each row and its neighbours find nothing.
-use Rattle.std.proofs.Common.{◌≡◌, Bool, true, false, ◌&&◌, Some, Ordering, refl, sym, ap, ◌∙◌, subst}
-use Rattle.std.specs.Prelude.{not, is_some}
-use Rattle.std.specs.Cmp.{IsTotalOrder}
-use Rattle.std.specs.Ordering.{int_eq}
-use Rattle.std.specs.List.{list_any}
-use Rattle.std.specs.FinMap.{FinMap, get, entries}
-use Rattle.std.proofs.lemmas.Bool.{both_ways}
-use Rattle.std.proofs.lemmas.Bool.Decides.{Decides-int_eq}
-use Rattle.std.proofs.lemmas.Map.Lookups.{CmpEqualImpliesEq}
-use Rattle.moo_value.specs.declared.value.ObjNo.{ObjNo}
-use Rattle.moo_rows.specs.declared.row.PropId.{PropId}
-use Rattle.moo_rows.specs.declared.row.SlotRow.{SlotRow}
-use Rattle.moo_rows.specs.Exact.{object_exact, prop_exact, slot_exact}
-use Rattle.moo_rows.specs.Maps.{Maps, slot_cmp}
-use Rattle.moo_rows.specs.Walk.{slots_of_left, is_past}
-use Rattle.moo_rows.proofs.Orders.{object_total, prop_total, slot_total}
-use Rattle.moo_world.specs.Rows.{IsGood}
-use Rattle.moo_damage.specs.Local.{has_slot, comes_down, lacks_one_of, AreLocal}
+use Rattle.moo_damage.proofs.Words.{◌≡◌, Bool, true, false, ◌&&◌, Some, Ordering, refl, sym, ap, ◌∙◌, subst, not, is_some, IsTotalOrder, int_eq, list_any, FinMap, get, entries, both_ways, Decides-int_eq, CmpEqualImpliesEq, ObjNo, PropId, SlotRow, object_exact, prop_exact, slot_exact, Maps, slot_cmp, slots_of_left, is_past, object_total, prop_total, slot_total, IsGood, has_slot, comes_down, lacks_one_of, AreLocal}
 use Rattle.moo_damage.proofs.Apart.{one_passing}
 use Rattle.moo_damage.proofs.Clean.{clean}
 use Rattle.moo_damage.proofs.Firsts.{held_entries}

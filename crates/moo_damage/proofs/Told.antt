@@ -1,26 +1,6 @@
 -- With clean rows no kind of damage is met.
-use Rattle.std.proofs.Common.{◌≡◌, Bool, true, ◌&&◌, List, [], ◌∷◌, Some, sym, ap, ◌∙◌, subst}
-use Rattle.std.specs.Prelude.{not, IsSome}
-use Rattle.std.specs.Option.{option_map}
-use Rattle.std.specs.FinMap.{get}
-use Rattle.std.proofs.lemmas.Bool.{and_parts, both_ways}
-use Rattle.std.proofs.lemmas.Option.{none-some, same_Some}
-use Rattle.moo_value.specs.declared.value.ObjNo.{ObjNo}
-use Rattle.moo_rows.specs.declared.row.ObjRow.{ObjRow}
-use Rattle.moo_rows.specs.declared.row.PropId.{PropId}
-use Rattle.moo_rows.specs.Maps.{Maps}
-use Rattle.moo_world.specs.Objects.{nothing, same_object, same_object-Decides}
-use Rattle.moo_world.specs.Rows.{look_ups, world_of}
-use Rattle.moo_world.specs.World.{Climbs, is_object}
-use Rattle.moo_world.proofs.Shown.PairLists.{some_of}
-use Rattle.moo_world.proofs.Shown.Seen.{is_object_seen}
-use Rattle.moo_damage.specs.declared.kind.Kind.{Kind}
-use Rattle.moo_damage.specs.declared.kind.Kind.TheVariants.{BadHead, BadCell, PastHead, NoParent, ParentLoop, NoPlace, PlaceLoop, NoDefiner, DoubleName, StrangeSlot, MissingSlot, ClearDefiner, StrangeVerb, Mismatch}
-use Rattle.moo_damage.specs.declared.kind.Key.{Key}
-use Rattle.moo_damage.specs.declared.trees.Link.{Link}
-use Rattle.moo_damage.specs.declared.trees.Link.TheVariants.{Parent, Place}
-use Rattle.moo_damage.specs.Damage.{link_of, next_of, HasEnd, is_missing, IsClean}
-use Rattle.moo_damage.specs.Kinds.{InRows}
+use Rattle.moo_damage.proofs.Words.{◌≡◌, Bool, true, ◌&&◌, List, [], ◌∷◌, Some, sym, ap, ◌∙◌, subst, not, option_map, get, and_parts, both_ways, none-some, same_Some, ObjNo, ObjRow, PropId, Maps, nothing, same_object, same_object-Decides, look_ups, world_of, Climbs, is_object, some_of, is_object_seen, Kind, BadHead, BadCell, PastHead, NoParent, ParentLoop, NoPlace, PlaceLoop, NoDefiner, DoubleName, StrangeSlot, MissingSlot, ClearDefiner, StrangeVerb, Mismatch, Key, Link, Parent, Place, link_of, next_of, HasEnd, is_missing, IsClean, InRows}
+use Rattle.std.specs.Prelude.{IsSome}
 use Rattle.moo_damage.proofs.Ending.{some_mapped}
 use Rattle.moo_damage.proofs.Good.{nothing_there}
 use Rattle.moo_damage.proofs.Least.{none_met}

@@ -1,14 +1,7 @@
 -- Where two maps differ first.
-use Rattle.std.proofs.Common.{◌≡◌, ◌≢◌, Bool, true, false, Option, None, Some, Ordering, Less, Equal, Greater, refl, sym, ap, ◌∙◌, subst}
-use Rattle.std.specs.Prelude.{IsTrue, ◌↔◌}
-use Rattle.std.specs.Cmp.{IsTotalOrder}
-use Rattle.std.specs.Ordering.{match_ordering, ordering_reverse}
-use Rattle.std.specs.FinMap.{FinMap, get}
-use Rattle.std.proofs.lemmas.Bool.{false≢true}
-use Rattle.std.proofs.lemmas.Map.Lookups.{CmpEqualImpliesEq}
+use Rattle.moo_damage.proofs.Words.{◌≡◌, ◌≢◌, Bool, true, false, Option, None, Some, List, [], ◌∷◌, Ordering, Less, Equal, Greater, refl, sym, ap, ◌∙◌, subst, IsTrue, ◌↔◌, IsTotalOrder, match_ordering, ordering_reverse, FinMap, entries, get, false≢true, CmpEqualImpliesEq, IsFirstUnlike, IsLeastBad}
 use Rattle.moo_ordered.specs.Ordered.{lesser}
-use Rattle.moo_damage.specs.Differences.{IsFirstUnlike}
-use Rattle.moo_damage.specs.First.{IsLeastBad}
+use Rattle.moo_damage.proofs.Firsts.{FirstIn, FirstLeft, went_on, ended, stopped}
 
 pub is_bad : {X : Type 0} (b : Bool) (held : Option X) (row : X) (at : Option X) → (IsTrue b ↔ (held ≡ Some row)) → b ≡ false → held ≡ at → at ≢ Some row
 is_bad b held row at h n is e = false≢true (sym n ∙ h.1 (is ∙ e))
@@ -46,3 +39,21 @@ module _ {K X : Type 0} {cmp : K → K → Ordering} (total : IsTotalOrder cmp) 
   first_unlike (Some x) None f g = (λ h. f.2 (sym h ∙ f.1), λ k l. both_agree (get a k) (get b k) (λ r. f.3 k r l) (g k))
   first_unlike None (Some y) f g = (λ h. g.2 (h ∙ g.1), λ k l. both_agree (get a k) (get b k) (f k) (λ r. g.3 k r l))
   first_unlike (Some x) (Some y) f g = by_order x y (cmp y x) refl f g
+
+module _ {K X : Type 0} {cmp : K → K → Ordering} (a there : FinMap cmp X) where
+  -- the first of those that are left whose row isn't its row there is the first of all
+  abbrev pub UnlikeLeft : List (K × X) → Type 0
+  UnlikeLeft left = FirstLeft (λ k r. get there k ≡ Some r) (λ k r. get there k ≢ Some r) left (entries a)
+
+  pub all_left : (left : List (K × X)) → left ≡ entries a → UnlikeLeft left
+  all_left left whole o f = subst (λ l. FirstIn (λ k r. get there k ≡ Some r) (λ k r. get there k ≢ Some r) l o) whole f
+
+  pub alike : (b : Bool) (held : Option X) (left es : List (K × X)) (e : K × X) → left ≡ e ∷ es → UnlikeLeft left → (IsTrue b ↔ (held ≡ Some e.1)) → b ≡ true → held ≡ get there e.0 → UnlikeLeft es
+  alike b held left es e is f h n at = went_on (λ k r. get there k ≡ Some r) (λ k r. get there k ≢ Some r) left es (entries a) e is f (is_right b held e.1 (get there e.0) h n at)
+
+  module _ (total : IsTotalOrder cmp) (exact : CmpEqualImpliesEq cmp) where
+    pub differs : (b : Bool) (held : Option X) (left es : List (K × X)) (e : K × X) → left ≡ e ∷ es → UnlikeLeft left → (IsTrue b ↔ (held ≡ Some e.1)) → b ≡ false → held ≡ get there e.0 → IsLeastBad a (λ k r. get there k ≡ Some r) (λ k r. get there k ≢ Some r) (Some e.0)
+    differs b held left es e is f h n at = stopped (λ k r. get there k ≡ Some r) (λ k r. get there k ≢ Some r) total exact a left es e is f (is_bad b held e.1 (get there e.0) h n at)
+
+    pub none_differs : (left : List (K × X)) → left ≡ [] → UnlikeLeft left → IsLeastBad a (λ k r. get there k ≡ Some r) (λ k r. get there k ≢ Some r) None
+    none_differs left is f = ended (λ k r. get there k ≡ Some r) (λ k r. get there k ≢ Some r) total exact a left is f

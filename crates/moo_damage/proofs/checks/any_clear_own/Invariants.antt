@@ -1,8 +1,4 @@
-use Rattle.std.proofs.Common.{◌≡◌}
-use Rattle.std.specs.List.{list_any}
-use Rattle.std.specs.FinMap.{entries}
-use Rattle.moo_rows.specs.Walk.{props_left}
-use Rattle.moo_damage.specs.OwnClear.{has_clear}
+use Rattle.moo_damage.proofs.Words.{◌≡◌, list_any, entries, props_left, has_clear}
 use Rattle.moo_damage.proofs.checks.any_clear_own.Given as goal
 
 -- one of those that are left has one just where one of all does

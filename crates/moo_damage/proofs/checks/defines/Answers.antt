@@ -1,8 +1,5 @@
-use Rattle.std.proofs.Common.{false, ap, ◌∙◌}
-use Rattle.std.specs.Prelude.{unwrap_or}
-use Rattle.std.specs.Option.{option_map}
-use Rattle.moo_rows.specs.declared.row.PropRow.{PropRow}
-use Rattle.moo_world.specs.Objects.{same_object, same_object-eq}
+use Rattle.moo_damage.proofs.Words.{false, ap, ◌∙◌, unwrap_or, option_map, PropRow, same_object}
+use Rattle.moo_world.specs.Objects.{same_object-eq}
 use Rattle.moo_damage.proofs.checks.defines.Goals as goal
 
 pub returns-in-Some : goal.returns-in-Some

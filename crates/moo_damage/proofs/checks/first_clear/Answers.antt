@@ -1,4 +1,4 @@
-use Rattle.std.proofs.Common.{sym, ◌∙◌}
+use Rattle.moo_damage.proofs.Words.{sym, ◌∙◌}
 use Rattle.moo_damage.proofs.OwnClear.{none_clear}
 use Rattle.moo_damage.proofs.checks.first_clear.Goals as goal
 

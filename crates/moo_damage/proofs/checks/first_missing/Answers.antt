@@ -1,9 +1,4 @@
-use Rattle.std.proofs.Common.{None, Some}
-use Rattle.moo_value.specs.declared.value.ObjNo.{ObjNo}
-use Rattle.moo_rows.specs.declared.row.ObjRow.{ObjRow}
-use Rattle.moo_rows.specs.Exact.{object_exact}
-use Rattle.moo_rows.proofs.Orders.{object_total}
-use Rattle.moo_damage.specs.Missing.{Misses}
+use Rattle.moo_damage.proofs.Words.{None, Some, ObjNo, ObjRow, object_exact, object_total, Misses}
 use Rattle.moo_damage.proofs.Firsts.{ended, stopped}
 use Rattle.moo_damage.proofs.checks.first_missing.Goals as goal
 

@@ -1,8 +1,4 @@
-use Rattle.std.proofs.Common.{None, Some}
-use Rattle.std.specs.FinMap.{entries}
-use Rattle.moo_rows.specs.declared.row.PropId.{PropId}
-use Rattle.moo_rows.specs.Walk.{objects_left}
-use Rattle.moo_damage.specs.Missing.{Misses}
+use Rattle.moo_damage.proofs.Words.{None, Some, entries, PropId, objects_left, Misses}
 use Rattle.moo_damage.proofs.Firsts.{FirstLeft}
 use Rattle.moo_damage.proofs.checks.first_missing.Given as goal
 

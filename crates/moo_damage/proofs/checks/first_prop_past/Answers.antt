@@ -1,34 +1,12 @@
-use Rattle.std.proofs.Common.{rules, ◌≡◌, true, false, sym, ◌∙◌, subst}
-use Rattle.std.specs.FinMap.{entries}
-use Rattle.moo_rows.specs.declared.row.PropId.{PropId}
-use Rattle.moo_rows.specs.declared.row.PropRow.{PropRow}
-use Rattle.moo_rows.specs.Exact.{prop_exact}
-use Rattle.moo_rows.specs.Walk.{props_left}
-use Rattle.moo_rows.proofs.Orders.{prop_total}
-use Rattle.moo_damage.specs.Damage.{is_prop_past}
-use Rattle.moo_damage.proofs.Firsts.{FirstIn, ended, stopped}
+use Rattle.moo_damage.proofs.Words.{rules, ◌≡◌, true, false, subst, option_map, prop_exact, props_left, prop_total, is_prop_past, IsLeastBad}
+use Rattle.moo_damage.proofs.Found.{first_failing}
 use Rattle.moo_damage.proofs.checks.first_prop_past.Goals as goal
-
-pub loop-key-init : goal.loop-key-init
-loop-key-init g c o f =
-    let m = (g.R.Rows.held c.args.rows.now).maps in
-    let right : PropId → PropRow → Type 0 = λ k r. is_prop_past m.head k ≡ false in
-    let bad : PropId → PropRow → Type 0 = λ k r. is_prop_past m.head k ≡ true in
-    let left = props_left c.into_iter-key-iterator.result.last (g.R.Rows.held c.into_iter-key-iterator.result.rows.now).maps in
-    let whole : left ≡ entries m.props = search rules in
-    subst (λ l. FirstIn right bad l o) whole f
-
-pub returns-then-is_prop_past : goal.returns-then-is_prop_past
-returns-then-is_prop_past g c =
-    let m = (g.R.Rows.held c.args.rows.now).maps in
-    let right : PropId → PropRow → Type 0 = λ k r. is_prop_past m.head k ≡ false in
-    let bad : PropId → PropRow → Type 0 = λ k r. is_prop_past m.head k ≡ true in
-    stopped right bad prop_total prop_exact m.props _ _ (c.in-Some.key, c.in-Some._row.now) c.in-Some.ensures.steps c.loop-key.invariant
-    (subst (λ h. is_prop_past h c.in-Some.key ≡ true) c.head-head.ensures (sym c.is_prop_past.ensures ∙ c.if-is_prop_past.true))
+use borrow.Author.Tests.{tests}
 
 pub returns : goal.returns
 returns g c =
     let m = (g.R.Rows.held c.args.rows.now).maps in
-    let right : PropId → PropRow → Type 0 = λ k r. is_prop_past m.head k ≡ false in
-    let bad : PropId → PropRow → Type 0 = λ k r. is_prop_past m.head k ≡ true in
-    ended right bad prop_total prop_exact m.props _ c.in-None.ensures.steps.0 c.loop-key.invariant
+    let h = c.head-head.result in
+    let is : c.map.result ≡ option_map (λ e. e.0) c.find.result = search rules in
+    subst (λ h. IsLeastBad m.props (λ k r. is_prop_past h k ≡ false) (λ k r. is_prop_past h k ≡ true) c.map.result) c.head-head.ensures
+    (first_failing prop_total prop_exact m.props (λ k r. is_prop_past h k) (λ s. props_left s.last (g.R.Rows.held s.rows.now).maps) c.find.new.self _ c.find.result c.find.ensures.ran c.each_prop.ensures (λ x b q k. search (rules, tests)) c.map.result is)

@@ -1,9 +1,4 @@
-use Rattle.std.proofs.Common.{◌≡◌}
-use Rattle.std.specs.Prelude.{nat_lt, ◌&&◌}
-use Rattle.std.specs.List.{list_any}
-use Rattle.moo_rows.specs.Walk.{props_left}
-use Rattle.moo_world.specs.Rows.{world_of}
-use Rattle.moo_damage.specs.Damage.{share_name, is_double}
+use Rattle.moo_damage.proofs.Words.{◌≡◌, nat_lt, ◌&&◌, list_any, props_left, world_of, share_name, is_double}
 use Rattle.moo_damage.proofs.checks.is_double.Given as goal
 
 -- one of those that are left has the name just where one of all does

@@ -1,7 +1,4 @@
-use Rattle.std.proofs.Common.{◌≡◌, true, false, ◌||◌, ◌&&◌, sym, ap, ◌∙◌}
-use Rattle.moo_world.specs.Objects.{same_text, folded, is_among}
-use Rattle.moo_world.specs.Rows.{world_of}
-use Rattle.moo_world.specs.World.{chain}
+use Rattle.moo_damage.proofs.Words.{◌≡◌, true, false, ◌||◌, ◌&&◌, sym, ap, ◌∙◌, same_text, folded, is_among, world_of, chain}
 use Rattle.moo_damage.proofs.Naming.{same_named}
 use Rattle.moo_damage.proofs.checks.share_name.Goals as goal
 

@@ -1,8 +1,4 @@
-use Rattle.std.proofs.Common.{Option, None, Some, subst}
-use Rattle.std.specs.Prelude.{IfNone}
-use Rattle.moo_damage.specs.declared.trees.Link.TheVariants.{Parent, Place}
-use Rattle.moo_damage.specs.Damage.{LinksEnd}
-use Rattle.moo_damage.specs.Kinds.{InRows}
+use Rattle.moo_damage.proofs.Words.{Option, None, Some, subst, IfNone, Parent, Place, LinksEnd, InRows}
 use Rattle.moo_damage.proofs.Good.{tree_of, good}
 use Rattle.moo_damage.proofs.InTurn.{first_told}
 use Rattle.moo_damage.proofs.damage.damage_of.Goals as goal

@@ -1,5 +1,4 @@
-use Rattle.std.proofs.Common.{None, subst}
-use Rattle.moo_damage.specs.Kinds.{lost_kind, loop_kind, InRows, IsLeast}
+use Rattle.moo_damage.proofs.Words.{None, subst, lost_kind, loop_kind, InRows, IsLeast}
 use Rattle.moo_damage.proofs.Good.{links_hold}
 use Rattle.moo_damage.proofs.InTurn.{none_more}
 use Rattle.moo_damage.proofs.Searched.{of_object, lost_least, loops_least, told, after_lost}

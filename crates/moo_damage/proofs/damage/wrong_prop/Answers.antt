@@ -1,6 +1,4 @@
-use Rattle.std.proofs.Common.{refl, subst}
-use Rattle.moo_damage.specs.declared.kind.Kind.TheVariants.{NoDefiner}
-use Rattle.moo_damage.specs.Kinds.{InRows, IsLeast}
+use Rattle.moo_damage.proofs.Words.{refl, subst, NoDefiner, InRows, IsLeast}
 use Rattle.moo_damage.proofs.Searched.{of_prop, definer_least, told}
 use Rattle.moo_damage.proofs.damage.wrong_prop.Goals as goal
 

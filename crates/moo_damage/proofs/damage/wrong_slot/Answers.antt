@@ -1,11 +1,4 @@
-use Rattle.std.proofs.Common.{None, refl, subst}
-use Rattle.moo_rows.specs.Maps.{Maps}
-use Rattle.moo_damage.specs.declared.kind.Kind.TheVariants.{StrangeSlot, MissingSlot, ClearDefiner, StrangeVerb}
-use Rattle.moo_damage.specs.Damage.{is_strange}
-use Rattle.moo_damage.specs.First.{IsLeastBad}
-use Rattle.moo_damage.specs.Kinds.{InRows, IsLeast, NoneBefore}
-use Rattle.moo_damage.specs.Missing.{IsFirstMissing}
-use Rattle.std.specs.Prelude.{◌≡◌, true, false}
+use Rattle.moo_damage.proofs.Words.{None, refl, subst, Maps, StrangeSlot, MissingSlot, ClearDefiner, StrangeVerb, is_strange, IsLeastBad, InRows, IsLeast, NoneBefore, IsFirstMissing, ◌≡◌, true, false}
 use Rattle.moo_damage.proofs.InTurn.{none_more}
 use Rattle.moo_damage.proofs.Searched.{of_slot, of_verb, strange_least, missing_least, clear_least, verb_least, told}
 use Rattle.moo_damage.proofs.damage.wrong_slot.Goals as goal

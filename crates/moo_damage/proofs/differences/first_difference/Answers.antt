@@ -1,4 +1,4 @@
-use Rattle.std.proofs.Common.{rules, ◌≡◌}
+use Rattle.moo_damage.proofs.Words.{rules, ◌≡◌}
 use Rattle.moo_damage.proofs.Differing.{nowhere}
 use Rattle.moo_damage.proofs.differences.first_difference.Goals as goal
 

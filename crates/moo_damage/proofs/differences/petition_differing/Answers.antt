@@ -1,7 +1,4 @@
-use Rattle.std.proofs.Common.{sym, subst}
-use Rattle.moo_rows.specs.Exact.{petition_exact}
-use Rattle.moo_rows.proofs.Orders.{petition_total}
-use Rattle.moo_damage.specs.Differences.{IsFirstUnlike}
+use Rattle.moo_damage.proofs.Words.{sym, subst, petition_exact, petition_total, IsFirstUnlike}
 use Rattle.moo_damage.proofs.Unlike.{first_unlike}
 use Rattle.moo_damage.proofs.differences.petition_differing.Goals as goal
 

@@ -1,7 +1,4 @@
-use Rattle.std.proofs.Common.{sym, subst}
-use Rattle.moo_rows.specs.Exact.{prop_exact}
-use Rattle.moo_rows.proofs.Orders.{prop_total}
-use Rattle.moo_damage.specs.Differences.{IsFirstUnlike}
+use Rattle.moo_damage.proofs.Words.{sym, subst, prop_exact, prop_total, IsFirstUnlike}
 use Rattle.moo_damage.proofs.Unlike.{first_unlike}
 use Rattle.moo_damage.proofs.differences.prop_differing.Goals as goal
 

@@ -1,7 +1,4 @@
-use Rattle.std.proofs.Common.{sym, subst}
-use Rattle.moo_rows.specs.Exact.{slot_exact}
-use Rattle.moo_rows.proofs.Orders.{slot_total}
-use Rattle.moo_damage.specs.Differences.{IsFirstUnlike}
+use Rattle.moo_damage.proofs.Words.{sym, subst, slot_exact, slot_total, IsFirstUnlike}
 use Rattle.moo_damage.proofs.Unlike.{first_unlike}
 use Rattle.moo_damage.proofs.differences.slot_differing.Goals as goal
 

@@ -1,7 +1,4 @@
-use Rattle.std.proofs.Common.{sym, subst}
-use Rattle.moo_rows.specs.Exact.{verb_exact}
-use Rattle.moo_rows.proofs.Orders.{verb_total}
-use Rattle.moo_damage.specs.Differences.{IsFirstUnlike}
+use Rattle.moo_damage.proofs.Words.{sym, subst, verb_exact, verb_total, IsFirstUnlike}
 use Rattle.moo_damage.proofs.Unlike.{first_unlike}
 use Rattle.moo_damage.proofs.differences.verb_differing.Goals as goal
 

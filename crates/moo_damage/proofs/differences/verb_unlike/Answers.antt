@@ -1,47 +1,17 @@
-use Rattle.std.proofs.Common.{rules, ◌≡◌, ◌≢◌, Some, subst}
-use Rattle.std.specs.FinMap.{get, entries}
-use Rattle.moo_value.specs.declared.value.ObjNo.{ObjNo}
-use Rattle.moo_rows.specs.declared.row.VerbId.{VerbId}
-use Rattle.moo_rows.specs.declared.row.VerbRow.{VerbRow}
-use Rattle.moo_rows.specs.Exact.{verb_exact}
-use Rattle.moo_rows.specs.Walk.{verbs_left}
-use Rattle.moo_rows.proofs.Orders.{verb_total}
-use Rattle.moo_damage.proofs.Firsts.{FirstIn, ended, stopped, went_on}
-use Rattle.moo_damage.proofs.Unlike.{is_right, is_bad}
+use Rattle.moo_damage.proofs.Words.{rules, verbs_left, verb_exact, verb_total}
+use Rattle.moo_damage.proofs.Unlike.{all_left, alike, differs, none_differs}
 use Rattle.moo_damage.proofs.differences.verb_unlike.Goals as goal
 
 pub loop-key-init : goal.loop-key-init
-loop-key-init g c o f =
-    let m = (g.R.Rows.held c.args.rows.now).maps in
-    let there = (g.R.Rows.held c.args.there.now).maps.verbs in
-    let right : ObjNo × VerbId → VerbRow → Type 0 = λ k r. get there k ≡ Some r in
-    let bad : ObjNo × VerbId → VerbRow → Type 0 = λ k r. get there k ≢ Some r in
-    let left = verbs_left c.into_iter-key-iterator.result.last (g.R.Rows.held c.into_iter-key-iterator.result.rows.now).maps in
-    let whole : left ≡ entries m.verbs = search rules in
-    subst (λ l. FirstIn right bad l o) whole f
+loop-key-init g c = all_left (g.R.Rows.held c.args.rows.now).maps.verbs (g.R.Rows.held c.args.there.now).maps.verbs (verbs_left c.into_iter-key-iterator.result.last (g.R.Rows.held c.into_iter-key-iterator.result.rows.now).maps) (search rules)
 
 pub returns-then-not-is_held : goal.returns-then-not-is_held
 returns-then-not-is_held g c =
-    let m = (g.R.Rows.held c.args.rows.now).maps in
-    let there = (g.R.Rows.held c.args.there.now).maps.verbs in
-    let right : ObjNo × VerbId → VerbRow → Type 0 = λ k r. get there k ≡ Some r in
-    let bad : ObjNo × VerbId → VerbRow → Type 0 = λ k r. get there k ≢ Some r in
-    stopped right bad verb_total verb_exact m.verbs _ _ (c.in-Some.key, c.in-Some.row.now) c.in-Some.ensures.steps c.loop-key.invariant
-    (is_bad _ _ _ _ c.is_held.ensures c.if-not-is_held.true c.verb.ensures)
+    differs (g.R.Rows.held c.args.rows.now).maps.verbs (g.R.Rows.held c.args.there.now).maps.verbs verb_total verb_exact _ _ _ _ (c.in-Some.key, c.in-Some.row.now) c.in-Some.ensures.steps c.loop-key.invariant c.is_held.ensures c.if-not-is_held.true c.verb.ensures
 
 pub loop-key-preserved : goal.loop-key-preserved
 loop-key-preserved g c =
-    let m = (g.R.Rows.held c.args.rows.now).maps in
-    let there = (g.R.Rows.held c.args.there.now).maps.verbs in
-    let right : ObjNo × VerbId → VerbRow → Type 0 = λ k r. get there k ≡ Some r in
-    let bad : ObjNo × VerbId → VerbRow → Type 0 = λ k r. get there k ≢ Some r in
-    went_on right bad _ _ _ (c.in-Some.key, c.in-Some.row.now) c.in-Some.ensures.steps c.loop-key.invariant
-    (is_right _ _ _ _ c.is_held.ensures c.if-not-is_held.false c.verb.ensures)
+    alike (g.R.Rows.held c.args.rows.now).maps.verbs (g.R.Rows.held c.args.there.now).maps.verbs _ _ _ _ (c.in-Some.key, c.in-Some.row.now) c.in-Some.ensures.steps c.loop-key.invariant c.is_held.ensures c.if-not-is_held.false c.verb.ensures
 
 pub returns : goal.returns
-returns g c =
-    let m = (g.R.Rows.held c.args.rows.now).maps in
-    let there = (g.R.Rows.held c.args.there.now).maps.verbs in
-    let right : ObjNo × VerbId → VerbRow → Type 0 = λ k r. get there k ≡ Some r in
-    let bad : ObjNo × VerbId → VerbRow → Type 0 = λ k r. get there k ≢ Some r in
-    ended right bad verb_total verb_exact m.verbs _ c.in-None.ensures.steps.0 c.loop-key.invariant
+returns g c = none_differs (g.R.Rows.held c.args.rows.now).maps.verbs (g.R.Rows.held c.args.there.now).maps.verbs verb_total verb_exact _ c.in-None.ensures.steps.0 c.loop-key.invariant

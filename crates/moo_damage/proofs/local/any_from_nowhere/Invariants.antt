@@ -1,9 +1,4 @@
-use Rattle.std.proofs.Common.{◌≡◌}
-use Rattle.std.specs.Prelude.{not}
-use Rattle.std.specs.List.{list_any}
-use Rattle.std.specs.FinMap.{entries}
-use Rattle.moo_rows.specs.Walk.{slots_left}
-use Rattle.moo_damage.specs.Local.{comes_down}
+use Rattle.moo_damage.proofs.Words.{◌≡◌, not, list_any, entries, slots_left, comes_down}
 use Rattle.moo_damage.proofs.local.any_from_nowhere.Given as goal
 
 -- one of those that are left comes from nowhere just where one of all does

@@ -1,8 +1,4 @@
-use Rattle.std.proofs.Common.{◌≡◌}
-use Rattle.std.specs.List.{list_any}
-use Rattle.std.specs.FinMap.{entries}
-use Rattle.moo_rows.specs.Walk.{objects_left}
-use Rattle.moo_damage.specs.Local.{lacks_one_of}
+use Rattle.moo_damage.proofs.Words.{◌≡◌, list_any, entries, objects_left, lacks_one_of}
 use Rattle.moo_damage.proofs.local.any_lacks_one.Given as goal
 
 -- one of those that are left lacks a slot just where one of all does

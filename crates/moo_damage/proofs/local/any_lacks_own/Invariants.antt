@@ -1,9 +1,4 @@
-use Rattle.std.proofs.Common.{◌≡◌}
-use Rattle.std.specs.Prelude.{not}
-use Rattle.std.specs.List.{list_any}
-use Rattle.std.specs.FinMap.{entries}
-use Rattle.moo_rows.specs.Walk.{props_left}
-use Rattle.moo_damage.specs.Local.{has_slot}
+use Rattle.moo_damage.proofs.Words.{◌≡◌, not, list_any, entries, props_left, has_slot}
 use Rattle.moo_damage.proofs.local.any_lacks_own.Given as goal
 
 -- one of those that are left lacks it just where one of all does

@@ -1,8 +1,4 @@
-use Rattle.std.proofs.Common.{◌≡◌}
-use Rattle.std.specs.Prelude.{not}
-use Rattle.std.specs.List.{list_any}
-use Rattle.moo_rows.specs.Walk.{slots_of_left}
-use Rattle.moo_damage.specs.Local.{has_slot, lacks_one_of}
+use Rattle.moo_damage.proofs.Words.{◌≡◌, not, list_any, slots_of_left, has_slot, lacks_one_of}
 use Rattle.moo_damage.proofs.local.lacks_one_of.Given as goal
 
 -- x lacks one of those that are left just where it lacks one of all

@@ -1,10 +1,5 @@
-use Rattle.std.proofs.Common.{Bool, true, false, Some, Ok, Err, IfOk, sym, ◌∙◌, ◌≡◌}
-use Rattle.std.specs.FinMap.{get}
-use Rattle.std.proofs.lemmas.Bool.{both_ways}
-use Rattle.moo_rows.specs.declared.row.PropId.{PropId}
-use Rattle.moo_rows.specs.declared.row.PropRow.{PropRow}
-use Rattle.moo_damage.specs.Apart.{NamesApart}
-use Rattle.moo_damage.specs.Local.{SlotsHold}
+use Rattle.moo_damage.proofs.Words.{Bool, true, false, Some, sym, ◌∙◌, ◌≡◌, get, both_ways, PropId, PropRow, NamesApart, SlotsHold}
+use Rattle.std.proofs.Common.{Ok, Err, IfOk}
 use Rattle.moo_damage.proofs.Locally.{slots_hold}
 use Rattle.moo_damage.proofs.Nearby.{local}
 use Rattle.moo_damage.proofs.Soundly.{each_has_own, each_comes_down, none_lacks_one}

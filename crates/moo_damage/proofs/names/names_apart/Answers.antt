@@ -1,13 +1,4 @@
-use Rattle.std.proofs.Common.{rules, ◌≡◌, sym, subst, ap, ◌∙◌}
-use Rattle.std.specs.FinMap.{entries, from_entries, get, get-empty}
-use Rattle.std.proofs.lemmas.Option.{none-some}
-use Rattle.moo_rows.specs.declared.row.PropId.{PropId}
-use Rattle.moo_rows.specs.declared.row.PropRow.{PropRow}
-use Rattle.moo_rows.specs.Exact.{prop_exact}
-use Rattle.moo_rows.specs.Maps.{object_cmp}
-use Rattle.moo_rows.specs.Walk.{props_left}
-use Rattle.moo_rows.proofs.Orders.{prop_total}
-use Rattle.moo_damage.specs.Apart.{NamesApart}
+use Rattle.moo_damage.proofs.Words.{rules, ◌≡◌, sym, subst, ap, ◌∙◌, entries, from_entries, get, get-empty, none-some, PropId, PropRow, prop_exact, object_cmp, props_left, prop_total, NamesApart}
 use Rattle.moo_damage.proofs.Firsts.{FirstIn, ended, went_on}
 use Rattle.moo_damage.proofs.names.names_apart.Goals as goal
 

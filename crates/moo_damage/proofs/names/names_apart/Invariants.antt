@@ -1,8 +1,4 @@
-use Rattle.std.specs.FinMap.{entries}
-use Rattle.moo_rows.specs.Maps.{object_cmp}
-use Rattle.moo_ordered.specs.Ordered.{contents}
-use Rattle.moo_rows.specs.Walk.{props_left}
-use Rattle.moo_damage.specs.Apart.{AreApart, NamesApart}
+use Rattle.moo_damage.proofs.Words.{entries, object_cmp, contents, props_left, AreApart, NamesApart}
 use Rattle.moo_damage.proofs.Firsts.{FirstLeft}
 use Rattle.moo_damage.proofs.names.names_apart.Given as goal
 

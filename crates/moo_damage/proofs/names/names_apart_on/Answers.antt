@@ -1,16 +1,4 @@
-use Rattle.std.proofs.Common.{rules, ◌≡◌, true, inr, sym, ap, ◌∙◌, subst}
-use Rattle.std.specs.Prelude.{nat_eq}
-use Rattle.std.specs.FinMap.{get}
-use Rattle.std.specs.List.{list_any}
-use Rattle.std.specs.Map.{lookup}
-use Rattle.std.proofs.lemmas.Option.{none-some}
-use Rattle.moo_value.specs.declared.value.ObjNo.{ObjNo}
-use Rattle.moo_rows.specs.declared.row.PropId.{PropId}
-use Rattle.moo_rows.specs.declared.row.SlotRow.{SlotRow}
-use Rattle.moo_rows.specs.Walk.{slots_of_left}
-use Rattle.moo_world.specs.Objects.{same_text}
-use Rattle.moo_props.proofs.Walked.{walk}
-use Rattle.moo_damage.specs.Apart.{NotesProp}
+use Rattle.moo_damage.proofs.Words.{rules, ◌≡◌, true, inr, sym, ap, ◌∙◌, subst, nat_eq, get, list_any, lookup, none-some, ObjNo, PropId, SlotRow, slots_of_left, same_text, walk, NotesProp}
 use Rattle.moo_damage.proofs.Noting.{AreSlots, all_walked, always_alone, apart_at_end, own_still, reached, slots_walked}
 use Rattle.moo_damage.proofs.names.names_apart_on.Goals as goal
 

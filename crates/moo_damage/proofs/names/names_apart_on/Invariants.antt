@@ -1,4 +1,4 @@
-use Rattle.moo_rows.specs.Walk.{slots_of_left}
+use Rattle.moo_damage.proofs.Words.{slots_of_left}
 use Rattle.moo_damage.proofs.Noting.{AreSlots, Own, Reached}
 use Rattle.moo_damage.proofs.names.names_apart_on.Given as goal
 

@@ -1,7 +1,4 @@
-use Rattle.std.proofs.Common.{rules, ◌≡◌, Some, cond, sym, ap, ◌∙◌}
-use Rattle.std.specs.Map.{lookup}
-use Rattle.moo_world.specs.Objects.{same_text, folded}
-use Rattle.moo_damage.specs.Apart.{noted_as, is_alone}
+use Rattle.moo_damage.proofs.Words.{rules, ◌≡◌, Some, cond, sym, ap, ◌∙◌, lookup, same_text, folded, noted_as, is_alone}
 use Rattle.moo_damage.proofs.Noting.{lowered, seen_after, seen_at}
 use Rattle.moo_damage.proofs.names.note_name.Goals as goal
 

@@ -1,10 +1,4 @@
-use Rattle.std.proofs.Common.{rules, ◌≡◌, true, sym, subst}
-use Rattle.std.specs.Prelude.{is_some}
-use Rattle.std.specs.FinMap.{get}
-use Rattle.moo_rows.specs.Maps.{object_cmp}
-use Rattle.moo_ordered.specs.Ordered.{contents}
-use Rattle.moo_world.proofs.Shown.PairLists.{some_of}
-use Rattle.moo_damage.specs.Apart.{AreApart, NamesApart}
+use Rattle.moo_damage.proofs.Words.{rules, ◌≡◌, true, sym, subst, is_some, get, object_cmp, contents, some_of, AreApart, NamesApart}
 use Rattle.moo_damage.proofs.Noting.{AreApart-noted}
 use Rattle.moo_damage.proofs.names.seen_apart.Goals as goal
 

@@ -1,11 +1,5 @@
-use Rattle.std.proofs.Common.{◌≡◌, true, Some, ◌⊎◌, sym, subst, arith}
-use Rattle.std.specs.Prelude.{is_some}
-use Rattle.std.specs.List.{AllByRecursion}
-use Rattle.std.specs.FinMap.{get}
-use Rattle.moo_world.specs.Objects.{nothing}
-use Rattle.moo_world.specs.World.{Climbs}
+use Rattle.moo_damage.proofs.Words.{◌≡◌, true, Some, ◌⊎◌, sym, subst, arith, is_some, AllByRecursion, get, nothing, Climbs, next_of, HasEnd}
 use Rattle.moo_world.proofs.Shown.EntriesInOrder.{all_then}
-use Rattle.moo_damage.specs.Damage.{next_of, HasEnd}
 use Rattle.moo_damage.proofs.Ending.{ends_here, step_up, step_down, bound}
 use Rattle.moo_damage.proofs.trees.climb.Goals as goal
 

@@ -1,11 +1,4 @@
-use Rattle.std.proofs.Common.{◌≡◌, ◌+◌, true, ◌⊎◌, List, length}
-use Rattle.std.specs.Prelude.{is_some}
-use Rattle.std.specs.List.{AllByRecursion}
-use Rattle.std.specs.FinMap.{get}
-use Rattle.moo_value.specs.declared.value.ObjNo.{ObjNo}
-use Rattle.moo_world.specs.Objects.{nothing}
-use Rattle.moo_world.specs.World.{Climbs}
-use Rattle.moo_damage.specs.Damage.{next_of, HasEnd}
+use Rattle.moo_damage.proofs.Words.{◌≡◌, ◌+◌, true, ◌⊎◌, List, length, is_some, AllByRecursion, get, ObjNo, nothing, Climbs, next_of, HasEnd}
 use Rattle.moo_damage.proofs.trees.climb.Given as goal
 
 -- where the chain ends from here, it does from each object on the way; and it has as many fewer objects

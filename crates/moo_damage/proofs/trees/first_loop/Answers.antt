@@ -1,15 +1,4 @@
-use Rattle.std.proofs.Common.{rules, ◌≡◌, Some, sym, ap, ◌∙◌, subst}
-use Rattle.std.specs.Prelude.{IfNone}
-use Rattle.std.specs.List.{AllByRecursion}
-use Rattle.std.specs.FinMap.{get, entries, from_entries, get-empty}
-use Rattle.std.proofs.lemmas.Option.{none-some}
-use Rattle.moo_value.specs.declared.value.ObjNo.{ObjNo}
-use Rattle.moo_rows.specs.declared.row.ObjRow.{ObjRow}
-use Rattle.moo_rows.specs.Exact.{object_exact}
-use Rattle.moo_rows.specs.Maps.{object_cmp}
-use Rattle.moo_rows.specs.Walk.{objects_left}
-use Rattle.moo_rows.proofs.Orders.{object_total}
-use Rattle.moo_damage.specs.Damage.{HasEnd, Loops}
+use Rattle.moo_damage.proofs.Words.{rules, ◌≡◌, Some, sym, ap, ◌∙◌, subst, IfNone, AllByRecursion, get, entries, from_entries, get-empty, none-some, ObjNo, ObjRow, object_exact, object_cmp, objects_left, object_total, HasEnd, Loops}
 use Rattle.moo_damage.proofs.Firsts.{FirstIn, held_entries, ended, stopped}
 use Rattle.moo_damage.proofs.trees.first_loop.Goals as goal
 

@@ -1,11 +1,4 @@
-use Rattle.std.proofs.Common.{◌≡◌, Some}
-use Rattle.std.specs.List.{AllByRecursion}
-use Rattle.std.specs.FinMap.{get, entries}
-use Rattle.moo_rows.specs.Maps.{object_cmp}
-use Rattle.moo_ordered.specs.Ordered.{contents}
-use Rattle.moo_rows.specs.Walk.{objects_left}
-use Rattle.moo_damage.specs.Damage.{HasEnd, Loops}
-use Rattle.moo_damage.specs.Noted.{AreEnding}
+use Rattle.moo_damage.proofs.Words.{◌≡◌, Some, AllByRecursion, get, entries, object_cmp, contents, objects_left, HasEnd, Loops, AreEnding}
 use Rattle.moo_damage.proofs.Firsts.{FirstLeft}
 use Rattle.moo_damage.proofs.trees.first_loop.Given as goal
 

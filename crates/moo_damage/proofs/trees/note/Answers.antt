@@ -1,9 +1,5 @@
-use Rattle.std.proofs.Common.{ℕ, suc, ◌+◌, ◌<◌, ◌≡◌, drop, length, get_or, List, pos, sym, subst, arith}
-use Rattle.std.specs.List.{AllByRecursion}
+use Rattle.moo_damage.proofs.Words.{ℕ, suc, ◌+◌, ◌<◌, ◌≡◌, drop, length, get_or, List, pos, sym, subst, arith, AllByRecursion, ObjNo, HasEnd, AreEnding}
 use Rattle.std.proofs.Math.Seq.{drop-cons}
-use Rattle.moo_value.specs.declared.value.ObjNo.{ObjNo}
-use Rattle.moo_damage.specs.Damage.{HasEnd}
-use Rattle.moo_damage.specs.Noted.{AreEnding}
 use Rattle.moo_damage.proofs.Ending.{AreEnding-noted}
 use Rattle.moo_damage.proofs.trees.note.Goals as goal
 

@@ -1,6 +1,4 @@
-use Rattle.std.proofs.Common.{◌≡◌, ◌++◌, map}
-use Rattle.std.specs.FinMap.{entries}
-use Rattle.moo_rows.specs.Walk.{objects_left}
+use Rattle.moo_damage.proofs.Words.{◌≡◌, ◌++◌, map, entries, objects_left}
 use Rattle.moo_damage.proofs.trees.object_count.Given as goal
 
 -- those so far, and those that are left
