@@ -40,6 +40,7 @@ module _ {K : Type 0} (has : K → Row → Bool) (key : K) (rows : List Row) (ke
       pub count : length news ≡ 1
 
     pub record IsLeft : Type 0 where
+      pub none : (r : Row) → Has rows r → has key r ≡ false
       pub after_is : after ≡ rows
       pub count : length news ≡ 0
 
@@ -67,6 +68,7 @@ module _ {K : Type 0} (has : K → Row → Bool) (key : K) (rows : List Row) (ke
           let few : chosen tests given rows ≡ [] = none_kept (λ r. list_all (holds (given ∷ r ∷ [])) tests) rows (λ r in_it. picks r in_it ∙ none r in_it) in
           let is : answer ≡ [] = no_permutation answer (subst (λ rs. IsPermutation (map (λ s. eval_all project (given ∷ s ∷ [])) rs) answer) few same) in
           record {
+            none = none;
             after_is = ap (λ a. put_all (without_all rows (ids_of a)) (numbered Given (without_all rows (ids_of a)) (map (λ s. cast_row table (drop 1 s)) a))) is;
             count = ap (λ a. length (numbered Given (without_all rows (ids_of a)) (map (λ s. cast_row table (drop 1 s)) a))) is;
           }

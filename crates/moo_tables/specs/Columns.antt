@@ -1,9 +1,9 @@
 -- Tables of the store and their columns, as the schema has them, and the cells of their rows.
-use Rattle.std.specs.Prelude.{Bool, true, false, if◌then◌else◌, map, length, ◌-◌, [], ◌∷◌, Option, Some, None, List, ℕ, pos}
+use Rattle.std.specs.Prelude.{Bool, true, false, if◌then◌else◌, map, take, drop, length, ◌-◌, ◌+◌, ◌++◌, [], ◌∷◌, Option, Some, None, option_map, List, ℕ, pos, Vec}
 use Rattle.std.specs.List.{range_with_len}
 use Rattle.sqlite.specs.Collation.TheVariants.{Binary}
 use Rattle.sqlite.specs.declared.types.Value.{Value}
-use Rattle.sqlite.specs.declared.types.Value.TheVariants.{Null, Int}
+use Rattle.sqlite.specs.declared.types.Value.TheVariants.{Null, Int, Text}
 use Rattle.sqlite.specs.Order.{Row, column}
 use Rattle.sqlite.specs.Table.{Table}
 use Rattle.sqlite.specs.Kind.{Kind}
@@ -11,6 +11,7 @@ use Rattle.sqlite.specs.Kind.TheVariants.{Integer, Text}
 use Rattle.sqlite_value.specs.Keys.{plain}
 use Rattle.sqlite_value.specs.declared.keys.Order.{Order}
 use Rattle.sqlite_schema.specs.declared.schema.Column.{Column}
+use Rattle.std.specs.declared.alloc.Global.{Global}
 
 -- a column that is never empty
 abbrev pub required : Kind → List ℕ → Column
@@ -61,3 +62,12 @@ pair_places t = range_with_len 1 (length t.columns)
 -- the cell of a flag
 abbrev pub flag_cell : Bool → Value
 flag_cell b = Int (if b then pos 1 else pos 0)
+
+-- the cells of a row that has this text at the place, or keeps the cell that is there
+abbrev pub cells_over : (Value → Row) → ℕ → Option (Vec ℕ Global) → Option Row → Option Row
+cells_over row place (Some text) old = Some (row (Text text.items))
+cells_over row place None old = option_map (λ cells. row (column cells place)) old
+
+-- a list without its element at this place
+abbrev pub all_but : {A : Type 0} → ℕ → List A → List A
+all_but place list = take place list ++ drop (place + 1) list

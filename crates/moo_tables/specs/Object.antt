@@ -1,22 +1,28 @@
 -- The table `object`: its columns, and the cells of a row.
-use Rattle.std.specs.Prelude.{[], ◌∷◌, codes, List, ℕ}
+use Rattle.std.specs.Prelude.{[], ◌∷◌, codes, List, ℕ, Option}
 use Rattle.sqlite.specs.Order.{Row}
 use Rattle.sqlite.specs.Table.{Table}
+use Rattle.sqlite.specs.declared.types.Value.{Value}
 use Rattle.sqlite.specs.declared.types.Value.TheVariants.{Int, Text}
 use Rattle.moo_value.specs.declared.value.ObjNo.{ObjNo}
 use Rattle.moo_rows.specs.declared.row.ObjRow.{ObjRow}
 use Rattle.moo_tables.specs.declared.object.ObjectCells.{ObjectCells}
-use Rattle.moo_tables.specs.Columns.{numbered, number, text, flag_cell}
+use Rattle.moo_tables.specs.Columns.{numbered, number, text, flag_cell, cells_over}
 
 abbrev pub object_table : Table
 object_table = numbered (codes "object") 1
     (number (codes "n") ∷ text (codes "name") ∷ number (codes "owner") ∷ number (codes "parent") ∷ number (codes "location") ∷ number (codes "player")
     ∷ number (codes "programmer") ∷ number (codes "wizard") ∷ number (codes "r") ∷ number (codes "w") ∷ number (codes "f") ∷ text (codes "accept") ∷ [])
 
+-- a row, with this cell for its accept list
+abbrev pub object_row : ObjNo → ObjRow → Value → Row
+object_row n row accept =
+    Int n.0 ∷ Text row.name ∷ Int row.owner.0 ∷ Int row.parent.0 ∷ Int row.location.0 ∷ flag_cell row.player ∷ flag_cell row.programmer ∷ flag_cell row.wizard ∷ flag_cell row.r ∷ flag_cell row.w ∷ flag_cell row.f ∷ accept ∷ []
+
 -- a row, with its accept list printed
 abbrev pub object_row_cells : ObjNo → ObjRow → List ℕ → Row
-object_row_cells n row accept =
-    Int n.0 ∷ Text row.name ∷ Int row.owner.0 ∷ Int row.parent.0 ∷ Int row.location.0 ∷ flag_cell row.player ∷ flag_cell row.programmer ∷ flag_cell row.wizard ∷ flag_cell row.r ∷ flag_cell row.w ∷ flag_cell row.f ∷ Text accept ∷ []
+object_row_cells n row accept = object_row n row (Text accept)
 
-abbrev pub object_cells : ObjNo → ObjectCells → Row
-object_cells n c = object_row_cells n c.row c.accept.items
+-- a row over the one that is there, if one is
+abbrev pub object_cells : ObjNo → ObjectCells → Option Row → Option Row
+object_cells n cells old = cells_over (object_row n cells.row) 11 cells.accept old

@@ -1,17 +1,22 @@
 -- The table `verb`: its columns, and the cells of a row.
-use Rattle.std.specs.Prelude.{[], ◌∷◌, codes, pos}
+use Rattle.std.specs.Prelude.{[], ◌∷◌, codes, pos, Option}
 use Rattle.sqlite.specs.Order.{Row}
 use Rattle.sqlite.specs.Table.{Table}
+use Rattle.sqlite.specs.declared.types.Value.{Value}
 use Rattle.sqlite.specs.declared.types.Value.TheVariants.{Int, Text}
 use Rattle.moo_value.specs.declared.value.ObjNo.{ObjNo}
 use Rattle.moo_rows.specs.declared.row.VerbId.{VerbId}
 use Rattle.moo_tables.specs.declared.verb.VerbCells.{VerbCells}
-use Rattle.moo_tables.specs.Columns.{paired, number, text}
+use Rattle.moo_tables.specs.Columns.{paired, number, text, cells_over}
 
 abbrev pub verb_table : Table
 verb_table = paired (codes "verb") 5
     (number (codes "object") ∷ number (codes "id") ∷ text (codes "names") ∷ number (codes "owner") ∷ text (codes "bits") ∷ text (codes "dobj") ∷ text (codes "prep") ∷ text (codes "iobj") ∷ [])
 
-abbrev pub verb_cells : ObjNo × VerbId → VerbCells → Row
-verb_cells key row =
-    Int key.0.0 ∷ Int (pos key.1.0) ∷ Text row.names.items ∷ Int row.owner.0 ∷ Text row.bits.items ∷ Text row.dobj.items ∷ Text row.prep.items ∷ Text row.iobj.items ∷ []
+abbrev pub verb_row : ObjNo × VerbId → VerbCells → Value → Row
+verb_row key row bits =
+    Int key.0.0 ∷ Int (pos key.1.0) ∷ Text row.names.items ∷ Int row.owner.0 ∷ bits ∷ Text row.dobj.items ∷ Text row.prep.items ∷ Text row.iobj.items ∷ []
+
+-- a row over the one that is there, if one is
+abbrev pub verb_cells : ObjNo × VerbId → VerbCells → Option Row → Option Row
+verb_cells key row old = cells_over (verb_row key row) 4 row.bits old

@@ -1,14 +1,16 @@
 //! The table `petition`: its making, writing and reading, and the test of its columns.
 
-ghost use Rattle.std.specs.Prelude.{◌≡◌, ◌↔◌, ◌∷◌, [], pos, IsTrue, IfOk, OnOk, OnErr, false};
+ghost use Rattle.std.specs.Prelude.{Some, None, ◌≡◌, ◌↔◌, ◌∷◌, [], pos, IsTrue, IfOk, OnOk, OnErr, false};
 ghost use Rattle.sqlite.specs.Held.{state};
 ghost use Rattle.sqlite.specs.State.{HasCleanDisk};
 ghost use Rattle.sqlite.specs.Values.{bound};
-ghost use Rattle.sqlite.specs.declared.types.Value.TheVariants.{Int};
+ghost use Rattle.sqlite.specs.declared.types.Value.TheVariants.{Null, Int, Text};
 ghost use Rattle.moo_tables.specs.Cells.{with_petition_cells};
-ghost use Rattle.moo_tables.specs.Inside.{StaysInside, Rests, ReadsTables, FailsToRead, IsGrown};
+ghost use Rattle.moo_tables.specs.Columns.{all_but};
+ghost use Rattle.moo_tables.specs.Over.{WritesOver};
+ghost use Rattle.moo_tables.specs.Inside.{StaysInside, Changes, Rests, ReadsTables, FailsToRead, IsGrown};
 ghost use Rattle.moo_tables.specs.Listing.{ListsNumbers};
-ghost use Rattle.moo_tables.specs.Petition.{petition_table, petition_cells};
+ghost use Rattle.moo_tables.specs.Petition.{petition_row, petition_table};
 ghost use Rattle.moo_tables.specs.Tables.{slot2_schema, petition_schema, second_schema};
 ghost use Rattle.moo_tables.specs.declared.version.Version.TheVariants.{Second};
 
@@ -25,8 +27,8 @@ use sqlite_value::value::ValueRef;
 #[derive(Drop)]
 pub struct PetitionCells {
     pub who: ObjNo,
-    /// A literal list.
-    pub calls: Vec<u8>,
+    /// A literal list. None leaves the cell that is there.
+    pub calls: Option<Vec<u8>>,
 }
 
 /// Makes the table `petition`.
@@ -42,20 +44,46 @@ pub(crate) fn create_petition<S: Alter>(tx: &mut Transaction<'_, S>) -> Result<u
     )
 }
 
-fn petition_values(id: PetitionId, row: &PetitionCells) -> [ValueRef<'_>; 3]
-    ensures { bound result ≡ petition_cells id row.now }
+fn petition_values<'a>(id: PetitionId, row: &'a PetitionCells, calls: &'a [u8]) -> [ValueRef<'a>; 3]
+    ensures { bound result ≡ petition_row id row.now (Text calls.now) }
 {
     [
         counter_value(id.0),
         object_value(row.who),
-        text_value(row.calls.as_slice()),
+        text_value(calls),
     ]
+}
+
+/// The values of a row but for its calls.
+fn kept_petition_values(id: PetitionId, row: &PetitionCells) -> [ValueRef<'_>; 2]
+    ensures { bound result ≡ all_but 2 (petition_row id row.now Null) }
+{
+    [counter_value(id.0), object_value(row.who)]
 }
 
 fn petition_key(id: PetitionId) -> [ValueRef<'static>; 1]
     ensures { bound result ≡ Int (pos id.0) ∷ [] }
 {
     [counter_value(id.0)]
+}
+
+/// Writes over the row with a key, if there is one, and leaves the cell of its calls. Answers how many rows it wrote over: one or none.
+fn keep_petition<S: Alter>(
+    tx: &mut Transaction<'_, S>,
+    id: PetitionId,
+    row: &PetitionCells,
+) -> Result<usize, Error>
+    requires stays { row.now.calls ≡ None }
+    ensures same_reference { tx.new.conn.ghost_name ≡ tx.old.conn.ghost_name }
+    ensures inside { StaysInside (state S.Store tx.old.conn.now) (state S.Store tx.new.conn.now) }
+    ensures over { IfOk result (λ count. WritesOver (with_petition_cells id (Some row.now)) count (state S.Store tx.old.conn.now) (state S.Store tx.new.conn.now)) }
+    ensures put { OnOk result (Changes (with_petition_cells id (Some row.now)) (state S.Store tx.old.conn.now) (state S.Store tx.new.conn.now)) }
+{
+    run(
+        tx,
+        "UPDATE petition SET who = ?2 WHERE id = ?1",
+        &kept_petition_values(id, row),
+    )
 }
 
 impl TableRow for PetitionCells {
@@ -68,19 +96,25 @@ impl TableRow for PetitionCells {
         tx: &mut Transaction<'_, S>,
         id: PetitionId,
     ) -> Result<usize, Error> {
-        run(
-            tx,
-            "UPDATE petition SET who = ?2, calls = ?3 WHERE id = ?1",
-            &petition_values(id, self),
-        )
+        match &self.calls {
+            Some(calls) => run(
+                tx,
+                "UPDATE petition SET who = ?2, calls = ?3 WHERE id = ?1",
+                &petition_values(id, self, calls.as_slice()),
+            ),
+            None => keep_petition(tx, id, self),
+        }
     }
 
     fn put<S: Alter>(&self, tx: &mut Transaction<'_, S>, id: PetitionId) -> Result<usize, Error> {
-        run(
-            tx,
-            "INSERT INTO petition VALUES (?1, ?2, ?3) ON CONFLICT (id) DO UPDATE SET who = ?2, calls = ?3",
-            &petition_values(id, self),
-        )
+        match &self.calls {
+            Some(calls) => run(
+                tx,
+                "INSERT INTO petition VALUES (?1, ?2, ?3) ON CONFLICT (id) DO UPDATE SET who = ?2, calls = ?3",
+                &petition_values(id, self, calls.as_slice()),
+            ),
+            None => keep_petition(tx, id, self),
+        }
     }
 
     fn remove<S: Alter>(tx: &mut Transaction<'_, S>, id: PetitionId) -> Result<usize, Error> {
