@@ -1,5 +1,5 @@
 -- A table read row by row, whatever its keys are.
-use Rattle.std.proofs.Common.{◌≡◌, inl, inr, ℕ, suc, ◌+◌, ◌<◌, length, List, [], ◌∷◌, ◌++◌, Bool, true, false, cond, find, take, drop, get_or, add-one, Option, None, Some, refl, sym, ap, subst, ◌∙◌, true≢false}
+use Rattle.std.proofs.Common.{◌≡◌, inl, inr, length, List, [], ◌∷◌, ◌++◌, Bool, true, false, cond, find, append_assoc, append-nil, arith, Option, None, Some, refl, sym, ap, subst, ◌∙◌, true≢false}
 use Rattle.std.specs.List.{AllByRecursion}
 use Rattle.std.specs.Option.{option_or}
 use Rattle.std.specs.Ordering.{is_eq, eq_by_cmp}
@@ -7,9 +7,7 @@ use Rattle.std.specs.Cmp.{IsTotalOrder, tied_itself}
 use Rattle.std.specs.declared.cmp.Ordering.{Ordering}
 use Rattle.std.specs.declared.cmp.Ordering.TheVariants.{Less, Equal, Greater}
 use Rattle.std.specs.FinMap.{FinMap, empty, get, insert, get-empty, get-insert, IsAntisymmetric}
-use Rattle.std.proofs.lemmas.List.{take_more, take-append-drop}
 use Rattle.std.proofs.lemmas.List.Folds.{find-append}
-use Rattle.std.proofs.Math.Seq.{drop-cons}
 use Rattle.sqlite.specs.Order.{Row}
 use Rattle.sqlite_rules.specs.Lists.{Has}
 use Rattle.sqlite_rules.proofs.ListLemmas.{all_has, has_found}
@@ -108,11 +106,6 @@ module _ {J K X : Type 0} {has : J → Row → Bool} {number : K → J} {reads :
 
   -- ---- a loop over the rows
 
-  split_at : (cells : List Row) (i : ℕ) (r : Row) → i < length cells → r ≡ get_or cells i r → cells ≡ take i cells ++ r ∷ drop (i + 1) cells
-  split_at cells i r within is =
-      let tail : drop i cells ≡ get_or cells i r ∷ drop (suc i) cells = drop-cons cells i r within in
-      sym (take-append-drop i cells) ∙ ap (λ t. take i cells ++ t) (tail ∙ λ j. sym is j ∷ drop (sym (add-one i) j) cells)
-
   all_then : (P : Row → Type 0) (xs : List Row) (x : Row) → AllByRecursion P xs → P x → AllByRecursion P (xs ++ x ∷ [])
   all_then P [] x all here = (here, tt)
   all_then P (y ∷ xs) x all here = (all.0, all_then P xs x all.1 here)
@@ -123,21 +116,31 @@ module _ {J K X : Type 0} {has : J → Row → Bool} {number : K → J} {reads :
     read = tt;
   }
 
-  pub held_more : {cmp : K → K → Ordering} → IsTotalOrder cmp → IsAntisymmetric cmp → (cells : List Row) (i : ℕ) (r : Row) → i < length cells → r ≡ get_or cells i r → IsAscending up cells
-      → (m n : FinMap cmp X) → HoldsTable has number reads (take i cells) m → TakesRow reads r m n → HoldsTable has number reads (take (i + 1) cells) n
-  held_more {cmp} total exact cells i r within is rise m n held taken =
-      let more : take (i + 1) cells ≡ take i cells ++ r ∷ [] = take_more cells i r within ∙ ap (λ x. take i cells ++ x ∷ []) (sym is) in
-      let rise′ : IsAscending up (take i cells ++ r ∷ drop (i + 1) cells) = subst (IsAscending up) (split_at cells i r within is) rise in
-      let P : List Row → Type 0 = λ front. HoldsTable has number reads front n in
-      let Q : FinMap cmp X → Type 0 = λ n. HoldsTable has number reads (take i cells ++ r ∷ []) n in
-      subst P (sym more) (subst Q (sym taken.put) (record {
-        shown = step total exact (take i cells) r (drop (i + 1) cells) rise′ taken.key taken.row taken.is_read m held.shown;
-        read = all_then (IsRead reads) (take i cells) r held.read (taken.key, taken.row, taken.is_read);
-      }))
+  module _ (cells front : List Row) (r : Row) (rest : List Row) (whole : front ++ r ∷ rest ≡ cells) (rise : IsAscending up cells) where
+    rises : IsAscending up (front ++ r ∷ rest)
+    rises = subst (IsAscending up) (sym whole) rise
 
-  pub held_first : {cmp : K → K → Ordering} → (cells : List Row) (i : ℕ) (r : Row) → i < length cells → r ≡ get_or cells i r → IsAscending up cells
-      → (m : FinMap cmp X) → HoldsTable has number reads (take i cells) m → ¬ (IsRead reads r) → (k : J) → has k r ≡ true → FirstUnread reads below (λ j. find (has j) cells) k
-  held_first cells i r within is rise m held bad k mine =
-      let whole : cells ≡ take i cells ++ r ∷ drop (i + 1) cells = split_at cells i r within is in
-      let P : List Row → Type 0 = λ c. FirstUnread reads below (λ j. find (has j) c) k in
-      subst P (sym whole) (first_unread (take i cells) r (drop (i + 1) cells) (subst (IsAscending up) whole rise) held.read bad k mine)
+    pub held_more : {cmp : K → K → Ordering} → IsTotalOrder cmp → IsAntisymmetric cmp → (m n : FinMap cmp X) → HoldsTable has number reads front m → TakesRow reads r m n → HoldsTable has number reads (front ++ r ∷ []) n
+    held_more {cmp} total exact m n held taken =
+        let Q : FinMap cmp X → Type 0 = λ n. HoldsTable has number reads (front ++ r ∷ []) n in
+        subst Q (sym taken.put) (record {
+          shown = step total exact front r rest rises taken.key taken.row taken.is_read m held.shown;
+          read = all_then (IsRead reads) front r held.read (taken.key, taken.row, taken.is_read);
+        })
+
+    pub held_first : {cmp : K → K → Ordering} → (m : FinMap cmp X) → HoldsTable has number reads front m → ¬ (IsRead reads r) → (k : J) → has k r ≡ true → FirstUnread reads below (λ j. find (has j) cells) k
+    held_first m held bad k mine =
+        let P : List Row → Type 0 = λ c. FirstUnread reads below (λ j. find (has j) c) k in
+        subst P whole (first_unread front r rest rises held.read bad k mine)
+
+-- the rows that were taken and those that are left, at the next one and at the end
+
+pub takes_next : (cells front left rest : List Row) (r : Row) → front ++ left ≡ cells → left ≡ r ∷ rest → front ++ r ∷ rest ≡ cells
+takes_next cells front left rest r so step = ap (λ l. front ++ l) (sym step) ∙ so
+
+pub takes_on : (cells front left rest : List Row) (r : Row) → front ++ left ≡ cells → left ≡ r ∷ rest → (front ++ r ∷ []) ++ rest ≡ cells
+takes_on cells front left rest r so step = append_assoc front (r ∷ []) rest ∙ takes_next cells front left rest r so step
+
+pub took_all : (cells front left : List Row) → front ++ left ≡ cells → length left ≡ 0 → front ≡ cells
+took_all cells front [] so none = sym (append-nil front) ∙ so
+took_all cells front (r ∷ left) so none = absurd (omega arith)

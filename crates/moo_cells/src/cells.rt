@@ -20,21 +20,21 @@ use std::alloc::Global;
 ///
 /// Errors: `Damaged` with the first kind of damage that is met and the least key at which it is; `NewerVersion` if the
 /// head is that of a later version, and then nothing else is tested; `OutOfMemory`.
-pub fn read_cells(alloc: Global, lists: &Cells) -> Result<Flat, CellFault>
-    requires { AreListed lists.now }
-    ensures rows { IfOk result (λ rows. ShowsRows (tables_of lists.now) rows.maps) }
+pub fn read_cells(alloc: Global, lists: Cells) -> Result<Flat, CellFault>
+    requires { AreListed lists }
+    ensures rows { IfOk result (λ rows. ShowsRows (tables_of lists) rows.maps) }
     // What is read is good whatever the tables hold.
     ensures good { IfOk result (λ rows. IsGood rows.maps) }
     // The number of the last batch is that of a cell, and so is below 2^63.
     ensures limit { IfOk result (λ rows. rows.maps.head.seq < 2 ^ 63) }
     // Good rows that the tables show are the ones that are read.
-    ensures one { (m : Maps) → ShowsRows (tables_of lists.now) m → IsGood m → IfOk result (λ rows. rows.maps ≡ m) }
+    ensures one { (m : Maps) → ShowsRows (tables_of lists) m → IsGood m → IfOk result (λ rows. rows.maps ≡ m) }
     // Which fault it is.
-    ensures fault { IfErr result (SaysOfCells (tables_of lists.now)) }
+    ensures fault { IfErr result (SaysOfCells (tables_of lists)) }
     // Tables that show good rows are read, unless memory runs out.
-    ensures whole { (m : Maps) → ShowsRows (tables_of lists.now) m → IsGood m → IfErr result (λ fault. fault ≡ CellFault.OutOfMemory) }
+    ensures whole { (m : Maps) → ShowsRows (tables_of lists) m → IsGood m → IfErr result (λ fault. fault ≡ CellFault.OutOfMemory) }
     // So are tables of a known version in which no kind of damage is met: these are the ones that show good rows.
-    ensures undamaged { ¬ (IsNewer (tables_of lists.now)) → ((kind : Kind) (key : Key) → ¬ (IsMet (tables_of lists.now) kind key)) → IfErr result (λ fault. fault ≡ CellFault.OutOfMemory) }
+    ensures undamaged { ¬ (IsNewer (tables_of lists)) → ((kind : Kind) (key : Key) → ¬ (IsMet (tables_of lists) kind key)) → IfErr result (λ fault. fault ≡ CellFault.OutOfMemory) }
 {
     let rows = read_rows(alloc, lists)?;
     let damage = damage_of(alloc, &rows)?;

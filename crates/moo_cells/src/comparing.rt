@@ -67,17 +67,17 @@ fn show_rows(alloc: Global, lists: &Cells, rows: &Flat) -> Result<bool, AllocErr
 ///
 /// Errors: those of `read_cells`, if the tables show no world. Rows that are shown are compared in place, and only
 /// if one differs are all read again.
-pub fn compare_cells(alloc: Global, lists: &Cells, own: &Flat) -> Result<Option<Key>, CellFault>
-    requires listed { AreListed lists.now }
+pub fn compare_cells(alloc: Global, lists: Cells, own: &Flat) -> Result<Option<Key>, CellFault>
+    requires listed { AreListed lists }
     requires good { IsGood own.now.maps }
-    ensures same { IfOk result (λ o. IfNone o (ShowsRows (tables_of lists.now) own.now.maps)) }
-    ensures differs { IfOk result (λ o. IfSome o (IsMismatch own.now.maps (tables_of lists.now))) }
-    ensures fault { IfErr result (SaysOfCells (tables_of lists.now)) }
+    ensures same { IfOk result (λ o. IfNone o (ShowsRows (tables_of lists) own.now.maps)) }
+    ensures differs { IfOk result (λ o. IfSome o (IsMismatch own.now.maps (tables_of lists))) }
+    ensures fault { IfErr result (SaysOfCells (tables_of lists)) }
     // Tables that show these rows are found to, unless memory runs out.
-    ensures whole { ShowsRows (tables_of lists.now) own.now.maps → IfOk result (λ o. o ≡ None) }
-    ensures memory { ShowsRows (tables_of lists.now) own.now.maps → IfErr result (λ fault. fault ≡ CellFault.OutOfMemory) }
+    ensures whole { ShowsRows (tables_of lists) own.now.maps → IfOk result (λ o. o ≡ None) }
+    ensures memory { ShowsRows (tables_of lists) own.now.maps → IfErr result (λ fault. fault ≡ CellFault.OutOfMemory) }
 {
-    let shown = show_rows(alloc, lists, own)?;
+    let shown = show_rows(alloc, &lists, own)?;
     if shown {
         return Ok(None);
     }

@@ -25,25 +25,36 @@ fn under(alloc: Global, head: Head) -> Flat
     rows
 }
 
-/// The rows that the tables show, within their limits; whether they are those of a world isn't tested.
+/// The rows that the tables show, within their limits; whether they are those of a world isn't tested. The cells of a row are let
+/// go once it is read.
 ///
 /// Errors: `Damaged` with `BadHead` or `BadCell`, the first of the two that is met, and its least key; `NewerVersion`;
 /// `OutOfMemory`.
-pub fn read_rows(alloc: Global, lists: &Cells) -> Result<Flat, CellFault>
-    requires { AreListed lists.now }
-    ensures shown { IfOk result (λ rows. ShowsRows (tables_of lists.now) rows.maps) }
+pub fn read_rows(alloc: Global, lists: Cells) -> Result<Flat, CellFault>
+    requires { AreListed lists }
+    ensures shown { IfOk result (λ rows. ShowsRows (tables_of lists) rows.maps) }
     ensures within { IfOk result (λ rows. AreWithin rows.maps) }
     ensures limit { IfOk result (λ rows. rows.maps.head.seq < 2 ^ 63) }
     // Neither a bad head nor a bad cell is met.
-    ensures read { OnOk result (¬ (IsNewer (tables_of lists.now)) × NoneBefore (IsMet (tables_of lists.now)) 3) }
-    ensures fault { IfErr result (SaysOfCells (tables_of lists.now)) }
+    ensures read { OnOk result (¬ (IsNewer (tables_of lists)) × NoneBefore (IsMet (tables_of lists)) 3) }
+    ensures fault { IfErr result (SaysOfCells (tables_of lists)) }
 {
-    let head = read_head(lists.version, &lists.head, &lists.petition_head)?;
+    let Cells {
+        version,
+        head,
+        object,
+        prop,
+        slot,
+        verb,
+        petition,
+        petition_head,
+    } = lists;
+    let head = read_head(version, &head, &petition_head)?;
     let mut rows = under(alloc, head);
-    read_objects(alloc, &lists.object, &mut rows)?;
-    read_props(alloc, &lists.prop, &mut rows)?;
-    read_slots(alloc, lists.version, &lists.slot, &mut rows)?;
-    read_verbs(alloc, &lists.verb, &mut rows)?;
-    read_petitions(alloc, &lists.petition, &mut rows)?;
+    read_objects(alloc, object, &mut rows)?;
+    read_props(alloc, prop, &mut rows)?;
+    read_slots(alloc, version, slot, &mut rows)?;
+    read_verbs(alloc, verb, &mut rows)?;
+    read_petitions(alloc, petition, &mut rows)?;
     Ok(rows)
 }

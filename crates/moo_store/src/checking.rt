@@ -37,15 +37,15 @@ pub(crate) fn object_count<R: Rows>(rows: &R) -> u64
 }
 
 /// The number of objects, if the cells of the tables show these rows.
-fn compare_lists(alloc: Global, lists: &CellLists, own: &Flat) -> Result<u64, StoreFault>
+fn compare_lists(alloc: Global, lists: CellLists, own: &Flat) -> Result<u64, StoreFault>
     requires good { IsGood own.now.maps }
-    ensures shown { OnOk result (ShowsRows (tables_of lists.now) own.now.maps) }
+    ensures shown { OnOk result (ShowsRows (tables_of lists) own.now.maps) }
     ensures count { IfOk result (λ count. count ≡ length (objects_of (world_of own.now.maps))) }
-    ensures fault { IfErr result (SaysInCheck own.now.maps (tables_of lists.now)) }
-    ensures whole { ShowsRows (tables_of lists.now) own.now.maps → IfErr result IsOfStore }
+    ensures fault { IfErr result (SaysInCheck own.now.maps (tables_of lists)) }
+    ensures whole { ShowsRows (tables_of lists) own.now.maps → IfErr result IsOfStore }
     ensures open { IfErr result (λ fault. fault ≢ StoreFault.Closed) }
 {
-    if !are_listed(lists) {
+    if !are_listed(&lists) {
         return Err(StoreFault::Store(Error::SqliteFailure(ErrorCode::DatabaseCorrupt)));
     }
     match compare_cells(alloc, lists, own) {
@@ -80,8 +80,8 @@ fn check_rows<S: Alter>(
         Ok(()) => {}
         Err(fault) => return Err(fault),
     }
-    match read_lists(conn, Version::Second) {
-        Ok(lists) => compare_lists(alloc, &lists, own),
+    match read_lists(alloc, conn, Version::Second) {
+        Ok(lists) => compare_lists(alloc, lists, own),
         Err(fault) => Err(fault),
     }
 }

@@ -20,16 +20,16 @@ use sqlite::{Alter, Connection, Error, ErrorCode};
 use std::alloc::Global;
 
 /// The rows that the cells of the tables show.
-fn rows_of(alloc: Global, lists: &CellLists) -> Result<Flat, StoreFault>
-    ensures rows { IfOk result (λ rows. ShowsRows (tables_of lists.now) rows.maps) }
+fn rows_of(alloc: Global, lists: CellLists) -> Result<Flat, StoreFault>
+    ensures rows { IfOk result (λ rows. ShowsRows (tables_of lists) rows.maps) }
     ensures good { IfOk result (λ rows. IsGood rows.maps) }
     ensures limit { IfOk result (λ rows. rows.maps.head.seq < 2 ^ 63) }
-    ensures one { (m : Maps) → ShowsRows (tables_of lists.now) m → IsGood m → IfOk result (λ rows. rows.maps ≡ m) }
-    ensures fault { IfErr result (Says (tables_of lists.now)) }
-    ensures whole { (m : Maps) → ShowsRows (tables_of lists.now) m → IsGood m → IfErr result IsOfStore }
+    ensures one { (m : Maps) → ShowsRows (tables_of lists) m → IsGood m → IfOk result (λ rows. rows.maps ≡ m) }
+    ensures fault { IfErr result (Says (tables_of lists)) }
+    ensures whole { (m : Maps) → ShowsRows (tables_of lists) m → IsGood m → IfErr result IsOfStore }
     ensures own { IfErr result (λ fault. fault ≢ not_ours) }
 {
-    if !are_listed(lists) {
+    if !are_listed(&lists) {
         return Err(StoreFault::Store(Error::SqliteFailure(ErrorCode::DatabaseCorrupt)));
     }
     match read_cells(alloc, lists) {
@@ -56,6 +56,7 @@ pub(crate) fn failure_of(error: Error) -> StoreFault
 
 /// The cells of our tables, which are of this version.
 pub(crate) fn read_lists<S: Alter>(
+    alloc: Global,
     conn: &mut Connection<S>,
     version: Version,
 ) -> Result<CellLists, StoreFault>
@@ -67,7 +68,7 @@ pub(crate) fn read_lists<S: Alter>(
     ensures fault { IfErr result (λ fault. (error : _) × (fault ≡ StoreFault.Store error)) }
     ensures own { IfErr result (λ fault. fault ≢ not_ours) }
 {
-    match read_tables(conn, version) {
+    match read_tables(alloc, conn, version) {
         Ok(lists) => Ok(lists),
         Err(error) => Err(failure_of(error)),
     }
@@ -126,11 +127,11 @@ pub(crate) fn read_rows<S: Alter>(
         Ok(version) => version,
         Err(fault) => return Err(fault),
     };
-    let lists = match read_lists(conn, version) {
+    let lists = match read_lists(alloc, conn, version) {
         Ok(lists) => lists,
         Err(fault) => return Err(fault),
     };
-    match rows_of(alloc, &lists) {
+    match rows_of(alloc, lists) {
         Ok(rows) => Ok((version, rows)),
         Err(fault) => Err(fault),
     }

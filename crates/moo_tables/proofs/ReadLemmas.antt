@@ -1,5 +1,5 @@
 -- What the queries of the tables answer.
-use Rattle.std.proofs.Common.{◌≡◌, ◌⊎◌, ◌&&◌, None, ℕ, ℤ, List, [], ◌∷◌, map, drop, codes, option_map, true, false, not, Vec, inl, inr, Result, Ok, Err, IfOk, IfErr, OnOk, OnErr, IsTrue, refl, sym, ap, subst, ◌∙◌, Ordering, Less, Equal}
+use Rattle.std.proofs.Common.{◌≡◌, ◌⊎◌, ◌&&◌, None, ℕ, ℤ, List, [], ◌∷◌, map, drop, codes, option_map, true, false, not, Vec, inl, inr, Result, Ok, Err, IfOk, OnOk, OnErr, IsTrue, refl, sym, ap, subst, ◌∙◌, Ordering, Less, Equal}
 use Rattle.std.specs.Ordering.{is_eq, ordering_then}
 use Rattle.std.specs.Cmp.{on_total}
 use Rattle.std.specs.List.Sorted.{IsPermutation}
@@ -20,7 +20,7 @@ use Rattle.sqlite_schema.specs.declared.schema.Kind.TheVariants.{Integer}
 use Rattle.std.specs.List.{AllByRecursion}
 use Rattle.sqlite.specs.Effect.{Database}
 use Rattle.sqlite.specs.Listing.{understood}
-use Rattle.sqlite.specs.State.{State, HasCleanDisk, Shown, ShowsRows, Survives, CommitsShowing, IsUnchanged, IsRolledBack, FailsToQuery, FailsToShow, IsNotRun}
+use Rattle.sqlite.specs.State.{State, HasCleanDisk, Shown, ShowsRows, Survives, CommitsShowing, IsUnchanged, IsRolledBack}
 use Rattle.sqlite.specs.Clock.{timed}
 use Rattle.sqlite.proofs.Callers.{IsPlain, reads_as, never_commits}
 use Rattle.sqlite.proofs.StateLemmas.{survives_weaker, survives_then}
@@ -46,6 +46,7 @@ use Rattle.moo_tables.specs.Listing.{ListsNumbers, ListsPairs, IsRowBelow, has_k
 use Rattle.moo_tables.proofs.TextLemmas.{plain_query, in_order, number_order, pair_order}
 use Rattle.moo_tables.proofs.SelectLemmas.{IsSelect, number_columns, pair_columns, slots_table, select_head, select_object, select_prop, select_slot, select_verb, select_petition, select_counter}
 use Rattle.moo_tables.proofs.InsideLemmas.{clean_before}
+use Rattle.moo_tables.proofs.StreamLemmas.{unchanged_then, failed_then}
 use Rattle.moo_tables.proofs.QueryLemmas.{chosen, Selects, selects, shows_in_order, shown_rows}
 use Rattle.moo_tables.proofs.SortLemmas.{rises-sort_by}
 use Rattle.moo_tables.proofs.ListingLemmas.{find-map, find_alike, one_pair, two_ints, lists_numbers, no_ties}
@@ -130,16 +131,6 @@ rests_on old new tables same it = record {
   holds = subst (λ db. Holds db tables) (sym same.0.now_is) it.holds;
 }
 
--- why the reading failed, what the database then is
-pub query_failed : (schema : Schema) (sql : List ℕ) (old new : State) (e : Error) → IsPlain (understood schema sql) → FailsToQuery sql [] old new e → HasTables schema old → IsUnchanged old new ⊎ IsRolledBack old new
-unfolding FailsToQuery IsNotRun
-query_failed schema sql old new e known (inl (inl refused)) has = inl refused.1
-query_failed schema sql old new e known (inl (inr failed)) has = inr failed.3
-query_failed schema sql old new e plain (inr h) has =
-    let known = subst (λ s. IsPlain (understood s sql)) (sym has) plain in
-    let none = (subst IsPlain h.1.is known).0 in
-    inl (subst (FailsToShow old new sql h.0 (timed [] h.0.formats h.1.now) e) none h.2).3
-
 pub commits_nothing : (schema : Schema) (sql : List ℕ) (old new : State) → IsPlain (understood schema sql) → (HasCleanDisk old → HasTables schema old) → Survives old new (CommitsShowing sql [] old) → Survives old new (λ _. ⊥)
 commits_nothing schema sql old new plain has survives =
     survives_weaker old new _ _ (λ clean db. never_commits sql [] old db (subst (λ s. IsPlain (understood s sql)) (sym (has (clean_before old new _ survives clean))) plain)) survives
@@ -148,26 +139,6 @@ commits_nothing schema sql old new plain has survives =
 
 has_then : (schema : Schema) (a b : State) → IsUnchanged a b → HasTables schema a → HasTables schema b
 has_then schema a b same has = ap (λ (d : Database). d.schema) same.0.now_is ∙ has
-
-unchanged_then : (a b c : State) → IsUnchanged a b → IsUnchanged b c → IsUnchanged a c
-unchanged_then a b c p q = (
-  record { was_open = p.0.was_open; is_open = q.0.is_open; now_is = q.0.now_is ∙ p.0.now_is; committed_is = q.0.committed_is ∙ p.0.committed_is; mode = q.0.mode ∙ p.0.mode },
-  record { changes = q.1.changes ∙ p.1.changes; last_rowid = q.1.last_rowid ∙ p.1.last_rowid },
-  q.2 ∙ p.2,
-)
-
-undone_then : (a b c : State) → IsUnchanged a b → IsRolledBack b c → IsRolledBack a c
-undone_then a b c p q = record {
-  was_open = λ opened. p.0.was_open;
-  undone = λ opened. let it = q.undone opened in (it.0 ∙ p.0.committed_is, it.1 ∙ p.0.committed_is);
-  autocommit = q.autocommit;
-  unmarked = q.unmarked;
-  counts = record { changes = q.counts.changes ∙ p.1.changes; last_rowid = q.counts.last_rowid ∙ p.1.last_rowid };
-}
-
-failed_then : (a b c : State) → IsUnchanged a b → IsUnchanged b c ⊎ IsRolledBack b c → IsUnchanged a c ⊎ IsRolledBack a c
-failed_then a b c p (inl same) = inl (unchanged_then a b c p same)
-failed_then a b c p (inr back) = inr (undone_then a b c p back)
 
 pub reads_then : {schema : Schema} {a b c : State} → ReadsTables schema a b → ReadsTables schema b c → ReadsTables schema a c
 reads_then {schema} {a} {b} {c} p q = record {
@@ -203,31 +174,36 @@ module _ (schema : Schema) (sql : List ℕ) (known : IsPlain (understood schema 
   quiet : (HasCleanDisk old → HasTables schema old) → Survives old new (λ _. ⊥)
   quiet has = commits_nothing schema sql old new known has survives
 
-  pub reads : (HasCleanDisk new → IfOk r (λ rows. Shown sql [] old new rows.items)) → OnOk r (ReadsTables schema old new)
+  pub reads : (HasCleanDisk new → IsPlain (understood old.now.schema sql) → IfOk r (λ rows. Shown sql [] old new rows.items)) → OnOk r (ReadsTables schema old new)
   reads ok = go r ok
     where
-      go : (r : Result (Vec Row Global) Error) → (HasCleanDisk new → IfOk r (λ rows. Shown sql [] old new rows.items)) → OnOk r (ReadsTables schema old new)
+      go : (r : Result (Vec Row Global) Error) → (HasCleanDisk new → IsPlain (understood old.now.schema sql) → IfOk r (λ rows. Shown sql [] old new rows.items)) → OnOk r (ReadsTables schema old new)
       go (Err e) ok = tt
       go (Ok rows) ok = record {
         clean = clean_before old new _ survives;
-        same = λ clean has. unchanged_as sql [] old new rows.items (plain_in has) (ok clean);
+        same = λ clean has. unchanged_as sql [] old new rows.items (plain_in has) (ok clean (plain_in has));
         crash = quiet;
       }
 
-  pub fails : (HasCleanDisk new → IfErr r (FailsToQuery sql [] old new)) → OnErr r (FailsToRead schema old new)
-  fails err = go r err
+  pub fails : (HasCleanDisk new → IsPlain (understood old.now.schema sql) → OnErr r (IsUnchanged old new ⊎ IsRolledBack old new)) → OnErr r (FailsToRead schema old new)
+  fails kept = go r kept
     where
-      go : (r : Result (Vec Row Global) Error) → (HasCleanDisk new → IfErr r (FailsToQuery sql [] old new)) → OnErr r (FailsToRead schema old new)
-      go (Ok rows) err = tt
-      go (Err e) err = record {
+      go : (r : Result (Vec Row Global) Error) → (HasCleanDisk new → IsPlain (understood old.now.schema sql) → OnErr r (IsUnchanged old new ⊎ IsRolledBack old new)) → OnErr r (FailsToRead schema old new)
+      go (Ok rows) kept = tt
+      go (Err e) kept = record {
         clean = clean_before old new _ survives;
-        kept = λ clean has. query_failed schema sql old new e known (err clean) has;
+        kept = λ clean has. kept clean (plain_in has);
         crash = quiet;
       }
+
+-- the text reads the tables that the connection has
+pub plain_of : (sql : List ℕ) (old : State) (tables : Tables) (version : Version) → Holds old.now tables → tables.version ≡ version → IsPlain (understood (schema_of version) sql) → IsPlain (understood old.now.schema sql)
+plain_of sql old tables version holds at known = subst (λ s. IsPlain (understood s sql)) (sym (holds.schema ∙ ap schema_of at)) known
 
 -- what a query shows of the tables that the connection has
-pub lists : (sql : List ℕ) (old new : State) (r : Result (Vec Row Global) Error) (Lists : List Row → Tables → Type 0) → ((rows : List Row) (tables : Tables) → Holds old.now tables → Shown sql [] old new rows → Lists rows tables)
-    → (HasCleanDisk new → IfOk r (λ rows. Shown sql [] old new rows.items)) → HasCleanDisk new → IfOk r (λ rows. (tables : Tables) → Rests old tables → Lists rows.items tables)
+pub lists : (sql : List ℕ) (old new : State) (r : Result (Vec Row Global) Error) (Lists : List Row → Tables → Type 0)
+    → ((rows : List Row) (tables : Tables) → Holds old.now tables → (IsPlain (understood old.now.schema sql) → Shown sql [] old new rows) → Lists rows tables)
+    → (HasCleanDisk new → IsPlain (understood old.now.schema sql) → IfOk r (λ rows. Shown sql [] old new rows.items)) → HasCleanDisk new → IfOk r (λ rows. (tables : Tables) → Rests old tables → Lists rows.items tables)
 lists sql old new (Err e) Lists shows ok clean = tt
 lists sql old new (Ok rows) Lists shows ok clean = λ tables it. shows rows.items tables it.holds (ok clean)
 

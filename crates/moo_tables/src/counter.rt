@@ -12,10 +12,12 @@ ghost use Rattle.moo_tables.specs.Tables.{petition_schema, second_schema};
 ghost use Rattle.moo_tables.specs.declared.version.Version.TheVariants.{First, Second};
 
 use crate::columns::is_number;
+use crate::query::all_rows;
 use crate::statement::{counter_value, run};
 use sqlite::{Alter, Connection, Error, Row, Transaction};
 use sqlite_schema::schema::Column;
 use sqlite_value::value::ValueRef;
+use std::alloc::Global;
 
 /// Makes the table `petition_head`, the last.
 pub(crate) fn create_petition_head<S: Alter>(tx: &mut Transaction<'_, S>) -> Result<usize, Error>
@@ -65,15 +67,19 @@ pub(crate) fn put_next_petition<S: Alter>(
 }
 
 /// The row of `petition_head`. The first version has no such table.
-pub(crate) fn counter_cells_of<S: Alter>(conn: &mut Connection<S>) -> Result<Vec<Row>, Error>
+pub(crate) fn counter_cells_of<S: Alter>(
+    alloc: Global,
+    conn: &mut Connection<S>,
+) -> Result<Vec<Row>, Error>
     ensures outside { (state S.Store conn.old).in_transaction ≡ false → (state S.Store conn.new).in_transaction ≡ false }
     ensures read { OnOk result (ReadsTables second_schema (state S.Store conn.old) (state S.Store conn.new)) }
     ensures listed { HasCleanDisk (state S.Store conn.new) → IfOk result (λ rows. (tables : _) → Rests (state S.Store conn.old) tables → tables.version ≡ Second → ListsNumbers rows.items tables.petition_head) }
     ensures failed { OnErr result (FailsToRead second_schema (state S.Store conn.old) (state S.Store conn.new)) }
 {
-    conn.query_all(
+    all_rows(
+        alloc,
+        conn,
         "SELECT id, next_petition FROM petition_head ORDER BY id",
-        &[],
     )
 }
 

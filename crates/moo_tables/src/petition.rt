@@ -15,6 +15,7 @@ ghost use Rattle.moo_tables.specs.Tables.{slot2_schema, petition_schema, second_
 ghost use Rattle.moo_tables.specs.declared.version.Version.TheVariants.{Second};
 
 use crate::columns::{is_number, is_text};
+use crate::query::all_rows;
 use crate::statement::{counter_value, object_value, run, text_value};
 use crate::table_row::TableRow;
 use moo_rows::PetitionId;
@@ -22,6 +23,7 @@ use moo_value::ObjNo;
 use sqlite::{Alter, Connection, Error, Row, Transaction};
 use sqlite_schema::schema::Column;
 use sqlite_value::value::ValueRef;
+use std::alloc::Global;
 
 /// A row of the table `petition`, without its key.
 #[derive(Drop)]
@@ -123,13 +125,20 @@ impl TableRow for PetitionCells {
 }
 
 /// The rows of `petition`, in the order of their numbers. The first version has no such table.
-pub(crate) fn petition_cells_of<S: Alter>(conn: &mut Connection<S>) -> Result<Vec<Row>, Error>
+pub(crate) fn petition_cells_of<S: Alter>(
+    alloc: Global,
+    conn: &mut Connection<S>,
+) -> Result<Vec<Row>, Error>
     ensures outside { (state S.Store conn.old).in_transaction ≡ false → (state S.Store conn.new).in_transaction ≡ false }
     ensures read { OnOk result (ReadsTables second_schema (state S.Store conn.old) (state S.Store conn.new)) }
     ensures listed { HasCleanDisk (state S.Store conn.new) → IfOk result (λ rows. (tables : _) → Rests (state S.Store conn.old) tables → tables.version ≡ Second → ListsNumbers rows.items tables.petition) }
     ensures failed { OnErr result (FailsToRead second_schema (state S.Store conn.old) (state S.Store conn.new)) }
 {
-    conn.query_all("SELECT id, who, calls FROM petition ORDER BY id", &[])
+    all_rows(
+        alloc,
+        conn,
+        "SELECT id, who, calls FROM petition ORDER BY id",
+    )
 }
 
 pub(crate) fn are_petition_columns(columns: &[Column]) -> bool

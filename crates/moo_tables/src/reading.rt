@@ -48,8 +48,8 @@ fn both_petition_cells_of<S: Alter>(
     match version {
         Version::First => Ok((Vec::new(alloc), Vec::new(alloc))),
         Version::Second => {
-            let petition = petition_cells_of(conn)?;
-            let petition_head = counter_cells_of(conn)?;
+            let petition = petition_cells_of(alloc, conn)?;
+            let petition_head = counter_cells_of(alloc, conn)?;
             Ok((petition, petition_head))
         }
     }
@@ -60,19 +60,23 @@ fn both_petition_cells_of<S: Alter>(
 ///
 /// The version has to be that of the database (`version_of`): of another one nothing is said. Nothing is written. After
 /// a fault of the store the tables are as they were, unless the fault shut the connection.
-pub fn read_tables<S: Alter>(conn: &mut Connection<S>, version: Version) -> Result<CellLists, Error>
+pub fn read_tables<S: Alter>(
+    alloc: Global,
+    conn: &mut Connection<S>,
+    version: Version,
+) -> Result<CellLists, Error>
     ensures outside { (state S.Store conn.old).in_transaction ≡ false → (state S.Store conn.new).in_transaction ≡ false }
     ensures read { OnOk result (ReadsTables (schema_of version) (state S.Store conn.old) (state S.Store conn.new)) }
     ensures version { IfOk result (λ lists. lists.version ≡ version) }
     ensures listed { HasCleanDisk (state S.Store conn.new) → IfOk result (λ lists. (tables : _) → tables.version ≡ version → Rests (state S.Store conn.old) tables → ListsTables lists tables) }
     ensures failed { OnErr result (FailsToRead (schema_of version) (state S.Store conn.old) (state S.Store conn.new)) }
 {
-    let head = head_cells_of(conn)?;
-    let object = object_cells_of(conn)?;
-    let prop = prop_cells_of(conn)?;
-    let slot = slot_cells_of(conn, version)?;
-    let verb = verb_cells_of(conn)?;
-    let (petition, petition_head) = both_petition_cells_of(*verb.allocator(), conn, version)?;
+    let head = head_cells_of(alloc, conn)?;
+    let object = object_cells_of(alloc, conn)?;
+    let prop = prop_cells_of(alloc, conn)?;
+    let slot = slot_cells_of(alloc, conn, version)?;
+    let verb = verb_cells_of(alloc, conn)?;
+    let (petition, petition_head) = both_petition_cells_of(alloc, conn, version)?;
     Ok(CellLists {
         version,
         head,

@@ -42,11 +42,11 @@ fn tables_after(alloc: Global, call: &str) -> Result<Connection<MemStore>, Fail>
 fn rows_of(alloc: Global, mut conn: Connection<MemStore>) -> Result<Flat, Fail>
     ensures { IfOk result (λ rows. IsGood rows.maps) }
 {
-    let lists = read_tables(&mut conn, Version::Second)?;
+    let lists = read_tables(alloc, &mut conn, Version::Second)?;
     if !are_listed(&lists) {
         return Err(Fail::from("the rows of a table aren't in the order of their keys"));
     }
-    Ok(read_cells(alloc, &lists)?)
+    Ok(read_cells(alloc, lists)?)
 }
 
 /// A World of the rows after one call, over the tables after another.

@@ -41,19 +41,19 @@ fn take_object(alloc: Global, cells: &Row, rows: &mut Flat) -> Result<(), RowFau
     Ok(())
 }
 
-/// Puts what each row of the table shows, in rows that have none of the table yet.
-pub(crate) fn read_objects(alloc: Global, cells: &[Row], rows: &mut Flat) -> Result<(), CellFault>
-    requires listed { AreKeyed cells.now }
+/// Puts what each row of the table shows, in rows that have none of the table yet. The cells of a row are let go once it is read.
+pub(crate) fn read_objects(alloc: Global, cells: Vec<Row>, rows: &mut Flat) -> Result<(), CellFault>
+    requires listed { AreKeyed cells.items }
     requires none { rows.old.maps.objects ≡ empty }
-    ensures holds { OnOk result (HoldsTable has_rowid object_number ReadsObject cells.now rows.new.maps.objects) }
+    ensures holds { OnOk result (HoldsTable has_rowid object_number ReadsObject cells.items rows.new.maps.objects) }
     ensures kept { OnOk result (rows.new.maps ≡ record rows.old.maps { objects = rows.new.maps.objects }) }
-    ensures fault { IfErr result (SaysUnread has_rowid ReadsObject IsLess object_key cells.now) }
+    ensures fault { IfErr result (SaysUnread has_rowid ReadsObject IsLess object_key cells.items) }
 {
     for row in cells {
-        match take_object(alloc, row, rows) {
+        match take_object(alloc, &row, rows) {
             Ok(()) => {}
             Err(RowFault::Unreadable) => {
-                return Err(CellFault::Damaged(Kind::BadCell, Key::Object(int_in(row, 0))));
+                return Err(CellFault::Damaged(Kind::BadCell, Key::Object(int_in(&row, 0))));
             }
             Err(RowFault::OutOfMemory) => return Err(CellFault::OutOfMemory),
         }

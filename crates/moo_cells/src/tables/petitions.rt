@@ -44,19 +44,23 @@ fn take_petition(alloc: Global, cells: &Row, rows: &mut Flat) -> Result<(), RowF
     Ok(())
 }
 
-/// Puts what each row of the table shows, in rows that have none of the table yet.
-pub(crate) fn read_petitions(alloc: Global, cells: &[Row], rows: &mut Flat) -> Result<(), CellFault>
-    requires listed { AreKeyed cells.now }
+/// Puts what each row of the table shows, in rows that have none of the table yet. The cells of a row are let go once it is read.
+pub(crate) fn read_petitions(
+    alloc: Global,
+    cells: Vec<Row>,
+    rows: &mut Flat,
+) -> Result<(), CellFault>
+    requires listed { AreKeyed cells.items }
     requires none { rows.old.maps.petitions ≡ empty }
-    ensures holds { OnOk result (HoldsTable has_rowid petition_number ReadsPetition cells.now rows.new.maps.petitions) }
+    ensures holds { OnOk result (HoldsTable has_rowid petition_number ReadsPetition cells.items rows.new.maps.petitions) }
     ensures kept { OnOk result (rows.new.maps ≡ record rows.old.maps { petitions = rows.new.maps.petitions }) }
-    ensures fault { IfErr result (SaysUnread has_rowid ReadsPetition IsLess petition_key cells.now) }
+    ensures fault { IfErr result (SaysUnread has_rowid ReadsPetition IsLess petition_key cells.items) }
 {
     for row in cells {
-        match take_petition(alloc, row, rows) {
+        match take_petition(alloc, &row, rows) {
             Ok(()) => {}
             Err(RowFault::Unreadable) => {
-                return Err(CellFault::Damaged(Kind::BadCell, Key::Petition(int_in(row, 0))));
+                return Err(CellFault::Damaged(Kind::BadCell, Key::Petition(int_in(&row, 0))));
             }
             Err(RowFault::OutOfMemory) => return Err(CellFault::OutOfMemory),
         }

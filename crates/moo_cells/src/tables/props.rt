@@ -40,19 +40,19 @@ fn take_prop(alloc: Global, cells: &Row, rows: &mut Flat) -> Result<(), RowFault
     Ok(())
 }
 
-/// Puts what each row of the table shows, in rows that have none of the table yet.
-pub(crate) fn read_props(alloc: Global, cells: &[Row], rows: &mut Flat) -> Result<(), CellFault>
-    requires listed { AreKeyed cells.now }
+/// Puts what each row of the table shows, in rows that have none of the table yet. The cells of a row are let go once it is read.
+pub(crate) fn read_props(alloc: Global, cells: Vec<Row>, rows: &mut Flat) -> Result<(), CellFault>
+    requires listed { AreKeyed cells.items }
     requires none { rows.old.maps.props ≡ empty }
-    ensures holds { OnOk result (HoldsTable has_rowid prop_number ReadsProp cells.now rows.new.maps.props) }
+    ensures holds { OnOk result (HoldsTable has_rowid prop_number ReadsProp cells.items rows.new.maps.props) }
     ensures kept { OnOk result (rows.new.maps ≡ record rows.old.maps { props = rows.new.maps.props }) }
-    ensures fault { IfErr result (SaysUnread has_rowid ReadsProp IsLess prop_key cells.now) }
+    ensures fault { IfErr result (SaysUnread has_rowid ReadsProp IsLess prop_key cells.items) }
 {
     for row in cells {
-        match take_prop(alloc, row, rows) {
+        match take_prop(alloc, &row, rows) {
             Ok(()) => {}
             Err(RowFault::Unreadable) => {
-                return Err(CellFault::Damaged(Kind::BadCell, Key::Prop(int_in(row, 0))));
+                return Err(CellFault::Damaged(Kind::BadCell, Key::Prop(int_in(&row, 0))));
             }
             Err(RowFault::OutOfMemory) => return Err(CellFault::OutOfMemory),
         }

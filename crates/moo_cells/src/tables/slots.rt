@@ -44,26 +44,26 @@ fn take_slot(alloc: Global, version: Version, cells: &Row, rows: &mut Flat) -> R
     Ok(())
 }
 
-/// Puts what each row of the table shows, in rows that have none of the table yet.
+/// Puts what each row of the table shows, in rows that have none of the table yet. The cells of a row are let go once it is read.
 pub(crate) fn read_slots(
     alloc: Global,
     version: Version,
-    cells: &[Row],
+    cells: Vec<Row>,
     rows: &mut Flat,
 ) -> Result<(), CellFault>
-    requires listed { ArePaired cells.now }
+    requires listed { ArePaired cells.items }
     requires none { rows.old.maps.slots ≡ empty }
-    ensures holds { OnOk result (HoldsTable has_key_pair slot_number (ReadsSlot version) cells.now rows.new.maps.slots) }
+    ensures holds { OnOk result (HoldsTable has_key_pair slot_number (ReadsSlot version) cells.items rows.new.maps.slots) }
     ensures kept { OnOk result (rows.new.maps ≡ record rows.old.maps { slots = rows.new.maps.slots }) }
-    ensures fault { IfErr result (SaysUnread has_key_pair (ReadsSlot version) IsPairLess slot_key cells.now) }
+    ensures fault { IfErr result (SaysUnread has_key_pair (ReadsSlot version) IsPairLess slot_key cells.items) }
 {
     for row in cells {
-        match take_slot(alloc, version, row, rows) {
+        match take_slot(alloc, version, &row, rows) {
             Ok(()) => {}
             Err(RowFault::Unreadable) => {
                 return Err(CellFault::Damaged(
                     Kind::BadCell,
-                    Key::Slot(int_in(row, 0), int_in(row, 1)),
+                    Key::Slot(int_in(&row, 0), int_in(&row, 1)),
                 ));
             }
             Err(RowFault::OutOfMemory) => return Err(CellFault::OutOfMemory),

@@ -44,21 +44,21 @@ fn take_verb(alloc: Global, cells: &Row, rows: &mut Flat) -> Result<(), RowFault
     Ok(())
 }
 
-/// Puts what each row of the table shows, in rows that have none of the table yet.
-pub(crate) fn read_verbs(alloc: Global, cells: &[Row], rows: &mut Flat) -> Result<(), CellFault>
-    requires listed { ArePaired cells.now }
+/// Puts what each row of the table shows, in rows that have none of the table yet. The cells of a row are let go once it is read.
+pub(crate) fn read_verbs(alloc: Global, cells: Vec<Row>, rows: &mut Flat) -> Result<(), CellFault>
+    requires listed { ArePaired cells.items }
     requires none { rows.old.maps.verbs ≡ empty }
-    ensures holds { OnOk result (HoldsTable has_key_pair verb_number ReadsVerb cells.now rows.new.maps.verbs) }
+    ensures holds { OnOk result (HoldsTable has_key_pair verb_number ReadsVerb cells.items rows.new.maps.verbs) }
     ensures kept { OnOk result (rows.new.maps ≡ record rows.old.maps { verbs = rows.new.maps.verbs }) }
-    ensures fault { IfErr result (SaysUnread has_key_pair ReadsVerb IsPairLess verb_key cells.now) }
+    ensures fault { IfErr result (SaysUnread has_key_pair ReadsVerb IsPairLess verb_key cells.items) }
 {
     for row in cells {
-        match take_verb(alloc, row, rows) {
+        match take_verb(alloc, &row, rows) {
             Ok(()) => {}
             Err(RowFault::Unreadable) => {
                 return Err(CellFault::Damaged(
                     Kind::BadCell,
-                    Key::Verb(int_in(row, 0), int_in(row, 1)),
+                    Key::Verb(int_in(&row, 0), int_in(&row, 1)),
                 ));
             }
             Err(RowFault::OutOfMemory) => return Err(CellFault::OutOfMemory),

@@ -5,18 +5,18 @@ use Rattle.moo_tables.specs.Tables.{second_schema, petition_table}
 use Rattle.moo_tables.specs.Texts.{select_text}
 use Rattle.moo_tables.specs.Listing.{ListsNumbers}
 use Rattle.moo_tables.proofs.SelectLemmas.{select_petition}
-use Rattle.moo_tables.proofs.ReadLemmas.{reads, fails, lists, petition_lists}
+use Rattle.moo_tables.proofs.ReadLemmas.{reads, fails, lists, plain_of, petition_lists}
 use Rattle.moo_tables.proofs.petition.petition_cells_of.Goals as goal
 
 pub returns-clause-read : goal.returns-clause-read
 returns-clause-read g c =
-    reads second_schema (select_text petition_table) select_petition.plain (state g.S.Store c.args.conn.now) (state g.S.Store c.query_all.new.self) c.query_all.result c.query_all.ensures.survives c.query_all.ensures.ok
+    reads second_schema (select_text petition_table) select_petition.plain (state g.S.Store c.args.conn.now) (state g.S.Store c.all_rows.new.conn) c.all_rows.result c.all_rows.ensures.survives c.all_rows.ensures.shown
 
 pub returns-clause-listed : goal.returns-clause-listed
 returns-clause-listed g c =
-    lists (select_text petition_table) (state g.S.Store c.args.conn.now) (state g.S.Store c.query_all.new.self) c.query_all.result
-    (λ rows tables. tables.version ≡ Second → ListsNumbers rows tables.petition) (petition_lists (state g.S.Store c.args.conn.now) (state g.S.Store c.query_all.new.self)) c.query_all.ensures.ok
+    lists (select_text petition_table) (state g.S.Store c.args.conn.now) (state g.S.Store c.all_rows.new.conn) c.all_rows.result
+    (λ rows tables. tables.version ≡ Second → ListsNumbers rows tables.petition) (λ rows tables holds shown at. petition_lists (state g.S.Store c.args.conn.now) (state g.S.Store c.all_rows.new.conn) rows tables holds (shown (plain_of (select_text petition_table) (state g.S.Store c.args.conn.now) tables Second holds at select_petition.plain)) at) c.all_rows.ensures.shown
 
 pub returns-clause-failed : goal.returns-clause-failed
 returns-clause-failed g c =
-    fails second_schema (select_text petition_table) select_petition.plain (state g.S.Store c.args.conn.now) (state g.S.Store c.query_all.new.self) c.query_all.result c.query_all.ensures.survives c.query_all.ensures.err
+    fails second_schema (select_text petition_table) select_petition.plain (state g.S.Store c.args.conn.now) (state g.S.Store c.all_rows.new.conn) c.all_rows.result c.all_rows.ensures.survives c.all_rows.ensures.kept

@@ -1,20 +1,21 @@
+use Rattle.std.proofs.Common.{refl}
 use Rattle.sqlite.specs.Held.{state}
 use Rattle.moo_tables.specs.Tables.{schema_of, verb_table}
 use Rattle.moo_tables.specs.Texts.{select_text}
 use Rattle.moo_tables.specs.Listing.{ListsPairs}
 use Rattle.moo_tables.proofs.SelectLemmas.{select_verb}
-use Rattle.moo_tables.proofs.ReadLemmas.{reads, fails, lists, verb_lists}
+use Rattle.moo_tables.proofs.ReadLemmas.{reads, fails, lists, plain_of, verb_lists}
 use Rattle.moo_tables.proofs.verb.verb_cells_of.Goals as goal
 
 pub returns-clause-read : goal.returns-clause-read
 returns-clause-read g c version =
-    reads (schema_of version) (select_text verb_table) (select_verb version).plain (state g.S.Store c.args.conn.now) (state g.S.Store c.query_all.new.self) c.query_all.result c.query_all.ensures.survives c.query_all.ensures.ok
+    reads (schema_of version) (select_text verb_table) (select_verb version).plain (state g.S.Store c.args.conn.now) (state g.S.Store c.all_rows.new.conn) c.all_rows.result c.all_rows.ensures.survives c.all_rows.ensures.shown
 
 pub returns-clause-listed : goal.returns-clause-listed
 returns-clause-listed g c =
-    lists (select_text verb_table) (state g.S.Store c.args.conn.now) (state g.S.Store c.query_all.new.self) c.query_all.result
-    (λ rows tables. ListsPairs rows tables.verb) (verb_lists (state g.S.Store c.args.conn.now) (state g.S.Store c.query_all.new.self)) c.query_all.ensures.ok
+    lists (select_text verb_table) (state g.S.Store c.args.conn.now) (state g.S.Store c.all_rows.new.conn) c.all_rows.result
+    (λ rows tables. ListsPairs rows tables.verb) (λ rows tables holds shown. verb_lists (state g.S.Store c.args.conn.now) (state g.S.Store c.all_rows.new.conn) rows tables holds (shown (plain_of (select_text verb_table) (state g.S.Store c.args.conn.now) tables tables.version holds refl (select_verb tables.version).plain))) c.all_rows.ensures.shown
 
 pub returns-clause-failed : goal.returns-clause-failed
 returns-clause-failed g c version =
-    fails (schema_of version) (select_text verb_table) (select_verb version).plain (state g.S.Store c.args.conn.now) (state g.S.Store c.query_all.new.self) c.query_all.result c.query_all.ensures.survives c.query_all.ensures.err
+    fails (schema_of version) (select_text verb_table) (select_verb version).plain (state g.S.Store c.args.conn.now) (state g.S.Store c.all_rows.new.conn) c.all_rows.result c.all_rows.ensures.survives c.all_rows.ensures.kept

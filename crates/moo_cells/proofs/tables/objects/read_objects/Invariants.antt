@@ -1,4 +1,5 @@
-use Rattle.std.proofs.Common.{◌≡◌, take}
+use Rattle.std.proofs.Common.{◌≡◌, ◌++◌, length}
+use Rattle.std.specs.Vec.Iter.{into_iter_items, into_iter_len}
 use Rattle.sqlite.specs.Tree.{has_rowid}
 use Rattle.moo_cells.specs.Reading.{ReadsObject}
 use Rattle.moo_cells.specs.Holding.{object_number, HoldsTable}
@@ -6,6 +7,8 @@ use Rattle.moo_cells.proofs.tables.objects.read_objects.Given as goal
 
 abbrev pub invariant-loop-row : goal.invariant-loop-row
 invariant-loop-row l = record {
-  holds : HoldsTable has_rowid object_number ReadsObject (take l.row-index l.cells) l.rows.maps.objects;
+  whole : l.yielded ++ into_iter_items l.row-iterator ≡ l.fn.cells.items;
+  left : into_iter_len l.row-iterator ≡ length (into_iter_items l.row-iterator);
+  holds : HoldsTable has_rowid object_number ReadsObject l.yielded l.rows.maps.objects;
   kept : l.rows.maps ≡ record (l.initial.rows.maps) { objects = l.rows.maps.objects };
 }

@@ -1,4 +1,5 @@
-use Rattle.std.proofs.Common.{◌<◌, length, refl, ap, ◌∙◌, w64, arith}
+use Rattle.std.proofs.Common.{rules, ◌≡◌, ◌∷◌, sym, length, refl, ap, ◌∙◌, w64, arith}
+use Rattle.std.specs.Vec.Iter.{into_iter_items, into_iter_len}
 use Rattle.std.proofs.lemmas.Int.{to_z-of_z}
 use Rattle.sqlite.specs.Order.{column}
 use Rattle.moo_rows.proofs.Orders.{prop_total}
@@ -6,25 +7,50 @@ use Rattle.moo_rows.specs.Exact.{prop_exact}
 use Rattle.moo_rows.specs.Maps.{Maps}
 use Rattle.moo_damage.specs.declared.kind.Key.TheVariants.{Prop}
 use Rattle.moo_cells.proofs.Keys.{props_bear, self_tied}
-use Rattle.moo_cells.proofs.Table.{held_none, held_more, held_first}
+use Rattle.moo_cells.proofs.Table.{held_none, held_more, held_first, takes_next, takes_on, took_all}
 use Rattle.moo_cells.proofs.tables.props.read_props.Goals as goal
 
 pub loop-row-init : goal.loop-row-init
-loop-row-init c = record { holds = held_none props_bear c.args.rows.now.maps.props c.requires.none; kept = refl }
+loop-row-init c =
+    let it = c.into_iter-row-iterator.result in
+    let left : into_iter_len it ≡ length (into_iter_items it) = search rules in
+    record { whole = c.into_iter-row-iterator.ensures.into_iter_gives.0; left = left; holds = held_none props_bear c.args.rows.now.maps.props c.requires.none; kept = refl }
 
 pub loop-row-preserved : goal.loop-row-preserved
 loop-row-preserved c =
-    let within : c.loop-row.row-index < length c.args.cells.now = omega arith in record {
-      holds = held_more props_bear prop_total prop_exact c.args.cells.now c.loop-row.row-index c.row-item.result within c.row-item.is c.requires.listed.0 c.loop-row.rows.maps.props c.take_prop.new.rows.maps.props c.loop-row.invariant.holds c.in-Ok.ensures.ok;
-      kept = c.in-Ok.ensures.kept ∙ ap (λ (m : Maps). record m { props = c.take_prop.new.rows.maps.props }) c.loop-row.invariant.kept;
+    let cells = c.args.cells.items in
+    let at = c.loop-row in
+    let row = c.in-Some.row in
+    let left = into_iter_items at.row-iterator in
+    let rest = into_iter_items c.next.new.self in
+    let steps : left ≡ row ∷ rest = c.in-Some.ensures.steps.0 in
+    let was = at.invariant.left in
+    let gone = c.in-Some.ensures.steps.1 in
+    let short = ap length steps in record {
+      whole = takes_on cells at.yielded left rest row at.invariant.whole steps;
+      left = omega arith;
+      holds = held_more props_bear cells at.yielded row rest (takes_next cells at.yielded left rest row at.invariant.whole steps) c.requires.listed.0 prop_total prop_exact at.rows.maps.props c.take_prop.new.rows.maps.props at.invariant.holds c.in-Ok.ensures.ok;
+      kept = c.in-Ok.ensures.kept ∙ ap (λ (m : Maps). record m { props = c.take_prop.new.rows.maps.props }) at.invariant.kept;
     }
+
+pub returns : goal.returns
+returns c =
+    let at = c.loop-row in
+    let none = c.in-None.ensures.steps in
+    let all = took_all c.args.cells.items at.yielded (into_iter_items at.row-iterator) at.invariant.whole (sym at.invariant.left ∙ none.0) in
+    search rules
 
 pub returns-in-Err-Unreadable-clause-fault : goal.returns-in-Err-Unreadable-clause-fault
 returns-in-Err-Unreadable-clause-fault c =
-    let within : c.loop-row.row-index < length c.args.cells.now = omega arith in
+    let cells = c.args.cells.items in
+    let at = c.loop-row in
+    let row = c.in-Some.row in
+    let left = into_iter_items at.row-iterator in
+    let rest = into_iter_items c.next.new.self in
+    let steps : left ≡ row ∷ rest = c.in-Some.ensures.steps.0 in
     let one = to_z-of_z w64 c.int_in.result c.int_in.ensures.fits in (
       c.int_in.result,
       refl,
       λ i. Prop (one i),
-      held_first props_bear c.args.cells.now c.loop-row.row-index c.row-item.result within c.row-item.is c.requires.listed.0 c.loop-row.rows.maps.props c.loop-row.invariant.holds (c.in-Err-Unreadable.ensures.err c.in-Err-Unreadable.field-0-is) c.int_in.result (self_tied (column c.row-item.result 0) c.int_in.result c.int_in.ensures.value),
+      held_first props_bear cells at.yielded row rest (takes_next cells at.yielded left rest row at.invariant.whole steps) c.requires.listed.0 at.rows.maps.props at.invariant.holds (c.in-Err-Unreadable.ensures.err c.in-Err-Unreadable.field-0-is) c.int_in.result (self_tied (column row 0) c.int_in.result c.int_in.ensures.value),
     )

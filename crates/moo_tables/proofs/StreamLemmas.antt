@@ -1,0 +1,107 @@
+-- A query that is read row by row.
+use Rattle.std.proofs.Common.{◌≡◌, ◌⊎◌, refl, false, ℕ, List, [], ◌∷◌, ◌++◌, None, Some, Result, Ok, Err, OnErr, inl, inr, sym, subst, ◌∙◌, arith}
+use Rattle.sqlite.specs.Order.{Row}
+use Rattle.sqlite.specs.Schema.{Schema}
+use Rattle.sqlite.specs.Clock.{timed}
+use Rattle.sqlite.specs.Listing.{understood, reads_listing, IsSourceOf}
+use Rattle.sqlite.specs.Held.{Held, state}
+use Rattle.sqlite.specs.Given.{HasGiven, HasBegun, Advances, IsRefused}
+use Rattle.sqlite.specs.Effect.{Database}
+use Rattle.sqlite.specs.declared.error.Error.{Error}
+use Rattle.sqlite.specs.State.{State, HasCleanDisk, Shown, ShowsRows, Survives, CommitsShowing, IsUnchanged, IsRolledBack, Fails, FailsToQuery, FailsToShow, IsNotRun}
+use Rattle.sqlite.proofs.Callers.{IsPlain, begun_plain}
+use Rattle.sqlite.proofs.StateLemmas.{survives_then}
+use Rattle.sqlite_trees.specs.declared.store.Store.{Ghosts}
+use Rattle.moo_tables.specs.Inside.{HasTables}
+
+pub unchanged_then : (a b c : State) → IsUnchanged a b → IsUnchanged b c → IsUnchanged a c
+unchanged_then a b c p q = (
+  record { was_open = p.0.was_open; is_open = q.0.is_open; now_is = q.0.now_is ∙ p.0.now_is; committed_is = q.0.committed_is ∙ p.0.committed_is; mode = q.0.mode ∙ p.0.mode },
+  record { changes = q.1.changes ∙ p.1.changes; last_rowid = q.1.last_rowid ∙ p.1.last_rowid },
+  q.2 ∙ p.2,
+)
+
+pub undone_then : (a b c : State) → IsUnchanged a b → IsRolledBack b c → IsRolledBack a c
+undone_then a b c p q = record {
+  was_open = λ opened. p.0.was_open;
+  undone = λ opened. let it = q.undone opened in (it.0 ∙ p.0.committed_is, it.1 ∙ p.0.committed_is);
+  autocommit = q.autocommit;
+  unmarked = q.unmarked;
+  counts = record { changes = q.counts.changes ∙ p.1.changes; last_rowid = q.counts.last_rowid ∙ p.1.last_rowid };
+}
+
+pub failed_then : (a b c : State) → IsUnchanged a b → IsUnchanged b c ⊎ IsRolledBack b c → IsUnchanged a c ⊎ IsRolledBack a c
+failed_then a b c p (inl same) = inl (unchanged_then a b c p same)
+failed_then a b c p (inr back) = inr (undone_then a b c p back)
+
+-- why the reading failed, what the database then is
+pub query_failed : (schema : Schema) (sql : List ℕ) (old new : State) (e : Error) → IsPlain (understood schema sql) → FailsToQuery sql [] old new e → HasTables schema old → IsUnchanged old new ⊎ IsRolledBack old new
+unfolding FailsToQuery IsNotRun
+query_failed schema sql old new e known (inl (inl refused)) has = inl refused.1
+query_failed schema sql old new e known (inl (inr failed)) has = inr failed.3
+query_failed schema sql old new e plain (inr h) has =
+    let known = subst (λ s. IsPlain (understood s sql)) (sym has) plain in
+    let none = (subst IsPlain h.1.is known).0 in
+    inl (subst (FailsToShow old new sql h.0 (timed [] h.0.formats h.1.now) e) none h.2).3
+
+-- what is shown after calls that change nothing was there before them
+pub shown_from : (sql : List ℕ) (first old new : State) (rows : List Row) → IsPlain (understood first.now.schema sql) → IsUnchanged first old → Shown sql [] old new rows → Shown sql [] first new rows
+unfolding Shown
+shown_from sql first old new rows plain same h =
+    let is = same.0.now_is in
+    let known = subst (λ (d : Database). IsPlain (understood d.schema sql)) (sym is) plain in
+    let none = (subst IsPlain h.1.is known).0 in
+    let full = timed [] h.0.formats h.1.now in
+    let it = subst (ShowsRows old new sql h.0 full rows) none h.2 in (
+      h.0,
+      record { is = subst (λ (d : Database). understood d.schema sql ≡ Ok h.0) is h.1.is; whole = h.1.whole; given = h.1.given; now = h.1.now },
+      subst (ShowsRows first new sql h.0 full rows) (sym none) (it.0, subst (λ (d : Database). IsSourceOf (reads_listing d.schema sql) d it.0) is it.1, it.2, unchanged_then first old new same it.3),
+    )
+
+module _ {S : Type 0} (g : Ghosts S) (sql : List ℕ) (old : Held S) where
+  -- the rows so far are those of the query
+  pub record IsGiving (now : Held S) (rows : List Row) : Type 0 where
+    pub outside : old.in_transaction ≡ false → now.in_transaction ≡ false
+    pub survives : Survives (state g old) (state g now) (CommitsShowing sql [] (state g old))
+    pub given : HasCleanDisk (state g now) → IsPlain (understood old.schema sql) → HasGiven g sql [] now rows × IsUnchanged (state g old) (state g now)
+
+  pub begins : (now : Held S) → (old.in_transaction ≡ false → now.in_transaction ≡ false) → Survives (state g old) (state g now) (CommitsShowing sql [] (state g old)) → (HasCleanDisk (state g now) → HasBegun g sql [] old now) → IsGiving now []
+  begins now outside survives begun = record { outside = outside; survives = survives; given = λ clean plain. begun_plain g sql [] old now plain (begun clean) }
+
+  -- what a query that doesn't begin leaves
+  pub refused : {X : Type 0} (r : Result X Error) (e : Error) (new : Held S) → r ≡ Err e → OnErr r (IsRefused g sql [] old r new) → HasCleanDisk (state g new) → IsPlain (understood old.schema sql) → IsUnchanged (state g old) (state g new) ⊎ IsRolledBack (state g old) (state g new)
+  refused {X} r e new is it clean plain =
+      let left = subst (λ (r : Result X Error). OnErr r (IsRefused g sql [] old r new)) is it in
+      query_failed old.schema sql (state g old) (state g new) e plain (left.err clean) refl
+
+  module _ (mid new : Held S) (rows : List Row) (it : IsGiving mid rows) (kept : Survives (state g mid) (state g new) (λ _. ⊥)) where
+    pub survives_on : Survives (state g old) (state g new) (CommitsShowing sql [] (state g old))
+    survives_on = survives_then (state g old) (state g mid) (state g new) _ _ _ (λ _ db may. may) (λ _ db none. absurd none) it.survives kept
+
+    pub failed_on : (e : Error) → (HasCleanDisk (state g new) → Fails (state g mid) (state g new) ⊥ e ⊎ IsUnchanged (state g mid) (state g new)) → HasCleanDisk (state g new) → IsPlain (understood old.schema sql) → IsUnchanged (state g old) (state g new) ⊎ IsRolledBack (state g old) (state g new)
+    failed_on e ends clean plain = go (ends clean)
+      where
+        was : IsUnchanged (state g old) (state g mid)
+        was = (it.given (omega (arith, kept.clean)) plain).1
+
+        go : Fails (state g mid) (state g new) ⊥ e ⊎ IsUnchanged (state g mid) (state g new) → IsUnchanged (state g old) (state g new) ⊎ IsRolledBack (state g old) (state g new)
+        go (inl failed) = inr (undone_then (state g old) (state g mid) (state g new) was failed.3)
+        go (inr same) = inl (unchanged_then (state g old) (state g mid) (state g new) was same)
+
+    module _ (same : HasCleanDisk (state g new) → IsUnchanged (state g mid) (state g new)) where
+      pub unchanged_on : HasCleanDisk (state g new) → IsPlain (understood old.schema sql) → IsUnchanged (state g old) (state g new)
+      unchanged_on clean plain = unchanged_then (state g old) (state g mid) (state g new) (it.given (omega (arith, kept.clean)) plain).1 (same clean)
+
+      -- one row more
+      pub gives_on : (row : Row) → (mid.in_transaction ≡ false → new.in_transaction ≡ false) → (HasCleanDisk (state g new) → Advances g mid new (Some row)) → IsGiving new (rows ++ row ∷ [])
+      gives_on row mode next = record {
+        outside = λ h. mode (it.outside h);
+        survives = survives_on;
+        given = λ clean plain. (next clean sql [] rows (it.given (omega (arith, kept.clean)) plain).0, unchanged_on clean plain);
+      }
+
+    -- no row more
+    pub shown_on : (HasCleanDisk (state g new) → Advances g mid new None) → HasCleanDisk (state g new) → IsPlain (understood old.schema sql) → Shown sql [] (state g old) (state g new) rows
+    shown_on last clean plain =
+        let was = it.given (omega (arith, kept.clean)) plain in
+        shown_from sql (state g old) (state g mid) (state g new) rows plain was.1 (last clean sql [] rows was.0)
