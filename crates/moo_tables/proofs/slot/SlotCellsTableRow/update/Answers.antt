@@ -1,6 +1,10 @@
-use Rattle.moo_tables.proofs.SlotLemmas.{update}
+use Rattle.moo_tables.proofs.SlotLemmas.{update, update_fails}
 use Rattle.moo_tables.proofs.RowLemmas.{ran_as}
+use Rattle.moo_tables.proofs.StoppedLemmas.{with_values}
 use Rattle.moo_tables.proofs.slot.SlotCellsTableRow.update.Goals as goal
 
 pub returns-clause-over : goal.returns-clause-over
 returns-clause-over g c = update _ _ _ c.args.self.now _ (ran_as _ _ _ _ _ _ c.slot_values.ensures c.run.ensures.ran)
+
+pub returns-clause-cause : goal.returns-clause-cause
+returns-clause-cause g c = update_fails _ _ _ c.args.self.now _ (with_values _ _ _ _ _ _ c.slot_values.ensures c.run.ensures.executes)
