@@ -14,6 +14,7 @@ pub mod Writing
 pub mod WholeRuns
 pub mod Opened
 pub mod Untouched
+pub mod Stopped
 pub mod Numbered
 pub mod Asking
 pub mod AdoptLemmas

@@ -7,6 +7,7 @@ pub mod World
 pub mod Turns
 pub mod Led
 pub mod Untouched
+pub mod Stopped
 pub mod Text
 pub mod Opening
 pub mod Reopened

@@ -58,6 +58,7 @@ impl<S: Alter + Drop> World<S> {
     ghost use Rattle.moo_tables.specs.Inside.{Rests, IsCurrent};
     ghost use Rattle.moo_store.specs.Led.{LeavesLed};
     ghost use Rattle.moo_store.specs.Untouched.{KeepsCells, WritesOne, HasWritten, IsKnown, taken_of};
+    ghost use Rattle.moo_store.specs.Stopped.{KeepsFaults, IsStopped};
     ghost use Rattle.moo_store.specs.Stand.{Stand};
     ghost use Rattle.moo_store.specs.Text.{answer_to, StandsBehind, RunsAll};
     ghost use Rattle.moo_store.specs.World.{store_of, ShowsItsRows, IsAt, StandsFor, StandsAt, CrashLeaves, Left, LeftOrNext, MatchStore, IsOfRun};
@@ -99,6 +100,8 @@ impl<S: Alter + Drop> World<S> {
         ensures undone { OnErr result (HasCleanDisk (store_of S.Store self.new) → IsTrue (store_of S.Store self.new).is_open → (tables : Tables) → Rests (store_of S.Store self.old) tables → IsCurrent tables → Rests (store_of S.Store self.new) tables) }
         ensures clean { HasCleanDisk (store_of S.Store self.new) → HasCleanDisk (store_of S.Store self.old) }
         ensures fault { IfErr result (λ fault. (error : _) × (fault ≡ Store error)) }
+        ensures kept { KeepsFaults (store_of S.Store self.old) (store_of S.Store self.new) }
+        ensures cause { HasCleanDisk (store_of S.Store self.new) → ShowsItsRows S.Store self.old → IfErr result (IsStopped (store_of S.Store self.old) (store_of S.Store self.new)) }
         ensures failed { OnErr result (self.new.failed ≡ true) }
         ensures crash { OnErr result ((next : Maps) → ShowsItsRows S.Store self.old → AreChanges self.old.rows.maps next changes → HasCleanDisk (store_of S.Store self.new) → (trees : _) → (store_of S.Store self.new).may_leave trees → LeavesRows trees self.old.rows.maps ⊎ LeavesRows trees next) }
     {
@@ -121,6 +124,8 @@ impl<S: Alter + Drop> World<S> {
         ensures closed { IsTrue self.old.failed → IsErrOf result StoreFault.Closed × (self.new ≡ self.old) }
         ensures fails { self.old.failed ≡ false → IfErr result (λ fault. ((error : _) × (fault ≡ Store error)) × (self.new.failed ≡ true)) }
         ensures fault { IfErr result IsOfRun }
+        ensures kept { KeepsFaults (store_of S.Store self.old) (store_of S.Store self.new) }
+        ensures cause { HasCleanDisk (store_of S.Store self.new) → (self.old.failed ≡ false → ShowsItsRows S.Store self.old) → IfErr result (IsStopped (store_of S.Store self.old) (store_of S.Store self.new)) }
     {
         if self.failed {
             return Err(StoreFault::Closed);
@@ -190,6 +195,11 @@ impl<S: Alter + Drop> World<S> {
         ensures closed { IsTrue self.old.failed → IsErrOf result StoreFault.Closed × (self.new ≡ self.old) × (replies.new.items ≡ replies.old.items) }
         ensures failed { IfErr result (λ fault. (fault ≡ StoreFault.OutOfMemory) ⊎ IsTrue self.new.failed) }
         ensures fault { IfErr result IsOfRun }
+
+        // A fault Store names what stopped the store: memory, the disk, a row too big to be stored, a limit on steps, or a table
+        // whose numbers are used up. SQL refuses nothing that a World writes.
+        ensures kept { KeepsFaults (store_of S.Store self.old) (store_of S.Store self.new) }
+        ensures cause { (s : _) → IsAt S.Store true self.old s → HasCleanDisk (store_of S.Store self.new) → IfErr result (IsStopped (store_of S.Store self.old) (store_of S.Store self.new)) }
     {
         if self.failed {
             return Err(StoreFault::Closed);

@@ -1,5 +1,5 @@
 -- What the statement on petition_head does.
-use Rattle.std.proofs.Common.{◌≡◌, ◌⊎◌, inl, inr, ℕ, ℤ, pos, List, [], ◌∷◌, ◌++◌, drop, codes, option_map, Some, Bool, true, false, ◌&&◌, Result, Ok, Err, OnOk, IsTrue, refl, ap, subst, ◌∙◌}
+use Rattle.std.proofs.Common.{◌≡◌, ◌⊎◌, inl, inr, ℕ, ℤ, pos, List, [], ◌∷◌, ◌++◌, drop, codes, option_map, length, Some, None, Bool, true, false, ◌&&◌, Result, Ok, Err, OnOk, IsTrue, refl, sym, arith, ap, subst, ◌∙◌}
 use Rattle.std.specs.List.{list_all}
 use Rattle.std.proofs.lemmas.Bool.{and_parts}
 use Rattle.sqlite.specs.declared.types.Value.TheVariants.{Int}
@@ -10,7 +10,14 @@ use Rattle.sqlite.specs.Cast.{cast_row}
 use Rattle.sqlite.specs.Rowids.TheVariants.{Chosen}
 use Rattle.sqlite.specs.Tree.{Trees, rowid, has_rowid, put_row}
 use Rattle.sqlite.specs.Term.{holds}
-use Rattle.sqlite.specs.Rows.{shown}
+use Rattle.sqlite.specs.Rows.{shown, Updates}
+use Rattle.sqlite.specs.Does.{Does}
+use Rattle.sqlite.specs.Command.TheVariants.{InsertOr}
+use Rattle.sqlite.specs.Source.TheVariants.{Values}
+use Rattle.sqlite_schema.specs.declared.command.Command.{Command}
+use Rattle.sqlite_schema.specs.declared.command.Conflict.TheVariants.{Abort}
+use Rattle.sqlite_schema.specs.declared.schema.Column.{Column}
+use Rattle.sqlite_schema.specs.declared.schema.Keys.TheVariants.{Enforced}
 use Rattle.sqlite.specs.Effect.{IsDatabase}
 use Rattle.sqlite_catalog.specs.Listing.{IsSound}
 use Rattle.sqlite_schema.specs.Rules.{has_computed, differ}
@@ -20,7 +27,8 @@ use Rattle.sqlite_rules.specs.Lists.{Has}
 use Rattle.sqlite_rules.proofs.ListLemmas.{all_has}
 use Rattle.sqlite_trees.specs.View.{is_int}
 use Rattle.sqlite.specs.Listing.{understood}
-use Rattle.sqlite.specs.State.{State, Executes}
+use Rattle.sqlite_tied.specs.Compute.{everything}
+use Rattle.sqlite.specs.State.{State, Executes, mode_of}
 use Rattle.sqlite.proofs.Callers.{statement_of, runs_as}
 use Rattle.sqlite_rules.specs.Keys.{AreConflicts, conflicts}
 use Rattle.moo_tables.specs.Cells.{petition_head_cells, with_counter}
@@ -28,6 +36,11 @@ use Rattle.moo_tables.specs.Tables.{Tables, second_schema, petition_head_table, 
 use Rattle.moo_tables.specs.Texts.{put_counter_text}
 use Rattle.moo_tables.specs.Inside.{AreKeyed, Sees, Changes, RanStatement, KeepsSlot}
 use Rattle.moo_tables.proofs.TextLemmas.{put_counter_is, put_counter_plain, number_terms, number_overwrite, counter_filter, writes_where}
+use Rattle.moo_tables.specs.Cause.{HasCauseIn}
+use Rattle.moo_tables.proofs.RefusalLemmas.{IsAllowed, Upserting, each, halted, concluded, clear_one, update_stops, upsert_stops}
+use Rattle.moo_tables.proofs.StoppedLemmas.{Ran, IsOne, at_schema, stops}
+use Rattle.moo_tables.proofs.StopNumberLemmas as stop
+use Rattle.moo_tables.proofs.StopNumberLemmas.{PassesNumbers}
 use Rattle.moo_tables.proofs.NumberLemmas as number
 use Rattle.moo_tables.proofs.NumberLemmas.{HasNumbers, stored_at}
 use Rattle.moo_tables.proofs.UpsertLemmas.{Settles, WritesOver, upserts}
@@ -160,3 +173,63 @@ puts old new next count tables seen h inside =
 pub put : (old new : State) (next : ℕ) (r : Result ℕ Error) → RanStatement put_counter_text (petition_head_cells next) old new r → OnOk r (Changes (with_counter next) old new)
 put old new next (Err e) ran = tt
 put old new next (Ok count) ran = λ clean tables seen. let it = ran clean in puts old new next count tables seen it.1 it.0
+
+-- ---- why it fails
+
+passes : PassesNumbers petition_head_table.name 10 petition_head_table.columns number_of cells
+passes = record {
+  fit = λ db key row. record { typed = refl; present = refl; keyed = refl };
+  puts = λ key row. refl;
+  overs = λ key row. refl;
+  updates = λ key row. refl;
+  removes = λ n. refl;
+  unique = λ db rows k. (each _, (each _, (each _, (k.1.1.1.0, (k.1.1.1.1.0, (k.1.1.1.1.1.0, (each _, (each _, tt))))))));
+}
+
+abbrev put_command : Command
+put_command = InsertOr 7 Abort (Values (number_terms petition_head_table) 3) (record { target = Some (0 ∷ []); update = Some (writes_where 10 counter_filter (number_overwrite petition_head_table)) } ∷ [])
+
+module _ (s : State) (tables : Tables) (seen : Sees s tables) (next : ℕ) (e : Error) where
+  abbrev db : Trees
+  db = s.now.trees
+
+  abbrev params : Row
+  params = petition_head_cells next
+
+  abbrev stored_given : Row
+  stored_given = petition_head_cells next ++ Int (pos 1) ∷ shown petition_head_table (stored next)
+
+  abbrev columns : List Column
+  columns = petition_head_table.columns
+
+  abbrev name : List ℕ
+  name = petition_head_table.name
+
+  refused : (text : List ℕ) → Does s.step_limit (mode_of s) params (record { schema = second_schema; trees = db }) text None put_command (Err (Some e)) → IsAllowed s.step_limit e
+  refused text h = elim (halted h) [
+    | inl wrote ↦ upsert_stops name 10 columns (Some 0) (0 ∷ []) [] [] db s.step_limit params e (0 ∷ []) counter_filter (number_overwrite petition_head_table) (number_terms petition_head_table) 3 (stored next) (stored next)
+        refl refl (ap (with_rowid Chosen (db 10)) (kept next)) (passes.fit db tt next) upserting wrote
+    | inr done ↦ absurd (concluded s.step_limit petition_head_table params done.0 e done.2)
+  ]
+    where
+      upserting : Upserting name 10 columns (Some 0) (0 ∷ []) [] [] db s.step_limit params e (0 ∷ []) counter_filter (number_overwrite petition_head_table) (stored next)
+      upserting = record {
+        puts = λ met. clear_one name 10 columns (Some 0) (0 ∷ []) [] [] db [] 0 (stored next) (stored next) (kept next) (passes.fit db tt next)
+            (stop.free_if_none name 10 columns number_of cells has_numbers passes 7 refl s tables seen (counter_seen seen) e tt next met) (stop.unique name 10 columns number_of cells has_numbers passes 7 refl s tables seen (counter_seen seen) _);
+        overs = λ there more met h.
+            update_stops name 10 columns (Some 0) (0 ∷ []) [] [] db s.step_limit params e stored_given counter_filter (number_overwrite petition_head_table) refl
+            (stop.over_clear name 10 columns number_of cells has_numbers passes 7 refl s tables seen (counter_seen seen) tt next stored_given counter_filter (number_overwrite petition_head_table) (λ r. differ (column r 2) (Int (pos next)))
+                (λ r. ap (λ b. differ (column r 2) (Int (pos next)) && b) (picks_given 2 stored_given (pos 1) refl r)) (λ r. refl) (number.kept_over _ 10 _ number_of cells has_numbers tt next))
+            (subst (λ v. Updates (record { limit = s.step_limit; keys = Enforced; schema = second_schema; table = petition_head_table; params = params }) (writes_where 10 counter_filter (number_overwrite petition_head_table)) (params ++ v ∷ shown petition_head_table (stored next)) db (Err (Some e)))
+                (stop.named_there name 10 columns number_of cells has_numbers passes 7 refl s tables seen (counter_seen seen) e tt next there more met) h);
+      }
+
+put_one : IsOne (length put_counter_text) 2 (understood second_schema put_counter_text)
+unfolding understood everything
+put_one = (omega arith, refl)
+
+pub put_fails : (old new : State) (next : ℕ) (r : Result ℕ Error) → Ran put_counter_text (petition_head_cells next) old new r → HasCauseIn old new r
+put_fails old new next (Ok count) ran = λ clean tables seen. tt
+put_fails old new next (Err e) ran = λ clean tables seen.
+    stops put_counter_text (petition_head_cells next) old new second_schema (schema_seen seen) _ put_counter_is put_counter_plain put_one refl refl e
+    (λ text does. refused old tables seen next e text (at_schema old.step_limit (mode_of old) (petition_head_cells next) old.now second_schema text put_command e (schema_seen seen) does)) (ran clean seen.inside)

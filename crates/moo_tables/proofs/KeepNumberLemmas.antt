@@ -59,10 +59,10 @@ module _ {K C : Type 0} (name : List ℕ) (tree : ℕ) (columns : List Column) (
   kept : (key : K) (c : C) (text : List ℕ) → cast_row t (stored key c text) ≡ stored key c text
   kept key c text = ap (λ v. v ∷ cast_all columns (Null ∷ drop 1 (row key c (Text text)))) (cast_int (number key)) ∙ ap (λ vs. Int (number key) ∷ vs) (kept_all columns (Null ∷ drop 1 (row key c (Text text))) (it_has.fitting key c text))
 
-  finds : (key : K) (c : C) (r : Row) → list_all (holds (values key c ∷ r ∷ [])) by_number ≡ has_rowid (number key) r
+  pub finds : (key : K) (c : C) (r : Row) → list_all (holds (values key c ∷ r ∷ [])) by_number ≡ has_rowid (number key) r
   finds key c r = ap (λ vs. list_all (holds (vs ∷ r ∷ [])) by_number) (it_has.given key c) ∙ picks_number (number key) (drop 1 (values key c)) r
 
-  makes : (key : K) (c : C) (text : List ℕ) (r : Row) → rowid r ≡ Int (number key) → column r (place + 1) ≡ Text text → cast_row t (drop 1 (eval_all (number_keep place t) (values key c ∷ r ∷ []))) ≡ stored key c text
+  pub makes : (key : K) (c : C) (text : List ℕ) (r : Row) → rowid r ≡ Int (number key) → column r (place + 1) ≡ Text text → cast_row t (drop 1 (eval_all (number_keep place t) (values key c ∷ r ∷ []))) ≡ stored key c text
   makes key c text r named stays =
       ap (λ vs. cast_row t (drop 1 vs)) (it_has.updated key c r) ∙ ap (λ v. cast_row t (rowid r ∷ Null ∷ drop 1 (row key c v))) stays
       ∙ ap (λ v. cast_row t (v ∷ Null ∷ drop 1 (row key c (Text text)))) named ∙ kept key c text

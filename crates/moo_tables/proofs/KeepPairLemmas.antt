@@ -58,13 +58,13 @@ module _ {K C : Type 0} (name : List ℕ) (tree : ℕ) (columns : List Column) (
   kept : (id : ℤ) (key : K) (c : C) (text : List ℕ) → cast_row t (Int id ∷ row key c (Text text)) ≡ Int id ∷ row key c (Text text)
   kept id key c text = ap (λ v. v ∷ cast_all columns (row key c (Text text))) (cast_int id) ∙ ap (λ vs. Int id ∷ vs) (kept_all columns (row key c (Text text)) (it_has.fitting key c text))
 
-  finds : (key : K) (c : C) (r : Row) → list_all (holds (values key c ∷ r ∷ [])) by_pair ≡ has_pair (pair key) r
+  pub finds : (key : K) (c : C) (r : Row) → list_all (holds (values key c ∷ r ∷ [])) by_pair ≡ has_pair (pair key) r
   finds key c r = ap (λ vs. list_all (holds (vs ∷ r ∷ [])) by_pair) (it_has.given key c) ∙ picks_pair (pair key) (drop 2 (values key c)) r
 
   has_its_pair : (id : ℤ) (key : K) (c : C) (v : Value) → has_pair (pair key) (Int id ∷ row key c v) ≡ true
   has_its_pair id key c v = ap (λ vs. has_pair (pair key) (Int id ∷ vs)) (it_has.begins key c v) ∙ pair_has (pair key) (drop 2 (row key c v)) id
 
-  makes : (key : K) (c : C) (id : ℤ) (text : List ℕ) (r : Row) → rowid r ≡ Int id → column r 1 ≡ Int (pair key).0 → column r 2 ≡ Int (pair key).1 → column r (place + 1) ≡ Text text
+  pub makes : (key : K) (c : C) (id : ℤ) (text : List ℕ) (r : Row) → rowid r ≡ Int id → column r 1 ≡ Int (pair key).0 → column r 2 ≡ Int (pair key).1 → column r (place + 1) ≡ Text text
       → drop 1 (eval_all (pair_keep place t) (values key c ∷ r ∷ [])) ≡ Int id ∷ row key c (Text text)
   makes key c id text r number first second stays =
       ap (drop 1) (it_has.updated key c r) ∙ ap (λ v. rowid r ∷ column r 1 ∷ column r 2 ∷ drop 2 (row key c v)) stays

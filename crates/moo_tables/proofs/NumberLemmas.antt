@@ -87,11 +87,11 @@ module _ {K C : Type 0} (name : List ℕ) (tree : ℕ) (columns : List Column) (
   kept_over key row r named = ap (λ vs. cast_row t (drop 1 vs)) (it_has.over key row r) ∙ ap (λ v. cast_row t (v ∷ Null ∷ drop 1 (cells key row))) named ∙ kept key row
 
   -- and so is a row that is updated
-  kept_updated : (key : K) (row : C) (r : Row) → rowid r ≡ Int (number key) → cast_row t (drop 1 (eval_all (number_overwrite t) (cells key row ∷ r ∷ []))) ≡ stored key row
+  pub kept_updated : (key : K) (row : C) (r : Row) → rowid r ≡ Int (number key) → cast_row t (drop 1 (eval_all (number_overwrite t) (cells key row ∷ r ∷ []))) ≡ stored key row
   kept_updated key row r named = ap (λ vs. cast_row t (drop 1 vs)) (it_has.updated key row r) ∙ ap (λ v. cast_row t (v ∷ Null ∷ drop 1 (cells key row))) named ∙ kept key row
 
   -- its number finds it
-  finds : (key : K) (row : C) (r : Row) → list_all (holds (cells key row ∷ r ∷ [])) by_number ≡ has_rowid (number key) r
+  pub finds : (key : K) (row : C) (r : Row) → list_all (holds (cells key row ∷ r ∷ [])) by_number ≡ has_rowid (number key) r
   finds key row r = ap (λ vs. list_all (holds (vs ∷ r ∷ [])) by_number) (it_has.begins key row) ∙ picks_number (number key) (drop 1 (cells key row)) r
 
   pub meets : (key : K) (row : C) (r : Row) → conflicts (Some (0 ∷ [])) second_schema.indexes t (stored key row) r ≡ has_rowid (number key) r

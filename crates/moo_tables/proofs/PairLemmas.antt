@@ -76,38 +76,38 @@ module _ {K C : Type 0} (name : List ℕ) (tree : ℕ) (columns : List Column) (
   places = pair_places t
 
   -- a row of whole numbers and texts is stored as it is
-  kept : (id : ℤ) (key : K) (row : C) → cast_row t (Int id ∷ cells key row) ≡ Int id ∷ cells key row
+  pub kept : (id : ℤ) (key : K) (row : C) → cast_row t (Int id ∷ cells key row) ≡ Int id ∷ cells key row
   kept id key row = ap (λ v. v ∷ cast_all columns (cells key row)) (cast_int id) ∙ ap (λ vs. Int id ∷ vs) (kept_all columns (cells key row) (it_has.fitting key row))
 
   -- a new row gets the next number
-  fresh : (rows : List Row) (key : K) (row : C) → with_rowid Chosen rows (cast_row t (Null ∷ cells key row)) ≡ Int (next_rowid rows) ∷ cells key row
+  pub fresh : (rows : List Row) (key : K) (row : C) → with_rowid Chosen rows (cast_row t (Null ∷ cells key row)) ≡ Int (next_rowid rows) ∷ cells key row
   fresh rows key row = ap (λ v. with_rowid Chosen rows (v ∷ cast_all columns (cells key row))) cast_null ∙ ap (λ vs. Int (next_rowid rows) ∷ vs) (kept_all columns (cells key row) (it_has.fitting key row))
 
-  meets : (id : ℤ) (key : K) (row : C) (r : Row) → conflicts (Some (1 ∷ 2 ∷ [])) second_schema.indexes t (Int id ∷ cells key row) r ≡ has_pair (pair key) r
+  pub meets : (id : ℤ) (key : K) (row : C) (r : Row) → conflicts (Some (1 ∷ 2 ∷ [])) second_schema.indexes t (Int id ∷ cells key row) r ≡ has_pair (pair key) r
   meets id key row r =
       it_has.conflicting (Int id ∷ cells key row) r ∙ ap (λ vs. agree plain (1 ∷ 2 ∷ []) r (1 ∷ 2 ∷ []) (Int id ∷ vs) || false) (it_has.begins key row)
       ∙ pairs_agree id (pair key).0 (pair key).1 (drop 2 (cells key row)) r
 
   -- so does a row that is updated
-  over_updated : (key : K) (row : C) (id : ℤ) (r : Row) → rowid r ≡ Int id → column r 1 ≡ Int (pair key).0 → column r 2 ≡ Int (pair key).1 → drop 1 (eval_all (pair_overwrite t) (cells key row ∷ r ∷ [])) ≡ Int id ∷ cells key row
+  pub over_updated : (key : K) (row : C) (id : ℤ) (r : Row) → rowid r ≡ Int id → column r 1 ≡ Int (pair key).0 → column r 2 ≡ Int (pair key).1 → drop 1 (eval_all (pair_overwrite t) (cells key row ∷ r ∷ [])) ≡ Int id ∷ cells key row
   over_updated key row id r number first second =
       let tail = drop 2 (cells key row) in
       ap (drop 1) (it_has.updated key row r) ∙ ap (λ v. v ∷ column r 1 ∷ column r 2 ∷ tail) number ∙ ap (λ v. Int id ∷ v ∷ column r 2 ∷ tail) first ∙ ap (λ v. Int id ∷ Int (pair key).0 ∷ v ∷ tail) second
       ∙ ap (λ vs. Int id ∷ vs) (sym (it_has.begins key row))
 
   -- its key finds it
-  finds : (key : K) (row : C) (r : Row) → list_all (holds (cells key row ∷ r ∷ [])) by_pair ≡ has_pair (pair key) r
+  pub finds : (key : K) (row : C) (r : Row) → list_all (holds (cells key row ∷ r ∷ [])) by_pair ≡ has_pair (pair key) r
   finds key row r = ap (λ vs. list_all (holds (vs ∷ r ∷ [])) by_pair) (it_has.begins key row) ∙ picks_pair (pair key) (drop 2 (cells key row)) r
 
   -- a row that is written over keeps its number and its key
-  over : (next : ℤ) (key : K) (row : C) (id : ℤ) (r : Row) → rowid r ≡ Int id → column r 1 ≡ Int (pair key).0 → column r 2 ≡ Int (pair key).1
+  pub over : (next : ℤ) (key : K) (row : C) (id : ℤ) (r : Row) → rowid r ≡ Int id → column r 1 ≡ Int (pair key).0 → column r 2 ≡ Int (pair key).1
       → drop 1 (eval_all (pair_overwrite t) ((cells key row ++ Int id ∷ shown t (Int next ∷ cells key row)) ∷ r ∷ [])) ≡ Int id ∷ cells key row
   over next key row id r number first second =
       let tail = drop 2 (cells key row) in
       ap (drop 1) (it_has.over next id key row r) ∙ ap (λ v. v ∷ column r 1 ∷ column r 2 ∷ tail) number ∙ ap (λ v. Int id ∷ v ∷ column r 2 ∷ tail) first ∙ ap (λ v. Int id ∷ Int (pair key).0 ∷ v ∷ tail) second
       ∙ ap (λ vs. Int id ∷ vs) (sym (it_has.begins key row))
 
-  has_its_pair : (id : ℤ) (key : K) (row : C) → has_pair (pair key) (Int id ∷ cells key row) ≡ true
+  pub has_its_pair : (id : ℤ) (key : K) (row : C) → has_pair (pair key) (Int id ∷ cells key row) ≡ true
   has_its_pair id key row = ap (λ vs. has_pair (pair key) (Int id ∷ vs)) (it_has.begins key row) ∙ pair_has (pair key) (drop 2 (cells key row)) id
 
   -- the table stands at this place of the schema, and a change of its tree changes this one of the tables

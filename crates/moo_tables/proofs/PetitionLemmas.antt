@@ -1,11 +1,13 @@
 -- What the statements on petitions do.
-use Rattle.std.proofs.Common.{ℕ, ℤ, pos, List, [], ◌∷◌, Option, Some, None, Result, OnOk, IfOk, Vec, ◌≡◌, refl, sym, ap, subst}
+use Rattle.std.proofs.Common.{ℕ, ℤ, pos, List, [], ◌∷◌, Option, Some, None, Result, OnOk, IfOk, Vec, ◌≡◌, refl, sym, ap, subst, arith}
 use Rattle.std.specs.declared.alloc.Global.{Global}
 use Rattle.sqlite.specs.declared.types.Value.{Value}
 use Rattle.sqlite.specs.declared.types.Value.TheVariants.{Null, Int, Text}
 use Rattle.sqlite.specs.declared.error.Error.{Error}
 use Rattle.sqlite.specs.Order.{Row}
 use Rattle.sqlite.specs.State.{State}
+use Rattle.sqlite.specs.Listing.{understood}
+use Rattle.sqlite_tied.specs.Compute.{everything}
 use Rattle.moo_rows.specs.declared.row.PetitionId.{PetitionId}
 use Rattle.moo_tables.specs.declared.petition.PetitionCells.{PetitionCells}
 use Rattle.moo_tables.specs.Columns.{cells_over, all_but}
@@ -16,6 +18,11 @@ use Rattle.moo_tables.specs.Texts.{update_petition_text, keep_petition_text, put
 use Rattle.moo_tables.specs.Inside.{Changes, RanStatement}
 use Rattle.moo_tables.specs.Over.{WritesOver}
 use Rattle.moo_tables.proofs.TextLemmas.{petition_writes, petition_keeps}
+use Rattle.moo_tables.specs.Cause.{HasCauseIn}
+use Rattle.moo_tables.proofs.RefusalLemmas.{each}
+use Rattle.moo_tables.proofs.StoppedLemmas.{Ran}
+use Rattle.moo_tables.proofs.StopNumberLemmas as stop
+use Rattle.moo_tables.proofs.StopNumberLemmas.{PassesNumbers}
 use Rattle.moo_tables.proofs.NumberLemmas as number
 use Rattle.moo_tables.proofs.NumberLemmas.{HasNumbers}
 use Rattle.moo_tables.proofs.KeepNumberLemmas as kept
@@ -72,3 +79,33 @@ keep old new id row r is ran = subst (λ o. IfOk r (λ count. WritesOver (Over i
 pub keep_or_none : (old new : State) (id : PetitionId) (row : PetitionCells) (r : Result ℕ Error) → row.calls ≡ None → RanStatement keep_petition_text (values id row) old new r → OnOk r (Changes (with_petition_cells id (Some row)) old new)
 keep_or_none old new id row r is ran = subst (λ o. OnOk r (Changes (Over id row o) old new)) (sym is)
     (kept.kept_or_none _ 9 _ 2 number_of values over keeps_numbers 6 refl petition_keeps With (λ tables. tables.petition) (λ s tables seen. petitions_seen seen) (λ s tables seen. petition_texts seen) (λ s tables seen. ap (λ (t : Tables). t.petition) (rows_seen seen)) sees_petition old new id row r ran)
+
+-- ---- why they fail
+
+passes : PassesNumbers petition_table.name 9 petition_table.columns number_of whole
+passes = record {
+  fit = λ db key row. record { typed = refl; present = refl; keyed = refl };
+  puts = λ key row. refl;
+  overs = λ key row. refl;
+  updates = λ key row. refl;
+  removes = λ n. refl;
+  unique = λ db rows k. (each _, (each _, (each _, (k.1.1.1.0, (k.1.1.1.1.0, (k.1.1.1.1.1.0, (each _, (each _, tt))))))));
+}
+
+pub remove_fails : (old new : State) (id : PetitionId) (r : Result ℕ Error) → Ran remove_petition_text (Int (pos id.0) ∷ []) old new r → HasCauseIn old new r
+unfolding understood everything
+remove_fails old new id = stop.remove _ 9 _ number_of whole has_numbers passes 6 refl petition_writes (λ s tables seen. petitions_seen seen) old new (pos id.0) (omega arith, refl)
+
+pub put_fails : (old new : State) (id : PetitionId) (row : Whole) (r : Result ℕ Error) → Ran put_petition_text (whole id row) old new r → HasCauseIn old new r
+unfolding understood everything
+put_fails old new id row = stop.put _ 9 _ number_of whole has_numbers passes 6 refl petition_writes (λ s tables seen. petitions_seen seen) old new id row (omega arith, refl)
+
+pub update_fails : (old new : State) (id : PetitionId) (row : Whole) (r : Result ℕ Error) → Ran update_petition_text (whole id row) old new r → HasCauseIn old new r
+unfolding understood everything
+update_fails old new id row = stop.update _ 9 _ number_of whole has_numbers passes 6 refl petition_writes (λ s tables seen. petitions_seen seen) old new id row (omega arith, refl)
+
+pub keep_fails : (old new : State) (id : PetitionId) (row : PetitionCells) (r : Result ℕ Error) → Ran keep_petition_text (values id row) old new r → HasCauseIn old new r
+unfolding understood everything
+keep_fails old new id row =
+    stop.keep _ 9 _ number_of whole has_numbers passes 2 values over keeps_numbers (λ row text. (row, text)) (λ key row text. refl) (λ key row. refl) 6 refl petition_keeps (λ s tables seen. petitions_seen seen) (λ s tables seen. petition_texts seen)
+    old new id row (omega arith, refl)

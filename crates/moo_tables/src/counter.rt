@@ -5,6 +5,7 @@ ghost use Rattle.sqlite.specs.Held.{state};
 ghost use Rattle.sqlite.specs.State.{HasCleanDisk};
 ghost use Rattle.sqlite.specs.Values.{bound};
 ghost use Rattle.moo_tables.specs.Cells.{with_counter, with_next_petition};
+ghost use Rattle.moo_tables.specs.Cause.{HasCauseIn};
 ghost use Rattle.moo_tables.specs.Head.{petition_head_table, petition_head_cells};
 ghost use Rattle.moo_tables.specs.Inside.{StaysInside, Changes, Holds, Sees, Rests, ReadsTables, FailsToRead, IsGrown, KeepsSlot, grown};
 ghost use Rattle.moo_tables.specs.Listing.{ListsNumbers};
@@ -43,6 +44,7 @@ pub(crate) fn put_counter<S: Alter>(tx: &mut Transaction<'_, S>, next: u32) -> R
     ensures same_reference { tx.new.conn.ghost_name ≡ tx.old.conn.ghost_name }
     ensures inside { StaysInside (state S.Store tx.old.conn.now) (state S.Store tx.new.conn.now) }
     ensures put { OnOk result (Changes (with_counter next) (state S.Store tx.old.conn.now) (state S.Store tx.new.conn.now)) }
+    ensures cause { HasCauseIn (state S.Store tx.old.conn.now) (state S.Store tx.new.conn.now) result }
 {
     run(
         tx,
@@ -59,6 +61,7 @@ pub(crate) fn put_next_petition<S: Alter>(
     ensures same_reference { tx.new.conn.ghost_name ≡ tx.old.conn.ghost_name }
     ensures inside { StaysInside (state S.Store tx.old.conn.now) (state S.Store tx.new.conn.now) }
     ensures put { OnOk result (Changes (with_next_petition next) (state S.Store tx.old.conn.now) (state S.Store tx.new.conn.now)) }
+    ensures cause { HasCauseIn (state S.Store tx.old.conn.now) (state S.Store tx.new.conn.now) result }
 {
     match next {
         Some(next) => put_counter(tx, next),

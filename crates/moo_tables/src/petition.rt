@@ -5,6 +5,7 @@ ghost use Rattle.sqlite.specs.Held.{state};
 ghost use Rattle.sqlite.specs.State.{HasCleanDisk};
 ghost use Rattle.sqlite.specs.Values.{bound};
 ghost use Rattle.sqlite.specs.declared.types.Value.TheVariants.{Null, Int, Text};
+ghost use Rattle.moo_tables.specs.Cause.{HasCauseIn};
 ghost use Rattle.moo_tables.specs.Cells.{with_petition_cells};
 ghost use Rattle.moo_tables.specs.Columns.{all_but};
 ghost use Rattle.moo_tables.specs.Over.{WritesOver};
@@ -80,6 +81,7 @@ fn keep_petition<S: Alter>(
     ensures inside { StaysInside (state S.Store tx.old.conn.now) (state S.Store tx.new.conn.now) }
     ensures over { IfOk result (λ count. WritesOver (with_petition_cells id (Some row.now)) count (state S.Store tx.old.conn.now) (state S.Store tx.new.conn.now)) }
     ensures put { OnOk result (Changes (with_petition_cells id (Some row.now)) (state S.Store tx.old.conn.now) (state S.Store tx.new.conn.now)) }
+    ensures cause { HasCauseIn (state S.Store tx.old.conn.now) (state S.Store tx.new.conn.now) result }
 {
     run(
         tx,

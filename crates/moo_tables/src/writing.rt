@@ -3,6 +3,7 @@
 ghost use Rattle.std.specs.Prelude.{◌≡◌, Some, OnOk};
 ghost use Rattle.sqlite.specs.Held.{state};
 ghost use Rattle.moo_tables.specs.Cells.{with_each};
+ghost use Rattle.moo_tables.specs.Cause.{HasCauseIn};
 ghost use Rattle.moo_tables.specs.Inside.{StaysInside, Changes};
 
 use crate::table_row::TableRow;
@@ -17,6 +18,7 @@ fn write_over<S: Alter, R: TableRow>(
     ensures same_reference { tx.new.conn.ghost_name ≡ tx.old.conn.ghost_name }
     ensures inside { StaysInside (state S.Store tx.old.conn.now) (state S.Store tx.new.conn.now) }
     ensures written { OnOk result (Changes (R.with_row key (Some row.now)) (state S.Store tx.old.conn.now) (state S.Store tx.new.conn.now)) }
+    ensures cause { HasCauseIn (state S.Store tx.old.conn.now) (state S.Store tx.new.conn.now) result }
 {
     let count = row.update(tx, key)?;
     if count > 0 {
@@ -38,6 +40,7 @@ fn put_row<S: Alter, R: TableRow>(
     ensures same_reference { tx.new.conn.ghost_name ≡ tx.old.conn.ghost_name }
     ensures inside { StaysInside (state S.Store tx.old.conn.now) (state S.Store tx.new.conn.now) }
     ensures written { OnOk result (Changes (R.with_row key (Some row.now)) (state S.Store tx.old.conn.now) (state S.Store tx.new.conn.now)) }
+    ensures cause { HasCauseIn (state S.Store tx.old.conn.now) (state S.Store tx.new.conn.now) result }
 {
     if expected {
         return write_over(tx, key, row);
@@ -56,6 +59,7 @@ fn write_row<S: Alter, R: TableRow>(
     ensures same_reference { tx.new.conn.ghost_name ≡ tx.old.conn.ghost_name }
     ensures inside { StaysInside (state S.Store tx.old.conn.now) (state S.Store tx.new.conn.now) }
     ensures written { OnOk result (Changes (R.with_row key cells.now) (state S.Store tx.old.conn.now) (state S.Store tx.new.conn.now)) }
+    ensures cause { HasCauseIn (state S.Store tx.old.conn.now) (state S.Store tx.new.conn.now) result }
 {
     match cells {
         Some(row) => put_row(tx, key, row, expected),
@@ -74,6 +78,7 @@ pub(crate) fn write_rows<S: Alter, R: TableRow>(
     ensures same_reference { tx.new.conn.ghost_name ≡ tx.old.conn.ghost_name }
     ensures inside { StaysInside (state S.Store tx.old.conn.now) (state S.Store tx.new.conn.now) }
     ensures written { OnOk result (Changes (with_each R.with_row changes.now) (state S.Store tx.old.conn.now) (state S.Store tx.new.conn.now)) }
+    ensures cause { HasCauseIn (state S.Store tx.old.conn.now) (state S.Store tx.new.conn.now) result }
 {
     let mut expected = true;
     for change in changes {

@@ -14,6 +14,8 @@ use Rattle.moo_store.specs.Untouched.{KeepsCells}
 use Rattle.moo_cells.specs.Shows.{ShowsRows}
 use Rattle.moo_store.proofs.Crashes.{rows_left, keeps_state, rows_written}
 use Rattle.moo_store.proofs.Running.{when_ok}
+use Rattle.moo_store.specs.Stopped.{KeepsFaults, IsStopped}
+use Rattle.moo_store.specs.declared.fault.StoreFault.TheVariants.{Store}
 use Rattle.moo_store.proofs.world.World.commit.Goals as goal
 use Rattle.moo_store.proofs.world.World.commit.Goals.{then-is_err, else-is_err}
 
@@ -90,3 +92,22 @@ returns-clause-cells g c next tables exact clean rests current shown =
 
 pub returns-in-Err-clause-undone : goal.returns-in-Err-clause-undone
 returns-in-Err-clause-undone g c clean opened tables rests current = c.in-Err.ensures.undone clean opened tables (subst (λ w. Rests (store_of g.S.Store w) tables) (sym c.self.view_is) rests) current
+
+-- why the store stopped it
+
+pub returns-in-Err-clause-kept : goal.returns-in-Err-clause-kept
+returns-in-Err-clause-kept g c = subst (λ w. KeepsFaults (store_of g.S.Store w) (state g.S.Store c.commit_cells.new.conn)) c.self.view_is (record { faults = c.commit_cells.ensures.counts; steps = c.commit_cells.ensures.steps })
+
+pub returns-clause-kept : goal.returns-clause-kept
+returns-clause-kept g c =
+    let was : KeepsFaults (store_of g.S.Store c.args.self.now) (state g.S.Store c.commit_cells.new.conn) =
+        subst (λ w. KeepsFaults (store_of g.S.Store w) (state g.S.Store c.commit_cells.new.conn)) c.self.view_is (record { faults = c.commit_cells.ensures.counts; steps = c.commit_cells.ensures.steps }) in
+    elim c.if-is_err.branch [
+      | then-is_err w ↦ subst (λ v. KeepsFaults (store_of g.S.Store c.args.self.now) (store_of g.S.Store v)) (sym w.self-is) was
+      | else-is_err w ↦ subst (λ v. KeepsFaults (store_of g.S.Store c.args.self.now) (store_of g.S.Store v)) (sym w.self-is) was
+    ]
+
+pub returns-in-Err-clause-cause : goal.returns-in-Err-clause-cause
+returns-in-Err-clause-cause g c clean shown =
+    let keeps = subst (ShowsItsRows g.S.Store) (sym c.self.view_is) shown (c.commit_cells.ensures.clean clean) in
+    subst (λ w. IsStopped (store_of g.S.Store w) (state g.S.Store c.commit_cells.new.conn) (Store c.in-Err.error)) c.self.view_is (c.in-Err.ensures.cause clean keeps.tables keeps.rests keeps.current)

@@ -8,6 +8,7 @@ use Rattle.moo_store.specs.Led.{LeavesLed}
 use Rattle.moo_store.specs.World.{store_of}
 use Rattle.moo_store.specs.Kept.{World}
 use Rattle.moo_world.specs.Rows.{IsGood}
+use Rattle.moo_store.proofs.Stopped.{faults_same, faults_then, stopped_since, was_open}
 use Rattle.moo_store.proofs.world.World.run.Goals as goal
 
 -- before the first batch
@@ -52,6 +53,7 @@ pub loop-batch-init : goal.loop-batch-init
 loop-batch-init g c = record {
   progress = starts g.S.Store c.args.self.now c.args.batches.now c.args.replies.now.items c.reserve.new.self.items c.reserve.ensures.items;
   cells = wrote_at_start g.S.Store c.args.self.now c.args.batches.now c.args.replies.now.items c.reserve.new.self.items c.reserve.ensures.items;
+  kept = faults_same (store_of g.S.Store c.args.self.now);
   room = let enough = when_ok c.reserve.result c.if-is_err.ensures.value c.reserve.ensures.ok in omega (arith, enough, c.reserve.ensures.len);
 }
 
@@ -61,6 +63,7 @@ loop-batch-preserved g c = record {
       c.loop-batch-test.true c.batch-item.is c.loop-batch.invariant.progress (rw c.unwrap.ensures at c.push.ensures.items) (runs_one g.S.Store c.loop-batch.self c.run_one.new.self c.batch-item.result (Ok c.in-Ok.reply) (fails_of g.S.Store c.loop-batch.self c.run_one.new.self (Ok c.in-Ok.reply) c.in-Ok.ensures.closed c.in-Ok.ensures.fails) c.in-Ok.ensures.stands) c.in-Ok.ensures.stands;
   cells = wrote_on g.S.Store c.args.self.now c.loop-batch.self c.run_one.new.self c.args.batches.now c.loop-batch.batch-index c.args.replies.now.items c.loop-batch.replies.items c.push.new.self.items c.batch-item.result c.in-Ok.reply
       c.loop-batch-test.true c.batch-item.is c.loop-batch.invariant.progress (rw c.unwrap.ensures at c.push.ensures.items) c.loop-batch.invariant.cells (fails_of g.S.Store c.loop-batch.self c.run_one.new.self (Ok c.in-Ok.reply) c.in-Ok.ensures.closed c.in-Ok.ensures.fails) c.in-Ok.ensures.cells c.in-Ok.ensures.same;
+  kept = faults_then (store_of g.S.Store c.args.self.now) (store_of g.S.Store c.loop-batch.self) (store_of g.S.Store c.run_one.new.self) c.loop-batch.invariant.kept c.in-Ok.ensures.kept;
   room = let longer : vec_len c.push.new.self ≡ vec_len c.loop-batch.replies + 1 = rw c.unwrap.ensures at c.push.ensures.len in omega (arith, longer, c.loop-batch.invariant.room, c.push.ensures.capacity, c.loop-batch-test.true);
 }
 
@@ -172,3 +175,25 @@ returns-in-Err-clause-clean g c clean = c.loop-batch.invariant.cells.clean (c.in
 
 pub returns-clause-clean : goal.returns-clause-clean
 returns-clause-clean g c = c.loop-batch.invariant.cells.clean
+
+-- why the store stopped it
+
+pub returns-then-self-clause-kept : goal.returns-then-self-clause-kept
+returns-then-self-clause-kept g c = faults_same (store_of g.S.Store c.args.self.now)
+
+pub returns-then-is_err-clause-kept : goal.returns-then-is_err-clause-kept
+returns-then-is_err-clause-kept g c = faults_same (store_of g.S.Store c.args.self.now)
+
+pub returns-in-Err-clause-kept : goal.returns-in-Err-clause-kept
+returns-in-Err-clause-kept g c = faults_then (store_of g.S.Store c.args.self.now) (store_of g.S.Store c.loop-batch.self) (store_of g.S.Store c.run_one.new.self) c.loop-batch.invariant.kept c.in-Err.ensures.kept
+
+pub returns-clause-kept : goal.returns-clause-kept
+returns-clause-kept g c = c.loop-batch.invariant.kept
+
+pub returns-in-Err-clause-cause : goal.returns-in-Err-clause-cause
+returns-in-Err-clause-cause g c s it clean =
+    let mid = store_of g.S.Store c.loop-batch.self in
+    let at = is_at_end g.S.Store c.args.self.now c.loop-batch.self c.args.batches.now c.loop-batch.batch-index c.args.replies.now.items c.loop-batch.replies.items c.loop-batch.invariant.progress true s it in
+    stopped_since (store_of g.S.Store c.args.self.now) mid (store_of g.S.Store c.run_one.new.self) c.in-Err.fault c.loop-batch.invariant.kept
+    (λ e is. was_open c.loop-batch.self.failed mid c.in-Err.fault e is (λ failed. (c.in-Err.ensures.closed failed).0) (λ works. (at.shown refl works (c.in-Err.ensures.cells.clean clean)).rests.is_open))
+    (c.in-Err.ensures.cause clean (λ works. at.shown refl works))

@@ -2,11 +2,14 @@ use Rattle.std.proofs.Common.{◌≤◌, ◌+◌, ◌-◌, length, vec_len, vec_
 use Rattle.moo_store.specs.Answered.{added}
 use Rattle.moo_store.proofs.Running.{Progress}
 use Rattle.moo_store.proofs.Untouched.{Wrote}
+use Rattle.moo_store.specs.Stopped.{KeepsFaults}
+use Rattle.moo_store.specs.World.{store_of}
 use Rattle.moo_store.proofs.world.World.run.Given as goal
 
 abbrev pub invariant-loop-batch : goal.invariant-loop-batch
 invariant-loop-batch g l = record {
   progress : Progress g.S.Store l.fn.self l.self l.batches l.batch-index l.fn.replies.items l.replies.items;
   cells : Wrote g.S.Store l.fn.self l.self l.batches (added l.fn.replies.items l.replies.items);
+  kept : KeepsFaults (store_of g.S.Store l.fn.self) (store_of g.S.Store l.self);
   room : vec_len l.replies + (length l.batches - l.batch-index) ≤ vec_capacity l.replies;
 }

@@ -12,6 +12,8 @@ use Rattle.moo_store.proofs.Crashes.{states_left}
 use Rattle.moo_store.proofs.Judged.{closed_stands, no_memory_stands, refused_stands, accepted_stands}
 use Rattle.moo_store.proofs.Running.{accepted_low, accepted_is_run, at_changed, at_error}
 use Rattle.moo_store.proofs.Untouched.{nothing_written, accepted_writes, accepted_is_taken}
+use Rattle.moo_store.specs.World.{store_of}
+use Rattle.moo_store.proofs.Stopped.{faults_same}
 use Rattle.moo_store.proofs.world.World.run_one.Goals as goal
 
 pub commit-requires-clause-limit : goal.commit-requires-clause-limit
@@ -108,3 +110,26 @@ returns-in-OutOfMemory-clause-cells g c = nothing_written g.S.Store c.args.self.
 
 pub returns-in-Ok-clause-same : goal.returns-in-Ok-clause-same
 returns-in-Ok-clause-same g c = accepted_is_taken c.args.self.now c.commit.new.self c.args.batch.now c.in-Accepted.answers c.in-Accepted.changes.head.seq c.commit.result c.commit.ensures.reply c.commit.ensures.fault
+
+-- why the store stopped it
+
+pub returns-then-self-clause-kept : goal.returns-then-self-clause-kept
+returns-then-self-clause-kept g c = faults_same (store_of g.S.Store c.args.self.now)
+
+pub returns-in-Err-clause-kept : goal.returns-in-Err-clause-kept
+returns-in-Err-clause-kept g c = faults_same (store_of g.S.Store c.args.self.now)
+
+pub returns-in-Refused-clause-kept : goal.returns-in-Refused-clause-kept
+returns-in-Refused-clause-kept g c = faults_same (store_of g.S.Store c.args.self.now)
+
+pub returns-in-Full-clause-kept : goal.returns-in-Full-clause-kept
+returns-in-Full-clause-kept g c = faults_same (store_of g.S.Store c.args.self.now)
+
+pub returns-in-Stale-clause-kept : goal.returns-in-Stale-clause-kept
+returns-in-Stale-clause-kept g c = faults_same (store_of g.S.Store c.args.self.now)
+
+pub returns-in-OutOfMemory-clause-kept : goal.returns-in-OutOfMemory-clause-kept
+returns-in-OutOfMemory-clause-kept g c = faults_same (store_of g.S.Store c.args.self.now)
+
+pub returns-in-Ok-clause-cause : goal.returns-in-Ok-clause-cause
+returns-in-Ok-clause-cause g c clean shown = c.commit.ensures.cause clean (shown (subst (λ (w : World _). w.failed ≡ false) c.self.view_is c.if-self.false))

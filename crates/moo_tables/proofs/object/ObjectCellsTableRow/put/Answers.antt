@@ -1,11 +1,17 @@
 use Rattle.std.proofs.Common.{ap, ◌∙◌}
 use Rattle.sqlite.specs.declared.types.Value.TheVariants.{Text}
 use Rattle.moo_tables.specs.Object.{object_row}
-use Rattle.moo_tables.proofs.ObjectLemmas.{put}
+use Rattle.moo_tables.proofs.ObjectLemmas.{put, put_fails}
 use Rattle.moo_tables.proofs.RowLemmas.{ran_as}
+use Rattle.moo_tables.proofs.StoppedLemmas.{with_values}
 use Rattle.moo_tables.proofs.object.ObjectCellsTableRow.put.Goals as goal
 
 pub returns-in-Some-clause-put : goal.returns-in-Some-clause-put
 returns-in-Some-clause-put g c =
     let values = c.object_values.ensures ∙ ap (λ text. object_row c.args.n c.args.self.now.row (Text text)) c.as_slice.ensures.value in
     put _ _ _ c.args.self.now c.in-Some.accept _ c.in-Some.is (ran_as _ _ _ _ _ _ values c.run.ensures.ran)
+
+pub returns-in-Some-clause-cause : goal.returns-in-Some-clause-cause
+returns-in-Some-clause-cause g c =
+    let values = c.object_values.ensures ∙ ap (λ text. object_row c.args.n c.args.self.now.row (Text text)) c.as_slice.ensures.value in
+    put_fails _ _ _ (c.args.self.now, c.in-Some.accept.items) _ (with_values _ _ _ _ _ _ values c.run.ensures.executes)

@@ -1,11 +1,17 @@
 use Rattle.std.proofs.Common.{ap, ◌∙◌}
 use Rattle.sqlite.specs.declared.types.Value.TheVariants.{Text}
 use Rattle.moo_tables.specs.Verb.{verb_row}
-use Rattle.moo_tables.proofs.VerbLemmas.{update}
+use Rattle.moo_tables.proofs.VerbLemmas.{update, update_fails}
 use Rattle.moo_tables.proofs.RowLemmas.{ran_as}
+use Rattle.moo_tables.proofs.StoppedLemmas.{with_values}
 use Rattle.moo_tables.proofs.verb.VerbCellsTableRow.update.Goals as goal
 
 pub returns-in-Some-clause-over : goal.returns-in-Some-clause-over
 returns-in-Some-clause-over g c =
     let values = c.verb_values.ensures ∙ ap (λ text. verb_row c.args.key c.args.self.now (Text text)) c.as_slice.ensures.value in
     update _ _ _ c.args.self.now c.in-Some.bits _ c.in-Some.is (ran_as _ _ _ _ _ _ values c.run.ensures.ran)
+
+pub returns-in-Some-clause-cause : goal.returns-in-Some-clause-cause
+returns-in-Some-clause-cause g c =
+    let values = c.verb_values.ensures ∙ ap (λ text. verb_row c.args.key c.args.self.now (Text text)) c.as_slice.ensures.value in
+    update_fails _ _ _ (c.args.self.now, c.in-Some.bits.items) _ (with_values _ _ _ _ _ _ values c.run.ensures.executes)

@@ -1,0 +1,107 @@
+-- Why a statement fails whose text and values are sound.
+use Rattle.std.proofs.Common.{◌≡◌, ◌≢◌, ◌⊎◌, inl, inr, ℕ, ◌≤◌, List, [], ◌∷◌, ◌++◌, append-nil, length, Bool, true, false, true≢false, ◌||◌, Option, Some, None, Ok, Err, Result, IsTrue, IfErr, refl, sym, ap, subst, subst₂, ◌∙◌, arith}
+use Rattle.std.specs.Prelude.{⊤}
+use Rattle.sqlite.specs.declared.error.Error.{Error}
+use Rattle.sqlite.specs.Order.{Row}
+use Rattle.sqlite.specs.Schema.{Schema}
+use Rattle.sqlite.specs.Does.{Does}
+use Rattle.sqlite.specs.Effect.{Database, is_query}
+use Rattle.sqlite.specs.declared.run.Mode.{Mode}
+use Rattle.sqlite.specs.Listing.{understood}
+use Rattle.sqlite.specs.Clock.{timed}
+use Rattle.sqlite.specs.State.{State, HasCleanDisk, Fails, HasCause, IsNotRun, IsNoStatement, IsStatement, IsMisplaced, ExecutesIn, ExecutesInside, EndsScope, RunsCommand, RunsAlone, shows_rows, is_pragma, mode_of, text_of}
+use Rattle.sqlite.proofs.Callers.{IsPlain, command_of}
+use Rattle.sqlite_resolve.specs.declared.compiled.Compiled.{Compiled}
+use Rattle.sqlite_resolve.specs.declared.error.CompileError.{CompileError}
+use Rattle.sqlite_schema.specs.declared.command.Command.{Command}
+use Rattle.sqlite_schema.specs.declared.command.Command.TheVariants.{InsertOr, Update, Delete, Begin, Commit, Rollback, Release, RollbackTo}
+use Rattle.sqlite_trees.specs.declared.error.StoreError.{StoreError}
+use Rattle.sqlite_trees.specs.declared.error.StoreError.TheVariants.{OutOfMemory, Io, Corrupt, Full, Broken, Unstorable}
+use Rattle.moo_tables.specs.Cause.{Stops}
+use Rattle.moo_tables.proofs.RefusalLemmas.{IsAllowed}
+
+abbrev pub is_change : Command → Bool
+is_change (InsertOr at way from clauses) = true
+is_change (Update at q) = true
+is_change (Delete at q) = true
+is_change _ = false
+
+-- the text is one statement, and takes so many values
+abbrev pub IsOne : ℕ → ℕ → Result Compiled CompileError → Type 0
+IsOne size count (Ok c) = (size ≤ c.tail) × (count ≡ length c.names)
+IsOne size count (Err e) = ⊥
+
+any_size : (old new : State) (Big : Type 0) (cause : StoreError) → HasCause old new Big cause → HasCause old new ⊤ cause
+any_size old new Big OutOfMemory h = h
+any_size old new Big Io h = h
+any_size old new Big Corrupt h = h
+any_size old new Big Full h = h
+any_size old new Big Broken h = h
+any_size old new Big Unstorable h = tt
+
+pub fails_so : (old new : State) (Big : Type 0) (e : Error) → Fails old new Big e → Stops old new e
+fails_so old new Big e h = inl (h.0, h.1, any_size old new Big h.0 h.2)
+
+other : (k j : Command) → is_change k ≡ true → is_change j ≡ false → k ≡ j → ⊥
+other k j changes none is = true≢false (sym changes ∙ ap is_change is ∙ none)
+
+misplaced : (s : State) (k : Command) (e : Error) → is_change k ≡ true → IsMisplaced s k e → ⊥
+misplaced s k e changes (inl h) = elim h.1 [
+  | inl b ↦ other k Begin changes refl b.0
+  | inr end ↦ elim end.0 [ inl c ↦ other k Commit changes refl c | inr r ↦ other k Rollback changes refl r ]
+]
+misplaced s k e changes (inr h) = elim h.2 [ inl r ↦ other k (Release h.1) changes refl r | inr b ↦ other k (RollbackTo h.1) changes refl b ]
+
+module _ (sql : List ℕ) (params : Row) (old new : State) (schema : Schema) (has : old.now.schema ≡ schema) (command : Command) (is : command_of (understood schema sql) ≡ command)
+    (plain : IsPlain (understood schema sql)) (one : IsOne (length sql) (length params) (understood schema sql)) (changes : is_change command ≡ true) (quiet : (is_query command || (is_pragma command || false)) ≡ false) where
+  known : understood schema sql ≡ understood old.now.schema sql
+  known = ap (λ s. understood s sql) (sym has)
+
+  no_statement : (e : Error) → IsNoStatement old sql params e → ⊥
+  no_statement e (inl h) = subst IsPlain (known ∙ h.1) plain
+  no_statement e (inr h) =
+      let whole = subst (IsOne (length sql) (length params)) (known ∙ h.1) one in
+      let bare = subst IsPlain (known ∙ h.1) plain in
+      elim h.2 [ inl more ↦ more.0 whole.0 | inr rest ↦ elim rest [ inl count ↦ count.0 whole.1 | inr timed ↦ timed.0 bare.1 ] ]
+
+  module _ (c : Compiled) (it : IsStatement old sql params c) where
+    bare : (c.returning ≡ None) × (c.formats ≡ [])
+    bare = subst IsPlain (known ∙ it.is) plain
+
+    same : c.command ≡ command
+    same = ap command_of (sym (known ∙ it.is)) ∙ is
+
+    changing : is_change c.command ≡ true
+    changing = ap is_change same ∙ changes
+
+    silent : shows_rows false c ≡ false
+    silent = rw (bare.0, same) quiet
+
+  pub stops : (e : Error) → ((text : List ℕ) → Does old.step_limit (mode_of old) params old.now text None command (Err (Some e)) → IsAllowed old.step_limit e) → ExecutesInside 0 sql params old new (Err e) → Stops old new e
+  unfolding ExecutesIn IsNotRun EndsScope
+  stops e allowed (inr h) = absurd (elim h.0.2 [
+    | inl end ↦ elim end [ inl c ↦ other _ Commit (changing h.0.0 h.0.1) refl c | inr r ↦ other _ Rollback (changing h.0.0 h.0.1) refl r ]
+    | inr mark ↦ elim mark.1 [ inl r ↦ other _ (Release mark.0) (changing h.0.0 h.0.1) refl r | inr b ↦ other _ (RollbackTo mark.0) (changing h.0.0 h.0.1) refl b ]
+  ])
+  stops e allowed (inl (inl (inl not_run), _)) = absurd (no_statement e not_run.0)
+  stops e allowed (inl (inl (inr failed), _)) = fails_so old new ⊥ e failed
+  stops e allowed (inl (inr (c, it, ran), _)) =
+      let run : RunsCommand old new sql c (timed params c.formats it.now) (Err e) = rw (silent c it) at ran in
+      elim run [
+        | inl refused ↦ elim refused.0 [
+            | inl late ↦ absurd (misplaced old c.command e (changing c it) late)
+            | inr does ↦ inr (allowed (text_of sql c) (subst₂ (λ k r. Does old.step_limit (mode_of old) params old.now (text_of sql c) r k (Err (Some e))) (same c it) (bare c it).0 (rw ((bare c it).1, append-nil params) at does.1)))
+          ]
+        | inr failed ↦ fails_so old new _ e failed
+      ]
+
+-- what `run` says of a statement, in the transaction
+abbrev pub Ran : List ℕ → Row → State → State → Result ℕ Error → Type 0
+Ran text params old new r = HasCleanDisk new → IsTrue old.in_transaction → ExecutesInside 0 text params old new r
+
+pub at_schema : (limit : Option ℕ) (mode : Mode) (params : Row) (db : Database) (schema : Schema) (text : List ℕ) (command : Command) (e : Error) → db.schema ≡ schema
+    → Does limit mode params db text None command (Err (Some e)) → Does limit mode params (record { schema = schema; trees = db.trees }) text None command (Err (Some e))
+at_schema limit mode params db schema text command e has h = subst (λ s. Does limit mode params (record { schema = s; trees = db.trees }) text None command (Err (Some e))) has h
+
+pub with_values : (text : List ℕ) (values params : Row) (old new : State) (r : Result ℕ Error) → params ≡ values → Ran text params old new r → Ran text values old new r
+with_values text values params old new r is ran = subst (λ v. Ran text v old new r) is ran
