@@ -1,7 +1,7 @@
 -- Why the store stopped a World.
 use Rattle.std.specs.Prelude.{◌≡◌, ◌≤◌, ⊤}
 use Rattle.sqlite.specs.State.{State as Database}
-use Rattle.moo_tables.specs.Cause.{Stops}
+use Rattle.moo_tables.specs.Cause.{StopsChange}
 use Rattle.moo_store.specs.declared.fault.StoreFault.{StoreFault}
 use Rattle.moo_store.specs.declared.fault.StoreFault.TheVariants.{Store}
 
@@ -12,5 +12,5 @@ pub record KeepsFaults (old new : Database) : Type 0 where
 
 -- if the store failed, this is why
 abbrev pub IsStopped : Database → Database → StoreFault → Type 0
-IsStopped old new (Store error) = Stops old new error
+IsStopped old new (Store error) = StopsChange old new error
 IsStopped old new fault = ⊤

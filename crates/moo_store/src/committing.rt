@@ -10,7 +10,7 @@ ghost use Rattle.moo_cells.specs.Shows.{ShowsRows};
 ghost use Rattle.moo_store.specs.Printed.{Prints};
 ghost use Rattle.moo_store.specs.States.{KeepsRows, LeavesRows};
 ghost use Rattle.moo_tables.specs.Tables.{Tables};
-ghost use Rattle.moo_tables.specs.Cause.{Stops};
+ghost use Rattle.moo_tables.specs.Cause.{StopsChange};
 ghost use Rattle.moo_tables.specs.Inside.{Rests, IsCurrent};
 ghost use Rattle.moo_store.specs.Untouched.{KeepsCells};
 
@@ -29,7 +29,7 @@ pub(crate) fn commit_cells<S: Alter>(
     ensures cells { HasCleanDisk (state S.Store conn.new) → OnOk result ((changes : Changes) (base next : Maps) (tables : Tables) → Prints (Some base.head.next_petition) cells.now changes → AreChanges base next changes → Rests (state S.Store conn.old) tables → IsCurrent tables → ShowsRows tables base → (after : Tables) × Rests (state S.Store conn.new) after × KeepsCells base next tables after) }
     ensures clean { HasCleanDisk (state S.Store conn.new) → HasCleanDisk (state S.Store conn.old) }
     ensures undone { HasCleanDisk (state S.Store conn.new) → OnErr result (IsTrue (state S.Store conn.new).is_open → (tables : Tables) → Rests (state S.Store conn.old) tables → IsCurrent tables → Rests (state S.Store conn.new) tables) }
-    ensures cause { HasCleanDisk (state S.Store conn.new) → IfErr result (λ error. (tables : Tables) → Rests (state S.Store conn.old) tables → IsCurrent tables → Stops (state S.Store conn.old) (state S.Store conn.new) error) }
+    ensures cause { HasCleanDisk (state S.Store conn.new) → IfErr result (λ error. (tables : Tables) → Rests (state S.Store conn.old) tables → IsCurrent tables → StopsChange (state S.Store conn.old) (state S.Store conn.new) error) }
     ensures counts { (state S.Store conn.old).faults ≤ (state S.Store conn.new).faults }
     ensures steps { (state S.Store conn.new).step_limit ≡ (state S.Store conn.old).step_limit }
     ensures crash { (changes : Changes) (base next : Maps) → Prints (Some base.head.next_petition) cells.now changes → AreChanges base next changes → (HasCleanDisk (state S.Store conn.old) → KeepsRows (state S.Store conn.old) base) → Survives (state S.Store conn.old) (state S.Store conn.new) (λ trees. LeavesRows trees next) }

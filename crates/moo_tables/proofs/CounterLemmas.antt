@@ -1,5 +1,5 @@
 -- What the statement on petition_head does.
-use Rattle.std.proofs.Common.{◌≡◌, ◌⊎◌, inl, inr, ℕ, ℤ, pos, List, [], ◌∷◌, ◌++◌, drop, codes, option_map, length, Some, None, Bool, true, false, ◌&&◌, Result, Ok, Err, OnOk, IsTrue, refl, sym, arith, ap, subst, ◌∙◌}
+use Rattle.std.proofs.Common.{◌≡◌, ◌⊎◌, inl, inr, ℕ, ℤ, pos, List, [], ◌∷◌, ◌++◌, drop, codes, option_map, length, Some, None, Bool, true, false, ◌&&◌, Result, Ok, Err, OnOk, IsTrue, refl, arith, ap, subst, ◌∙◌}
 use Rattle.std.specs.List.{list_all}
 use Rattle.std.proofs.lemmas.Bool.{and_parts}
 use Rattle.sqlite.specs.declared.types.Value.TheVariants.{Int}
@@ -219,9 +219,9 @@ module _ (s : State) (tables : Tables) (seen : Sees s tables) (next : ℕ) (e : 
         overs = λ there more met h.
             update_stops name 10 columns (Some 0) (0 ∷ []) [] [] db s.step_limit params e stored_given counter_filter (number_overwrite petition_head_table) refl
             (stop.over_clear name 10 columns number_of cells has_numbers passes 7 refl s tables seen (counter_seen seen) tt next stored_given counter_filter (number_overwrite petition_head_table) (λ r. differ (column r 2) (Int (pos next)))
-                (λ r. ap (λ b. differ (column r 2) (Int (pos next)) && b) (picks_given 2 stored_given (pos 1) refl r)) (λ r. refl) (number.kept_over _ 10 _ number_of cells has_numbers tt next))
+            (λ r. ap (λ b. differ (column r 2) (Int (pos next)) && b) (picks_given 2 stored_given (pos 1) refl r)) (λ r. refl) (number.kept_over _ 10 _ number_of cells has_numbers tt next))
             (subst (λ v. Updates (record { limit = s.step_limit; keys = Enforced; schema = second_schema; table = petition_head_table; params = params }) (writes_where 10 counter_filter (number_overwrite petition_head_table)) (params ++ v ∷ shown petition_head_table (stored next)) db (Err (Some e)))
-                (stop.named_there name 10 columns number_of cells has_numbers passes 7 refl s tables seen (counter_seen seen) e tt next there more met) h);
+            (stop.named_there name 10 columns number_of cells has_numbers passes 7 refl s tables seen (counter_seen seen) e tt next there more met) h);
       }
 
 put_one : IsOne (length put_counter_text) 2 (understood second_schema put_counter_text)

@@ -1,7 +1,7 @@
 -- Why SQL refuses a write of our tables: it can, for its steps or for its rows' numbers, but not for its text, its types or its keys.
-use Rattle.std.proofs.Common.{◌≡◌, ◌⊎◌, inl, inr, ℕ, zero, suc, ℤ, List, [], ◌∷◌, ◌++◌, length, map, drop, Bool, true, false, true≢false, ◌||◌, not, Option, Some, None, option_map, Ok, Err, Result, IsTrue, IsSome, IfErr, refl, sym, ap, subst, ◌∙◌, arith, length-append}
+use Rattle.std.proofs.Common.{◌≡◌, ◌⊎◌, inl, inr, ℕ, zero, suc, ℤ, List, [], ◌∷◌, ◌++◌, length, drop, Bool, true, false, true≢false, ◌||◌, not, Option, Some, None, Err, Result, IsSome, refl, sym, ap, subst, ◌∙◌, arith, length-append}
 use Rattle.std.specs.Prelude.{◌/◌, ◌&&◌, nat_lt}
-use Rattle.std.specs.List.{AllByRecursion, list_all, list_any}
+use Rattle.std.specs.List.{AllByRecursion, list_all}
 use Rattle.sqlite.specs.declared.error.Error.{Error}
 use Rattle.sqlite.specs.declared.error.Error.TheVariants.{SqliteFailure}
 use Rattle.sqlite.specs.declared.error.ErrorCode.TheVariants as code
@@ -9,12 +9,12 @@ use Rattle.sqlite.specs.Order.{Row}
 use Rattle.sqlite.specs.Table.{Table}
 use Rattle.sqlite.specs.Tree.{Trees, put_row, rowid}
 use Rattle.sqlite_trees.specs.Tree.{with_tree}
-use Rattle.sqlite.specs.Edit.{Edit, edit_of, with_rowid, without_all, id_in}
+use Rattle.sqlite.specs.Edit.{Edit, edit_of, with_rowid, without_all}
 use Rattle.sqlite.specs.Cast.{cast_row}
 use Rattle.sqlite.specs.Rowids.TheVariants.{Given, Chosen}
-use Rattle.sqlite.specs.Effect.{Database, Answers, RefusesQuery, RefusesSource, value_rows, edit_error}
-use Rattle.sqlite.specs.Does.{Tally, Does, Tested, Concludes, Returns}
-use Rattle.sqlite.specs.Rows.{Part, Then, Gives, Task, Written, Edited, Updates, Deletes, Inserts, InsertsOr, Tries, TriesEach, Judged, Upserts, Meets, Clears, Puts, Counts, shown, count_of, nothing}
+use Rattle.sqlite.specs.Effect.{Answers, RefusesQuery, value_rows, edit_error}
+use Rattle.sqlite.specs.Does.{Concludes}
+use Rattle.sqlite.specs.Rows.{Task, Written, Edited, Updates, Deletes, InsertsOr, Tries, TriesEach, Judged, Upserts, Meets, Clears, Puts, shown, count_of, nothing}
 use Rattle.sqlite.specs.Query.{inner, end}
 use Rattle.sqlite.specs.Term.{Term}
 use Rattle.sqlite.specs.Program.{overlay}
@@ -23,7 +23,6 @@ use Rattle.sqlite_schema.specs.declared.schema.Keys.TheVariants.{Enforced}
 use Rattle.sqlite_schema.specs.declared.schema.Among.TheVariants.{All}
 use Rattle.sqlite_schema.specs.declared.schema.Constraint.TheVariants.{Datatype, NotNull, Check, PrimaryKey, Unique, ForeignKey}
 use Rattle.sqlite_schema.specs.Rules.{Refers, Keeps, passes}
-use Rattle.sqlite_schema.specs.declared.program.Program.{Program}
 use Rattle.sqlite_rules.specs.declared.error.Refusal.{Refusal}
 use Rattle.sqlite_rules.specs.declared.error.Refusal.TheVariants.{Violates, Mismatch, NoRowid, BadReference, TooDeep}
 use Rattle.sqlite_rules.specs.Keys.{AreConflicts}
@@ -37,7 +36,6 @@ use Rattle.sqlite.specs.Source.TheVariants.{Values}
 use Rattle.sqlite_value.specs.declared.keys.Order.{Order}
 use Rattle.sqlite_rules.specs.Edit.{IsRefused, is_taken, taken_by, left_by, edited, are_fresh, have_rowids, is_referred}
 use Rattle.sqlite_rules.specs.Action.{works, Leads, Writes}
-use Rattle.sqlite_sql.specs.Query.{has_no_fold}
 use Rattle.sqlite_sql.proofs.QueryLemmas.{no_fold_overflows}
 use Rattle.sqlite_typing.specs.Types.{accepts_program, accepts_terms}
 use Rattle.moo_tables.specs.Tables.{second_schema, table_of}
@@ -170,9 +168,9 @@ module _ (name : List ℕ) (tree : ℕ) (columns : List Column) (key : Option �
     update_stops given filter project accepted clear h = elim (halted h) [
       | inl asked ↦ inl (queried limit db given tree filter project e accepted asked)
       | inr rows ↦ elim (halted rows.2) [
-          | inl wrote ↦ inr (edited_clear db (edit_of db t (ids_of rows.0) Given 1 rows.0) e (clear rows.0 rows.1) wrote)
-          | inr next ↦ absurd (let x = next.2 in cc)
-        ]
+        | inl wrote ↦ inr (edited_clear db (edit_of db t (ids_of rows.0) Given 1 rows.0) e (clear rows.0 rows.1) wrote)
+        | inr next ↦ absurd (let x = next.2 in cc)
+      ]
     ]
 
     pub delete_stops : (filter project : List Term) → accepts_program second_schema [] (plain_query tree filter project []) params ≡ true
@@ -181,9 +179,9 @@ module _ (name : List ℕ) (tree : ℕ) (columns : List Column) (key : Option �
     delete_stops filter project accepted clear h = elim (halted h) [
       | inl asked ↦ inl (queried limit db params tree filter project e accepted asked)
       | inr rows ↦ elim (halted rows.2) [
-          | inl wrote ↦ inr (edited_clear db (edit_of db t (ids_of rows.0) Given 0 []) e (clear rows.0 rows.1) wrote)
-          | inr next ↦ absurd (let x = next.2 in cc)
-        ]
+        | inl wrote ↦ inr (edited_clear db (edit_of db t (ids_of rows.0) Given 0 []) e (clear rows.0 rows.1) wrote)
+        | inr next ↦ absurd (let x = next.2 in cc)
+      ]
     ]
 
     put_stops : (row : Row) → IsClear db (edit_of db t [] Given 0 (row ∷ [])) → Puts mine row db (Err (Some e)) → IsAllowed limit e
@@ -231,12 +229,12 @@ module _ (name : List ℕ) (tree : ℕ) (columns : List Column) (key : Option �
       upsert_stops terms width source row accepted sources is fit ups h = elim (halted h) [
         | inl asked ↦ elim asked [ inl bad ↦ absurd (true≢false (sym accepted ∙ bad.1)) | inr cut ↦ inl cut ]
         | inr rows ↦ elim (halted rows.2) [
-            | inl counted ↦ absurd (let x = counted in cc)
-            | inr counter ↦ elim (halted counter.2) [
-                | inl tried ↦ first_of (count_of counter.0) (subst (λ rs. TriesEach mine Abort (clause ∷ []) rs (count_of counter.0) (nothing db) (Err (Some e))) (rows.1.1 ∙ sources) tried)
-                | inr done ↦ elim (halted done.2) [ inl counts ↦ absurd (let x = counts in cc) | inr next ↦ absurd (let x = next.2 in cc) ]
-              ]
+          | inl counted ↦ absurd (let x = counted in cc)
+          | inr counter ↦ elim (halted counter.2) [
+            | inl tried ↦ first_of (count_of counter.0) (subst (λ rs. TriesEach mine Abort (clause ∷ []) rs (count_of counter.0) (nothing db) (Err (Some e))) (rows.1.1 ∙ sources) tried)
+            | inr done ↦ elim (halted done.2) [ inl counts ↦ absurd (let x = counts in cc) | inr next ↦ absurd (let x = next.2 in cc) ]
           ]
+        ]
       ]
         where
           first_of : (top : ℤ) → TriesEach mine Abort (clause ∷ []) (source ∷ []) top (nothing db) (Err (Some e)) → IsAllowed limit e

@@ -1,6 +1,6 @@
 -- Why a statement fails that writes a table with a number as its key, whichever it is.
-use Rattle.std.proofs.Common.{◌≡◌, ◌⊎◌, inl, inr, ℕ, ◌+◌, ◌/◌, ℤ, List, [], ◌∷◌, ◌++◌, filter, map, drop, length, slice_get, Bool, true, false, true≢false, ◌||◌, ◌&&◌, not, Option, Some, None, Ok, Err, Result, IsTrue, IfErr, refl, sym, ap, subst, ◌∙◌}
-use Rattle.std.specs.List.{AllByRecursion, list_any, list_all}
+use Rattle.std.proofs.Common.{◌≡◌, ◌⊎◌, inl, inr, ℕ, ◌+◌, ℤ, List, [], ◌∷◌, ◌++◌, filter, map, drop, length, slice_get, Bool, true, false, true≢false, ◌&&◌, not, Some, None, Ok, Err, Result, IsTrue, refl, sym, ap, subst, ◌∙◌}
+use Rattle.std.specs.List.{list_any, list_all}
 use Rattle.std.specs.List.Sorted.{IsPermutation}
 use Rattle.sqlite.specs.declared.error.Error.{Error}
 use Rattle.sqlite.specs.declared.types.Value.{Value}
@@ -12,7 +12,7 @@ use Rattle.sqlite_value.proofs.OrderLemmas.{value_cmp_total}
 use Rattle.sqlite.specs.Order.{Row, value_cmp}
 use Rattle.sqlite.specs.Term.{Term, col, holds, eval_all}
 use Rattle.sqlite.specs.Table.{Table}
-use Rattle.sqlite.specs.Tree.{Trees, rowid, has_rowid, put_row}
+use Rattle.sqlite.specs.Tree.{Trees, rowid, has_rowid}
 use Rattle.sqlite_trees.specs.Tree.{with_tree}
 use Rattle.sqlite.specs.Edit.{edit_of, with_rowid, without_all, id_in}
 use Rattle.sqlite.specs.Cast.{cast_row}
@@ -26,7 +26,7 @@ use Rattle.sqlite.specs.Source.TheVariants.{Values}
 use Rattle.sqlite_schema.specs.declared.command.Conflict.TheVariants.{Abort}
 use Rattle.sqlite_schema.specs.declared.schema.Keys.TheVariants.{Enforced}
 use Rattle.sqlite.specs.Listing.{understood}
-use Rattle.sqlite.specs.State.{State, HasCleanDisk, ExecutesInside, mode_of}
+use Rattle.sqlite.specs.State.{State, mode_of}
 use Rattle.sqlite_schema.specs.declared.schema.Constraint.TheVariants.{Unique}
 use Rattle.sqlite_schema.specs.declared.schema.Column.{Column}
 use Rattle.sqlite_schema.specs.Rules.{Keeps}
@@ -43,10 +43,9 @@ use Rattle.moo_tables.specs.Tables.{Tables, second_schema, numbered}
 use Rattle.moo_tables.specs.Texts.{update_text, keep_text, put_text, remove_text}
 use Rattle.moo_tables.specs.Inside.{AreKeyed, Sees}
 use Rattle.moo_tables.proofs.TextLemmas.{WritesByNumber, KeepsByNumber, plain_query, number_terms, number_overwrite, number_keep, written_over, writes_where, by_number, by_given}
-use Rattle.moo_tables.proofs.KeyLemmas.{is_false, both_ways, filter_same, int_value, ties_one}
+use Rattle.moo_tables.proofs.KeyLemmas.{is_false, both_ways, filter_same, int_value}
 use Rattle.moo_tables.proofs.QueryLemmas.{chosen, shows_all}
 use Rattle.moo_tables.proofs.OverLemmas.{none_kept, no_permutation, alone, picks_given, number_one}
-use Rattle.moo_tables.proofs.RowLemmas.{has_itself, picks_number}
 use Rattle.moo_tables.proofs.NumberLemmas as numbers
 use Rattle.moo_tables.proofs.NumberLemmas.{HasNumbers, stored_at}
 use Rattle.moo_tables.proofs.KeepNumberLemmas as kept_of

@@ -1,6 +1,5 @@
 -- Why a statement fails that writes a table with two columns as its key, whichever it is.
-use Rattle.std.proofs.Common.{◌≡◌, ◌⊎◌, inl, inr, ℕ, ◌+◌, ◌/◌, ℤ, List, [], ◌∷◌, ◌++◌, filter, map, drop, length, slice_get, Bool, true, false, true≢false, ◌||◌, ◌&&◌, not, Option, Some, None, Ok, Err, Result, IsTrue, IfErr, refl, sym, ap, subst, ◌∙◌}
-use Rattle.std.specs.List.{AllByRecursion, list_any, list_all}
+use Rattle.std.proofs.Common.{◌≡◌, ◌⊎◌, inl, inr, ℕ, ◌+◌, ℤ, List, [], ◌∷◌, ◌++◌, map, drop, length, slice_get, true, true≢false, not, Some, None, Ok, Err, Result, IsTrue, refl, sym, ap, subst, ◌∙◌}
 use Rattle.std.specs.List.Sorted.{IsPermutation}
 use Rattle.std.specs.Ordering.{is_eq}
 use Rattle.std.proofs.lemmas.Bool.{and_parts, not-true}
@@ -11,11 +10,11 @@ use Rattle.sqlite.specs.declared.error.Error.{Error}
 use Rattle.sqlite.specs.declared.types.Value.{Value}
 use Rattle.sqlite.specs.declared.types.Value.TheVariants.{Null, Int, Text}
 use Rattle.sqlite.specs.Order.{Row, column, value_cmp}
-use Rattle.sqlite.specs.Term.{Term, col, holds, eval_all}
+use Rattle.sqlite.specs.Term.{col, eval_all}
 use Rattle.sqlite.specs.Table.{Table}
 use Rattle.sqlite.specs.Tree.{Trees, rowid, has_rowid, put_row, without_rowid}
 use Rattle.sqlite_trees.specs.Tree.{with_tree}
-use Rattle.sqlite.specs.Edit.{edit_of, with_rowid, without_all, id_in, next_rowid}
+use Rattle.sqlite.specs.Edit.{edit_of, without_all, id_in, next_rowid}
 use Rattle.sqlite.specs.Cast.{cast_row}
 use Rattle.sqlite.specs.Rowids.TheVariants.{Given, Chosen}
 use Rattle.sqlite.specs.Rows.{Updates, shown}
@@ -25,13 +24,12 @@ use Rattle.sqlite.specs.Effect.{Answers}
 use Rattle.sqlite.specs.Command.TheVariants.{InsertOr, Update, Delete}
 use Rattle.sqlite.specs.Source.TheVariants.{Values}
 use Rattle.sqlite.specs.Listing.{understood}
-use Rattle.sqlite.specs.State.{State, HasCleanDisk, ExecutesInside, mode_of}
+use Rattle.sqlite.specs.State.{State, mode_of}
 use Rattle.sqlite_schema.specs.declared.command.Conflict.TheVariants.{Abort}
 use Rattle.sqlite_schema.specs.declared.schema.Keys.TheVariants.{Enforced}
 use Rattle.sqlite_schema.specs.declared.schema.Constraint.TheVariants.{Unique}
 use Rattle.sqlite_schema.specs.declared.schema.Column.{Column}
 use Rattle.sqlite_schema.specs.Rules.{Keeps}
-use Rattle.sqlite_rules.specs.Edit.{is_taken}
 use Rattle.sqlite_rules.specs.Keys.{AreConflicts}
 use Rattle.sqlite_rules.specs.Lists.{Has}
 use Rattle.sqlite_rules.specs.Calls.{ids_of}
@@ -44,10 +42,9 @@ use Rattle.moo_tables.specs.Tables.{Tables, second_schema, paired, has_pair}
 use Rattle.moo_tables.specs.Texts.{update_text, keep_text, put_text, remove_text}
 use Rattle.moo_tables.specs.Inside.{AreKeyed, Sees}
 use Rattle.moo_tables.proofs.TextLemmas.{WritesByPair, KeepsByPair, plain_query, pair_terms, pair_overwrite, pair_keep, written_over, writes_where, by_pair, by_given}
-use Rattle.moo_tables.proofs.KeyLemmas.{is_false, int_value}
+use Rattle.moo_tables.proofs.KeyLemmas.{int_value}
 use Rattle.moo_tables.proofs.QueryLemmas.{chosen, shows_all}
 use Rattle.moo_tables.proofs.OverLemmas.{picks_given, number_one}
-use Rattle.moo_tables.proofs.RowLemmas.{picks_pair}
 use Rattle.moo_tables.proofs.ReadLemmas.{ArePairs}
 use Rattle.moo_tables.proofs.PairLemmas as pairs_of
 use Rattle.moo_tables.proofs.PairLemmas.{HasPairs}
@@ -110,8 +107,8 @@ module _ {K C : Type 0} (name : List ℕ) (tree : ℕ) (columns : List Column) (
         let ids : ids_of (x ∷ []) ≡ id ∷ [] = ap (λ v. id_in v ∷ []) (names ∙ named) in
         let own : has_rowid id r ≡ true = ap is_eq (ap (λ v. value_cmp v (Int id)) named ∙ tied_itself value_cmp_total (Int id)) in
         let none = λ (s : Row) (h : Has (without_all rows (id ∷ [])) s) (there : has_pair (pair key) s ≡ true).
-            let same = pairs.one (pair key) r s in_it (left_of (id ∷ []) rows s h) here there in
-            true≢false (sym own ∙ ap (has_rowid id) same ∙ not-true _ (has_filtered (λ r. not (has_rowid id r)) rows s h).1) in
+        let same = pairs.one (pair key) r s in_it (left_of (id ∷ []) rows s h) here there in
+        true≢false (sym own ∙ ap (has_rowid id) same ∙ not-true _ (has_filtered (λ r. not (has_rowid id r)) rows s h).1) in
         subst (λ gone. IsClear db (edit_of db t gone Given 1 (x ∷ []))) (sym ids)
         (clear_one name tree columns None (1 ∷ 2 ∷ []) ((1 ∷ 2 ∷ []) ∷ []) (plain ∷ []) db (id ∷ []) 1 x (Int id ∷ cells key row) (ap (cast_row t) over ∙ pairs_of.kept name tree columns pair cells it_has id key row) (passes.fit db id key row)
         (none_left (has_rowid id) rows) (put_unique (id ∷ []) id key row none))
@@ -200,8 +197,8 @@ module _ {K C : Type 0} (name : List ℕ) (tree : ℕ) (columns : List Column) (
             let given = cells key row ++ Int id ∷ shown t source in
             let project = pair_overwrite t in
             let clear = λ (answer : List Row) (answers : Answers (record { schema = second_schema; trees = db }) (writes_where tree (by_given (length columns)) project) given answer).
-                let shown = subst (λ rs. IsPermutation (map (λ r. eval_all project (given ∷ r ∷ [])) (chosen (by_given (length columns)) given rs)) answer) (it_has.stored db) (shows_all tree (by_given (length columns)) project [] (overlay db []) given answer (answers.answer Null)) in
-                by_answer id r.0 r.1 here own value answer (one_or_none has_rowid id rows keyed (number_one id rows keyed) (by_given (length columns)) project given answer (λ _. true) (picks_given (length columns) given id (it_has.there next id key row)) shown) in
+            let shown = subst (λ rs. IsPermutation (map (λ r. eval_all project (given ∷ r ∷ [])) (chosen (by_given (length columns)) given rs)) answer) (it_has.stored db) (shows_all tree (by_given (length columns)) project [] (overlay db []) given answer (answers.answer Null)) in
+            by_answer id r.0 r.1 here own value answer (one_or_none has_rowid id rows keyed (number_one id rows keyed) (by_given (length columns)) project given answer (λ _. true) (picks_given (length columns) given id (it_has.there next id key row)) shown) in
             update_stops name tree columns None (1 ∷ 2 ∷ []) ((1 ∷ 2 ∷ []) ∷ []) (plain ∷ []) db s.step_limit (cells key row) e given (by_given (length columns)) project (passes.overs next id key row) clear
             (subst (λ v. Updates (record { limit = s.step_limit; keys = Enforced; schema = second_schema; table = t; params = cells key row }) (writes_where tree (by_given (length columns)) project) (cells key row ++ v ∷ shown t source) db (Err (Some e))) (ap rowid r.3 ∙ value) h)
           where

@@ -1,5 +1,5 @@
 -- Why a statement fails whose text and values are sound.
-use Rattle.std.proofs.Common.{◌≡◌, ◌≢◌, ◌⊎◌, inl, inr, ℕ, ◌≤◌, List, [], ◌∷◌, ◌++◌, append-nil, length, Bool, true, false, true≢false, ◌||◌, Option, Some, None, Ok, Err, Result, IsTrue, IfErr, refl, sym, ap, subst, subst₂, ◌∙◌, arith}
+use Rattle.std.proofs.Common.{◌≡◌, inl, inr, ℕ, ◌≤◌, List, [], append-nil, length, Bool, true, false, true≢false, ◌||◌, Option, Some, None, Ok, Err, Result, IsTrue, refl, sym, ap, subst, subst₂, ◌∙◌}
 use Rattle.std.specs.Prelude.{⊤}
 use Rattle.sqlite.specs.declared.error.Error.{Error}
 use Rattle.sqlite.specs.Order.{Row}
@@ -9,7 +9,7 @@ use Rattle.sqlite.specs.Effect.{Database, is_query}
 use Rattle.sqlite.specs.declared.run.Mode.{Mode}
 use Rattle.sqlite.specs.Listing.{understood}
 use Rattle.sqlite.specs.Clock.{timed}
-use Rattle.sqlite.specs.State.{State, HasCleanDisk, Fails, HasCause, IsNotRun, IsNoStatement, IsStatement, IsMisplaced, ExecutesIn, ExecutesInside, EndsScope, RunsCommand, RunsAlone, shows_rows, is_pragma, mode_of, text_of}
+use Rattle.sqlite.specs.State.{State, HasCleanDisk, Fails, HasCause, IsNotRun, IsNoStatement, IsStatement, IsMisplaced, ExecutesIn, ExecutesInside, EndsScope, RunsCommand, shows_rows, is_pragma, mode_of, text_of}
 use Rattle.sqlite.proofs.Callers.{IsPlain, command_of}
 use Rattle.sqlite_resolve.specs.declared.compiled.Compiled.{Compiled}
 use Rattle.sqlite_resolve.specs.declared.error.CompileError.{CompileError}
@@ -17,7 +17,7 @@ use Rattle.sqlite_schema.specs.declared.command.Command.{Command}
 use Rattle.sqlite_schema.specs.declared.command.Command.TheVariants.{InsertOr, Update, Delete, Begin, Commit, Rollback, Release, RollbackTo}
 use Rattle.sqlite_trees.specs.declared.error.StoreError.{StoreError}
 use Rattle.sqlite_trees.specs.declared.error.StoreError.TheVariants.{OutOfMemory, Io, Corrupt, Full, Broken, Unstorable}
-use Rattle.moo_tables.specs.Cause.{Stops}
+use Rattle.moo_tables.specs.Cause.{StopsChange}
 use Rattle.moo_tables.proofs.RefusalLemmas.{IsAllowed}
 
 abbrev pub is_change : Command → Bool
@@ -39,7 +39,7 @@ any_size old new Big Full h = h
 any_size old new Big Broken h = h
 any_size old new Big Unstorable h = tt
 
-pub fails_so : (old new : State) (Big : Type 0) (e : Error) → Fails old new Big e → Stops old new e
+pub fails_so : (old new : State) (Big : Type 0) (e : Error) → Fails old new Big e → StopsChange old new e
 fails_so old new Big e h = inl (h.0, h.1, any_size old new Big h.0 h.2)
 
 other : (k j : Command) → is_change k ≡ true → is_change j ≡ false → k ≡ j → ⊥
@@ -77,7 +77,7 @@ module _ (sql : List ℕ) (params : Row) (old new : State) (schema : Schema) (ha
     silent : shows_rows false c ≡ false
     silent = rw (bare.0, same) quiet
 
-  pub stops : (e : Error) → ((text : List ℕ) → Does old.step_limit (mode_of old) params old.now text None command (Err (Some e)) → IsAllowed old.step_limit e) → ExecutesInside 0 sql params old new (Err e) → Stops old new e
+  pub stops : (e : Error) → ((text : List ℕ) → Does old.step_limit (mode_of old) params old.now text None command (Err (Some e)) → IsAllowed old.step_limit e) → ExecutesInside 0 sql params old new (Err e) → StopsChange old new e
   unfolding ExecutesIn IsNotRun EndsScope
   stops e allowed (inr h) = absurd (elim h.0.2 [
     | inl end ↦ elim end [ inl c ↦ other _ Commit (changing h.0.0 h.0.1) refl c | inr r ↦ other _ Rollback (changing h.0.0 h.0.1) refl r ]
@@ -89,9 +89,9 @@ module _ (sql : List ℕ) (params : Row) (old new : State) (schema : Schema) (ha
       let run : RunsCommand old new sql c (timed params c.formats it.now) (Err e) = rw (silent c it) at ran in
       elim run [
         | inl refused ↦ elim refused.0 [
-            | inl late ↦ absurd (misplaced old c.command e (changing c it) late)
-            | inr does ↦ inr (allowed (text_of sql c) (subst₂ (λ k r. Does old.step_limit (mode_of old) params old.now (text_of sql c) r k (Err (Some e))) (same c it) (bare c it).0 (rw ((bare c it).1, append-nil params) at does.1)))
-          ]
+          | inl late ↦ absurd (misplaced old c.command e (changing c it) late)
+          | inr does ↦ inr (allowed (text_of sql c) (subst₂ (λ k r. Does old.step_limit (mode_of old) params old.now (text_of sql c) r k (Err (Some e))) (same c it) (bare c it).0 (rw ((bare c it).1, append-nil params) at does.1)))
+        ]
         | inr failed ↦ fails_so old new _ e failed
       ]
 

@@ -21,9 +21,9 @@ abbrev pub HasNoNumber : Error → Type 0
 HasNoNumber e = e ≡ SqliteFailure code.NoRowid
 
 -- why a change stops: SQL refuses none for its text or for its values
-abbrev pub Stops : State → State → Error → Type 0
-Stops old new e = StoreStops old new e ⊎ (IsCutShort old e ⊎ HasNoNumber e)
+abbrev pub StopsChange : State → State → Error → Type 0
+StopsChange old new e = StoreStops old new e ⊎ (IsCutShort old e ⊎ HasNoNumber e)
 
 -- a call that fails in a transaction on our tables has one of these causes
 abbrev pub HasCauseIn : {A : Type 0} → State → State → Result A Error → Type 0
-HasCauseIn old new r = HasCleanDisk new → (tables : Tables) → Sees old tables → IfErr r (Stops old new)
+HasCauseIn old new r = HasCleanDisk new → (tables : Tables) → Sees old tables → IfErr r (StopsChange old new)
