@@ -15,13 +15,13 @@ returns-in-Ok-rows_of-clause-one g c clean tables m rests shows good =
     let is = version_is (state g.S.Store c.args.conn.now) c.in-Ok.version tables c.in-Ok.ensures.ours rests in
     c.in-Ok-rows_of.ensures.one m (subst (λ t. ShowsRows t m) (sym (c.in-Ok-read_lists.ensures.listed clean tables is rests)) shows) good
 
-pub returns-clause-fault : goal.returns-clause-fault
-returns-clause-fault g c clean tables rests =
+pub returns-in-Err-rows_of-clause-fault : goal.returns-in-Err-rows_of-clause-fault
+returns-in-Err-rows_of-clause-fault g c clean tables rests =
     let is = version_is (state g.S.Store c.args.conn.now) c.in-Ok.version tables c.in-Ok.ensures.ours rests in
     subst (λ t. Says t c.in-Err-rows_of.fault) (c.in-Ok-read_lists.ensures.listed clean tables is rests) c.in-Err-rows_of.ensures.fault
 
-pub returns-clause-whole : goal.returns-clause-whole
-returns-clause-whole g c clean tables m rests shows good =
+pub returns-in-Err-rows_of-clause-whole : goal.returns-in-Err-rows_of-clause-whole
+returns-in-Err-rows_of-clause-whole g c clean tables m rests shows good =
     let is = version_is (state g.S.Store c.args.conn.now) c.in-Ok.version tables c.in-Ok.ensures.ours rests in
     c.in-Err-rows_of.ensures.whole m (subst (λ t. ShowsRows t m) (sym (c.in-Ok-read_lists.ensures.listed clean tables is rests)) shows) good
 
@@ -29,5 +29,5 @@ returns-clause-whole g c clean tables m rests shows good =
 pub returns-in-Err-read_lists-clause-other : goal.returns-in-Err-read_lists-clause-other
 returns-in-Err-read_lists-clause-other g c none = absurd (none c.in-Ok.version c.in-Ok.ensures.ours)
 
-pub returns-clause-other : goal.returns-clause-other
-returns-clause-other g c none = absurd (none c.in-Ok.version c.in-Ok.ensures.ours)
+pub returns-in-Err-rows_of-clause-other : goal.returns-in-Err-rows_of-clause-other
+returns-in-Err-rows_of-clause-other g c none = absurd (none c.in-Ok.version c.in-Ok.ensures.ours)
