@@ -203,7 +203,7 @@ class Tables(ProgramTest):
         self.case("and are a whole world", run("check", file), (0, "ok seq 4 objects 2007\n"))
 
     def test_spellings(self):
-        """Another spelling of a cell isn't damage. It stays until its row changes, and then the row is written as moo spells it."""
+        """Another spelling of a cell isn't damage. It stays until its column changes, and then it is written as moo spells it."""
         file = copy_of("verbs")
         dumped = run("dump", file)[1].replace(object_line(thing(7)), object_line(thing(7, accept="{#4, #5}")))
         edit(file, *SPELLINGS)
@@ -216,13 +216,17 @@ class Tables(ProgramTest):
         calls = ['set(#2, "r", 1)', 'set(#7, "name", "x")', 'set(#4, "a", 1)', 'set_property_info(#6, "b", {#4, "r"})']
         calls.append('set_verb_args(#4, 1, {"any", "any", "any"})')
         self.case("a batch on their rows", run("apply", file, "-", text=text_of(calls)), (0, accepted(4, *"00000")))
-        cells = read(
-            file,
+        columns = [
             "select accept from object where n in (2, 7) order by n",
             "select bits, value from slot2 where (object, prop) in ((4, 1), (6, 2)) order by object",
             "select bits, prep from verb where object = 4 and id = 1",
-        )
-        self.case("writes them anew", cells, [[("{#1}",), ("{#4, #5}",)], [(4, "1"), (4, "21")], [("rd", "any")]])
+        ]
+        stand = [[("{ #1}",), (" {#4 ,\t#5}",)], [(4, "1"), (4, " 0021")], [("DRd", "any")]]
+        self.case("writes the columns that change, and leaves the others as they stand", read(file, *columns), stand)
+        calls = ["set_accept(#2, {#4})", "set_accept(#7, {})", 'set(#6, "b", 22)', 'set_verb_info(#4, 1, {#3, "r", "look"})']
+        self.case("a batch on those columns", run("apply", file, "-", text=text_of(calls)), (0, accepted(5, *"0000")))
+        anew = [[("{#4}",), ("{}",)], [(4, "1"), (4, "22")], [("r", "any")]]
+        self.case("writes them anew", read(file, *columns), anew)
 
     def test_spelled_petitions(self):
         """So it is with petitions, whose rows come and go, and never change."""

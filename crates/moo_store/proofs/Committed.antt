@@ -18,22 +18,22 @@ use Rattle.moo_store.specs.Untouched.{KeepsCells}
 use Rattle.moo_store.proofs.Shown.{shows-written, keeps-written}
 use Rattle.moo_store.proofs.Versions.{one_tables}
 
-module _ (cells : CellChanges) (changes : Changes) (base next : Maps) (printed : Prints (Some base.head.next_petition) cells changes) (exact : AreChanges base next changes) where
+module _ (cells : CellChanges) (changes : Changes) (base next : Maps) (printed : Prints (Some base.head.next_petition) base cells changes) (exact : AreChanges base next changes) where
   pub shows_next : (t : Tables) → IsCurrent t → ShowsRows t base → ShowsRows (tables_with cells t) next
-  shows_next t current shows = shows-written (Some base.head.next_petition) cells changes base next t printed exact current shows.no_head shows.counter shows.maps
+  shows_next t current shows = shows-written (Some base.head.next_petition) cells changes base next t printed exact current shows.maps shows.no_head shows.counter
 
   pub keeps_next : (old new : Database) → ((t : Tables) → Rests old t → IsCurrent t → Rests new (tables_with cells t)) → KeepsRows old base → KeepsRows new next
   keeps_next old new rests it = record { tables = tables_with cells it.tables; rests = rests it.tables it.rests it.current; current = it.current; shows = shows_next it.tables it.current it.shows }
 
 pub at_written : {E : Type 0} (old new : Database) (cells : CellChanges) (r : Result (Unit {0}) E)
     → OnOk r ((t : Tables) → Rests old t → IsCurrent t → Rests new (tables_with cells t))
-    → OnOk r ((changes : Changes) (base next : Maps) → Prints (Some base.head.next_petition) cells changes → AreChanges base next changes → KeepsRows old base → KeepsRows new next)
+    → OnOk r ((changes : Changes) (base next : Maps) → Prints (Some base.head.next_petition) base cells changes → AreChanges base next changes → KeepsRows old base → KeepsRows new next)
 at_written old new cells (Ok x) f = λ changes base next printed exact it. keeps_next cells changes base next printed exact old new f it
 at_written old new cells (Err e) f = tt
 
 pub at_kept : {E : Type 0} (old new : Database) (cells : CellChanges) (r : Result (Unit {0}) E)
     → OnOk r ((t : Tables) → Rests old t → IsCurrent t → Rests new (tables_with cells t))
-    → OnOk r ((changes : Changes) (base next : Maps) (t : Tables) → Prints (Some base.head.next_petition) cells changes → AreChanges base next changes → Rests old t → IsCurrent t → ShowsRows t base → (after : Tables) × Rests new after × KeepsCells base next t after)
+    → OnOk r ((changes : Changes) (base next : Maps) (t : Tables) → Prints (Some base.head.next_petition) base cells changes → AreChanges base next changes → Rests old t → IsCurrent t → ShowsRows t base → (after : Tables) × Rests new after × KeepsCells base next t after)
 at_kept old new cells (Ok x) f = λ changes base next t printed exact rests current shown. (tables_with cells t, f t rests current, keeps-written cells changes base next t printed exact current shown)
 at_kept old new cells (Err e) f = tt
 
@@ -67,7 +67,7 @@ clean_at_commit old new P survives clean = elim (in_doubt old.is_clean) [
 ]
 
 -- The tables are known only of a clean disk, so the clean and the failed disk are told apart.
-pub survives_next : (old new : Database) (cells : CellChanges) (changes : Changes) (base next : Maps) → Prints (Some base.head.next_petition) cells changes → AreChanges base next changes
+pub survives_next : (old new : Database) (cells : CellChanges) (changes : Changes) (base next : Maps) → Prints (Some base.head.next_petition) base cells changes → AreChanges base next changes
     → ((t : Tables) → (HasCleanDisk old → Rests old t) → IsCurrent t → Survives old new (λ trees. Leaves trees (tables_with cells t)))
     → (HasCleanDisk old → KeepsRows old base) → Survives old new (λ trees. LeavesRows trees next)
 survives_next old new cells changes base next printed exact survives keeps = elim (in_doubt old.is_clean) [

@@ -1,5 +1,6 @@
 pub mod Versions
 pub mod Written
+pub mod Laid
 pub mod AllRows
 pub mod Shown
 pub mod Committed

@@ -24,7 +24,7 @@ use Rattle.moo_store.proofs.Versions.{version_is}
 none_first : (db : Content) (t : Tables) → Holds db t → t.version ≡ First → (n : ℤ) → t.petition n ≡ None
 none_first db t holds first n = ap (λ (u : Tables). u.petition n) (sym holds.rows) ∙ ap (λ v. (tables_in v db.trees).petition n) first
 
-module _ (m : Maps) (head : Head) (slots : List ((ObjNo × PropId) × Option SlotCells)) (is : head ≡ m.head) (printed : PrintEach PrintsSlot slots (all_of m.slots)) where
+module _ (m : Maps) (head : Head) (slots : List ((ObjNo × PropId) × Option SlotCells)) (is : head ≡ m.head) (printed : PrintEach (λ key. PrintsSlot None) slots (all_of m.slots)) where
   shows : (db : Content) (t : Tables) → Holds db t → t.version ≡ First → ShowsRows t m → ShowsRows (migrated head slots t) m
   shows db t holds first shown = subst (λ h. ShowsRows (migrated h slots t) m) (sym is) (shows-migrated m slots t printed first (none_first db t holds first) shown)
 

@@ -56,14 +56,14 @@ from_none m = record {
   petitions = changed_from_none petition_cmp m.petitions;
 }
 
-shows_all : (cells : CellChanges) (m : Maps) → Prints None cells (all_changes m) → ShowsRows (tables_with cells no_tables) m
-shows_all cells m p = shows-written None cells (all_changes m) no_maps m no_tables p (from_none m) refl (λ n h. refl) (λ n h. refl) shows_nothing
+shows_all : (cells : CellChanges) (m : Maps) → Prints None no_maps cells (all_changes m) → ShowsRows (tables_with cells no_tables) m
+shows_all cells m p = shows-written None cells (all_changes m) no_maps m no_tables p (from_none m) refl shows_nothing (λ n h. refl) (λ n h. refl)
 
 -- the new tables show the rows
-pub keeps_all : (store : Database) (cells : CellChanges) (m : Maps) → Prints None cells (all_changes m) → Rests store (tables_with cells no_tables) → KeepsRows store m
+pub keeps_all : (store : Database) (cells : CellChanges) (m : Maps) → Prints None no_maps cells (all_changes m) → Rests store (tables_with cells no_tables) → KeepsRows store m
 keeps_all store cells m p rests = record { tables = tables_with cells no_tables; rests = rests; current = refl; shows = shows_all cells m p }
 
 -- and so does what a crash leaves of them
-pub survives_all : (old new : Database) (cells : CellChanges) (m : Maps) → Prints None cells (all_changes m) → IsGood m → Survives old new (λ trees. Leaves trees (tables_with cells no_tables)) → Survives old new (λ trees. LeavesState trees (state_of m))
+pub survives_all : (old new : Database) (cells : CellChanges) (m : Maps) → Prints None no_maps cells (all_changes m) → IsGood m → Survives old new (λ trees. Leaves trees (tables_with cells no_tables)) → Survives old new (λ trees. LeavesState trees (state_of m))
 survives_all old new cells m p good survives = survives-map old new (λ trees. Leaves trees (tables_with cells no_tables)) (λ trees. LeavesState trees (state_of m)) survives
     (λ clean trees lies. record { rows = m; good = good; state = refl; leaves = record { tables = tables_with cells no_tables; leaves = lies; shows = shows_all cells m p } })

@@ -1,5 +1,5 @@
 -- The tables, after changes are written, show the new rows; and so do tables of the first version that are taken over.
-use Rattle.std.proofs.Common.{◌≡◌, ◌≢◌, ◌==◌, ℕ, ℤ, pos, negsuc, Bool, true, false, cond, List, Option, None, Some, refl, sym, ap, ◌∙◌, subst}
+use Rattle.std.proofs.Common.{◌≡◌, ◌≢◌, ◌==◌, ℕ, ℤ, pos, negsuc, Bool, true, false, cond, List, Option, None, Some, refl, sym, ap, ◌∙◌, subst, subst₂}
 use Rattle.std.specs.Prelude.{◌&&◌}
 use Rattle.std.specs.Bool.{Decides}
 use Rattle.std.specs.Ordering.{eq_by_cmp}
@@ -26,9 +26,11 @@ use Rattle.moo_tables.specs.declared.slot.SlotCells.{SlotCells}
 use Rattle.moo_draft.specs.declared.changes.Changes.{Changes}
 use Rattle.moo_draft.specs.Changes.{AreChanges}
 use Rattle.moo_cells.specs.Shows.{ShowsObject, ShowsProp, ShowsSlot, ShowsVerb, ShowsPetition, ShowsOrNone, ShowsCounter, ShowsMaps, ShowsRows}
-use Rattle.moo_store.specs.Printed.{PrintEach, PrintsSlot, Prints, new_number, all_of}
+use Rattle.moo_store.specs.Columns.{IfBoth, HeadColumns, ObjectColumns, PropColumns, SlotColumns, VerbColumns, PetitionColumns}
+use Rattle.moo_store.specs.Printed.{PrintEach, PrintsObject, PrintsProp, PrintsSlot, PrintsVerb, PrintsPetition, Prints, new_number, all_of}
 use Rattle.moo_store.specs.Untouched.{KeepsCells}
 use Rattle.moo_store.proofs.AllRows.{all_changed}
+use Rattle.moo_store.proofs.Laid.{lays_object, lays_prop, lays_slot, lays_verb, lays_petition, head_columns, object_stays, prop_stays, slot_stays, verb_stays, petition_stays}
 use Rattle.moo_store.proofs.Written.{written, stays, elsewhere}
 
 -- a test of what doesn't hold is false
@@ -101,10 +103,6 @@ no_pair x n y id = decided_false _ _ (same_numbers-Decides (x, negsuc n) (y, pos
 not_one : (n : ℤ) → n ≢ pos 1 → same_number n (pos 1) ≡ false
 not_one n h = decided_false _ _ (same_number-Decides n (pos 1)) h
 
--- slots are printed as tables of the present version show them
-prints_slots : (last : Option ℕ) (version : Version) (cells : CellChanges) (changes : Changes) → version ≡ Second → Prints last cells changes → PrintEach (λ key cells row. ShowsSlot version key (slot_cells key cells) row) cells.slots.items changes.slots
-prints_slots last version cells changes current p = subst (λ v. PrintEach (λ key cells row. ShowsSlot v key (slot_cells key cells) row) cells.slots.items changes.slots) (sym current) p.slots
-
 -- the row of the counter alone is put
 counts_written : (version : Version) (next : ℕ) (table : ℤ → Option Row) → version ≡ Second → ((n : ℤ) → n ≢ pos 1 → table n ≡ None) → ShowsCounter version (numbered_with (pos 1) (Some (petition_head_cells next)) table) next
 counts_written version next table current alone = subst (λ v. ShowsCounter v (numbered_with (pos 1) (Some (petition_head_cells next)) table) next) (sym current) (
@@ -130,43 +128,98 @@ counts_next (Some last) next version table current shows = go (last == next) ref
     go true e = rw e (subst (ShowsCounter version table) ((Decides-eqb last next).0 e) shows)
     go false e = rw e (counts_written version next table current (counts_alone version last table current shows))
 
-pub shows-written : (last : Option ℕ) (cells : CellChanges) (changes : Changes) (base new : Maps) (t : Tables) → Prints last cells changes → AreChanges base new changes → IsCurrent t → ((n : ℤ) → n ≢ pos 1 → t.head n ≡ None) → CountsBefore last t.version t.petition_head → ShowsMaps t base → ShowsRows (tables_with cells t) new
-shows-written last cells changes base new t p c current alone counts shows = record {
-  head = ap (λ b. cond b (Some (head_cells Second cells.head)) (t.head (pos 1))) ((same_number-Decides (pos 1) (pos 1)).1 refl) ∙ ap (λ h. Some (head_cells Second h)) (p.head ∙ c.head) ∙ ap (λ v. Some (head_cells v new.head)) (sym current);
-  no_head = λ n h. ap (λ b. cond b (Some (head_cells Second cells.head)) (t.head n)) (not_one n h) ∙ alone n h;
-  counter = subst (λ n. ShowsCounter t.version (counter_with n t.petition_head) new.head.next_petition) (sym (p.next_petition ∙ ap (λ (h : Head). new_number last h.next_petition) c.head)) (counts_next last new.head.next_petition t.version t.petition_head current counts);
-  maps = record {
-    objects = written object_cmp object_exact same_number (λ n. n.0) number_alike object_cells ShowsObject cells.objects.items changes.objects (get base.objects) (get new.objects) t.object p.objects c.objects shows.objects;
-    props = written prop_cmp prop_exact same_number (λ id. pos id.0) id_alike prop_cells ShowsProp cells.props.items changes.props (get base.props) (get new.props) t.prop p.props c.props shows.props;
-    no_prop = λ n. elsewhere prop_cmp prop_exact same_number (λ id. pos id.0) id_alike prop_cells ShowsProp cells.props.items t.prop (negsuc n) (no_id n) ∙ shows.no_prop n;
-    slots = written slot_cmp slot_exact same_numbers (λ k. (k.0.0, pos k.1.0)) slot_alike slot_cells (ShowsSlot t.version) cells.slots.items changes.slots (get base.slots) (get new.slots) t.slot (prints_slots last t.version cells changes current p) c.slots shows.slots;
-    no_slot = λ x n. elsewhere slot_cmp slot_exact same_numbers (λ k. (k.0.0, pos k.1.0)) slot_alike slot_cells (ShowsSlot Second) cells.slots.items t.slot (x, negsuc n) (λ k. no_pair x n k.0.0 k.1.0) ∙ shows.no_slot x n;
-    verbs = written verb_cmp verb_exact same_numbers (λ k. (k.0.0, pos k.1.0)) verb_alike verb_cells ShowsVerb cells.verbs.items changes.verbs (get base.verbs) (get new.verbs) t.verb p.verbs c.verbs shows.verbs;
-    no_verb = λ x n. elsewhere verb_cmp verb_exact same_numbers (λ k. (k.0.0, pos k.1.0)) verb_alike verb_cells ShowsVerb cells.verbs.items t.verb (x, negsuc n) (λ k. no_pair x n k.0.0 k.1.0) ∙ shows.no_verb x n;
-    petitions = written petition_cmp petition_exact same_number (λ id. pos id.0) petition_alike petition_cells ShowsPetition cells.petitions.items changes.petitions (get base.petitions) (get new.petitions) t.petition p.petitions c.petitions shows.petitions;
-    no_petition = λ n. elsewhere petition_cmp petition_exact same_number (λ id. pos id.0) petition_alike petition_cells ShowsPetition cells.petitions.items t.petition (negsuc n) (no_petition_id n) ∙ shows.no_petition n;
-  };
-}
+-- the tables' cells after changes that are printed, table by table
+abbrev ObjectsLaid : CellChanges → Maps → Maps → Tables → Type 0
+ObjectsLaid cells base new t = (n : ObjNo) → ShowsOrNone (ShowsObject n) ((tables_with cells t).object n.0) (get new.objects n) × IfBoth ObjectColumns (get base.objects n) (get new.objects n) (t.object n.0) ((tables_with cells t).object n.0)
 
--- the rows that stay keep their cells
-pub keeps-written : (cells : CellChanges) (changes : Changes) (base new : Maps) (t : Tables) → Prints (Some base.head.next_petition) cells changes → AreChanges base new changes → IsCurrent t → ShowsRows t base → KeepsCells base new t (tables_with cells t)
-keeps-written cells changes base new t p c current shown = record {
-  version = refl;
-  shown = shown;
-  shows = shows-written (Some base.head.next_petition) cells changes base new t p c current shown.no_head shown.counter shown.maps;
-  objects = stays object_cmp object_exact same_number (λ n. n.0) number_alike object_cells ShowsObject cells.objects.items changes.objects (get base.objects) (get new.objects) t.object p.objects c.objects;
-  props = stays prop_cmp prop_exact same_number (λ id. pos id.0) id_alike prop_cells ShowsProp cells.props.items changes.props (get base.props) (get new.props) t.prop p.props c.props;
-  slots = stays slot_cmp slot_exact same_numbers (λ k. (k.0.0, pos k.1.0)) slot_alike slot_cells (ShowsSlot Second) cells.slots.items changes.slots (get base.slots) (get new.slots) t.slot p.slots c.slots;
-  verbs = stays verb_cmp verb_exact same_numbers (λ k. (k.0.0, pos k.1.0)) verb_alike verb_cells ShowsVerb cells.verbs.items changes.verbs (get base.verbs) (get new.verbs) t.verb p.verbs c.verbs;
-  petitions = stays petition_cmp petition_exact same_number (λ id. pos id.0) petition_alike petition_cells ShowsPetition cells.petitions.items changes.petitions (get base.petitions) (get new.petitions) t.petition p.petitions c.petitions;
-}
+abbrev PropsLaid : CellChanges → Maps → Maps → Tables → Type 0
+PropsLaid cells base new t = (id : PropId) → ShowsOrNone (ShowsProp id) ((tables_with cells t).prop (pos id.0)) (get new.props id) × IfBoth PropColumns (get base.props id) (get new.props id) (t.prop (pos id.0)) ((tables_with cells t).prop (pos id.0))
+
+abbrev SlotsLaid : CellChanges → Maps → Maps → Tables → Type 0
+SlotsLaid cells base new t = (key : ObjNo × PropId) → ShowsOrNone (ShowsSlot Second key) ((tables_with cells t).slot (key.0.0, pos key.1.0)) (get new.slots key) × IfBoth SlotColumns (get base.slots key) (get new.slots key) (t.slot (key.0.0, pos key.1.0)) ((tables_with cells t).slot (key.0.0, pos key.1.0))
+
+abbrev VerbsLaid : CellChanges → Maps → Maps → Tables → Type 0
+VerbsLaid cells base new t = (key : ObjNo × VerbId) → ShowsOrNone (ShowsVerb key) ((tables_with cells t).verb (key.0.0, pos key.1.0)) (get new.verbs key) × IfBoth VerbColumns (get base.verbs key) (get new.verbs key) (t.verb (key.0.0, pos key.1.0)) ((tables_with cells t).verb (key.0.0, pos key.1.0))
+
+abbrev PetitionsLaid : CellChanges → Maps → Maps → Tables → Type 0
+PetitionsLaid cells base new t = (id : PetitionId) → ShowsOrNone (ShowsPetition id) ((tables_with cells t).petition (pos id.0)) (get new.petitions id) × IfBoth PetitionColumns (get base.petitions id) (get new.petitions id) (t.petition (pos id.0)) ((tables_with cells t).petition (pos id.0))
+
+module _ (last : Option ℕ) (cells : CellChanges) (changes : Changes) (base new : Maps) (t : Tables) (p : Prints last base cells changes) (c : AreChanges base new changes) (current : IsCurrent t) (shows : ShowsMaps t base) where
+  objects_laid : ObjectsLaid cells base new t
+  objects_laid = written object_cmp object_exact same_number (λ n. n.0) number_alike object_cells ShowsObject ObjectColumns PrintsObject (get base.objects) object_stays (λ n. lays_object (get base.objects n) n) cells.objects.items changes.objects (get new.objects) t.object p.objects c.objects shows.objects
+
+  props_laid : PropsLaid cells base new t
+  props_laid = written prop_cmp prop_exact same_number (λ id. pos id.0) id_alike prop_cells ShowsProp PropColumns PrintsProp (get base.props) prop_stays (λ id. lays_prop (get base.props id) id) cells.props.items changes.props (get new.props) t.prop p.props c.props shows.props
+
+  slots_laid : SlotsLaid cells base new t
+  slots_laid =
+      let shown = λ (key : ObjNo × PropId). subst (λ v. ShowsOrNone (ShowsSlot v key) (t.slot (key.0.0, pos key.1.0)) (get base.slots key)) current (shows.slots key) in
+      written slot_cmp slot_exact same_numbers (λ k. (k.0.0, pos k.1.0)) slot_alike slot_cells (ShowsSlot Second) SlotColumns PrintsSlot (get base.slots) slot_stays (λ key. lays_slot (get base.slots key) key) cells.slots.items changes.slots (get new.slots) t.slot p.slots c.slots shown
+
+  verbs_laid : VerbsLaid cells base new t
+  verbs_laid = written verb_cmp verb_exact same_numbers (λ k. (k.0.0, pos k.1.0)) verb_alike verb_cells ShowsVerb VerbColumns PrintsVerb (get base.verbs) verb_stays (λ key. lays_verb (get base.verbs key) key) cells.verbs.items changes.verbs (get new.verbs) t.verb p.verbs c.verbs shows.verbs
+
+  petitions_laid : PetitionsLaid cells base new t
+  petitions_laid = written petition_cmp petition_exact same_number (λ id. pos id.0) petition_alike petition_cells ShowsPetition PetitionColumns PrintsPetition (get base.petitions) petition_stays (λ id. lays_petition (get base.petitions id) id) cells.petitions.items changes.petitions (get new.petitions) t.petition p.petitions c.petitions shows.petitions
+
+  head_written : (tables_with cells t).head (pos 1) ≡ Some (head_cells Second new.head)
+  head_written = ap (λ b. cond b (Some (head_cells Second cells.head)) (t.head (pos 1))) ((same_number-Decides (pos 1) (pos 1)).1 refl) ∙ ap (λ h. Some (head_cells Second h)) (p.head ∙ c.head)
+
+  pub shows-written : ((n : ℤ) → n ≢ pos 1 → t.head n ≡ None) → CountsBefore last t.version t.petition_head → ShowsRows (tables_with cells t) new
+  shows-written alone counts = record {
+    head = head_written ∙ ap (λ v. Some (head_cells v new.head)) (sym current);
+    no_head = λ n h. ap (λ b. cond b (Some (head_cells Second cells.head)) (t.head n)) (not_one n h) ∙ alone n h;
+    counter = subst (λ n. ShowsCounter t.version (counter_with n t.petition_head) new.head.next_petition) (sym (p.next_petition ∙ ap (λ (h : Head). new_number last h.next_petition) c.head)) (counts_next last new.head.next_petition t.version t.petition_head current counts);
+    maps = record {
+      objects = λ n. (objects_laid n).0;
+      props = λ id. (props_laid id).0;
+      no_prop = λ n. elsewhere prop_cmp prop_exact same_number (λ id. pos id.0) id_alike prop_cells cells.props.items t.prop (negsuc n) (no_id n) ∙ shows.no_prop n;
+      slots = λ key. subst (λ v. ShowsOrNone (ShowsSlot v key) ((tables_with cells t).slot (key.0.0, pos key.1.0)) (get new.slots key)) (sym current) (slots_laid key).0;
+      no_slot = λ x n. elsewhere slot_cmp slot_exact same_numbers (λ k. (k.0.0, pos k.1.0)) slot_alike slot_cells cells.slots.items t.slot (x, negsuc n) (λ k. no_pair x n k.0.0 k.1.0) ∙ shows.no_slot x n;
+      verbs = λ key. (verbs_laid key).0;
+      no_verb = λ x n. elsewhere verb_cmp verb_exact same_numbers (λ k. (k.0.0, pos k.1.0)) verb_alike verb_cells cells.verbs.items t.verb (x, negsuc n) (λ k. no_pair x n k.0.0 k.1.0) ∙ shows.no_verb x n;
+      petitions = λ id. (petitions_laid id).0;
+      no_petition = λ n. elsewhere petition_cmp petition_exact same_number (λ id. pos id.0) petition_alike petition_cells cells.petitions.items t.petition (negsuc n) (no_petition_id n) ∙ shows.no_petition n;
+    };
+  }
+
+-- the head's cells before and after
+head_laid : (a b : Head) (old new : Option Row) → old ≡ Some (head_cells Second a) → new ≡ Some (head_cells Second b) → IfBoth HeadColumns (Some a) (Some b) old new
+head_laid a b old new was is = subst₂ (λ x y. IfBoth HeadColumns (Some a) (Some b) x y) (sym was) (sym is) (head_columns a b)
+
+-- no number is put if it is the last one that was written
+same_number_none : (last next : ℕ) → last ≡ next → new_number (Some last) next ≡ None
+same_number_none last next same = rw ((Decides-eqb last next).1 same) refl
+
+-- the rows that stay keep their cells, and so do the columns that stay
+pub keeps-written : (cells : CellChanges) (changes : Changes) (base new : Maps) (t : Tables) → Prints (Some base.head.next_petition) base cells changes → AreChanges base new changes → IsCurrent t → ShowsRows t base → KeepsCells base new t (tables_with cells t)
+keeps-written cells changes base new t p c current shown =
+    let last = Some base.head.next_petition in
+    let kept = λ (same : base.head.next_petition ≡ new.head.next_petition). p.next_petition ∙ same_number_none base.head.next_petition changes.head.next_petition (same ∙ ap (λ (h : Head). h.next_petition) (sym c.head)) in
+    record {
+      version = refl;
+      shown = shown;
+      shows = shows-written last cells changes base new t p c current shown.maps shown.no_head shown.counter;
+      objects = stays object_cmp object_exact same_number (λ n. n.0) number_alike object_cells (λ n. PrintsObject (get base.objects n)) cells.objects.items changes.objects (get base.objects) (get new.objects) t.object p.objects c.objects;
+      props = stays prop_cmp prop_exact same_number (λ id. pos id.0) id_alike prop_cells (λ id. PrintsProp (get base.props id)) cells.props.items changes.props (get base.props) (get new.props) t.prop p.props c.props;
+      slots = stays slot_cmp slot_exact same_numbers (λ k. (k.0.0, pos k.1.0)) slot_alike slot_cells (λ key. PrintsSlot (get base.slots key)) cells.slots.items changes.slots (get base.slots) (get new.slots) t.slot p.slots c.slots;
+      verbs = stays verb_cmp verb_exact same_numbers (λ k. (k.0.0, pos k.1.0)) verb_alike verb_cells (λ key. PrintsVerb (get base.verbs key)) cells.verbs.items changes.verbs (get base.verbs) (get new.verbs) t.verb p.verbs c.verbs;
+      petitions = stays petition_cmp petition_exact same_number (λ id. pos id.0) petition_alike petition_cells (λ id. PrintsPetition (get base.petitions id)) cells.petitions.items changes.petitions (get base.petitions) (get new.petitions) t.petition p.petitions c.petitions;
+      counter = λ same n. ap (λ next. counter_with next t.petition_head n) (kept same);
+      head_columns = head_laid base.head new.head (t.head (pos 1)) ((tables_with cells t).head (pos 1)) (shown.head ∙ ap (λ v. Some (head_cells v base.head)) current) (head_written last cells changes base new t p c current shown.maps);
+      object_columns = λ n. (objects_laid last cells changes base new t p c current shown.maps n).1;
+      prop_columns = λ id. (props_laid last cells changes base new t p c current shown.maps id).1;
+      slot_columns = λ key. (slots_laid last cells changes base new t p c current shown.maps key).1;
+      verb_columns = λ key. (verbs_laid last cells changes base new t p c current shown.maps key).1;
+      petition_columns = λ id. (petitions_laid last cells changes base new t p c current shown.maps id).1;
+    }
 
 -- in tables of the first version no petition was made yet
 first_count : (version : Version) (next : ℕ) (table : ℤ → Option Row) → version ≡ First → ShowsCounter version table next → next ≡ 1
 first_count version next table first shows = subst (λ v. ShowsCounter v table next) first shows
 
 -- Tables that show rows, taken over with their head and all their slots printed anew, show the same rows.
-pub shows-migrated : (m : Maps) (slots : List ((ObjNo × PropId) × Option SlotCells)) (t : Tables) → PrintEach PrintsSlot slots (all_of m.slots) → t.version ≡ First → ((n : ℤ) → t.petition n ≡ None) → ShowsRows t m → ShowsRows (migrated m.head slots t) m
+pub shows-migrated : (m : Maps) (slots : List ((ObjNo × PropId) × Option SlotCells)) (t : Tables) → PrintEach (λ key. PrintsSlot None) slots (all_of m.slots) → t.version ≡ First → ((n : ℤ) → t.petition n ≡ None) → ShowsRows t m → ShowsRows (migrated m.head slots t) m
 shows-migrated m slots t printed first none shown = record {
   head = ap (λ b. cond b (Some (head_cells Second m.head)) (t.head (pos 1))) ((same_number-Decides (pos 1) (pos 1)).1 refl);
   no_head = λ n h. ap (λ b. cond b (Some (head_cells Second m.head)) (t.head n)) (not_one n h) ∙ shown.no_head n h;
@@ -176,8 +229,8 @@ shows-migrated m slots t printed first none shown = record {
     objects = shown.maps.objects;
     props = shown.maps.props;
     no_prop = shown.maps.no_prop;
-    slots = written slot_cmp slot_exact same_numbers (λ k. (k.0.0, pos k.1.0)) slot_alike slot_cells (ShowsSlot Second) slots (all_of m.slots) (λ _. None) (get m.slots) (λ _. None) printed (all_changed slot_cmp m.slots) (λ k. tt);
-    no_slot = λ x n. elsewhere slot_cmp slot_exact same_numbers (λ k. (k.0.0, pos k.1.0)) slot_alike slot_cells (ShowsSlot Second) slots (λ _. None) (x, negsuc n) (λ k. no_pair x n k.0.0 k.1.0);
+    slots = λ key. (written slot_cmp slot_exact same_numbers (λ k. (k.0.0, pos k.1.0)) slot_alike slot_cells (ShowsSlot Second) SlotColumns PrintsSlot (λ _. None) slot_stays (λ key. lays_slot None key) slots (all_of m.slots) (get m.slots) (λ _. None) printed (all_changed slot_cmp m.slots) (λ k. tt) key).0;
+    no_slot = λ x n. elsewhere slot_cmp slot_exact same_numbers (λ k. (k.0.0, pos k.1.0)) slot_alike slot_cells slots (λ _. None) (x, negsuc n) (λ k. no_pair x n k.0.0 k.1.0);
     verbs = shown.maps.verbs;
     no_verb = shown.maps.no_verb;
     petitions = λ id. subst (λ c. ShowsOrNone (ShowsPetition id) c (get m.petitions id)) (none (pos id.0)) (shown.maps.petitions id);

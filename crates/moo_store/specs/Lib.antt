@@ -1,3 +1,4 @@
+pub mod Columns
 pub mod Printed
 pub mod States
 pub mod Kept

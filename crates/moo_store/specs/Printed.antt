@@ -1,6 +1,7 @@
 -- Cells that are printed from changes of rows.
-use Rattle.std.specs.Prelude.{◌≡◌, ◌==◌, if◌then◌else◌, ℕ, List, [], ◌∷◌, map, Option, Some, None, ⊤}
-use Rattle.std.specs.FinMap.{FinMap, entries}
+use Rattle.std.specs.Prelude.{◌≡◌, ◌≢◌, ◌==◌, if◌then◌else◌, ℕ, List, [], ◌∷◌, map, Option, Some, None, option_map, Vec, ⊤}
+use Rattle.std.specs.FinMap.{FinMap, entries, get}
+use Rattle.std.specs.declared.alloc.Global.{Global}
 use Rattle.std.specs.declared.cmp.Ordering.{Ordering}
 use Rattle.moo_value.specs.declared.value.ObjNo.{ObjNo}
 use Rattle.moo_rows.specs.declared.row.ObjRow.{ObjRow}
@@ -18,25 +19,43 @@ use Rattle.moo_tables.specs.declared.slot.SlotCells.{SlotCells}
 use Rattle.moo_tables.specs.declared.verb.VerbCells.{VerbCells}
 use Rattle.moo_tables.specs.declared.petition.PetitionCells.{PetitionCells}
 use Rattle.moo_tables.specs.declared.cells.CellChanges.{CellChanges}
-use Rattle.moo_tables.specs.declared.version.Version.TheVariants.{Second}
-use Rattle.moo_tables.specs.Cells.{object_cells, prop_cells, slot_cells, verb_cells, petition_cells}
 use Rattle.moo_draft.specs.declared.changes.Changes.{Changes}
-use Rattle.moo_cells.specs.Shows.{ShowsObject, ShowsProp, ShowsSlot, ShowsVerb, ShowsPetition, ShowsOrNone}
+use Rattle.moo_cells.specs.Shows.{ShowsAccept, ShowsSlotState, ShowsOrNone}
+use Rattle.moo_rows.specs.Bits.{bits_number, verb_bits_of}
+use Rattle.moo_value.specs.Literal.{Spells}
+use Rattle.moo_value.specs.declared.value.Value.TheVariants.{List as a_list}
+use Rattle.moo_world.specs.Prepositions.{prep_text, place_text}
 
-abbrev pub PrintsObject : ObjNo → ObjectCells → ObjRow → Type 0
-PrintsObject n cells row = ShowsObject n (object_cells n cells) row
+-- A column of which a value has several spellings: a text of the new value if it changes, or none if the cell stays.
+abbrev pub PrintsOver : {V : Type 0} → (List ℕ → V → Type 0) → Option V → V → Option (Vec ℕ Global) → Type 0
+PrintsOver shows old new (Some text) = shows text.items new × (old ≢ Some new)
+PrintsOver shows old new None = old ≡ Some new
 
-abbrev pub PrintsProp : PropId → PropCells → PropRow → Type 0
-PrintsProp id cells row = ShowsProp id (prop_cells id cells) row
+-- the cells of a row, to be written over those of the row that is there, if one is
+pub record PrintsObject (old : Option ObjRow) (cells : ObjectCells) (row : ObjRow) : Type 0 where
+  pub row : cells.row ≡ row
+  pub accept : PrintsOver ShowsAccept (option_map (λ r. r.accept) old) row.accept cells.accept
 
-abbrev pub PrintsSlot : ObjNo × PropId → SlotCells → SlotRow → Type 0
-PrintsSlot key cells row = ShowsSlot Second key (slot_cells key cells) row
+pub record PrintsProp (old : Option PropRow) (cells : PropCells) (row : PropRow) : Type 0 where
+  pub definer : cells.definer ≡ row.definer
+  pub name : cells.name.items ≡ row.name
 
-abbrev pub PrintsVerb : ObjNo × VerbId → VerbCells → VerbRow → Type 0
-PrintsVerb key cells row = ShowsVerb key (verb_cells key cells) row
+pub record PrintsSlot (old : Option SlotRow) (cells : SlotCells) (row : SlotRow) : Type 0 where
+  pub owner : cells.owner ≡ row.owner
+  pub bits : cells.bits ≡ bits_number row.bits
+  pub value : PrintsOver ShowsSlotState (option_map (λ r. r.state) old) row.state cells.value
 
-abbrev pub PrintsPetition : PetitionId → PetitionCells → PetitionRow → Type 0
-PrintsPetition id cells row = ShowsPetition id (petition_cells id cells) row
+pub record PrintsVerb (old : Option VerbRow) (cells : VerbCells) (row : VerbRow) : Type 0 where
+  pub names : cells.names.items ≡ row.names
+  pub owner : cells.owner ≡ row.owner
+  pub bits : PrintsOver (λ text bits. verb_bits_of text ≡ Some bits) (option_map (λ r. r.bits) old) row.bits cells.bits
+  pub dobj : cells.dobj.items ≡ place_text row.args.dobj
+  pub prep : cells.prep.items ≡ prep_text row.args.prep
+  pub iobj : cells.iobj.items ≡ place_text row.args.iobj
+
+pub record PrintsPetition (old : Option PetitionRow) (cells : PetitionCells) (row : PetitionRow) : Type 0 where
+  pub who : cells.who ≡ row.who
+  pub calls : PrintsOver (λ text calls. Spells (a_list calls) text) (option_map (λ r. r.calls) old) row.calls cells.calls
 
 -- the keys are the same, one after another, and at each the cells show the new row, or neither is there
 abbrev pub PrintEach : {K C X : Type 0} → (K → C → X → Type 0) → List (K × Option C) → List (K × Option X) → Type 0
@@ -68,12 +87,12 @@ abbrev pub new_number : Option ℕ → ℕ → Option ℕ
 new_number None next = Some next
 new_number (Some last) next = if last == next then None else Some next
 
--- The cells of the changes. The number of the next petition is among them if it isn't the last one that was written.
-pub record Prints (last : Option ℕ) (cells : CellChanges) (changes : Changes) : Type 0 where
+-- The cells of the changes of these rows. The number of the next petition is among them if it isn't the last one that was written.
+pub record Prints (last : Option ℕ) (base : Maps) (cells : CellChanges) (changes : Changes) : Type 0 where
   pub head : cells.head ≡ changes.head
   pub next_petition : cells.next_petition ≡ new_number last changes.head.next_petition
-  pub objects : PrintEach PrintsObject cells.objects.items changes.objects
-  pub props : PrintEach PrintsProp cells.props.items changes.props
-  pub slots : PrintEach PrintsSlot cells.slots.items changes.slots
-  pub verbs : PrintEach PrintsVerb cells.verbs.items changes.verbs
-  pub petitions : PrintEach PrintsPetition cells.petitions.items changes.petitions
+  pub objects : PrintEach (λ n. PrintsObject (get base.objects n)) cells.objects.items changes.objects
+  pub props : PrintEach (λ id. PrintsProp (get base.props id)) cells.props.items changes.props
+  pub slots : PrintEach (λ key. PrintsSlot (get base.slots key)) cells.slots.items changes.slots
+  pub verbs : PrintEach (λ key. PrintsVerb (get base.verbs key)) cells.verbs.items changes.verbs
+  pub petitions : PrintEach (λ id. PrintsPetition (get base.petitions id)) cells.petitions.items changes.petitions

@@ -1,5 +1,5 @@
--- Rows that stay as they are keep their cells, byte for byte, whatever spelling of a value these hold.
-use Rattle.std.specs.Prelude.{◌≡◌, false, pos, List, [], ◌∷◌, Result, Ok, Err, IsTrue, ⊤}
+-- Rows that stay as they are, and columns that stay, keep their cells, byte for byte, whatever spelling of a value these hold.
+use Rattle.std.specs.Prelude.{◌≡◌, ℤ, false, pos, List, [], ◌∷◌, Result, Ok, Err, Some, IsTrue, ⊤}
 use Rattle.std.specs.FinMap.{get}
 use Rattle.sqlite.specs.State.{State as Database, HasCleanDisk}
 use Rattle.sqlite.specs.Store.{Ghosts}
@@ -15,6 +15,7 @@ use Rattle.moo_world.specs.Rows.{IsGood}
 use Rattle.moo_world.specs.Between.{BatchLeads}
 use Rattle.moo_world.specs.Judge.{state_of}
 use Rattle.moo_text.specs.declared.reply.Reply.{Reply}
+use Rattle.moo_store.specs.Columns.{IfBoth, HeadColumns, ObjectColumns, PropColumns, SlotColumns, VerbColumns, PetitionColumns}
 use Rattle.moo_store.specs.Answered.{state_behind, acknowledged}
 use Rattle.moo_cells.specs.Shows.{ShowsRows}
 use Rattle.moo_store.specs.World.{store_of, ShowsItsRows, MatchStore}
@@ -23,7 +24,8 @@ use Rattle.moo_store.specs.Kept.{World}
 use Rattle.moo_store.specs.declared.fault.StoreFault.{StoreFault}
 use Rattle.moo_store.specs.declared.fault.StoreFault.TheVariants.{Store}
 
--- From rows that the tables show to rows that the tables then show: if a row is the same in both, so are its cells.
+-- From rows that the tables show to rows that the tables then show: if a row is the same in both, so are its cells. In a row that is in
+-- both, each column that is the same keeps its cell; so it is in the head.
 pub record KeepsCells (rows next : Maps) (old new : Tables) : Type 0 where
   pub version : new.version ≡ old.version
   pub shown : ShowsRows old rows
@@ -33,9 +35,16 @@ pub record KeepsCells (rows next : Maps) (old new : Tables) : Type 0 where
   pub slots : (key : ObjNo × PropId) → get rows.slots key ≡ get next.slots key → new.slot (key.0.0, pos key.1.0) ≡ old.slot (key.0.0, pos key.1.0)
   pub verbs : (key : ObjNo × VerbId) → get rows.verbs key ≡ get next.verbs key → new.verb (key.0.0, pos key.1.0) ≡ old.verb (key.0.0, pos key.1.0)
   pub petitions : (id : PetitionId) → get rows.petitions id ≡ get next.petitions id → new.petition (pos id.0) ≡ old.petition (pos id.0)
+  pub counter : rows.head.next_petition ≡ next.head.next_petition → (n : ℤ) → new.petition_head n ≡ old.petition_head n
+  pub head_columns : IfBoth HeadColumns (Some rows.head) (Some next.head) (old.head (pos 1)) (new.head (pos 1))
+  pub object_columns : (n : ObjNo) → IfBoth ObjectColumns (get rows.objects n) (get next.objects n) (old.object n.0) (new.object n.0)
+  pub prop_columns : (id : PropId) → IfBoth PropColumns (get rows.props id) (get next.props id) (old.prop (pos id.0)) (new.prop (pos id.0))
+  pub slot_columns : (key : ObjNo × PropId) → IfBoth SlotColumns (get rows.slots key) (get next.slots key) (old.slot (key.0.0, pos key.1.0)) (new.slot (key.0.0, pos key.1.0))
+  pub verb_columns : (key : ObjNo × VerbId) → IfBoth VerbColumns (get rows.verbs key) (get next.verbs key) (old.verb (key.0.0, pos key.1.0)) (new.verb (key.0.0, pos key.1.0))
+  pub petition_columns : (id : PetitionId) → IfBoth PetitionColumns (get rows.petitions id) (get next.petitions id) (old.petition (pos id.0)) (new.petition (pos id.0))
 
 -- Accepted batches, one after another: each leads from good rows to good rows, as it is judged, call by call with the numbers of
--- properties, verbs and petitions kept, and keeps the cells of every row that is the same in both.
+-- properties, verbs and petitions kept, and keeps the cells of every row that is the same in both, and of each column that is.
 abbrev pub Writes : Maps → Tables → List Batch → Maps → Tables → Type 0
 Writes rows tables [] end after = (end ≡ rows) × (after ≡ tables)
 Writes rows tables (batch ∷ batches) end after =

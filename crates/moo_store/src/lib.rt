@@ -6,6 +6,7 @@ mod answering;
 mod apply;
 mod ask;
 mod checking;
+mod columns;
 mod committing;
 mod creating;
 mod dumping;

@@ -90,7 +90,7 @@ impl<S: Alter + Drop> World<S> {
         cells: &CellChanges,
     ) -> Result<Reply, StoreFault>
         requires works { self.old.failed ≡ false }
-        requires printed { Prints (Some self.old.rows.maps.head.next_petition) cells.now changes }
+        requires printed { Prints (Some self.old.rows.maps.head.next_petition) self.old.rows.maps cells.now changes }
         requires limit { cells.now.head.seq < 2 ^ 63 }
         requires changes { (next : Maps) × AreChanges self.old.rows.maps next changes × IsGood next }
         ensures reply { IfOk result (λ reply. reply ≡ Reply.Accepted changes.head.seq answers) }
@@ -132,8 +132,7 @@ impl<S: Alter + Drop> World<S> {
         }
         match judge(self.alloc, &self.rows, batch) {
             Verdict::Accepted { answers, changes } => {
-                let last = self.rows.head().next_petition;
-                match print_changes(self.alloc, last, &changes) {
+                match print_changes(self.alloc, &self.rows, &changes) {
                     Ok(cells) => self.commit(answers, changes, &cells),
                     Err(_) => Ok(Reply::NoMemory),
                 }
@@ -177,8 +176,9 @@ impl<S: Alter + Drop> World<S> {
         // A disk that returns what was written did so before.
         ensures clean { HasCleanDisk (store_of S.Store self.new) → HasCleanDisk (store_of S.Store self.old) }
 
-        // In the tables, each acknowledged batch leads from rows that they show to rows that they show, and a row that is the
-        // same in both keeps its cells, byte for byte. If the store failed, the batch in hand wrote nothing.
+        // In the tables, each acknowledged batch leads from rows that they show to rows that they show. A row that is the same
+        // in both keeps its cells, byte for byte, and so does a column that is the same in a row that changes. If the store
+        // failed, the batch in hand wrote nothing.
         ensures cells { (s : _) → IsAt S.Store true self.old s → HasCleanDisk (store_of S.Store self.new) → IsKnown (store_of S.Store self.new) result → (tables : Tables) → Rests (store_of S.Store self.old) tables →
             HasWritten S.Store self.old self.new tables (acknowledged batches.now (added replies.old.items replies.new.items)) }
 

@@ -1,4 +1,4 @@
-use Rattle.std.proofs.Common.{sym, subst}
+use Rattle.std.proofs.Common.{None, sym, subst}
 use Rattle.sqlite.specs.Held.{state}
 use Rattle.moo_store.specs.Printed.{PrintEach, PrintsSlot, all_of}
 use Rattle.moo_store.proofs.Migrated.{keeps_migrated, survives_migrated}
@@ -6,15 +6,15 @@ use Rattle.moo_store.proofs.migrating.migrate_rows.Goals as goal
 
 pub returns-in-Ok-migrate-clause-keeps : goal.returns-in-Ok-migrate-clause-keeps
 returns-in-Ok-migrate-clause-keeps g c clean tables rests first shown =
-    let printed = subst (λ cells. PrintEach PrintsSlot cells (all_of c.args.rows.now.maps.slots)) (sym c.deref.ensures.value) c.in-Ok.ensures in
+    let printed = subst (λ cells. PrintEach (λ key. PrintsSlot None) cells (all_of c.args.rows.now.maps.slots)) (sym c.deref.ensures.value) c.in-Ok.ensures in
     keeps_migrated c.args.rows.now.maps c.head.result c.deref.result.now c.head.ensures printed (state g.S.Store c.args.conn.now) (state g.S.Store c.migrate.new.conn) tables rests first (c.in-Ok-migrate.ensures.migrated clean tables rests first) shown
 
 pub returns-in-Ok-migrate-clause-crash : goal.returns-in-Ok-migrate-clause-crash
 returns-in-Ok-migrate-clause-crash g c has =
-    let printed = subst (λ cells. PrintEach PrintsSlot cells (all_of c.args.rows.now.maps.slots)) (sym c.deref.ensures.value) c.in-Ok.ensures in
+    let printed = subst (λ cells. PrintEach (λ key. PrintsSlot None) cells (all_of c.args.rows.now.maps.slots)) (sym c.deref.ensures.value) c.in-Ok.ensures in
     survives_migrated c.args.rows.now.maps c.head.result c.deref.result.now c.head.ensures printed (state g.S.Store c.args.conn.now) (state g.S.Store c.migrate.new.conn) has (c.migrate.ensures.crash has)
 
 pub returns-clause-crash : goal.returns-clause-crash
 returns-clause-crash g c has =
-    let printed = subst (λ cells. PrintEach PrintsSlot cells (all_of c.args.rows.now.maps.slots)) (sym c.deref.ensures.value) c.in-Ok.ensures in
+    let printed = subst (λ cells. PrintEach (λ key. PrintsSlot None) cells (all_of c.args.rows.now.maps.slots)) (sym c.deref.ensures.value) c.in-Ok.ensures in
     survives_migrated c.args.rows.now.maps c.head.result c.deref.result.now c.head.ensures printed (state g.S.Store c.args.conn.now) (state g.S.Store c.migrate.new.conn) has (c.migrate.ensures.crash has)

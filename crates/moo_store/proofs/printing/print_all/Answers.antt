@@ -1,16 +1,23 @@
-use Rattle.std.proofs.Common.{Some, ap, subst}
+use Rattle.std.proofs.Common.{Some, None, List, Option, ap, sym, subst}
+use Rattle.std.specs.FinMap.{FinMap, empty, get, get-empty}
+use Rattle.std.specs.declared.cmp.Ordering.{Ordering}
 use Rattle.moo_rows.specs.declared.row.Head.{Head}
+use Rattle.moo_rows.specs.Maps.{object_cmp, prop_cmp, slot_cmp, verb_cmp, petition_cmp}
 use Rattle.moo_rows.specs.Walk.{objects_left, props_left, verbs_left, petitions_left}
-use Rattle.moo_store.specs.Printed.{PrintEach, PrintsObject, PrintsProp, PrintsVerb, PrintsPetition, as_changes}
+use Rattle.moo_store.specs.Printed.{PrintEach, PrintsObject, PrintsProp, PrintsSlot, PrintsVerb, PrintsPetition, as_changes}
 use Rattle.moo_store.proofs.printing.print_all.Goals as goal
+
+-- no row is there of an empty map
+from_empty : {K C X : Type 0} (cmp : K → K → Ordering) (prints : Option X → C → X → Type 0) (cells : List (K × Option C)) (changes : List (K × Option X)) → PrintEach (λ key. prints None) cells changes → PrintEach (λ key. prints (get (let none : FinMap cmp X = empty in none) key)) cells changes
+from_empty cmp prints cells changes p = subst (λ held. PrintEach (λ key. prints (held key)) cells changes) (λ i key. sym (get-empty cmp key) i) p
 
 pub returns : goal.returns
 returns c = record {
   head = c.head-head.ensures;
   next_petition = ap (λ (h : Head). Some h.next_petition) c.head-head.ensures;
-  objects = subst (λ rows. PrintEach PrintsObject c.in_ok-objects.objects.items (as_changes rows)) c.each_object.ensures (c.in_ok-objects.ensures (λ w. objects_left w.last w.rows.now.maps) (λ it next item gives. gives));
-  props = subst (λ rows. PrintEach PrintsProp c.in_ok-props.props.items (as_changes rows)) c.each_prop.ensures (c.in_ok-props.ensures (λ w. props_left w.last w.rows.now.maps) (λ it next item gives. gives));
-  slots = c.in_ok-slots.ensures;
-  verbs = subst (λ rows. PrintEach PrintsVerb c.in_ok-verbs.verbs.items (as_changes rows)) c.each_verb.ensures (c.in_ok-verbs.ensures (λ w. verbs_left w.last w.rows.now.maps) (λ it next item gives. gives));
-  petitions = subst (λ rows. PrintEach PrintsPetition c.in_ok-petitions.petitions.items (as_changes rows)) c.each_petition.ensures (c.in_ok-petitions.ensures (λ w. petitions_left w.last w.rows.now.maps) (λ it next item gives. gives));
+  objects = from_empty object_cmp PrintsObject _ _ (subst (λ rows. PrintEach (λ key. PrintsObject None) c.in_ok-objects.objects.items (as_changes rows)) c.each_object.ensures (c.in_ok-objects.ensures (λ w. objects_left w.last w.rows.now.maps) (λ it next item gives. gives)));
+  props = from_empty prop_cmp PrintsProp _ _ (subst (λ rows. PrintEach (λ key. PrintsProp None) c.in_ok-props.props.items (as_changes rows)) c.each_prop.ensures (c.in_ok-props.ensures (λ w. props_left w.last w.rows.now.maps) (λ it next item gives. gives)));
+  slots = from_empty slot_cmp PrintsSlot _ _ c.in_ok-slots.ensures;
+  verbs = from_empty verb_cmp PrintsVerb _ _ (subst (λ rows. PrintEach (λ key. PrintsVerb None) c.in_ok-verbs.verbs.items (as_changes rows)) c.each_verb.ensures (c.in_ok-verbs.ensures (λ w. verbs_left w.last w.rows.now.maps) (λ it next item gives. gives)));
+  petitions = from_empty petition_cmp PrintsPetition _ _ (subst (λ rows. PrintEach (λ key. PrintsPetition None) c.in_ok-petitions.petitions.items (as_changes rows)) c.each_petition.ensures (c.in_ok-petitions.ensures (λ w. petitions_left w.last w.rows.now.maps) (λ it next item gives. gives)));
 }

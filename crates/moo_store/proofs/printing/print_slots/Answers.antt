@@ -1,9 +1,9 @@
 use Rattle.std.proofs.lemmas.Result.{IfOk-weaker}
-use Rattle.std.proofs.Common.{subst}
+use Rattle.std.proofs.Common.{subst, None}
 use Rattle.moo_rows.specs.Walk.{slots_left}
 use Rattle.moo_store.specs.Printed.{PrintEach, PrintsSlot, as_changes}
 use Rattle.moo_store.proofs.printing.print_slots.Goals as goal
 
 pub returns : goal.returns
 returns c =
-    IfOk-weaker c.print_left.result _ _ (λ cells prints. subst (λ rows. PrintEach PrintsSlot cells.items (as_changes rows)) c.each_slot.ensures (prints (λ w. slots_left w.last w.rows.now.maps) (λ it next item gives. gives))) c.print_left.ensures
+    IfOk-weaker c.print_left.result _ _ (λ cells prints. subst (λ rows. PrintEach (λ key. PrintsSlot None) cells.items (as_changes rows)) c.each_slot.ensures (prints (λ w. slots_left w.last w.rows.now.maps) (λ it next item gives. gives))) c.print_left.ensures

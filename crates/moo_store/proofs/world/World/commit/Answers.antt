@@ -24,7 +24,7 @@ returns-in-Err-clause-crash g c next shown exact clean trees lies =
     let rows = c.self.inside.rows.maps in
     let shows = subst (ShowsItsRows g.S.Store) (sym c.self.view_is) shown in
     let here : AreChanges rows next c.args.changes = subst (λ (w : World _). AreChanges w.rows.maps next c.args.changes) (sym c.self.view_is) exact in
-    let printed : Prints (Some rows.head.next_petition) c.args.cells.now c.args.changes = subst (λ (w : World _). Prints (Some w.rows.maps.head.next_petition) c.args.cells.now c.args.changes) (sym c.self.view_is) c.requires.printed in
+    let printed : Prints (Some rows.head.next_petition) rows c.args.cells.now c.args.changes = subst (λ (w : World _). Prints (Some w.rows.maps.head.next_petition) w.rows.maps c.args.cells.now c.args.changes) (sym c.self.view_is) c.requires.printed in
     subst (λ (w : World _). LeavesRows trees w.rows.maps ⊎ LeavesRows trees next) c.self.view_is
     (rows_left (state g.S.Store c.self.inside.connection) (state g.S.Store c.commit_cells.new.conn) rows next (g.met.S.Store.settled c.self.inside.connection.store) shows
     (c.commit_cells.ensures.crash c.args.changes rows next printed here shows) clean trees lies)
@@ -35,7 +35,7 @@ returns-clause-is_at g c known next shown exact good =
     let old = state g.S.Store c.self.inside.connection in
     let new = state g.S.Store c.commit_cells.new.conn in
     let here : AreChanges rows next c.args.changes = subst (λ (w : World _). AreChanges w.rows.maps next c.args.changes) (sym c.self.view_is) exact in
-    let printed : Prints (Some rows.head.next_petition) c.args.cells.now c.args.changes = subst (λ (w : World _). Prints (Some w.rows.maps.head.next_petition) c.args.cells.now c.args.changes) (sym c.self.view_is) c.requires.printed in
+    let printed : Prints (Some rows.head.next_petition) rows c.args.cells.now c.args.changes = subst (λ (w : World _). Prints (Some w.rows.maps.head.next_petition) w.rows.maps c.args.cells.now c.args.changes) (sym c.self.view_is) c.requires.printed in
     let written : IsTrue known → HasCleanDisk new → KeepsRows new next = λ sure.
     let shows = subst (ShowsItsRows g.S.Store) (sym c.self.view_is) (shown sure) in
     rows_written old new rows next shows
@@ -77,7 +77,7 @@ pub returns-clause-cells : goal.returns-clause-cells
 returns-clause-cells g c next tables exact clean rests current shown =
     let rows = c.self.inside.rows.maps in
     let here : AreChanges rows next c.args.changes = subst (λ (w : World _). AreChanges w.rows.maps next c.args.changes) (sym c.self.view_is) exact in
-    let printed : Prints (Some rows.head.next_petition) c.args.cells.now c.args.changes = subst (λ (w : World _). Prints (Some w.rows.maps.head.next_petition) c.args.cells.now c.args.changes) (sym c.self.view_is) c.requires.printed in
+    let printed : Prints (Some rows.head.next_petition) rows c.args.cells.now c.args.changes = subst (λ (w : World _). Prints (Some w.rows.maps.head.next_petition) w.rows.maps c.args.cells.now c.args.changes) (sym c.self.view_is) c.requires.printed in
     let rest : Rests (state g.S.Store c.self.inside.connection) tables = subst (λ w. Rests (store_of g.S.Store w) tables) (sym c.self.view_is) rests in
     let new = state g.S.Store c.commit_cells.new.conn in
     let old_rows = c.args.self.now.rows.maps in

@@ -24,8 +24,7 @@ commit-requires-clause-limit g c =
 
 pub commit-requires-clause-printed : goal.commit-requires-clause-printed
 commit-requires-clause-printed g c =
-    let printed = subst (λ (h : Head). Prints (Some h.next_petition) c.in-Ok.cells c.in-Accepted.changes) c.head-last.ensures c.in-Ok.ensures in
-    subst (λ (w : World _). Prints (Some w.rows.maps.head.next_petition) c.in-Ok.cells c.in-Accepted.changes) c.self.view_is printed
+    subst (λ (w : World _). Prints (Some w.rows.maps.head.next_petition) w.rows.maps c.in-Ok.cells c.in-Accepted.changes) c.self.view_is c.in-Ok.ensures
 
 pub commit-requires-clause-changes : goal.commit-requires-clause-changes
 commit-requires-clause-changes g c =

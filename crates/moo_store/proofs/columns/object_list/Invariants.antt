@@ -1,6 +1,6 @@
 use Rattle.std.proofs.Common.{◌≡◌, map, take}
 use Rattle.moo_value.specs.declared.value.Value.TheVariants.{Obj}
-use Rattle.moo_store.proofs.printing.object_list.Given as goal
+use Rattle.moo_store.proofs.columns.object_list.Given as goal
 
 -- so far, the objects that are passed
 abbrev pub invariant-loop-x : goal.invariant-loop-x
