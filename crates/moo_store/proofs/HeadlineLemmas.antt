@@ -1,12 +1,11 @@
 -- From what a crash left to the World that is found.
-use Rattle.std.proofs.Common.{◌≡◌, ◌≤◌, ℕ, List, [], ◌∷◌, ◌++◌, take, drop, length, Result, Ok, Err, refl, sym, ap, subst, ◌∙◌, arith, true, IsTrue}
-use Rattle.std.specs.Prelude.{⊤}
-use Rattle.sqlite.specs.State.{State as Database, HasCleanDisk, Opens}
+use Rattle.std.proofs.Common.{◌≡◌, ◌≤◌, ℕ, List, [], ◌∷◌, ◌++◌, take, drop, length, refl, sym, ap, subst, ◌∙◌, true}
+use Rattle.sqlite.specs.State.{State as Database, Opens}
 use Rattle.sqlite.specs.Effect.{IsDatabase}
 use Rattle.sqlite.specs.Store.{Ghosts}
 use Rattle.sqlite.specs.Tree.{Trees}
 use Rattle.moo_world.specs.declared.call.Batch.{Batch}
-use Rattle.moo_world.specs.Judge.{State, judge, left_by, after}
+use Rattle.moo_world.specs.Judge.{State, state_of, judge, left_by, after}
 use Rattle.moo_text.specs.declared.reply.Reply.{Reply}
 use Rattle.moo_tables.specs.Inside.{MayOpenAs, Rests, Leaves}
 use Rattle.moo_tables.proofs.ReopenLemmas.{opened}
@@ -20,10 +19,9 @@ use Rattle.moo_store.specs.Led.{BatchesLead, LeavesLed}
 use Rattle.moo_store.specs.States.{ShowsState, LeavesRows, LeavesState}
 use Rattle.moo_store.specs.Answered.{acknowledged}
 use Rattle.moo_store.specs.Kept.{World}
-use Rattle.moo_store.specs.World.{store_of, IsAt, StandsFor, Left, LeftOrNext, MatchStore}
+use Rattle.moo_store.specs.World.{StandsFor}
 use Rattle.moo_store.specs.Reopened.{HoldsAcknowledged, AreLedTo, kept_of, RunsInParts, IsKeptOf}
-use Rattle.moo_store.specs.declared.fault.StoreFault.{StoreFault}
-use Rattle.moo_store.specs.declared.fault.StoreFault.TheVariants.{Store, Damaged, NewerVersion, OutOfMemory, Closed}
+use Rattle.moo_store.proofs.Numbered.{led_state}
 
 pub after_joined : (s : State) (first second : List Batch) → after s (first ++ second) ≡ after (after s first) second
 after_joined s [] second = refl
@@ -40,28 +38,18 @@ shows_again again t opens sound it = record {
   state = it.state;
 }
 
--- at every exit of a run a crash leaves the state after the acknowledged batches, or one more
-pub leaves_one : {S : Type 0} (g : Ghosts S) (world : World S) (r : Result (Unit {0}) StoreFault) (end : State) (rest : List Batch)
-    → MatchStore r (IsAt g true world end) (IsTrue true → HasCleanDisk (store_of g world) → LeftOrNext (store_of g world) end rest)
-    → MatchStore r (HasCleanDisk (store_of g world) → Left (store_of g world) end) ⊤ → HasCleanDisk (store_of g world) → LeftOrNext (store_of g world) end rest
-leaves_one g world (Ok x) end rest is left clean trees lies = (0, omega arith, left clean trees lies)
-leaves_one g world (Err (Store error)) end rest is left clean trees lies = is refl clean trees lies
-leaves_one g world (Err (Damaged kind key)) end rest is left clean trees lies = (0, omega arith, left clean trees lies)
-leaves_one g world (Err NewerVersion) end rest is left clean trees lies = (0, omega arith, left clean trees lies)
-leaves_one g world (Err OutOfMemory) end rest is left clean trees lies = (0, omega arith, left clean trees lies)
-leaves_one g world (Err Closed) end rest is left clean trees lies = (0, omega arith, left clean trees lies)
-
 -- a state that a connection shows which was opened on what a crash left
 pub record Found (again : Database) (s : State) (batches : List Batch) (replies : List Reply) : Type 0 where
   pub more : ℕ
   pub at_most_one : more ≤ 1
   pub shows : ShowsState again (after s (acknowledged batches replies ++ take more (drop (length replies) batches)))
 
-pub found : (crashed again : Database) (s : State) (batches : List Batch) (replies : List Reply) → LeftOrNext crashed (after s (acknowledged batches replies)) (drop (length replies) batches) → MayOpenAs crashed again → Found again s batches replies
-found crashed again s batches replies left may =
+pub found : (crashed again : Database) (rows : Maps) (s : State) (batches : List Batch) (replies : List Reply) → state_of rows ≡ s → LeavesLed crashed rows (acknowledged batches replies) (drop (length replies) batches) → MayOpenAs crashed again
+    → Found again s batches replies
+found crashed again rows s batches replies is left may =
     let it = left again.now.trees may.found in
-    let shows = shows_again again _ may.opens may.sound it.2 in
-    record { more = it.0; at_most_one = it.1; shows = subst (ShowsState again) (sym (after_joined s (acknowledged batches replies) (take it.0 (drop (length replies) batches)))) shows }
+    let end = led_state rows (kept_of batches replies it.0) it.2 it.4 ∙ ap (λ t. after t (kept_of batches replies it.0)) is in
+    record { more = it.0; at_most_one = it.1; shows = shows_again again _ may.opens may.sound (record { rows = it.2; good = it.3; state = end; leaves = it.5 }) }
 
 pub holds : {T : Type 0} (g : Ghosts T) (again : Database) (world : World T) (s : State) (batches : List Batch) (replies : List Reply) (it : Found again s batches replies)
     → StandsFor g true world (after s (acknowledged batches replies ++ take it.more (drop (length replies) batches))) → HoldsAcknowledged g world s batches replies

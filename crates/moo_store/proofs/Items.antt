@@ -19,12 +19,12 @@ use Rattle.moo_store.specs.Kept.{World}
 use Rattle.moo_store.specs.declared.fault.StoreFault.{StoreFault}
 use Rattle.moo_store.specs.declared.fault.StoreFault.TheVariants.{Store, Damaged, NewerVersion, OutOfMemory, Closed}
 use Rattle.moo_store.specs.Text.{RunsAndAnswers, answer_to, accepted_at, accepted, faulted_at, faulted, KeepsRest, KeepsLed, Applies, StopsRun}
-use Rattle.moo_store.specs.Untouched.{StandsOver, taken_of, lost_of}
+use Rattle.moo_store.specs.Untouched.{StandsOver, taken_of, lost_of, IsMovedBy}
 use Rattle.moo_store.specs.Turns.{Turn, Turns, Completes, Halts}
 use Rattle.moo_store.proofs.Crashes.{IsSettled, crash_leaves}
 use Rattle.moo_store.proofs.Following.{completes-follows, halts-follows}
 use Rattle.moo_store.proofs.Running.{FailsAtStore, fails_of}
-use Rattle.moo_store.proofs.Untouched.{Written, is_over, written_none, written_on}
+use Rattle.moo_store.proofs.Untouched.{is_over, written_none, written_on}
 
 -- ---- what is written
 
@@ -45,28 +45,28 @@ one_lost g old new batch a (Err OutOfMemory) is fails = absurd fails
 one_lost g old new batch a (Err Closed) is fails = ap (faulted_at (Whole batch)) is
 
 -- an item that isn't a batch writes nothing
-written_same : {S : Type 0} (g : Ghosts S) (old now new : World S) (batches lost : List Batch) → new ≡ now → Written g old now batches lost → Written g old new (batches ++ []) (lost ++ [])
+written_same : {S : Type 0} (g : Ghosts S) (old now new : World S) (batches lost : List Batch) → new ≡ now → IsMovedBy g old now batches lost → IsMovedBy g old new (batches ++ []) (lost ++ [])
 written_same g old now new batches lost same was =
-    subst (λ w. Written g old w (batches ++ []) (lost ++ [])) (sym same) (subst (Written g old now (batches ++ [])) (sym (append-nil lost)) (subst (λ bs. Written g old now bs lost) (sym (append-nil batches)) was))
+    subst (λ w. IsMovedBy g old w (batches ++ []) (lost ++ [])) (sym same) (subst (IsMovedBy g old now (batches ++ [])) (sym (append-nil lost)) (subst (λ bs. IsMovedBy g old now bs lost) (sym (append-nil batches)) was))
 
-turn_written : {S : Type 0} (g : Ghosts S) (old now new : World S) (batches lost : List Batch) (item : Next) (a : Answer) → Written g old now batches lost → Turn (RunsAndAnswers g) now item a new
-    → Written g old new (batches ++ accepted_at item a) (lost ++ faulted_at item a)
+turn_written : {S : Type 0} (g : Ghosts S) (old now new : World S) (batches lost : List Batch) (item : Next) (a : Answer) → IsMovedBy g old now batches lost → Turn (RunsAndAnswers g) now item a new
+    → IsMovedBy g old new (batches ++ accepted_at item a) (lost ++ faulted_at item a)
 turn_written g old now new batches lost (Whole batch) a was turn =
     let fails = fails_of g now new turn.result turn.closed turn.fails in
-    subst (λ more. Written g old new (batches ++ more) (lost ++ faulted_at (Whole batch) a)) (sym (one_taken batch a turn.result turn.answer))
-    (subst (λ more. Written g old new (batches ++ taken_of batch turn.result) (lost ++ more)) (sym (one_lost g now new batch a turn.result turn.answer fails)) (written_on g old now new batches lost batch turn.result was fails turn.cells))
+    subst (λ more. IsMovedBy g old new (batches ++ more) (lost ++ faulted_at (Whole batch) a)) (sym (one_taken batch a turn.result turn.answer))
+    (subst (λ more. IsMovedBy g old new (batches ++ taken_of batch turn.result) (lost ++ more)) (sym (one_lost g now new batch a turn.result turn.answer fails)) (written_on g old now new batches lost batch turn.result was fails turn.cells))
 turn_written g old now new batches lost (Malformed number) a was turn = written_same g old now new batches lost turn.1 was
 turn_written g old now new batches lost Truncated a was turn = written_same g old now new batches lost turn.1 was
 turn_written g old now new batches lost End a was turn = absurd turn
 
-turns_written : {S : Type 0} (g : Ghosts S) (old now new : World S) (batches lost : List Batch) (items : List Next) (answers : List Answer) → Written g old now batches lost → Turns (RunsAndAnswers g) now items answers new
-    → Written g old new (batches ++ accepted items answers) (lost ++ faulted items answers)
+turns_written : {S : Type 0} (g : Ghosts S) (old now new : World S) (batches lost : List Batch) (items : List Next) (answers : List Answer) → IsMovedBy g old now batches lost → Turns (RunsAndAnswers g) now items answers new
+    → IsMovedBy g old new (batches ++ accepted items answers) (lost ++ faulted items answers)
 turns_written g old now new batches lost [] [] was turns = written_same g old now new batches lost turns was
 turns_written g old now new batches lost [] (a ∷ answers) was turns = absurd turns
 turns_written g old now new batches lost (item ∷ items) [] was turns = absurd turns
 turns_written g old now new batches lost (item ∷ items) (a ∷ answers) was turns =
-    subst (Written g old new (batches ++ accepted (item ∷ items) (a ∷ answers))) (append_assoc lost (faulted_at item a) (faulted items answers))
-    (subst (λ bs. Written g old new bs ((lost ++ faulted_at item a) ++ faulted items answers)) (append_assoc batches (accepted_at item a) (accepted items answers))
+    subst (IsMovedBy g old new (batches ++ accepted (item ∷ items) (a ∷ answers))) (append_assoc lost (faulted_at item a) (faulted items answers))
+    (subst (λ bs. IsMovedBy g old new bs ((lost ++ faulted_at item a) ++ faulted items answers)) (append_assoc batches (accepted_at item a) (accepted items answers))
     (turns_written g old turns.0 new (batches ++ accepted_at item a) (lost ++ faulted_at item a) items answers (turn_written g old now turns.0 batches lost item a was turns.1) turns.2))
 
 -- the tables of a World that works show its rows
@@ -79,7 +79,7 @@ over_at g known world (StoreFailed s hand) tables sure at clean rests = record {
   shows = λ works. let no : true ≡ false = sym at.0 ∙ works in absurd cc;
 }
 
-keeps_rest : {S : Type 0} (g : Ghosts S) (known : Bool) (old new : World S) (stand : Stand) (batches lost : List Batch) → Written g old new batches lost → StandsAt g known old stand → IsTrue known → KeepsRest g old new batches
+keeps_rest : {S : Type 0} (g : Ghosts S) (known : Bool) (old new : World S) (stand : Stand) (batches lost : List Batch) → IsMovedBy g old new batches lost → StandsAt g known old stand → IsTrue known → KeepsRest g old new batches
 keeps_rest g known old new stand batches lost it at sure clean works tables rests = it.written clean works tables (over_at g known old stand tables sure at (it.clean clean) rests)
 
 -- a World that works shows its rows
@@ -88,7 +88,7 @@ shows_at g known world (Works s) sure at works = at.is_at.shown sure works
 shows_at g known world (Failed s) sure at works = at.1.shown sure works
 shows_at g known world (StoreFailed s hand) sure at works = let no : true ≡ false = sym at.0 ∙ works in absurd cc
 
-keeps_led : {S : Type 0} (g : Ghosts S) (known : Bool) (old new : World S) (stand : Stand) (batches lost : List Batch) → Written g old new batches lost → (old.failed ≡ false → IsGood old.rows.maps) → StandsAt g known old stand → IsTrue known → KeepsLed g old new batches lost
+keeps_led : {S : Type 0} (g : Ghosts S) (known : Bool) (old new : World S) (stand : Stand) (batches lost : List Batch) → IsMovedBy g old new batches lost → (old.failed ≡ false → IsGood old.rows.maps) → StandsAt g known old stand → IsTrue known → KeepsLed g old new batches lost
 keeps_led g known old new stand batches lost it good at sure clean works = it.led clean (shows_at g known old stand sure at works) (good works)
 
 -- ---- a whole text

@@ -24,7 +24,7 @@ use Rattle.moo_store.specs.States.{KeepsRows, LeavesRows}
 use Rattle.moo_store.specs.Led.{BatchesLead, LeavesLed}
 use Rattle.moo_store.proofs.Crashes.{IsSettled, rows_at_rest}
 use Rattle.moo_store.specs.Kept.{World}
-use Rattle.moo_store.specs.Untouched.{KeepsCells, Writes, StandsOver, HasWritten, WritesOne, IsKnown, taken_of, lost_of}
+use Rattle.moo_store.specs.Untouched.{KeepsCells, Writes, StandsOver, HasWritten, WritesOne, IsKnown, taken_of, lost_of, IsMovedBy}
 use Rattle.moo_store.proofs.Committed.{shown_by, current_by}
 use Rattle.moo_store.proofs.Numbered.{led-append, led_good, writes_led}
 use Rattle.moo_store.proofs.Running.{Progress, FailsAtStore}
@@ -203,31 +203,25 @@ led_then g old now next first second others works clean shown written on trees l
 
 -- ---- what a World has written since an earlier moment, one batch after another
 
--- these batches, and the store failed in the others; if the World has failed, what was written is known while its connection is open
-pub record Written {S : Type 0} (g : Ghosts S) (old now : World S) (batches lost : List Batch) : Type 0 where
-  pub clean : HasCleanDisk (store_of g now) → HasCleanDisk (store_of g old)
-  pub works : now.failed ≡ false → old.failed ≡ false
-  pub none : now.failed ≡ false → lost ≡ []
-  pub written : HasCleanDisk (store_of g now) → (now.failed ≡ false) ⊎ IsTrue (store_of g now).is_open → (tables : Tables) → StandsOver g old tables → HasWritten g old now tables batches
-  pub led : HasCleanDisk (store_of g now) → ShowsItsRows g old → IsGood old.rows.maps → LeavesLed (store_of g now) old.rows.maps batches lost
-
-pub written_none : {S : Type 0} (g : Ghosts S) (old : World S) → IsSettled (store_of g old) → Written g old old [] []
+pub written_none : {S : Type 0} (g : Ghosts S) (old : World S) → IsSettled (store_of g old) → IsMovedBy g old old [] []
 written_none g old settled = record {
   clean = λ c. c;
   works = λ works. works;
   none = λ works. refl;
+  closed = λ failed. (refl, refl, refl);
   written = λ c known tables over. none_written g old tables over;
   led = λ c shown good. led_at_rest g old old [] [] settled c shown good (none_written g old);
 }
 
 -- one more batch was run
 pub written_on : {S : Type 0} (g : Ghosts S) (old now next : World S) (batches lost : List Batch) (batch : Batch) (r : Result Reply StoreFault)
-    → Written g old now batches lost → FailsAtStore g now next r → WritesOne g now next batch r → Written g old next (batches ++ taken_of batch r) (lost ++ lost_of batch r)
+    → IsMovedBy g old now batches lost → FailsAtStore g now next r → WritesOne g now next batch r → IsMovedBy g old next (batches ++ taken_of batch r) (lost ++ lost_of batch r)
 written_on g old now next batches lost batch (Ok reply) was works one =
     record {
       clean = λ c. was.clean (one.clean c);
       works = λ _. was.works works;
       none = λ on. append-nil lost ∙ was.none works;
+      closed = λ failed. let no : true ≡ false = sym failed ∙ was.works works in absurd cc;
       written = λ c known tables over. written_then g old now next tables batches (taken_of batch (Ok reply)) works (over.shows (was.works works)) (was.written (one.clean c) (inl works) tables over) (one.written c tt);
       led = λ c shown good. subst (LeavesLed (store_of g next) old.rows.maps (batches ++ taken_of batch (Ok reply))) (sym (append-nil lost ∙ was.none works))
           (led_then g old now next batches (taken_of batch (Ok reply)) [] works (was.clean (one.clean c)) shown (was.written (one.clean c) (inl works)) (λ shows. one.led c shows works));
@@ -236,6 +230,7 @@ written_on g old now next batches lost batch (Err (Store error)) was fails one =
   clean = λ c. was.clean (one.clean c);
   works = λ _. was.works fails.0;
   none = λ on. let no : true ≡ false = sym fails.1 ∙ on in absurd cc;
+  closed = λ failed. let no : true ≡ false = sym failed ∙ was.works fails.0 in absurd cc;
   written = λ c known tables over. elim known [
     | inl works ↦ (let no : true ≡ false = sym fails.1 ∙ works in absurd cc)
     | inr opened ↦ written_then g old now next tables batches [] fails.0 (over.shows (was.works fails.0)) (was.written (one.clean c) (inl fails.0) tables over) (one.written c opened)
@@ -247,7 +242,39 @@ written_on g old now next batches lost batch (Err (Damaged kind key)) was fails 
 written_on g old now next batches lost batch (Err NewerVersion) was fails one = absurd fails
 written_on g old now next batches lost batch (Err OutOfMemory) was fails one = absurd fails
 written_on g old now next batches lost batch (Err Closed) was fails one =
-    subst (λ w. Written g old w (batches ++ []) (lost ++ [])) (sym fails.1) (subst (Written g old now (batches ++ [])) (sym (append-nil lost)) (subst (λ bs. Written g old now bs lost) (sym (append-nil batches)) was))
+    subst (λ w. IsMovedBy g old w (batches ++ []) (lost ++ [])) (sym fails.1) (subst (IsMovedBy g old now (batches ++ [])) (sym (append-nil lost)) (subst (λ bs. IsMovedBy g old now bs lost) (sym (append-nil batches)) was))
+
+fails_or_works : (b : Bool) → (b ≡ true) ⊎ (b ≡ false)
+fails_or_works true = inl refl
+fails_or_works false = inr refl
+
+-- the rows that a World was moved to are good
+good_when_moved : {S : Type 0} (g : Ghosts S) (old mid : World S) (first gone : List Batch) → IsMovedBy g old mid first gone → mid.failed ≡ false → HasCleanDisk (store_of g mid) → ShowsItsRows g old → IsGood old.rows.maps → IsGood mid.rows.maps
+good_when_moved g old mid first gone was works clean shown good =
+    let it = shown (was.clean clean) in
+    let wrote = was.written clean (inl works) it.tables (shown_over g old it) in
+    subst IsGood (sym (wrote.rows works)) (led_good old.rows.maps first wrote.end (writes_led old.rows.maps it.tables first wrote.end wrote.after wrote.writes) good)
+
+-- moved, and then moved on
+pub moved_then : {S : Type 0} (g : Ghosts S) (old mid new : World S) (first gone second lost : List Batch) → IsMovedBy g old mid first gone → IsMovedBy g mid new second lost → IsMovedBy g old new (first ++ second) (gone ++ lost)
+moved_then g old mid new first gone second lost was on = elim (fails_or_works mid.failed) [
+  | inl failed ↦
+      let stays = on.closed failed in
+      subst (λ w. IsMovedBy g old w (first ++ second) (gone ++ lost)) (sym stays.0)
+      (subst (λ bs. IsMovedBy g old mid (first ++ bs) (gone ++ lost)) (sym stays.1)
+      (subst (λ bs. IsMovedBy g old mid (first ++ []) (gone ++ bs)) (sym stays.2)
+      (subst (IsMovedBy g old mid (first ++ [])) (sym (append-nil gone)) (subst (λ bs. IsMovedBy g old mid bs gone) (sym (append-nil first)) was))))
+  | inr works ↦
+      record {
+        clean = λ c. was.clean (on.clean c);
+        works = λ _. was.works works;
+        none = λ still. subst (λ bs. bs ++ lost ≡ []) (sym (was.none works)) (on.none still);
+        closed = λ failed. let no : true ≡ false = sym failed ∙ was.works works in absurd cc;
+        written = λ c known tables over. written_then g old mid new tables first second works (over.shows (was.works works)) (was.written (on.clean c) (inl works) tables over) (on.written c known);
+        led = λ c shown good. subst (λ bs. LeavesLed (store_of g new) old.rows.maps (first ++ second) (bs ++ lost)) (sym (was.none works))
+            (led_then g old mid new first second lost works (was.clean (on.clean c)) shown (was.written (on.clean c) (inl works)) (λ shows. on.led c shows (good_when_moved g old mid first gone was works (on.clean c) shown good)));
+      }
+]
 
 -- ---- a list of batches
 

@@ -1,8 +1,10 @@
 -- What opening a store may answer, and what it may leave.
-use Rattle.std.specs.Prelude.{◌≡◌, ⊤}
+use Rattle.std.specs.Prelude.{◌≡◌, true, Result, IfOk, IfErr, ⊤}
 use Rattle.sqlite.specs.declared.error.Error.TheVariants.{SqliteFailure}
 use Rattle.sqlite.specs.declared.error.ErrorCode.TheVariants.{NotADatabase}
-use Rattle.sqlite.specs.State.{State as Database}
+use Rattle.sqlite.specs.State.{State as Database, HasCleanDisk}
+use Rattle.sqlite.specs.Held.{Held, state}
+use Rattle.sqlite.specs.Store.{Ghosts}
 use Rattle.sqlite.specs.Tree.{Trees}
 use Rattle.moo_rows.specs.Maps.{Maps}
 use Rattle.moo_world.specs.Judge.{State}
@@ -12,6 +14,8 @@ use Rattle.moo_tables.specs.Inside.{Rests}
 use Rattle.moo_cells.specs.Shows.{ShowsRows}
 use Rattle.moo_cells.specs.Damage.{Damage, IsNewer}
 use Rattle.moo_store.specs.States.{LeavesRows, ShowsState, LeavesState}
+use Rattle.moo_store.specs.Kept.{World}
+use Rattle.moo_store.specs.World.{store_of, StandsFor}
 use Rattle.moo_store.specs.declared.fault.StoreFault.{StoreFault}
 use Rattle.moo_store.specs.declared.fault.StoreFault.TheVariants.{Store, Damaged, NewerVersion, OutOfMemory, Closed}
 
@@ -45,3 +49,16 @@ abbrev pub Adopts : Database → Trees → Type 0
 Adopts conn trees =
     (conn.now.schema ≡ first_schema) × ((s : State) → ShowsState conn s → LeavesState trees s)
     × ((tables : Tables) → Rests conn tables → (rows : Maps) × IsGood rows × ShowsRows tables rows × LeavesRows trees rows)
+
+module _ {S : Type 0} (g : Ghosts S) where
+  -- if the tables show a state, a World that is opened stands for it
+  abbrev pub OpensState : Database → Result (World S) (StoreFault × Held S) → Type 0
+  OpensState store r = (s : State) → ShowsState store s → IfOk r (λ world. HasCleanDisk (store_of g world) → StandsFor g true world s)
+
+  -- and if none is opened, the store failed or memory ran out
+  abbrev pub RefusesState : Database → Result (World S) (StoreFault × Held S) → Type 0
+  RefusesState store r = (s : State) → ShowsState store s → IfErr r (λ e. HasCleanDisk (state g e.1) → IsOfStore e.0)
+
+  -- the rows of a World that is opened are good, and those that the tables show
+  abbrev pub OpensShown : Database → Result (World S) (StoreFault × Held S) → Type 0
+  OpensShown store r = IfOk r (λ world. HasCleanDisk (store_of g world) → (tables : Tables) → Rests store tables → ShowsRows tables world.rows.maps × IsGood world.rows.maps)

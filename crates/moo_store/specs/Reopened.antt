@@ -1,5 +1,6 @@
 -- What is found by opening again what a crash left.
 use Rattle.std.specs.Prelude.{◌≡◌, ℕ, ◌≤◌, List, [], ◌∷◌, ◌++◌, take, drop, length, true}
+use Rattle.sqlite.specs.State.{HasCleanDisk}
 use Rattle.sqlite.specs.Store.{Ghosts}
 use Rattle.moo_rows.specs.Maps.{Maps}
 use Rattle.moo_world.specs.declared.call.Batch.{Batch}
@@ -7,8 +8,14 @@ use Rattle.moo_world.specs.Judge.{State, after}
 use Rattle.moo_text.specs.declared.reply.Reply.{Reply}
 use Rattle.moo_store.specs.Answered.{acknowledged}
 use Rattle.moo_store.specs.Kept.{World}
-use Rattle.moo_store.specs.Led.{BatchesLead}
-use Rattle.moo_store.specs.World.{StandsFor}
+use Rattle.moo_store.specs.Led.{BatchesLead, LeavesLed}
+use Rattle.moo_store.specs.World.{store_of, StandsFor}
+
+-- What a run of these batches leaves, at whichever call of the store it stopped: if the disk returned what was written, a crash leaves
+-- rows that the acknowledged batches lead to, or these and the next one.
+abbrev pub RunLeaves : {S : Type 0} → Ghosts S → World S → World S → List Batch → List Reply → Type 0
+RunLeaves g was world batches replies =
+    (s : State) → StandsFor g true was s → HasCleanDisk (store_of g world) → LeavesLed (store_of g world) was.rows.maps (acknowledged batches replies) (drop (length replies) batches)
 
 -- the batches that were acknowledged, and the first `more` of those that have no reply
 abbrev pub kept_of : List Batch → List Reply → ℕ → List Batch

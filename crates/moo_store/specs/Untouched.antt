@@ -1,5 +1,5 @@
 -- Rows that stay as they are, and columns that stay, keep their cells, byte for byte, whatever spelling of a value these hold.
-use Rattle.std.specs.Prelude.{◌≡◌, ℤ, false, pos, List, [], ◌∷◌, Result, Ok, Err, Some, IsTrue, ⊤}
+use Rattle.std.specs.Prelude.{◌≡◌, ◌⊎◌, ℤ, true, false, pos, List, [], ◌∷◌, Result, Ok, Err, Some, IsTrue, ⊤}
 use Rattle.std.specs.FinMap.{get}
 use Rattle.sqlite.specs.State.{State as Database, HasCleanDisk}
 use Rattle.sqlite.specs.Store.{Ghosts}
@@ -86,3 +86,15 @@ pub record WritesOne {S : Type 0} (g : Ghosts S) (old new : World S) (batch : Ba
   pub written : HasCleanDisk (store_of g new) → IsKnown (store_of g new) r → (tables : Tables) → StandsOver g old tables → HasWritten g old new tables (taken_of batch r)
   -- a crash leaves the rows that an accepted batch led to; if the store failed, those before the batch or those that it leads to
   pub led : HasCleanDisk (store_of g new) → ShowsItsRows g old → old.failed ≡ false → LeavesLed (store_of g new) old.rows.maps (taken_of batch r) (lost_of batch r)
+
+-- Accepted batches, one after another, made this World of that one: these were acknowledged, and the store failed in the others, of which
+-- there are none while the World works. One that had failed is as it was.
+pub record IsMovedBy {S : Type 0} (g : Ghosts S) (old now : World S) (batches lost : List Batch) : Type 0 where
+  pub clean : HasCleanDisk (store_of g now) → HasCleanDisk (store_of g old)
+  pub works : now.failed ≡ false → old.failed ≡ false
+  pub none : now.failed ≡ false → lost ≡ []
+  pub closed : old.failed ≡ true → (now ≡ old) × (batches ≡ []) × (lost ≡ [])
+  -- in the tables, each batch that was acknowledged keeps the cells of the rows that it leaves as they are
+  pub written : HasCleanDisk (store_of g now) → (now.failed ≡ false) ⊎ IsTrue (store_of g now).is_open → (tables : Tables) → StandsOver g old tables → HasWritten g old now tables batches
+  -- a crash leaves rows that these lead to, with all numbers kept, or these and one of the others
+  pub led : HasCleanDisk (store_of g now) → ShowsItsRows g old → IsGood old.rows.maps → LeavesLed (store_of g now) old.rows.maps batches lost

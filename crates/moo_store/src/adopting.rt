@@ -11,7 +11,7 @@ ghost use Rattle.moo_tables.specs.Inside.{Rests, RestsAt, HasTables};
 ghost use Rattle.moo_tables.specs.declared.version.Version.{Version};
 ghost use Rattle.moo_cells.specs.Shows.{ShowsRows};
 ghost use Rattle.moo_store.specs.States.{KeepsRows, ShowsState};
-ghost use Rattle.moo_store.specs.Opening.{Says, IsOfStore, Adopts, not_ours};
+ghost use Rattle.moo_store.specs.Opening.{Says, IsOfStore, Adopts, OpensState, RefusesState, OpensShown, not_ours};
 ghost use Rattle.moo_store.specs.World.{store_of, StandsFor, Left};
 
 use crate::fault::StoreFault;
@@ -63,13 +63,13 @@ pub fn adopt<S: Alter + Drop>(
 ) -> Result<World<S>, (StoreFault, Connection<S>)>
     requires outside { (state S.Store conn).in_transaction ≡ false }
     // Tables of either version that show a world and a number give a World that stands for these, unless the store fails or memory runs out.
-    ensures stands { (s : State) → ShowsState (state S.Store conn) s → IfOk result (λ world. HasCleanDisk (store_of S.Store world) → StandsFor S.Store true world s) }
+    ensures stands { OpensState S.Store (state S.Store conn) result }
     // Whatever is opened, its rows are good, and what is said of rows alone is said of them.
     ensures rows { IfOk result (λ world. IsGood world.rows.maps × StandsFor S.Store false world (state_of world.rows.maps)) }
     ensures works { IfOk result (λ world. world.failed ≡ false) }
-    ensures whole { (s : State) → ShowsState (state S.Store conn) s → IfErr result (λ e. HasCleanDisk (state S.Store e.1) → IsOfStore e.0) }
+    ensures whole { RefusesState S.Store (state S.Store conn) result }
     // Nothing else is opened, and a damage that is answered is that of the tables.
-    ensures shown { IfOk result (λ world. HasCleanDisk (store_of S.Store world) → (tables : Tables) → Rests (state S.Store conn) tables → ShowsRows tables world.rows.maps × IsGood world.rows.maps) }
+    ensures shown { OpensShown S.Store (state S.Store conn) result }
     ensures fault { IfErr result (λ e. HasCleanDisk (state S.Store e.1) → (tables : Tables) → Rests (state S.Store conn) tables → Says tables e.0) }
     // What is opened has the tables of the second version.
     ensures current { IfOk result (λ world. HasCleanDisk (store_of S.Store world) → (tables : Tables) → Rests (state S.Store conn) tables → HasTables second_schema (store_of S.Store world)) }

@@ -56,7 +56,7 @@ impl<S: Alter + Drop> World<S> {
     ghost use Rattle.moo_store.specs.Answered.{answer_of, IsRun, AnsweredOne, Answered, acknowledged, added};
     ghost use Rattle.moo_tables.specs.Tables.{Tables};
     ghost use Rattle.moo_tables.specs.Inside.{Rests, IsCurrent};
-    ghost use Rattle.moo_store.specs.Led.{LeavesLed};
+    ghost use Rattle.moo_store.specs.Reopened.{RunLeaves};
     ghost use Rattle.moo_store.specs.Untouched.{KeepsCells, WritesOne, HasWritten, IsKnown, taken_of};
     ghost use Rattle.moo_store.specs.Stopped.{KeepsFaults, IsStopped};
     ghost use Rattle.moo_store.specs.Stand.{Stand};
@@ -183,9 +183,7 @@ impl<S: Alter + Drop> World<S> {
             HasWritten S.Store self.old self.new tables (acknowledged batches.now (added replies.old.items replies.new.items)) }
 
         // A crash leaves rows that the acknowledged batches lead to, or these and the batch in hand, with all numbers kept.
-        ensures led { (s : _) → StandsFor S.Store true self.old s → HasCleanDisk (store_of S.Store self.new) →
-            let new = added replies.old.items replies.new.items in
-            LeavesLed (store_of S.Store self.new) self.old.rows.maps (acknowledged batches.now new) (drop (length new) batches.now) }
+        ensures led { RunLeaves S.Store self.old self.new batches.now (added replies.old.items replies.new.items) }
 
         // Batches of which none is acknowledged change nothing.
         ensures same { acknowledged batches.now (added replies.old.items replies.new.items) ≡ [] → MatchStore result (self.new ≡ self.old) ⊤ }
@@ -248,7 +246,7 @@ impl<S: Alter + Drop> World<S> {
     }
 
     /// The rows of a World that works are good. The call does nothing; its contract is what it is for.
-    pub(crate) fn has_good_rows(&self)
+    pub fn has_good_rows(&self)
         ensures { self.now.failed ≡ false → IsGood self.now.rows.maps }
     {
         let _failed = self.failed;
