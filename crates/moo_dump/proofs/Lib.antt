@@ -2,3 +2,4 @@ pub mod FlatMaps
 pub mod Listing
 pub mod Writing
 pub mod ObjectLines
+pub mod Compared

@@ -1,4 +1,5 @@
 pub mod Dump
 pub mod Lines
 pub mod Written
+pub mod Difference
 pub mod Look

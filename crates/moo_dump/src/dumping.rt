@@ -20,7 +20,7 @@ use std::io::Write;
 
 /// The lines of the counters.
 #[tactic(auto, unfolding(moo_world::specs::Rows::world_shown))]
-fn heading_text<R: Rows>(alloc: Global, rows: &R) -> Result<Vec<u8>, AllocError>
+pub(crate) fn heading_text<R: Rows>(alloc: Global, rows: &R) -> Result<Vec<u8>, AllocError>
     ensures { IfOk result (λ text. text.items ≡ heading (state_of (R.held rows.now).maps)) }
 {
     let head = rows.head();

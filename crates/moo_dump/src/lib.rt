@@ -1,6 +1,7 @@
 //! What a world is dumped as, and what one object looks like.
 #![tactic(auto)]
 
+mod comparing;
 mod definitions;
 mod dumping;
 mod fault;
@@ -10,6 +11,7 @@ mod objects;
 mod output;
 mod seen;
 
+pub use comparing::{CompareFault, compare};
 pub use dumping::dump;
 pub use fault::DumpFault;
 pub use looking::look;

@@ -1,18 +1,14 @@
-use Rattle.std.proofs.Common.{◌≡◌, ◌++◌, refl, subst, ◌∙◌}
+use Rattle.std.proofs.Common.{◌≡◌, ◌++◌, subst, ◌∙◌}
 use Rattle.std.specs.Prelude.{codes}
 use Rattle.std.specs.Io.KnownBytes.{Appends}
 use Rattle.std.proofs.lemmas.Result.{on_ok_weaker, on_err_weaker}
-use Rattle.moo_rows.specs.Maps.{Maps}
 use Rattle.moo_world.specs.Judge.{state_of}
 use Rattle.moo_dump.specs.Dump.{heading, dump}
 use Rattle.moo_dump.specs.Lines.{objects_text, petitions_text}
 use Rattle.moo_dump.specs.Written.{AppendsFront}
+use Rattle.moo_dump.proofs.Compared.{parts}
 use Rattle.moo_dump.proofs.Writing.{Appends-then, front_taken, taken_front, front_before, front_then, on_err}
 use Rattle.moo_dump.proofs.dumping.dump.Goals as goal
-
-parts : (t : Maps) → heading (state_of t) ++ (objects_text t ++ (petitions_text t ++ codes "end\n")) ≡ dump (state_of t)
-unfolding dump
-parts t = refl
 
 pub returns-in_err-put_all-clause-err : goal.returns-in_err-put_all-clause-err
 returns-in_err-put_all-clause-err g c =

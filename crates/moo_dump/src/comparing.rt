@@ -1,0 +1,131 @@
+//! A text, compared with the dump of rows.
+
+ghost use Rattle.std.specs.Prelude.{◌≡◌, ◌≢◌, ◌≤◌, ◌<◌, ◌++◌, ℕ, List, length, take, slice_get, IfOk, IfErr, OnOk};
+ghost use Rattle.moo_dump.specs.Difference.{TellsDifference};
+ghost use Rattle.moo_dump.specs.Dump.{dump};
+ghost use Rattle.moo_dump.specs.Lines.{ListsDefinitions, objects_text, petitions_text};
+ghost use Rattle.moo_dump.specs.declared.comparing.CompareFault.TheVariants.{OutOfMemory};
+ghost use Rattle.moo_world.specs.Judge.{state_of};
+ghost use Rattle.moo_world.specs.Rows.{IsGood};
+
+use crate::definitions::{Definitions, all_definitions};
+use crate::dumping::heading_text;
+use crate::lines::petition_text;
+use crate::objects::object_text;
+use moo_rows::{Rows, each_object, each_petition};
+use std::alloc::{AllocError, Global};
+
+/// Why a text wasn't found to be a dump.
+#[derive(Clone, Copy, Debug, PartialEq, Eq)]
+pub enum CompareFault {
+    /// The text isn't the dump: after so many bytes that they have in common one of them ends, or the next bytes differ.
+    Differs(usize),
+    /// Memory ran out.
+    OutOfMemory,
+}
+
+impl From<AllocError> for CompareFault {
+    ghost from_gives = { λ _ e. e ≡ OutOfMemory };
+
+    fn from(_e: AllocError) -> CompareFault {
+        CompareFault::OutOfMemory
+    }
+}
+
+/// How many bytes two texts have in common at the front.
+fn shared_length(a: &[u8], b: &[u8]) -> usize
+    ensures first { result ≤ length a.now }
+    ensures second { result ≤ length b.now }
+    ensures shared { take result a.now ≡ take result b.now }
+    ensures longest { result < length b.now → slice_get b.now result ≢ slice_get a.now result }
+{
+    let mut count = 0;
+    while count < a.len() && count < b.len() {
+        if a[count] != b[count] {
+            return count;
+        }
+        count += 1;
+    }
+    count
+}
+
+/// The place at which a text goes on after a piece of the dump, which begins at `at`.
+fn after_piece(text: &[u8], at: usize, piece: &[u8]) -> Result<usize, CompareFault>
+    requires { at ≤ length text.now }
+    ensures within { IfOk result (λ next. next ≤ length text.now) }
+    ensures ok { IfOk result (λ next. take next text.now ≡ take at text.now ++ piece.now) }
+    ensures err { IfErr result (λ fault. (rest : List ℕ) → TellsDifference (take at text.now ++ (piece.now ++ rest)) text.now fault) }
+{
+    let count = shared_length(&text[at..], piece);
+    if count < piece.len() {
+        return Err(CompareFault::Differs(at + count));
+    }
+    Ok(at + count)
+}
+
+/// The place at which a text goes on after the lines of the objects, which begin at `start`.
+fn after_objects<R: Rows>(
+    alloc: Global,
+    rows: &R,
+    definitions: &Definitions,
+    text: &[u8],
+    start: usize,
+) -> Result<usize, CompareFault>
+    requires good { IsGood (R.held rows.now).maps }
+    requires listed { ListsDefinitions (R.held rows.now).maps definitions.now }
+    requires start { start ≤ length text.now }
+    ensures within { IfOk result (λ next. next ≤ length text.now) }
+    ensures ok { IfOk result (λ next. take next text.now ≡ take start text.now ++ objects_text (R.held rows.now).maps) }
+    ensures err { IfErr result (λ fault. (rest : List ℕ)
+        → TellsDifference (take start text.now ++ (objects_text (R.held rows.now).maps ++ rest)) text.now fault) }
+{
+    let mut at = start;
+    for (x, _) in each_object(rows) {
+        let piece = object_text(alloc, rows, definitions, x)?;
+        at = after_piece(text, at, &piece)?;
+    }
+    Ok(at)
+}
+
+/// The place at which a text goes on after the lines of the petitions, which begin at `start`.
+fn after_petitions<R: Rows>(
+    alloc: Global,
+    rows: &R,
+    text: &[u8],
+    start: usize,
+) -> Result<usize, CompareFault>
+    requires { start ≤ length text.now }
+    ensures within { IfOk result (λ next. next ≤ length text.now) }
+    ensures ok { IfOk result (λ next. take next text.now ≡ take start text.now ++ petitions_text (R.held rows.now).maps) }
+    ensures err { IfErr result (λ fault. (rest : List ℕ)
+        → TellsDifference (take start text.now ++ (petitions_text (R.held rows.now).maps ++ rest)) text.now fault) }
+{
+    let mut at = start;
+    for (id, row) in each_petition(rows) {
+        let piece = petition_text(alloc, id, row)?;
+        at = after_piece(text, at, &piece)?;
+    }
+    Ok(at)
+}
+
+/// Compares a text with the dump of the rows, of which the lines of one object at a time are in memory.
+///
+/// Differs with the place of the first difference, if the text isn't the dump; OutOfMemory if memory runs out.
+///
+/// It takes the look-ups that a dump takes.
+pub fn compare<R: Rows>(alloc: Global, rows: &R, text: &[u8]) -> Result<(), CompareFault>
+    requires { IsGood (R.held rows.now).maps }
+    ensures ok { OnOk result (dump (state_of (R.held rows.now).maps) ≡ text.now) }
+    ensures err { IfErr result (TellsDifference (dump (state_of (R.held rows.now).maps)) text.now) }
+{
+    let definitions = all_definitions(alloc, rows)?;
+    let heading = heading_text(alloc, rows)?;
+    let at = after_piece(text, 0, &heading)?;
+    let at = after_objects(alloc, rows, &definitions, text, at)?;
+    let at = after_petitions(alloc, rows, text, at)?;
+    let at = after_piece(text, at, b"end\n")?;
+    if at < text.len() {
+        return Err(CompareFault::Differs(at));
+    }
+    Ok(())
+}
