@@ -181,8 +181,10 @@ REFUSED_TO_WIZARDS = [
     (["create(#1)", "recycle(#8)", "get(#8, \"name\")"], "E_INVIND, #8 isn't an object"),
     (["add_property(#6, \"new\", 1, {#3, \"\"})", "add_property(#1, \"NEW\", 1, {#3, \"\"})"], "E_INVARG, #6 defines \"NEW\" already"),
     (["grant(9)"], "E_INVARG, there is no petition 9"),
-    (["grant(1)"], "E_INVARG, a call of petition 1 is refused so"),
-    (["grant(2)"], "E_ARGS, a call of petition 2 is refused so"),
+    (["grant(1)"], "E_INVARG, recycle(#9) of petition 1: #9 isn't an object"),
+    (["grant(2)"], "E_ARGS, create() of petition 2: it is written create(PARENT) or create(PARENT, OWNER)"),
+    (["petition({{\"recycle\", #7}, {\"get\", #7, \"name\"}})", "grant(3)"], "E_INVIND, get(#7, \"name\") of petition 3: #7 isn't an object"),
+    (["petition({{\"max_object\"}, {\"recycle\", #3}, {\"players\"}})", "grant(3)"], "E_PERM, players() of petition 3: the programmer #3 isn't an object"),
 ]
 # #4, #6 and #7 are #4's, and #6 is under #4; #7 is a fertile player, which accepts itself. #5 is #3's, hides a property and a verb, and
 # accepts nothing; its second verb may be changed by all.

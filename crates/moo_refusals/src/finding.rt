@@ -3,9 +3,10 @@
 ghost use Rattle.std.specs.Prelude.{◌≡◌, true};
 ghost use Rattle.moo_world.specs.Rows.{IsGood};
 
-use crate::checks::{Check, Rung};
+use crate::checks::{Check, PetitionCheck, Rung};
 use crate::clashes::told_clash;
 use crate::forms::form;
+use crate::granted::told_held;
 use crate::holding::holds;
 use crate::ladders::whole_ladder;
 use crate::telling::tell;
@@ -17,7 +18,7 @@ use moo_world::{Batch, Call, CallName};
 use std::alloc::{AllocError, Global};
 
 /// Does the first calls on a draft, so many of them; whether all of these were done.
-fn do_calls<R: Rows>(
+pub(crate) fn do_calls<R: Rows>(
     rows: &mut R,
     alloc: Global,
     programmer: ObjNo,
@@ -63,7 +64,41 @@ fn told_form(alloc: Global, name: CallName, code: Code) -> Result<Option<String>
     Ok(Some(format!(in alloc; "it is written {written}")?))
 }
 
-/// What is said of the check at which a call fails in the world of these rows, if one is found.
+/// The check at which a call fails with this error in the world of these rows, if one is found.
+pub(crate) fn failing_check<'a, R: Rows>(
+    alloc: Global,
+    rows: &R,
+    programmer: ObjNo,
+    call: &'a Call,
+    code: Code,
+) -> Result<Option<Check<'a>>, AllocError>
+    requires { IsGood (R.held rows.now).maps }
+{
+    let ladder = whole_ladder(alloc, programmer, call, code)?;
+    first_failing(alloc, rows, programmer, &ladder, code)
+}
+
+/// What is said of the check at which a call fails. If it is none of the call's own, how the call is written.
+pub(crate) fn told_check<R: Rows>(
+    alloc: Global,
+    rows: &R,
+    programmer: ObjNo,
+    name: CallName,
+    check: Option<Check<'_>>,
+    code: Code,
+) -> Result<Option<String>, AllocError>
+    requires { IsGood (R.held rows.now).maps }
+{
+    let Some(check) = check else {
+        return told_form(alloc, name, code);
+    };
+    match told_clash(alloc, rows, check)? {
+        Some(text) => Ok(Some(text)),
+        None => Ok(Some(tell(alloc, programmer, check)?)),
+    }
+}
+
+/// What is said of a call that fails in the world of these rows. Of a grant whose petition is there: which of its calls fails.
 fn told_failing<R: Rows>(
     alloc: Global,
     rows: &R,
@@ -73,14 +108,13 @@ fn told_failing<R: Rows>(
 ) -> Result<Option<String>, AllocError>
     requires { IsGood (R.held rows.now).maps }
 {
-    let ladder = whole_ladder(alloc, programmer, call, code)?;
-    let Some(check) = first_failing(alloc, rows, programmer, &ladder, code)? else {
-        return told_form(alloc, call.name, code);
-    };
-    match told_clash(alloc, rows, check)? {
-        Some(text) => Ok(Some(text)),
-        None => Ok(Some(tell(alloc, programmer, check)?)),
+    let check = failing_check(alloc, rows, programmer, call, code)?;
+    if let Some(Check::Petition(number, PetitionCheck::Granted)) = check {
+        if let Some(text) = told_held(alloc, rows, programmer, number, code)? {
+            return Ok(Some(text));
+        }
     }
+    told_check(alloc, rows, programmer, call.name, check, code)
 }
 
 /// What is said of the check at which a call of a batch fails, after the calls before it are done on a draft. The first call is 1.

@@ -7,6 +7,7 @@ mod checks;
 mod clashes;
 mod finding;
 mod forms;
+mod granted;
 mod holding;
 mod ladders;
 mod plain;

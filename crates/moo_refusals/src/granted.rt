@@ -1,0 +1,135 @@
+//! Which call of a petition is refused when it is granted.
+
+ghost use Rattle.std.specs.Prelude.{◌≡◌};
+ghost use Rattle.std.specs.List.{list_all};
+ghost use Rattle.moo_world.specs.Arguments.{fits as within_limits};
+ghost use Rattle.moo_world.specs.Rows.{IsGood};
+
+use crate::finding::{do_calls, failing_check, told_check};
+use crate::holding::petition_at;
+use crate::shown::shown_call;
+use moo_call_parts::Fault;
+use moo_draft::Draft;
+use moo_petitions::step;
+use moo_rows::Rows;
+use moo_value::{Code, ObjNo, Value, fits};
+use moo_world::{Args, Call, CallName};
+use std::alloc::{AllocError, Global};
+
+/// Whether a call may be given the value: lists nest at most 32 deep in it.
+fn may_be_given(value: &Value) -> bool
+    ensures { result ≡ within_limits value.now }
+{
+    fits(value)
+}
+
+fn may_all_be_given(values: &[Value]) -> bool
+    ensures { result ≡ list_all within_limits values.now }
+{
+    values.iter().all(may_be_given)
+}
+
+/// Values as the arguments of a call. None if lists nest too deep in one.
+fn args_of(alloc: Global, values: &[Value]) -> Result<Option<Args>, AllocError> {
+    let mut items = Vec::new(alloc);
+    for value in values {
+        items.push(value.copy(alloc)?)?;
+    }
+    if may_all_be_given(items.as_slice()) {
+        return Ok(Some(Args::from_vec(items)));
+    }
+    Ok(None)
+}
+
+/// The call that a petition holds. None if it names no call on the world.
+fn held_call(alloc: Global, held: &Value) -> Result<Option<Call>, AllocError> {
+    let Value::List(values) = held else {
+        return Ok(None);
+    };
+    let [Value::Str(name), rest @ ..] = values.items() else {
+        return Ok(None);
+    };
+    match CallName::read(name.bytes()) {
+        Some(name) if name.petition_call().is_none() => match args_of(alloc, rest)? {
+            Some(args) => Ok(Some(Call { name, args })),
+            None => Ok(None),
+        },
+        _ => Ok(None),
+    }
+}
+
+/// The calls that the petition of a number holds, up to the first that names no call on the world. None if there is no such petition.
+fn held_calls<R: Rows>(
+    alloc: Global,
+    rows: &R,
+    number: i64,
+) -> Result<Option<Vec<Call>>, AllocError> {
+    let Some(petition) = petition_at(rows, number) else {
+        return Ok(None);
+    };
+    let mut calls = Vec::new(alloc);
+    for held in petition.calls.items() {
+        match held_call(alloc, held)? {
+            Some(call) => calls.push(call)?,
+            None => return Ok(Some(calls)),
+        }
+    }
+    Ok(Some(calls))
+}
+
+/// The place of the first call that fails with this error, each done on a draft after those before it. It is the count of the calls if
+/// all are done, and none if one fails otherwise.
+fn place_of_failing<R: Rows>(
+    rows: &mut R,
+    alloc: Global,
+    programmer: ObjNo,
+    calls: &[Call],
+    code: Code,
+) -> Option<usize>
+    requires { IsGood (R.held rows.old).maps }
+{
+    for (place, call) in calls.iter().enumerate() {
+        match step(rows, alloc, programmer, call) {
+            Ok(_) => {}
+            Err(Fault::Moo(found)) if found == code => return Some(place),
+            Err(_) => return None,
+        }
+    }
+    Some(calls.len())
+}
+
+/// Which call of the petition of a number is refused with this error if the wizard grants it, and why. None if none is found.
+pub(crate) fn told_held<R: Rows>(
+    alloc: Global,
+    rows: &R,
+    wizard: ObjNo,
+    number: i64,
+    code: Code,
+) -> Result<Option<String>, AllocError>
+    requires { IsGood (R.held rows.now).maps }
+{
+    let Some(calls) = held_calls(alloc, rows, number)? else {
+        return Ok(None);
+    };
+    let mut tried = Draft::new(alloc, rows);
+    let Some(place) = place_of_failing(&mut tried, alloc, wizard, &calls, code) else {
+        return Ok(None);
+    };
+    let Some(call) = calls.get(place) else {
+        return Ok(Some(format!(in alloc;
+            "a call of petition {number} names no call on the world"
+        )?));
+    };
+    let mut draft = Draft::new(alloc, rows);
+    if !do_calls(&mut draft, alloc, wizard, &calls, place) {
+        return Ok(None);
+    }
+    let shown = shown_call(alloc, call)?;
+    let check = failing_check(alloc, &draft, wizard, call, code)?;
+    Ok(Some(
+        match told_check(alloc, &draft, wizard, call.name, check, code)? {
+            Some(why) => format!(in alloc; "{shown} of petition {number}: {why}")?,
+            None => format!(in alloc; "{shown} of petition {number}")?,
+        },
+    ))
+}
