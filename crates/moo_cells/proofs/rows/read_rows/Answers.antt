@@ -8,7 +8,7 @@ use Rattle.moo_tables.specs.Listing.{tables_of, has_key_pair}
 use Rattle.moo_tables.specs.Version.{version_number}
 use Rattle.moo_cells.specs.Head.{greatest, HeadIs, ReadsHead, HasHead, IsNewerThan, ReadsCounter, HasCounter, SaysOfHead}
 use Rattle.moo_cells.specs.Reading.{ReadsObject, ReadsProp, ReadsSlot, ReadsVerb, ReadsPetition}
-use Rattle.moo_cells.specs.Holding.{HoldsTable, SaysUnread, object_number, prop_number, slot_number, verb_number, petition_number, object_key, prop_key, slot_key, verb_key, petition_key, IsLess, IsPairLess}
+use Rattle.moo_cells.specs.Holding.{HoldsTable, object_number, prop_number, slot_number, verb_number, petition_number}
 use Rattle.moo_cells.specs.Damage.{SaysOfCells}
 use Rattle.moo_cells.proofs.RowsLemmas.{read_all, rows_shown, rows_within, says_head, says_object, says_prop, says_slot, says_verb, says_petition, none_met}
 use Rattle.moo_cells.proofs.rows.read_rows.Goals as goal
