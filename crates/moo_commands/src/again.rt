@@ -1,111 +1,39 @@
 //! Words over a file, and words over what a crash left of it.
 
-ghost use Rattle.std.specs.Prelude.{map};
-ghost use Rattle.sqlite.specs.WalFiles.{image_at};
-ghost use Rattle.moo_http.specs.Turns.{AttendedOn};
-ghost use Rattle.moo_commands.specs.Run.{given_by};
+ghost use Rattle.std.specs.Prelude.{ℕ, List, Option};
+ghost use Rattle.sqlite_wal.specs.Recovery.{Image};
+ghost use Rattle.moo_files.specs.declared.remains.Remains.{Remains};
+ghost use Rattle.moo_commands.specs.Run.{Given};
 ghost use Rattle.moo_commands.specs.Ends.{RunsOver, RunsClosed};
 ghost use Rattle.moo_commands.specs.Again.{TakesUp, CrashesTo, ClosesTo};
+ghost use Rattle.moo_commands.specs.declared.ends.Ends.{Ends};
 
-use crate::ends::Ends;
-use crate::host::BatchFiles;
-use crate::run::{run_to_end, run_words};
-use moo_files::Remains;
-use moo_http::Ports;
-use sqlite::{FileFrom, Start};
-use std::io::{Read, Write};
+use sqlite_disk::Disk;
 
-/// Runs words over a file, and then words over what a crash left of it.
+/// What a run is given beside its words and their file. A law over `G: Gives` holds whatever that is.
+pub trait Gives {
+    ghost given: { Given };
+}
+
+/// Words that run over a file, and then words that run over what a crash left of it.
 ///
-/// Nothing calls it: its contract is the law of the program over a stop. `T` is what the file held at first, `U` what it held after the
-/// crash, which comes when the task is at its end and its file isn't closed yet.
-pub fn run_crash_run<
-    T: Start,
-    H: BatchFiles + Ports,
-    R: Read + Drop,
-    W: Write,
-    U: Start,
-    G: BatchFiles + Ports,
-    Q: Read + Drop,
-    V: Write,
->(
-    rt: &HostRuntime,
-    words: &[&str],
-    start: T,
-    host: &H,
-    input: R,
-    output: &mut W,
-    status: &mut u8,
-    next_words: &[&str],
-    next_start: U,
-    next_host: &G,
-    next_input: Q,
-    next_output: &mut V,
-    next_status: &mut u8,
-) -> (Ends<T, FileFrom<T>>, Ends<U, FileFrom<U>>)
-    // Each run is one over what its file held.
-    ensures first { RunsOver (map (λ word. word.now) words.now) (image_at T.Start) result.0 (given_by (R.remaining input) (H.text host.now) (AttendedOn H.Source.hands_out H.Source.takes_back H.Source.Reader.remaining H.Source.Writer.contents (H.opens host.now))) (W.contents output.old) (W.contents output.new) status.new }
-    ensures next { RunsOver (map (λ word. word.now) next_words.now) (image_at U.Start) result.1 (given_by (Q.remaining next_input) (G.text next_host.now) (AttendedOn G.Source.hands_out G.Source.takes_back G.Source.Reader.remaining G.Source.Writer.contents (G.opens next_host.now))) (V.contents next_output.old) (V.contents next_output.new) next_status.new }
+/// Each run is what the clause `over` of `run_words` says of it (`RunsOver`). `image` is what the files held at first, and `next_image` what
+/// they held after the crash, which comes when the task is at its end and its file isn't closed yet.
+pub fn run_crash_run<T, D: Disk, G: Gives, U, E: Disk, N: Gives>()
     // What a crash left of the first file holds a state that the run's end may leave; or, if no task ran over it, the state that it held. The
     // next run takes up that state.
-    ensures reopened { CrashesTo (map (λ word. word.now) words.now) (image_at T.Start) result.0 (given_by (R.remaining input) (H.text host.now) (AttendedOn H.Source.hands_out H.Source.takes_back H.Source.Reader.remaining H.Source.Writer.contents (H.opens host.now))) (W.contents output.old) (W.contents output.new) status.new (image_at U.Start)
-        (λ t. TakesUp (map (λ word. word.now) next_words.now) t result.1 (given_by (Q.remaining next_input) (G.text next_host.now) (AttendedOn G.Source.hands_out G.Source.takes_back G.Source.Reader.remaining G.Source.Writer.contents (G.opens next_host.now))) (V.contents next_output.old) (V.contents next_output.new) next_status.new) }
-{
-    let ends = run_words(rt, words, start, host, input, output, status);
-    let next_ends = run_words(
-        rt,
-        next_words,
-        next_start,
-        next_host,
-        next_input,
-        next_output,
-        next_status,
-    );
-    (ends, next_ends)
-}
+    ensures reopened { (words next_words : List (List ℕ)) (image next_image : Image) (ends : Ends T D D.Disk) (next_ends : Ends U E E.Disk) (old new next_old next_new : Option (List ℕ)) (status next_status : ℕ) →
+        RunsOver words image ends G.given old new status → RunsOver next_words next_image next_ends N.given next_old next_new next_status →
+        CrashesTo words image ends G.given old new status next_image (λ t. TakesUp next_words t next_ends N.given next_old next_new next_status) }
+{}
 
-/// Runs words over a file and closes it, and then words over what it holds or a crash left of it.
+/// Words that run over a file, which is then closed, and words that run over what it holds or a crash left of it.
 ///
-/// As `run_crash_run`, for a file that was closed. The program's own calls are `run_to_end`, so this is a run of it, and the next one.
-pub fn run_close_run<
-    T: Start,
-    H: BatchFiles + Ports,
-    R: Read + Drop,
-    W: Write,
-    U: Start,
-    G: BatchFiles + Ports,
-    Q: Read + Drop,
-    V: Write,
->(
-    rt: &HostRuntime,
-    words: &[&str],
-    start: T,
-    host: &H,
-    input: R,
-    output: &mut W,
-    status: &mut u8,
-    next_words: &[&str],
-    next_start: U,
-    next_host: &G,
-    next_input: Q,
-    next_output: &mut V,
-    next_status: &mut u8,
-) -> (Remains<T, FileFrom<T>>, Ends<U, FileFrom<U>>)
-    ensures first { RunsClosed (map (λ word. word.now) words.now) (image_at T.Start) result.0 (given_by (R.remaining input) (H.text host.now) (AttendedOn H.Source.hands_out H.Source.takes_back H.Source.Reader.remaining H.Source.Writer.contents (H.opens host.now))) (W.contents output.old) (W.contents output.new) status.new }
-    ensures next { RunsOver (map (λ word. word.now) next_words.now) (image_at U.Start) result.1 (given_by (Q.remaining next_input) (G.text next_host.now) (AttendedOn G.Source.hands_out G.Source.takes_back G.Source.Reader.remaining G.Source.Writer.contents (G.opens next_host.now))) (V.contents next_output.old) (V.contents next_output.new) next_status.new }
+/// The first run is what the clause `closed` of `run_to_end` says of it (`RunsClosed`), which is the program's own call, and the next one
+/// what the clause `over` of `run_words` says.
+pub fn run_close_run<T, D: Disk, G: Gives, U, E: Disk, N: Gives>()
     // What the closed file holds, and what a crash leaves of it, is such a state too, and the next run takes up that state.
-    ensures reopened { ClosesTo (map (λ word. word.now) words.now) (image_at T.Start) result.0 (given_by (R.remaining input) (H.text host.now) (AttendedOn H.Source.hands_out H.Source.takes_back H.Source.Reader.remaining H.Source.Writer.contents (H.opens host.now))) (W.contents output.old) (W.contents output.new) status.new (image_at U.Start)
-        (λ t. TakesUp (map (λ word. word.now) next_words.now) t result.1 (given_by (Q.remaining next_input) (G.text next_host.now) (AttendedOn G.Source.hands_out G.Source.takes_back G.Source.Reader.remaining G.Source.Writer.contents (G.opens next_host.now))) (V.contents next_output.old) (V.contents next_output.new) next_status.new) }
-{
-    let closed = run_to_end(rt, words, start, host, input, output, status);
-    let next_ends = run_words(
-        rt,
-        next_words,
-        next_start,
-        next_host,
-        next_input,
-        next_output,
-        next_status,
-    );
-    (closed, next_ends)
-}
+    ensures reopened { (words next_words : List (List ℕ)) (image next_image : Image) (closed : Remains T D D.Disk) (next_ends : Ends U E E.Disk) (old new next_old next_new : Option (List ℕ)) (status next_status : ℕ) →
+        RunsClosed words image closed G.given old new status → RunsOver next_words next_image next_ends N.given next_old next_new next_status →
+        ClosesTo words image closed G.given old new status next_image (λ t. TakesUp next_words t next_ends N.given next_old next_new next_status) }
+{}

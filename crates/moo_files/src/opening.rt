@@ -16,6 +16,7 @@ ghost use Rattle.moo_store.specs.States.{ShowsState};
 ghost use Rattle.moo_store.specs.Opening.{Says, IsOfStore, Adopts, not_ours};
 ghost use Rattle.moo_store.specs.World.{store_of, StandsFor, Left};
 ghost use Rattle.moo_files.specs.Contents.{HoldsTrees, HoldsTables, HoldsState, HasOtherTables, ReadsAsOurs, IsKept};
+ghost use Rattle.moo_files.specs.Opened.{OpensHeld, RefusesHeld, OpensTables, OpensGood};
 ghost use Rattle.moo_files.specs.Remains.{cannot_open, IsCleanRemains, MayStopAs, StillHolds, StillHoldsTrees, KeepsNothingBut, Spares};
 
 use crate::remains::{Remains, open_connection};
@@ -81,19 +82,19 @@ pub fn open_from<T: Start>(
     start: T,
 ) -> Result<World<FileStore<FileFrom<T>>>, (StoreFault, Remains<T, FileFrom<T>>)>
     // If they hold a state, a World that is opened stands for it, on a disk that returns what was written.
-    ensures kept { (s : State) → HoldsState (image_at T.Start) s → IfOk result (λ world. HasCleanDisk (store_of over_files world) → StandsFor over_files true world s) }
+    ensures kept { OpensHeld (image_at T.Start) result }
     // If they hold tables that show no world, none is opened: the rows are those that the tables show.
-    ensures only { (tables : Tables) → HoldsTables (image_at T.Start) tables → IfOk result (λ world. HasCleanDisk (store_of over_files world) → ShowsRows tables world.rows.maps) }
+    ensures only { OpensTables (image_at T.Start) result }
     // If they hold nothing, or other tables than ours, none is opened.
     ensures nothing { IsNothing (image_at T.Start) → IfOk result (λ world. HasCleanDisk (store_of over_files world) → ⊥) }
     ensures other { (trees : Trees) → HoldsTrees (image_at T.Start) trees → HasOtherTables trees → IfOk result (λ world. HasCleanDisk (store_of over_files world) → ⊥) }
     // Nor is one opened over files that aren't a sound database: those of an opened World read as one with tables of ours.
     ensures sound { IfOk result (λ world. HasCleanDisk (store_of over_files world) → ReadsAsOurs (image_at T.Start)) }
     // Whatever they hold, its rows are good, and what is said of rows alone is said of them.
-    ensures rows { IfOk result (λ world. IsGood world.rows.maps × StandsFor over_files false world (state_of world.rows.maps)) }
+    ensures rows { OpensGood result }
     ensures works { IfOk result (λ world. world.failed ≡ false) }
     // If they hold a state, no refusal tells of damage. If they hold tables, a damage that is told is theirs.
-    ensures whole { (s : State) → HoldsState (image_at T.Start) s → IfErr result (λ e. IsCleanRemains e.1 → IsOfStore e.0) }
+    ensures whole { RefusesHeld (image_at T.Start) result }
     ensures fault { (tables : Tables) → HoldsTables (image_at T.Start) tables → IfErr result (λ e. IsCleanRemains e.1 → Says tables e.0) }
     // If they hold other tables than ours, nothing, or no sound database, no refusal tells of damage or of a newer version.
     ensures foreign { (trees : Trees) → HoldsTrees (image_at T.Start) trees → HasOtherTables trees → IfErr result (λ e. IsCleanRemains e.1 → IsOfStore e.0) }

@@ -1,5 +1,4 @@
 use Rattle.sqlite.specs.Files.{over_files}
-use Rattle.sqlite.specs.WalFiles.{image_at}
 use Rattle.sqlite.specs.State.{HasCleanDisk}
 use Rattle.moo_cells.specs.Shows.{ShowsRows}
 use Rattle.moo_store.specs.World.{store_of}
@@ -8,17 +7,16 @@ use Rattle.moo_files.proofs.AgainLemmas.{held_after, led_again, each_ok}
 use Rattle.moo_files.proofs.again.open_again.Goals as goal
 
 pub returns-clause-found : goal.returns-clause-found
-returns-clause-found g c stand leaves left =
-    let it = held_after (store_of over_files c.args.crashed.now) stand (image_at g.U.Start) left.trees leaves left.such left.holds in
-    (it.0, it.1, c.open_from.ensures.kept it.0 it.2)
+returns-clause-found g c crashed stand image opened leaves left kept =
+    let it = held_after (store_of over_files crashed) stand image left.trees leaves left.such left.holds in
+    (it.0, it.1, kept it.0 it.2)
 
 pub returns-clause-numbers : goal.returns-clause-numbers
-returns-clause-numbers g c rows batches others led left =
-    let image = image_at g.U.Start in
-    each_ok c.open_from.result (HoldsTables image) (λ tables world. HasCleanDisk (store_of over_files world) → ShowsRows tables world.rows.maps) _ _ c.open_from.ensures.only c.open_from.ensures.rows
-    (λ world shown rows_of clean. led_again (store_of over_files c.args.crashed.now) image rows world.rows.maps batches others led left (λ tables holds. shown tables holds clean) rows_of.0)
+returns-clause-numbers g c crashed rows batches others image opened led left only good =
+    each_ok opened (HoldsTables image) (λ tables world. HasCleanDisk (store_of over_files world) → ShowsRows tables world.rows.maps) _ _ only good
+    (λ world shown rows_of clean. led_again (store_of over_files crashed) image rows world.rows.maps batches others led left (λ tables holds. shown tables holds clean) rows_of.0)
 
 pub returns-clause-refused : goal.returns-clause-refused
-returns-clause-refused g c stand leaves left =
-    let it = held_after (store_of over_files c.args.crashed.now) stand (image_at g.U.Start) left.trees leaves left.such left.holds in
-    c.open_from.ensures.whole it.0 it.2
+returns-clause-refused g c crashed stand image opened leaves left whole =
+    let it = held_after (store_of over_files crashed) stand image left.trees leaves left.such left.holds in
+    whole it.0 it.2
