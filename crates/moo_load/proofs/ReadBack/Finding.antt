@@ -123,7 +123,7 @@ module _ (w : World) (wf : IsWellFormed w) where
           next = (
             own_definer t.1 num (d, n) (number w wf (d, n)) found,
             sym (nat_cmp_is (number_before t.0 x d).0 (place (d, n) all) Less (let h = before.0 in omega arith)),
-            λ q above below. other_definer t.1 num d q (before.1 q.0 (ranked (number_before t.0 x d).0 q.0 Less (sym above)) (let h = ranked q.0 (place (d, n) all) Less (sym below) in omega arith))
+            λ q above below. other_definer t.1 num d q (before.1 q.0 (ranked (number_before t.0 x d).0 q.0 Less (sym above)) (let h : q.0 < place (d, n) all = ranked q.0 (place (d, n) all) Less (sym below) in omega arith))
           );
           row = num (number w wf (d, n)) ∙ ap (option_map property_row) found;
         }

@@ -70,12 +70,12 @@ stands_in_map f g again P h (x ∷ l) b (inr s) = stands_in_map f g again P h l 
 
 -- a property that is owed is one that its definer defines
 owed_defined : (w : World) (os : List ObjNo) (p : Pair) → Stands p (owed_by w os) → Stands p (defined_by w p.0)
-owed_defined w os p s = of_all (λ q. Stands q (defined_by w q.0)) (owed_by w os) p all s
+owed_defined w os p s = of_all (λ (q : Pair). Stands q (defined_by w q.0)) (owed_by w os) p all s
   where
-    all : AllByRecursion (λ q. Stands q (defined_by w q.0)) (owed_by w os)
+    all : AllByRecursion (λ (q : Pair). Stands q (defined_by w q.0)) (owed_by w os)
     all =
-        all_flat (λ q. Stands q (defined_by w q.0)) (defined_by w) os (all_each (λ d. AllByRecursion (λ q. Stands q (defined_by w q.0)) (defined_by w d)) (λ d.
-        all_map (λ q. Stands q (defined_by w q.0)) (λ n. (d, n)) (names_of w d) (all_of (λ n. Stands (d, n) (defined_by w d)) (names_of w d) (λ n k. stands_map (λ m. (d, m)) (names_of w d) n k))) os)
+        all_flat (λ (q : Pair). Stands q (defined_by w q.0)) (defined_by w) os (all_each (λ d. AllByRecursion (λ (q : Pair). Stands q (defined_by w q.0)) (defined_by w d)) (λ d.
+        all_map (λ (q : Pair). Stands q (defined_by w q.0)) (λ n. (d, n)) (names_of w d) (all_of (λ n. Stands (d, n) (defined_by w d)) (names_of w d) (λ n k. stands_map (λ m. (d, m)) (names_of w d) n k))) os)
 
 -- ---- numbers of petitions
 
@@ -104,7 +104,7 @@ key_stands id row (e ∷ es) h = by (eq_by_cmp petition_cmp id e.0) refl h (λ k
 
 module _ (m : FinMap petition_cmp PetitionRow) where
   petitions_own : AllByRecursion (λ (e : PetitionId × PetitionRow). get m e.0 ≡ Some e.1) (entries m)
-  petitions_own = all_weaker (λ e. find_key petition_cmp e.0 (entries m) ≡ Some e.1) (λ e. get m e.0 ≡ Some e.1) (λ e h. get-entries m e.0 ∙ h) (entries m) (own_entries petition_cmp petition_total (entries m) (entries_sorted m))
+  petitions_own = all_weaker (λ (e : PetitionId × PetitionRow). find_key petition_cmp e.0 (entries m) ≡ Some e.1) (λ e. get m e.0 ≡ Some e.1) (λ e h. get-entries m e.0 ∙ h) (entries m) (own_entries petition_cmp petition_total (entries m) (entries_sorted m))
 
   petition_stands : (id : PetitionId) (row : PetitionRow) → get m id ≡ Some row → Stands (id, row) (entries m)
   petition_stands id row e = key_stands id row (entries m) (sym (get-entries m id) ∙ e)
@@ -113,7 +113,7 @@ module _ (m : FinMap petition_cmp PetitionRow) where
   next_is = record {
     some = let h = first_below 1 (entries m) in omega arith;
     above = λ id here. by id (get m id) refl here;
-    least = λ n some each. least_above 1 (entries m) n (omega arith) (all_weaker (λ e. get m e.0 ≡ Some e.1) (λ e. e.0.0 < n) (λ e h. each e.0 (ap is_some h)) (entries m) petitions_own);
+    least = λ n some each. least_above 1 (entries m) n (omega arith) (all_weaker (λ (e : PetitionId × PetitionRow). get m e.0 ≡ Some e.1) (λ e. e.0.0 < n) (λ e h. each e.0 (ap is_some h)) (entries m) petitions_own);
   }
     where
       by : (id : PetitionId) (o : Option PetitionRow) → get m id ≡ o → is_some (get m id) ≡ true → id.0 < above_all 1 (entries m)
@@ -123,12 +123,6 @@ module _ (m : FinMap petition_cmp PetitionRow) where
 -- ---- the entries of a state are its rows
 
 module _ (s : State) (formed : IsFormed s) where
-  abbrev w : World
-  w = s.world
-
-  abbrev wf : IsWellFormed s.world
-  wf = formed.world
-
   abbrev all : List Pair
   all = all_properties s.world
 
@@ -140,7 +134,7 @@ module _ (s : State) (formed : IsFormed s) where
   IsSo (a_verb x v) = Unit {0}
   IsSo (a_petition e) = get s.petitions e.0 ≡ Some e.1
 
-  owed_is : (x : ObjNo) → is_object s.world x ≡ true → AllByRecursion (λ p. pair_named (owed_by s.world (chain s.world x)) (folded p.1) ≡ Some p) (owed_by s.world (chain s.world x))
+  owed_is : (x : ObjNo) → is_object s.world x ≡ true → AllByRecursion (λ (p : Pair). pair_named (owed_by s.world (chain s.world x)) (folded p.1) ≡ Some p) (owed_by s.world (chain s.world x))
   owed_is x here = own_names (owed_by s.world (chain s.world x)) (formed.world.names x (chain s.world x) (Chain-chain s.world formed.world.tree x here))
 
   among_all : (os : List ObjNo) (p : Pair) → Stands p (owed_by s.world os) → is_object s.world p.0 ≡ true → Stands p all
@@ -160,7 +154,7 @@ module _ (s : State) (formed : IsFormed s) where
       by None e = tt
       by (Some k) e =
           let c = Chain-chain s.world formed.world.tree x here in
-          let named = of_all (λ p. pair_named (owed_by s.world (chain s.world x)) (folded p.1) ≡ Some p) (owed_by s.world (chain s.world x)) p (owed_is x here) st in
+          let named = of_all (λ (p : Pair). pair_named (owed_by s.world (chain s.world x)) (folded p.1) ≡ Some p) (owed_by s.world (chain s.world x)) p (owed_is x here) st in
           let own : k.definer ≡ p.0 = same_Some k.definer p.0 (sym (ap (option_map (λ (j : Slot). j.definer)) e) ∙ formed.world.slots x (chain s.world x) (folded p.1) here c ∙ ap (option_map (λ (q : Pair). q.0)) named) in
           ((among_all (chain s.world x) p st (definer_here p.0 p.1 (owed_defined s.world (chain s.world x) p st)), e, own), tt)
 
@@ -199,7 +193,7 @@ module _ (s : State) (formed : IsFormed s) where
       said (a_petition q) h b e = absurd (none-some b e)
 
       each : AllByRecursion (λ e. row_of s.world e.0 ≡ Some e.1) (filter_map row_in (entries_of s))
-      each = all_made_by (λ e. row_of s.world e.0 ≡ Some e.1) row_in (entries_of s) (all_weaker IsSo (λ a. (b : ObjNo × ObjRow) → row_in a ≡ Some b → row_of s.world b.0 ≡ Some b.1) said (entries_of s) all_so)
+      each = all_made_by (λ (e : ObjNo × ObjRow). row_of s.world e.0 ≡ Some e.1) row_in (entries_of s) (all_weaker IsSo (λ a. (b : ObjNo × ObjRow) → row_in a ≡ Some b → row_of s.world b.0 ≡ Some b.1) said (entries_of s) all_so)
 
       every : (row : ObjRow) → row_of s.world x ≡ Some row → Others object_total object_exact (row_of s.world) x (filter_map row_in (entries_of s)) → ⊥
       every row e others = by (s.world.object x) refl
@@ -282,7 +276,7 @@ module _ (s : State) (formed : IsFormed s) where
           let name : folded q.1 ≡ folded p.1 = named_so (owed_by s.world (chain s.world x)) (folded p.1) q g in
           let mine : Stands p (defined_by s.world p.0) = owed_defined s.world (objects_of s.world) p st in
           let other : Stands q (defined_by s.world p.0) = subst (λ d. Stands q (defined_by s.world d)) definer (owed_defined s.world (chain s.world x) q there) in
-          let same : p ≡ q = alike_once (λ a b. same_text (folded a.1) (folded b.1)) (defined_by s.world p.0) p q (own_names_differ s.world formed.world p.0) mine other ((same_text-Decides (folded p.1) (folded q.1)).1 (sym name)) ((same_text-Decides (folded q.1) (folded p.1)).1 name) in
+          let same : p ≡ q = alike_once (λ (a : Pair). λ (b : Pair). same_text (folded a.1) (folded b.1)) (defined_by s.world p.0) p q (own_names_differ s.world formed.world p.0) mine other ((same_text-Decides (folded p.1) (folded q.1)).1 (sym name)) ((same_text-Decides (folded q.1) (folded p.1)).1 name) in
           subst (λ (r : Pair). Stands r (owed_by s.world (chain s.world x))) (sym same) there
 
   slot_stands : (x : ObjNo) (r : Record) (p : Pair) (k : Slot) → s.world.object x ≡ Some r → Stands p (owed_by s.world (chain s.world x)) → slot_of s.world x (folded p.1) ≡ Some k → Stands (a_slot x p k) (entries_of s)
@@ -322,7 +316,7 @@ module _ (s : State) (formed : IsFormed s) where
   slots_are : (x : ObjNo) (id : PropId) → get (puts {cmp = slot_cmp} (filter_map (slot_in number_by) (entries_of s)) empty) (x, id) ≡ slot_told (x, id)
   slots_are x id =
       exactly slot_total slot_exact slot_told (x, id) (filter_map (slot_in number_by) (entries_of s))
-      (all_made_by (λ e. slot_told e.0 ≡ Some e.1) (slot_in number_by) (entries_of s) (all_weaker IsSo (λ a. (b : (ObjNo × PropId) × SlotRow) → slot_in number_by a ≡ Some b → slot_told b.0 ≡ Some b.1) said_of_slot (entries_of s) all_so))
+      (all_made_by (λ (e : (ObjNo × PropId) × SlotRow). slot_told e.0 ≡ Some e.1) (slot_in number_by) (entries_of s) (all_weaker IsSo (λ a. (b : (ObjNo × PropId) × SlotRow) → slot_in number_by a ≡ Some b → slot_told b.0 ≡ Some b.1) said_of_slot (entries_of s) all_so))
       (every_slot x id)
 
   -- ---- all
