@@ -127,14 +127,14 @@ size_in n = 0
 abbrev number_in : ObjNo → ℕ
 number_in x = size_in x.0
 
-apart : (k j : ℕ) → (k ≡ j → ⊥) → same_object (object_at k) (object_at j) ≡ false
+pub apart : (k j : ℕ) → (k ≡ j → ⊥) → same_object (object_at k) (object_at j) ≡ false
 apart k j differ = by (same_object (object_at k) (object_at j)) refl
   where
     by : (b : Bool) → same_object (object_at k) (object_at j) ≡ b → b ≡ false
     by true e = absurd (differ (ap number_in ((same_object-Decides (object_at k) (object_at j)).0 e)))
     by false e = refl
 
-found : (w : World) (k n : ℕ) → k < n → filter (is_of (object_at k)) (flat_map (object_entries w) (map object_at (numbers_below n))) ≡ object_entries w (object_at k)
+pub found : (w : World) (k n : ℕ) → k < n → filter (is_of (object_at k)) (flat_map (object_entries w) (map object_at (numbers_below n))) ≡ object_entries w (object_at k)
 found w k zero less = absurd (omega arith)
 found w k (suc n) less = elim (cases_lt k n) [
   | inl below ↦ step w (object_at k) n ∙ (λ i. found w k n below i ++ no_block w (object_at k) (object_at n) (apart k n (λ e. omega arith)) i) ∙ append-nil (object_entries w (object_at k))
