@@ -16,15 +16,18 @@ ghost use Rattle.moo_files.specs.Contents.{IsLeftBy};
 ghost use Rattle.moo_files.specs.Remains.{IsCleanRemains};
 
 use crate::opening::open_from;
+use crate::paths::WorldFiles;
 use crate::remains::Remains;
 use moo_store::{StoreFault, World};
 use sqlite::{FileFrom, FileStore, Start};
+use std::alloc::Global;
 
 /// Opens what a crash left of the files of a World, at a moment when its store was the one at hand.
 ///
 /// `U` stands for what the files hold after the crash: a database that the store may have left. Nothing else ties the two.
-pub fn open_again<T: Start, U: Start>(
-    rt: &HostRuntime,
+pub fn open_again<T: Start, U: Start, H: WorldFiles<U>>(
+    alloc: Global,
+    host: &H,
     path: &str,
     crashed: &World<FileStore<FileFrom<T>>>,
     start: U,
@@ -39,5 +42,5 @@ pub fn open_again<T: Start, U: Start>(
         IfErr result (λ e. IsCleanRemains e.1 → IsOfStore e.0) }
 {
     let _crashed = crashed;
-    open_from(rt, path, start)
+    open_from(alloc, host, path, start)
 }
