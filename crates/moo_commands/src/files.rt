@@ -213,7 +213,7 @@ fn run_begun<
 /// Does what a task says over its file, writes the line of a failure, and hands back what is left of the file. The status is that
 /// of `run_words`.
 ///
-/// `T` is what the file of the words holds, and `H` the files of batches and the ports: it is proved for all contents and all connections, and
+/// `T` is what the file of the words holds, and `H` the host, with its files and its ports: it is proved for all contents and all connections, and
 /// no code looks at them. The program calls it for files that nobody has read.
 pub fn run_from<
     T: Start,

@@ -76,7 +76,7 @@ fn report_usage<C: Eprint, W: Write>(
 /// does a hint if a batch met a fault of the store. If a batch isn't accepted, standard error says its line and why. A connection that fails isn't a
 /// failure of `serve`.
 ///
-/// `T` is what the file of the words holds, and `H` the files of batches and the ports: it is proved for all contents and all connections, and
+/// `T` is what the file of the words holds, and `H` the host, with its files and its ports: it is proved for all contents and all connections, and
 /// no code looks at them. What is left of the file is handed back, to be closed: if the words have none, the unspent start.
 pub fn run_words<
     T: Start,

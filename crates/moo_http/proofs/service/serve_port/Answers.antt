@@ -6,7 +6,7 @@ use Rattle.moo_http.proofs.service.serve_port.Goals as goal
 
 -- the port can't be bound
 pub returns-in_default-clause-serves : goal.returns-in_default-clause-serves
-returns-in_default-clause-serves g c known stand at = stood g.S.Store known stand c.args.world.now _ at (c.leaves.ensures known stand at) ?
+returns-in_default-clause-serves g c known stand at = stood g.S.Store known stand c.args.world.now _ at (c.leaves.ensures known stand at) (refl, c.in_default.ensures, refl)
 
 pub returns-clause-serves : goal.returns-clause-serves
 returns-clause-serves g c known stand at =
@@ -24,5 +24,5 @@ returns-clause-serves g c known stand at =
     ends_as g.S.Store known c.serve_from-done.new.world
     (λ end. ServesFrom source.hands_out source.takes_back remaining contents c.serve_from-done.result c.args.port c.args.count from stand to end before after)
     (λ end. ServesOn (attended_between source.hands_out source.takes_back remaining contents ports.listens ports.closes first last) c.serve_from-done.result c.args.port c.args.count stand end before after)
-    (λ end it. serves_on source.hands_out source.takes_back remaining contents ports.listens ports.closes first between last c.serve_from-done.result c.args.port c.args.count from stand to end before after ? ? c.serve_from-done.ensures.fault it)
+    (λ end it. serves_on source.hands_out source.takes_back remaining contents ports.listens ports.closes first between last c.serve_from-done.result c.args.port c.args.count from stand to end before after c.in-Some.ensures c.close.ensures c.serve_from-done.ensures.fault it)
     (c.serve_from-done.ensures.serves known stand at)
