@@ -64,7 +64,7 @@ module _ {T D : Type 0} {g : Ghosts D} where
   pub takes_up : (words : List (List ℕ)) (image : Image) (ends : Ends T D g) (given : Given) (old new : Option (List ℕ)) (status : ℕ)
       → RunsOver words image ends given old new status → (s : State) → HoldsState image s → TakesUp words s ends given old new status
   takes_up words image ends given old new status (inl (task, named, alone, runs, it)) s holds = inl (task, named, λ other. (it.file (on_file task other)).kept s other holds)
-  takes_up words image ends given old new status (inr mistake) s holds = inr mistake
+  takes_up words image ends given old new status (inr (some, rests, usage, none)) s holds = inr (some, usage, none)
 
   -- what a crash left of files that kept such a database holds such a one
   still_such : (P : Trees → Type 0) (image : Image) (rest : Remains T D g) (next : Image) → KeepsSuch P image rest → HoldsSuch P image → IsLeftAfter image rest next → HoldsSuch P next
@@ -83,7 +83,7 @@ module _ {T D : Type 0} {g : Ghosts D} where
   refused_left : (words : List (List ℕ)) (image : Image) (rest : Remains T D g) (given : Given) (old new : Option (List ℕ)) (status : ℕ)
       → RunsOver words image (variant.Refused rest) given old new status → (s : State) → HoldsState image s → IsCleanRemains rest → StillHolds image rest s
   refused_left words image rest given old new status (inl (task, named, alone, runs, it)) s holds clean = (refused_file task image rest given old new status it).left s holds clean
-  refused_left words image rest given old new status (inr (some, usage, none)) s holds clean = absurd none
+  refused_left words image rest given old new status (inr (some, rests, usage, none)) s holds clean = absurd none
 
   pub crashes_to : (words : List (List ℕ)) (image : Image) (ends : Ends T D g) (given : Given) (old new : Option (List ℕ)) (status : ℕ) (next : Image) (Next : State → Type 0)
       → RunsOver words image ends given old new status → ((t : State) → HoldsState next t → Next t) → CrashesTo words image ends given old new status next Next
@@ -98,7 +98,7 @@ module _ {T D : Type 0} {g : Ghosts D} where
               (lies.0, lies.1, lies.2, goes lies.0 lies.2),
         )),
   )
-  crashes_to words image (variant.Ran conn) given old new status next Next (inr (some, usage, none)) goes = absurd none
+  crashes_to words image (variant.Ran conn) given old new status next Next (inr (some, rests, usage, none)) goes = absurd none
   crashes_to words image (variant.Refused rest) given old new status next Next over goes = λ clean s holds left.
       let still = still_such (λ trees. LeavesState trees s) image rest next (refused_left words image rest given old new status over s holds clean) holds left in
       (still, goes s still)

@@ -53,21 +53,21 @@ load_begins (Serve file port count) loads = absurd (true≢false (sym loads))
 
 -- what comes after a load reads no text
 pub of_other_texts : (task : Task) → is_load task ≡ true → (s : State) (given others : Given) (old new : Option (List ℕ)) (status : ℕ) (Clean : Type 0) (Crash : Stand → Type 0) (Shown : Type 0)
-    → RunsFrom task s given old new status Clean Crash Shown → RunsFrom task s others old new status Clean Crash Shown
-of_other_texts (Init file) loads s given others old new status Clean Crash Shown it = absurd (true≢false (sym loads))
-of_other_texts (Apply file batches) loads s given others old new status Clean Crash Shown it = absurd (true≢false (sym loads))
-of_other_texts (Ask file batches) loads s given others old new status Clean Crash Shown it = absurd (true≢false (sym loads))
-of_other_texts (Dump file) loads s given others old new status Clean Crash Shown it = absurd (true≢false (sym loads))
-of_other_texts (Load file dump) loads s given others old new status Clean Crash Shown it = record { end = it.end; crash = it.crash; writes = it.writes }
-of_other_texts (Check file) loads s given others old new status Clean Crash Shown it = absurd (true≢false (sym loads))
-of_other_texts (Serve file port count) loads s given others old new status Clean Crash Shown it = absurd (true≢false (sym loads))
+    → RunsFrom task s given old new status Clean Crash Shown → (given.ports.rests → others.ports.rests) → RunsFrom task s others old new status Clean Crash Shown
+of_other_texts (Init file) loads s given others old new status Clean Crash Shown it on = absurd (true≢false (sym loads))
+of_other_texts (Apply file batches) loads s given others old new status Clean Crash Shown it on = absurd (true≢false (sym loads))
+of_other_texts (Ask file batches) loads s given others old new status Clean Crash Shown it on = absurd (true≢false (sym loads))
+of_other_texts (Dump file) loads s given others old new status Clean Crash Shown it on = absurd (true≢false (sym loads))
+of_other_texts (Load file dump) loads s given others old new status Clean Crash Shown it on = record { end = it.end; crash = it.crash; rests = λ other. on (it.rests other); writes = it.writes }
+of_other_texts (Check file) loads s given others old new status Clean Crash Shown it on = absurd (true≢false (sym loads))
+of_other_texts (Serve file port count) loads s given others old new status Clean Crash Shown it on = absurd (true≢false (sym loads))
 
 pub fails_to_begin : (task : Task) (old new : Option (List ℕ)) (status : ℕ) → FailsAtOnce old new status → FailsToBegin task old new status
 fails_to_begin task old new status (failure, opening, reports) = (failure, inl opening, reports)
 
 -- a run from the world that a task begins with, of which nothing more is said than what is written
 pub new_unseen : (task : Task) (given : Given) (old new : Option (List ℕ)) (status : ℕ) (Clean : Type 0) (Crash : Stand → Type 0) (Shown : Type 0)
-    → FailsToBegin task old new status ⊎ ((s : State) × BeginsWith task given s × RunsFrom task s given old new status Clean Crash Shown) → RunsNew task given old new status
+    → (given.ports.rests × FailsToBegin task old new status) ⊎ ((s : State) × BeginsWith task given s × RunsFrom task s given old new status Clean Crash Shown) → RunsNew task given old new status
 new_unseen task given old new status Clean Crash Shown (inl fails) = inl fails
 new_unseen task given old new status Clean Crash Shown (inr (s, begins, it)) = inr (s, begins, unseen task s given old new status Clean Crash Shown it)
 

@@ -1,5 +1,5 @@
 -- A task over a connection.
-use Rattle.std.proofs.Common.{◌≡◌, ◌⊎◌, inl, inr, ℕ, List, Option, Result, Ok, Err, IfOk, IfErr, refl, sym, subst, subst₂, ap, ◌∙◌, Bool, true, IsTrue}
+use Rattle.std.proofs.Common.{◌≡◌, ◌⊎◌, inl, inr, ℕ, List, Option, Result, Ok, Err, IfOk, IfErr, refl, sym, subst, subst₂, ap, ◌∙◌, Bool, true, false, IsTrue}
 use Rattle.std.specs.Prelude.{MatchResult, ⊤}
 use Rattle.sqlite.specs.State.{State as Database, HasCleanDisk, Survives}
 use Rattle.sqlite.specs.Store.{Ghosts}
@@ -11,7 +11,7 @@ use Rattle.moo_commands.specs.declared.failure.Failure.{Failure}
 use Rattle.moo_commands.specs.declared.failure.Failure.TheVariants.{Usage, NoFile, Store, Damaged, NewerVersion, NotADump, NoBatches, Read, Write, TooLong, Port, NoMemory}
 use Rattle.sqlite.specs.declared.error.Error.{Error}
 use Rattle.moo_commands.specs.Lines.{Reports, store_failure}
-use Rattle.moo_commands.specs.Run.{Given, Done, StopsTask, ShowsTables, EndsTask, RunsFrom, RunsUnseen, IsOpening, MayRefuse, FailsAtOnce, LeavesAsBefore}
+use Rattle.moo_commands.specs.Run.{Given, Done, StopsTask, ShowsTables, EndsTask, RunsFrom, RunsUnseen, IsOpening, MayRefuse, FailsAtOnce, LeavesAsBefore, serves}
 use Rattle.moo_world.specs.Judge.{State}
 use Rattle.moo_store.specs.Kept.{World}
 use Rattle.moo_store.specs.World.{store_of, CrashLeaves}
@@ -39,17 +39,19 @@ module _ {S : Type 0} (g : Ghosts S) (known : Bool) (was world : World S) (conn 
   abbrev pub RunsTo : Option (List ℕ) → ℕ → Type 0
   RunsTo new status = RunsFrom task s given old new status (IsTrue known × HasCleanDisk (state g conn)) (CrashLeaves (state g conn)) (ShowsTables g was (state g conn))
 
-  pub runs_done : (new : Option (List ℕ)) (status : ℕ) → EndsTask g known was world (λ end. Done task s end (ShowsTables g was (store_of g world)) given old new status) → RunsTo new status
-  runs_done new status it = record {
+  pub runs_done : (new : Option (List ℕ)) (status : ℕ) → (serves task ≡ false → given.ports.rests) → EndsTask g known was world (λ end. Done task s end (ShowsTables g was (store_of g world)) given old new status) → RunsTo new status
+  runs_done new status rests it = record {
     end = it.end;
+    rests = rests;
     crash = λ both. subst (λ h. HasCleanDisk (state g h) → CrashLeaves (state g h) it.end) (sym is) (it.crash both.0) both.1;
     writes = inl (subst (λ h. Done task s it.end (ShowsTables g was (state g h)) given old new status) (sym is) it.ends);
   }
 
-  pub runs_stops : (between new : Option (List ℕ)) (failure : Failure) (status : ℕ) → EndsTask g known was world (λ end. StopsTask task s end failure (IsTrue known × HasCleanDisk (store_of g world)) given old between) → Reports failure between new status
+  pub runs_stops : (between new : Option (List ℕ)) (failure : Failure) (status : ℕ) → (serves task ≡ false → given.ports.rests) → EndsTask g known was world (λ end. StopsTask task s end failure (IsTrue known × HasCleanDisk (store_of g world)) given old between) → Reports failure between new status
       → RunsTo new status
-  runs_stops between new failure status it reports = record {
+  runs_stops between new failure status rests it reports = record {
     end = it.end;
+    rests = rests;
     crash = λ both. subst (λ h. HasCleanDisk (state g h) → CrashLeaves (state g h) it.end) (sym is) (it.crash both.0) both.1;
     writes = inr (failure, between, subst (λ h. StopsTask task s it.end failure (IsTrue known × HasCleanDisk (state g h)) given old between) (sym is) it.ends, reports);
   }
@@ -57,11 +59,11 @@ module _ {S : Type 0} (g : Ghosts S) (known : Bool) (was world : World S) (conn 
   pub late_clean : (End : Stand → Type 0) → EndsTask g known was world End → HasCleanDisk (state g conn) → HasCleanDisk (store_of g was)
   late_clean End it clean = it.clean (subst (λ h. HasCleanDisk (state g h)) is clean)
 
-  pub runs_to : (r : Result ℕ Failure) (mid new : Option (List ℕ)) (status : ℕ) → IfOk r (λ value. EndsTask g known was world (λ end. Done task s end (ShowsTables g was (store_of g world)) given old mid value))
+  pub runs_to : (r : Result ℕ Failure) (mid new : Option (List ℕ)) (status : ℕ) → (serves task ≡ false → given.ports.rests) → IfOk r (λ value. EndsTask g known was world (λ end. Done task s end (ShowsTables g was (store_of g world)) given old mid value))
       → IfErr r (λ failure. EndsTask g known was world (λ end. StopsTask task s end failure (IsTrue known × HasCleanDisk (store_of g world)) given old mid))
       → MatchResult r (λ value. (status ≡ value) × (new ≡ mid)) (λ failure. Reports failure mid new status) → RunsTo new status
-  runs_to (Ok value) mid new status done stops (same, unwritten) = subst₂ RunsTo (sym unwritten) (sym same) (runs_done mid value done)
-  runs_to (Err failure) mid new status done stops reports = runs_stops mid new failure status stops reports
+  runs_to (Ok value) mid new status rests done stops (same, unwritten) = subst₂ RunsTo (sym unwritten) (sym same) (runs_done mid value rests done)
+  runs_to (Err failure) mid new status rests done stops reports = runs_stops mid new failure status rests stops reports
 
   pub late_clean_of : (r : Result ℕ Failure) (mid : Option (List ℕ)) → IfOk r (λ value. EndsTask g known was world (λ end. Done task s end (ShowsTables g was (store_of g world)) given old mid value))
       → IfErr r (λ failure. EndsTask g known was world (λ end. StopsTask task s end failure (IsTrue known × HasCleanDisk (store_of g world)) given old mid)) → HasCleanDisk (state g conn) → HasCleanDisk (store_of g was)
@@ -93,6 +95,7 @@ runs_when : (task : Task) (s : State) (given : Given) (old new : Option (List �
     → RunsFrom task s given old new status Clean Crash Shown → RunsFrom task s given old new status More Then ⊤
 runs_when task s given old new status Clean More Crash Then Shown on leaves it = record {
   end = it.end;
+  rests = it.rests;
   crash = λ more. leaves it.end more (it.crash (on more));
   writes = elim it.writes [
     | inl done ↦ inl (done_when task s it.end Shown ⊤ (λ _. tt) given old new status done)

@@ -30,5 +30,5 @@ module _ {T D : Type 0} {g : Ghosts D} (task : Task) (image : Image) where
   -- what a run over a file writes, whatever the file holds
   pub runs_task : (end : Ends T D g) (given : Given) (old new : Option (List ℕ)) (status : ℕ) → RunsFile task image end given old new status → RunsTask task given old new status
   runs_task (variant.Ran conn) given old new status it = record { anew = λ anew. let run = it.anew anew in inr (run.0, run.1, unseen _ _ _ _ _ _ _ _ _ run.2); opened = λ other. inr (it.opened other) }
-  runs_task (variant.Refused remains) given old new status it = record { anew = λ anew. inl (it.anew anew); opened = λ other. inl (it.opened other) }
+  runs_task (variant.Refused remains) given old new status it = record { anew = λ anew. inl (it.rests, it.anew anew); opened = λ other. inl (it.rests, it.opened other) }
   runs_task (variant.NoFile start) given old new status it = record { anew = λ anew. absurd (it.anew anew); opened = λ other. absurd (it.opened other) }

@@ -16,18 +16,18 @@ use Rattle.moo_commands.specs.Run.{Serving, StopsServing, EndsTask}
 use Rattle.moo_commands.specs.declared.failure.Failure.{Failure}
 
 -- what stops the service, by its fault
-stopped : (Attends : Attendance) (port count : ℕ) (s : State) (end : Stand) (fault : ServiceFault) (failure : Failure) (old new : Option (List ℕ)) → failure ≡ service_failure fault
-    → ServesOn Attends (Err fault) port count (Works s) end old new → StopsServing Attends port count s end failure old new
-stopped Attends port count s end service_fault.Port failure old new is (same, unwritten) = inl (is, same, unwritten)
-stopped Attends port count s end service_fault.Write failure old new is (inl (same, front)) = inr (inl (same, (inl is, front.0, front.1)))
-stopped Attends port count s end service_fault.Write failure old new is (inr (text, all, front)) = inr (inr (text, all, (inl is, front.0, front.1)))
-stopped Attends port count s end service_fault.OutOfMemory failure old new is (inl (same, front)) = inr (inl (same, (inr is, front.0, front.1)))
-stopped Attends port count s end service_fault.OutOfMemory failure old new is (inr (text, all, front)) = inr (inr (text, all, (inr is, front.0, front.1)))
+stopped : (ports : Attendance) (port count : ℕ) (s : State) (end : Stand) (fault : ServiceFault) (failure : Failure) (old new : Option (List ℕ)) → failure ≡ service_failure fault
+    → ServesOn ports (Err fault) port count (Works s) end old new → StopsServing ports port count s end failure old new
+stopped ports port count s end service_fault.Port failure old new is (same, refused, unwritten) = inl (is, same, refused, unwritten)
+stopped ports port count s end service_fault.Write failure old new is (inl ((same, none), front)) = inr (inl (same, none, (inl is, front.0, front.1)))
+stopped ports port count s end service_fault.Write failure old new is (inr (text, all, front)) = inr (inr (text, all, (inl is, front.0, front.1)))
+stopped ports port count s end service_fault.OutOfMemory failure old new is (inl ((same, none), front)) = inr (inl (same, none, (inr is, front.0, front.1)))
+stopped ports port count s end service_fault.OutOfMemory failure old new is (inr (text, all, front)) = inr (inr (text, all, (inr is, front.0, front.1)))
 
-module _ {S : Type 0} (g : Ghosts S) (known : Bool) (was world : World S) (clean : HasCleanDisk (store_of g world) → HasCleanDisk (store_of g was)) (Attends : Attendance) (port count : ℕ) (s : State) (old new : Option (List ℕ)) where
-  pub service_done : (done : Unit {0}) → StandsAtEnd g known world (λ end. ServesOn Attends (Ok done) port count (Works s) end old new) → EndsTask g known was world (λ end. Serving Attends port count s end old new 0)
+module _ {S : Type 0} (g : Ghosts S) (known : Bool) (was world : World S) (clean : HasCleanDisk (store_of g world) → HasCleanDisk (store_of g was)) (ports : Attendance) (port count : ℕ) (s : State) (old new : Option (List ℕ)) where
+  pub service_done : (done : Unit {0}) → StandsAtEnd g known world (λ end. ServesOn ports (Ok done) port count (Works s) end old new) → EndsTask g known was world (λ end. Serving ports port count s end old new 0)
   service_done done it = record { end = it.end; clean = clean; crash = it.crash; ends = (it.ends.0, it.ends.1, it.ends.2, refl) }
 
-  pub service_stops : (fault : ServiceFault) (failure : Failure) → failure ≡ service_failure fault → StandsAtEnd g known world (λ end. ServesOn Attends (Err fault) port count (Works s) end old new)
-      → EndsTask g known was world (λ end. StopsServing Attends port count s end failure old new)
-  service_stops fault failure is it = record { end = it.end; clean = clean; crash = it.crash; ends = stopped Attends port count s it.end fault failure old new is it.ends }
+  pub service_stops : (fault : ServiceFault) (failure : Failure) → failure ≡ service_failure fault → StandsAtEnd g known world (λ end. ServesOn ports (Err fault) port count (Works s) end old new)
+      → EndsTask g known was world (λ end. StopsServing ports port count s end failure old new)
+  service_stops fault failure is it = record { end = it.end; clean = clean; crash = it.crash; ends = stopped ports port count s it.end fault failure old new is it.ends }

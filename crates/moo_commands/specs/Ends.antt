@@ -102,6 +102,8 @@ module _ {T D : Type 0} {g : Ghosts D} where
     pub begun : begins_anew task ≡ true → IsBlank image → MatchFile ends (λ conn. ⊤)
         (λ remains. IsCleanRemains remains → KeepsNothingBut (λ found. (s : State) × BeginsWith task given s × LeavesState found s) image remains)
     pub blank : begins_anew task ≡ false → IsNothing image → MatchFile ends (λ conn. ⊤) (λ remains. IsCleanRemains remains → KeepsNothingBut (λ _. ⊥) image remains)
+    -- if no world was opened or made, nothing is asked of the ports
+    pub rests : MatchFile ends (λ conn. ⊤) (λ remains. given.ports.rests)
     -- if no file was opened, the line tells why; or the start is unspent, and the line tells why a dump gives no world
     pub told : MatchFile ends (λ conn. ⊤) (λ remains. ((fault : StoreFault) × MayStopAs fault remains × Reports (store_failure fault) old new status) ⊎ (IsTrue (is_load task) × IsUntouched remains × (failure : Failure) × IsOfDump failure × Reports failure old new status))
 
@@ -114,7 +116,7 @@ module _ {T D : Type 0} {g : Ghosts D} where
   abbrev pub RunsOver : List (List ℕ) → Image → Ends T D g → Given → Option (List ℕ) → Option (List ℕ) → ℕ → Type 0
   RunsOver words image ends given old new status =
       ((task : Task) × NamesTask words task × NamesAlone words task × RunsTask task given old new status × EndsWith task image ends given old new status)
-      ⊎ ((1 < length words) × EndsUsage (mistakes words) old new status × HasNoFile ends)
+      ⊎ ((1 < length words) × given.ports.rests × EndsUsage (mistakes words) old new status × HasNoFile ends)
 
   -- the file of a run was closed: what it then holds, and what a crash leaves of it, is what a crash might have left before
   abbrev pub IsClosedEnd : Ends T D g → Remains T D g → Type 0

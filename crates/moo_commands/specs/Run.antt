@@ -89,6 +89,16 @@ only_reads (Load file dump) = true
 only_reads (Check file) = true
 only_reads (Serve file port count) = false
 
+-- the task answers connections
+abbrev pub serves : Task → Bool
+serves (Init file) = false
+serves (Apply file batches) = false
+serves (Ask file batches) = false
+serves (Dump file) = false
+serves (Load file dump) = false
+serves (Check file) = false
+serves (Serve file port count) = true
+
 -- the text of each word for batches or a dump, if it is known
 abbrev pub Texts : Type 0
 Texts = List ℕ → Option (List ℕ)
@@ -97,14 +107,14 @@ Texts = List ℕ → Option (List ℕ)
 abbrev pub texts_by : Option (List ℕ) → Texts → Texts
 texts_by input files batches = if bytes_eq batches (codes "-") then input else files batches
 
--- what a run is given beside its words and their file: the texts, and the connections that come to each port
+-- what a run is given beside its words and their file: the texts, and what comes of the ports
 pub record Given : Type 1 where
   pub text : Texts
-  pub attends : Attendance
+  pub ports : Attendance
 
 -- by the input, the files of batches and the ports
 abbrev pub given_by : Option (List ℕ) → Texts → Attendance → Given
-given_by input files attends = record { text = texts_by input files; attends = attends }
+given_by input files ports = record { text = texts_by input files; ports = ports }
 
 -- the dump of this state is the text, byte for byte, if it is known
 abbrev pub IsDumpedAs : Option (List ℕ) → State → Type 0
@@ -135,7 +145,7 @@ StopsText step s end failure text old new =
 -- The connections that came to a port were served, so many of them, and what is said of them is written. The world moved by what they
 -- asked, and by nothing else.
 abbrev pub Serving : Attendance → ℕ → ℕ → State → Stand → Option (List ℕ) → Option (List ℕ) → ℕ → Type 0
-Serving Attends port count s end old new status = (text : List ℕ) × SaysAttended Attends port count (Works s) end text × Appends old new text × (status ≡ 0)
+Serving ports port count s end old new status = (text : List ℕ) × SaysAttended ports port count (Works s) end text × Appends old new text × (status ≡ 0)
 
 -- The task is done. A check found the tables as `Shown` says.
 abbrev pub Done : Task → State → Stand → Type 0 → Given → Option (List ℕ) → Option (List ℕ) → ℕ → Type 0
@@ -146,19 +156,19 @@ Done (Dump file) s end Shown given old new status = (end ≡ Works s) × Appends
 Done (Load file dump) s end Shown given old new status = (end ≡ Works s) × Appends old new (loaded_line s.seq (length (objects_of s.world))) × (status ≡ 0)
 Done (Check file) s end Shown given old new status =
     (end ≡ Works s) × Shown × Appends old new (checked_line s.seq (length (objects_of s.world))) × (status ≡ 0)
-Done (Serve file port count) s end Shown given old new status = Serving given.attends port count s end old new status
+Done (Serve file port count) s end Shown given old new status = Serving given.ports port count s end old new status
 
 -- a front of a text is written, since the writer failed or memory ran out
 abbrev pub StopsIn : List ℕ → Failure → Option (List ℕ) → Option (List ℕ) → Type 0
 StopsIn text failure old new = ((failure ≡ Write) ⊎ (failure ≡ NoMemory)) × (count : ℕ) × Appends old new (take count text)
 
--- The port can't be listened on, and nothing is done. Or what is said of the service stops in its first line, before any connection;
--- or after the last one.
+-- The port can't be listened on, and nothing is done. Or what is said of the service stops in its first line, and no connection is taken
+-- from the port; or after the last one.
 abbrev pub StopsServing : Attendance → ℕ → ℕ → State → Stand → Failure → Option (List ℕ) → Option (List ℕ) → Type 0
-StopsServing Attends port count s end failure old new =
-    ((failure ≡ Port) × (end ≡ Works s) × (new ≡ old))
-    ⊎ ((end ≡ Works s) × StopsIn (listening_line port) failure old new)
-    ⊎ ((text : List ℕ) × SaysAttended Attends port count (Works s) end text × StopsIn text failure old new)
+StopsServing ports port count s end failure old new =
+    ((failure ≡ Port) × (end ≡ Works s) × ports.refuses port × (new ≡ old))
+    ⊎ ((end ≡ Works s) × ports.attends port 0 0 (Works s) end × StopsIn (listening_line port) failure old new)
+    ⊎ ((text : List ℕ) × SaysAttended ports port count (Works s) end text × StopsIn text failure old new)
 
 -- It stops with this failure, and so much is written. On a clean disk no check of a World that stands for a state finds a damage.
 abbrev pub StopsTask : Task → State → Stand → Failure → Type 0 → Given → Option (List ℕ) → Option (List ℕ) → Type 0
@@ -171,7 +181,7 @@ StopsTask (Check file) s end failure Clean given old new =
     (end ≡ Works s)
     × (((fault : StoreFault) × (failure ≡ store_failure fault) × (Clean → IsOfStore fault) × (new ≡ old))
     ⊎ StopsIn (checked_line s.seq (length (objects_of s.world))) failure old new)
-StopsTask (Serve file port count) s end failure Clean given old new = StopsServing given.attends port count s end failure old new
+StopsTask (Serve file port count) s end failure Clean given old new = StopsServing given.ports port count s end failure old new
 
 -- a crash leaves nothing that it couldn't leave before
 abbrev pub LeavesNothingNew : Database → Database → Type 0
@@ -196,6 +206,8 @@ ShowsTables g world after = HasCleanDisk after → (tables : Tables) → Rests (
 pub record RunsFrom (task : Task) (s : State) (given : Given) (old new : Option (List ℕ)) (status : ℕ) (Clean : Type 0) (Crash : Stand → Type 0) (Shown : Type 0) : Type 0 where
   pub end : Stand
   pub crash : Clean → Crash end
+  -- only a task that serves asks anything of the ports
+  pub rests : serves task ≡ false → given.ports.rests
   pub writes :
       Done task s end Shown given old new status
       ⊎ ((failure : Failure) × (between : Option (List ℕ)) × StopsTask task s end failure Clean given old between × Reports failure between new status)
@@ -241,9 +253,9 @@ MayNotBegin task failure = IsOpening failure ⊎ (IsTrue (is_load task) × IsOfD
 abbrev pub FailsToBegin : Task → Option (List ℕ) → Option (List ℕ) → ℕ → Type 0
 FailsToBegin task old new status = (failure : Failure) × MayNotBegin task failure × Reports failure old new status
 
--- a new world can't be made, or the task runs from the one that it begins with
+-- a new world can't be made, and nothing is asked of the ports; or the task runs from the one that it begins with
 abbrev pub RunsNew : Task → Given → Option (List ℕ) → Option (List ℕ) → ℕ → Type 0
-RunsNew task given old new status = FailsToBegin task old new status ⊎ ((s : State) × BeginsWith task given s × RunsUnseen task s given old new status)
+RunsNew task given old new status = (given.ports.rests × FailsToBegin task old new status) ⊎ ((s : State) × BeginsWith task given s × RunsUnseen task s given old new status)
 
 -- a crash leaves nothing that it couldn't leave before, but tables that show this state
 abbrev pub LeavesAsBefore : State → Database → Database → Type 0
@@ -263,14 +275,14 @@ EndsUsage found old new status =
     ⊎ Reports NoMemory old new status
     ⊎ ((found ≡ []) × Reports Usage old new status)
 
--- a file is refused, or the task runs from a well formed world
+-- a file is refused, and nothing is asked of the ports; or the task runs from a well formed world
 abbrev pub RunsOpened : Task → Given → Option (List ℕ) → Option (List ℕ) → ℕ → Type 0
-RunsOpened task given old new status = RefusesFile old new status ⊎ ((rows : Maps) × IsGood rows × RunsUnseen task (state_of rows) given old new status)
+RunsOpened task given old new status = (given.ports.rests × RefusesFile old new status) ⊎ ((rows : Maps) × IsGood rows × RunsUnseen task (state_of rows) given old new status)
 
--- the task runs from the world that these tables show, or the line tells a fault of theirs
+-- the task runs from the world that these tables show; or the line tells a fault of theirs, and nothing is asked of the ports
 abbrev pub RunsShown : Task → Tables → Given → Option (List ℕ) → Option (List ℕ) → ℕ → Type 0
 RunsShown task tables given old new status =
-    ((fault : StoreFault) × Says tables fault × Reports (store_failure fault) old new status)
+    (given.ports.rests × (fault : StoreFault) × Says tables fault × Reports (store_failure fault) old new status)
     ⊎ ((rows : Maps) × IsGood rows × ShowsRows tables rows × RunsUnseen task (state_of rows) given old new status)
 
 -- What a task comes to, whatever its file holds. If it begins with a new world, it runs from that, or it can't be made. Any
@@ -280,8 +292,8 @@ pub record RunsTask (task : Task) (given : Given) (old new : Option (List ℕ)) 
   pub anew : begins_anew task ≡ true → RunsNew task given old new status
   pub opened : begins_anew task ≡ false → RunsOpened task given old new status
 
--- the same of the task that the words name; or they have a mistake
+-- the same of the task that the words name; or they have a mistake, and nothing is asked of the ports
 abbrev pub RunsWords : List (List ℕ) → Given → Option (List ℕ) → Option (List ℕ) → ℕ → Type 0
 RunsWords words given old new status =
     ((task : Task) × NamesTask words task × NamesAlone words task × RunsTask task given old new status)
-    ⊎ ((1 < length words) × EndsUsage (mistakes words) old new status)
+    ⊎ ((1 < length words) × given.ports.rests × EndsUsage (mistakes words) old new status)

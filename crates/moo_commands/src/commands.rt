@@ -1,6 +1,6 @@
 //! What each command does over a world.
 
-ghost use Rattle.std.specs.Prelude.{◌≡◌, ◌⊎◌, true, length, IfOk, IfErr, OnOk, Bool, IsTrue};
+ghost use Rattle.std.specs.Prelude.{◌≡◌, ◌⊎◌, true, false, length, IfOk, IfErr, OnOk, Bool, IsTrue};
 ghost use Rattle.sqlite.specs.State.{HasCleanDisk, Survives};
 ghost use Rattle.std.specs.Io.KnownBytes.{Appends};
 ghost use Rattle.moo_world.specs.Judge.{State};
@@ -12,9 +12,9 @@ ghost use Rattle.moo_store.specs.Opening.{IsOfStore};
 ghost use Rattle.moo_store.specs.Stand.{Works, RunsBatch, AsksBatch};
 ghost use Rattle.moo_store.specs.Turns.{Halts};
 ghost use Rattle.moo_store.specs.World.{store_of, StandsFor};
-ghost use Rattle.moo_http.specs.Turns.{AttendedOn};
+ghost use Rattle.moo_http.specs.Turns.{attended_between};
 ghost use Rattle.moo_commands.specs.Lines.{text_failure, store_failure, checked_line, loaded_line};
-ghost use Rattle.moo_commands.specs.Run.{texts_by, given_by, lost_status, RunsText, StopsText, StopsIn, Serving, StopsServing, ShowsTables, Done, StopsTask, EndsTask, LeavesNothingNew, only_reads};
+ghost use Rattle.moo_commands.specs.Run.{texts_by, given_by, lost_status, RunsText, StopsText, StopsIn, Serving, StopsServing, ShowsTables, Done, StopsTask, EndsTask, LeavesNothingNew, only_reads, serves};
 
 use crate::failure::Failure;
 use crate::host::BatchFiles;
@@ -26,7 +26,8 @@ use moo_store::{Tally, World, apply_text, ask_text};
 use moo_words::Task;
 use sqlite::Alter;
 use std::alloc::Global;
-use std::io::{Read, Write};
+use std::io::{Eprint, Read, Write};
+use std::time::Clock;
 
 /// The status of a text with this tally.
 fn status_after(tally: Tally) -> u8
@@ -37,8 +38,9 @@ fn status_after(tally: Tally) -> u8
 
 /// Runs the batches of a text, that of this path if it isn't the input's. Standard error says why a batch isn't accepted, and what to do if the
 /// store failed in one.
-fn run_text<R: Read + Drop, W: Write, S: Alter + Drop>(
-    rt: &HostRuntime,
+fn run_text<C: Eprint, R: Read + Drop, W: Write, S: Alter + Drop>(
+    alloc: Global,
+    console: &C,
     world: &mut World<S>,
     path: Option<&str>,
     text: R,
@@ -48,11 +50,11 @@ fn run_text<R: Read + Drop, W: Write, S: Alter + Drop>(
     ensures stops { (known : Bool) (s : State) → StandsFor S.Store known world.old s → IfErr result (λ failure. EndsTask S.Store known world.old world.new (λ end.
         (fault : TextFault) × (failure ≡ text_failure fault) × Halts RunsBatch (Works s) end (R.remaining text) (W.contents output.old) (W.contents output.new) fault)) }
 {
-    let mut notes = StandardNotes::new(rt, rt.alloc(), path);
-    match apply_text(rt.alloc(), text, output, world, &mut notes) {
+    let mut notes = StandardNotes::new(console, alloc, path);
+    match apply_text(alloc, text, output, world, &mut notes) {
         Ok(tally) => {
             notes.finish();
-            explain_lost(rt, tally);
+            explain_lost(console, tally);
             Ok(status_after(tally))
         }
         Err(fault) => {
@@ -63,8 +65,9 @@ fn run_text<R: Read + Drop, W: Write, S: Alter + Drop>(
 }
 
 /// Runs the batches of a file, or of the input for `-`.
-fn apply<H: BatchFiles, R: Read + Drop, W: Write, S: Alter + Drop>(
-    rt: &HostRuntime,
+fn apply<H: BatchFiles, C: Eprint, R: Read + Drop, W: Write, S: Alter + Drop>(
+    alloc: Global,
+    console: &C,
     world: &mut World<S>,
     batches: &str,
     host: &H,
@@ -76,17 +79,18 @@ fn apply<H: BatchFiles, R: Read + Drop, W: Write, S: Alter + Drop>(
 {
     world.leaves();
     if batches == "-" {
-        return run_text(rt, world, None, input, output);
+        return run_text(alloc, console, world, None, input, output);
     }
-    match host.open(rt, batches) {
-        Ok(file) => run_text(rt, world, Some(batches), file, output),
+    match host.open(batches) {
+        Ok(file) => run_text(alloc, console, world, Some(batches), file, output),
         Err(_) => Err(Failure::NoBatches),
     }
 }
 
 /// Says what the batches of a text would answer, that of this path if it isn't the input's. Standard error says why a batch isn't accepted.
-fn ask_batches<R: Read + Drop, W: Write, S: Alter + Drop>(
-    rt: &HostRuntime,
+fn ask_batches<C: Eprint, R: Read + Drop, W: Write, S: Alter + Drop>(
+    alloc: Global,
+    console: &C,
     world: &World<S>,
     path: Option<&str>,
     text: R,
@@ -96,8 +100,8 @@ fn ask_batches<R: Read + Drop, W: Write, S: Alter + Drop>(
     ensures stops { (known : Bool) (s : State) → StandsFor S.Store known world.now s → IfErr result (λ failure.
         (fault : TextFault) × (failure ≡ text_failure fault) × Halts AsksBatch (Works s) (Works s) (R.remaining text) (W.contents output.old) (W.contents output.new) fault) }
 {
-    let mut notes = StandardNotes::new(rt, rt.alloc(), path);
-    match ask_text(rt.alloc(), text, output, world, &mut notes) {
+    let mut notes = StandardNotes::new(console, alloc, path);
+    match ask_text(alloc, text, output, world, &mut notes) {
         Ok(tally) => {
             notes.finish();
             Ok(status_after(tally))
@@ -110,8 +114,9 @@ fn ask_batches<R: Read + Drop, W: Write, S: Alter + Drop>(
 }
 
 /// Says what the batches of a file, or of the input for `-`, would come to.
-fn ask<H: BatchFiles, R: Read + Drop, W: Write, S: Alter + Drop>(
-    rt: &HostRuntime,
+fn ask<H: BatchFiles, C: Eprint, R: Read + Drop, W: Write, S: Alter + Drop>(
+    alloc: Global,
+    console: &C,
     world: &World<S>,
     batches: &str,
     host: &H,
@@ -122,10 +127,10 @@ fn ask<H: BatchFiles, R: Read + Drop, W: Write, S: Alter + Drop>(
     ensures stops { (known : Bool) (s : State) → StandsFor S.Store known world.now s → IfErr result (λ failure. StopsText AsksBatch s (Works s) failure (texts_by (R.remaining input) (H.text host.now) batches.now) (W.contents output.old) (W.contents output.new)) }
 {
     if batches == "-" {
-        return ask_batches(rt, world, None, input, output);
+        return ask_batches(alloc, console, world, None, input, output);
     }
-    match host.open(rt, batches) {
-        Ok(file) => ask_batches(rt, world, Some(batches), file, output),
+    match host.open(batches) {
+        Ok(file) => ask_batches(alloc, console, world, Some(batches), file, output),
         Err(_) => Err(Failure::NoBatches),
     }
 }
@@ -203,47 +208,57 @@ fn show_loaded<W: Write, S: Alter + Drop>(
 }
 
 /// Serves so many connections on a port.
-fn serve<P: Ports, W: Write, S: Alter + Drop>(
-    rt: &HostRuntime,
-    ports: &P,
+fn serve<P: Ports, C: Clock + Eprint, W: Write, S: Alter + Drop>(
+    alloc: Global,
+    console: &C,
+    ports: &mut P,
     world: &mut World<S>,
     port: u16,
     count: u32,
     output: &mut W,
 ) -> Result<u8, Failure>
-    ensures done { (known : Bool) (s : State) → StandsFor S.Store known world.old s → IfOk result (λ status. EndsTask S.Store known world.old world.new (λ end. Serving (AttendedOn P.Source.hands_out P.Source.takes_back P.Source.Reader.remaining P.Source.Writer.contents (P.opens ports.now)) port count s end (W.contents output.old) (W.contents output.new) status)) }
-    ensures stops { (known : Bool) (s : State) → StandsFor S.Store known world.old s → IfErr result (λ failure. EndsTask S.Store known world.old world.new (λ end. StopsServing (AttendedOn P.Source.hands_out P.Source.takes_back P.Source.Reader.remaining P.Source.Writer.contents (P.opens ports.now)) port count s end failure (W.contents output.old) (W.contents output.new))) }
+    ensures done { (known : Bool) (s : State) → StandsFor S.Store known world.old s → IfOk result (λ status. EndsTask S.Store known world.old world.new (λ end. Serving (attended_between P.Source.hands_out P.Source.takes_back P.Source.Reader.remaining P.Source.Writer.contents P.listens P.closes ports.old ports.new) port count s end (W.contents output.old) (W.contents output.new) status)) }
+    ensures stops { (known : Bool) (s : State) → StandsFor S.Store known world.old s → IfErr result (λ failure. EndsTask S.Store known world.old world.new (λ end. StopsServing (attended_between P.Source.hands_out P.Source.takes_back P.Source.Reader.remaining P.Source.Writer.contents P.listens P.closes ports.old ports.new) port count s end failure (W.contents output.old) (W.contents output.new))) }
 {
-    match serve_port(rt, ports, world, port, count, output) {
+    match serve_port(alloc, console, ports, world, port, count, output) {
         Ok(()) => Ok(0),
         Err(fault) => Err(Failure::from(fault)),
     }
 }
 
 /// Does what a task says over its world.
-pub(crate) fn do_task<H: BatchFiles + Ports, R: Read + Drop, W: Write, S: Alter + Drop>(
-    rt: &HostRuntime,
+pub(crate) fn do_task<
+    H: BatchFiles + Ports,
+    C: Clock + Eprint,
+    R: Read + Drop,
+    W: Write,
+    S: Alter + Drop,
+>(
+    alloc: Global,
+    console: &C,
     world: &mut World<S>,
     task: Task<'_>,
-    host: &H,
+    host: &mut H,
     input: R,
     output: &mut W,
 ) -> Result<u8, Failure>
     ensures done { (known : Bool) (s : State) → StandsFor S.Store known world.old s → IfOk result (λ status. EndsTask S.Store known world.old world.new (λ end.
-        Done task.entry s end (ShowsTables S.Store world.old (store_of S.Store world.new)) (given_by (R.remaining input) (H.text host.now) (AttendedOn H.Source.hands_out H.Source.takes_back H.Source.Reader.remaining H.Source.Writer.contents (H.opens host.now))) (W.contents output.old) (W.contents output.new) status)) }
+        Done task.entry s end (ShowsTables S.Store world.old (store_of S.Store world.new)) (given_by (R.remaining input) (H.text host.old) (attended_between H.Source.hands_out H.Source.takes_back H.Source.Reader.remaining H.Source.Writer.contents H.listens H.closes host.old host.new)) (W.contents output.old) (W.contents output.new) status)) }
     ensures stops { (known : Bool) (s : State) → StandsFor S.Store known world.old s → IfErr result (λ failure. EndsTask S.Store known world.old world.new (λ end.
-        StopsTask task.entry s end failure (IsTrue known × HasCleanDisk (store_of S.Store world.new)) (given_by (R.remaining input) (H.text host.now) (AttendedOn H.Source.hands_out H.Source.takes_back H.Source.Reader.remaining H.Source.Writer.contents (H.opens host.now))) (W.contents output.old) (W.contents output.new))) }
+        StopsTask task.entry s end failure (IsTrue known × HasCleanDisk (store_of S.Store world.new)) (given_by (R.remaining input) (H.text host.old) (attended_between H.Source.hands_out H.Source.takes_back H.Source.Reader.remaining H.Source.Writer.contents H.listens H.closes host.old host.new)) (W.contents output.old) (W.contents output.new))) }
+    // Only a task that serves asks anything of the ports.
+    ensures rests { serves task.entry ≡ false → host.new ≡ host.old }
     // A task that only reads commits nothing.
     ensures still { only_reads task.entry ≡ true → LeavesNothingNew (store_of S.Store world.old) (store_of S.Store world.new) }
 {
     world.leaves();
     match task {
         Task::Init { .. } => put_text("created\n", output),
-        Task::Apply { batches, .. } => apply(rt, world, batches, host, input, output),
-        Task::Ask { batches, .. } => ask(rt, world, batches, host, input, output),
+        Task::Apply { batches, .. } => apply(alloc, console, world, batches, host, input, output),
+        Task::Ask { batches, .. } => ask(alloc, console, world, batches, host, input, output),
         Task::Dump { .. } => show(world, output),
-        Task::Load { .. } => show_loaded(rt.alloc(), world, output),
-        Task::Check { .. } => check(rt.alloc(), world, output),
-        Task::Serve { port, count, .. } => serve(rt, host, world, port, count, output),
+        Task::Load { .. } => show_loaded(alloc, world, output),
+        Task::Check { .. } => check(alloc, world, output),
+        Task::Serve { port, count, .. } => serve(alloc, console, host, world, port, count, output),
     }
 }

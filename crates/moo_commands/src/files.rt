@@ -15,7 +15,7 @@ ghost use Rattle.moo_store.specs.States.{LeavesState};
 ghost use Rattle.moo_store.specs.World.{store_of, CrashLeaves, StandsFor};
 ghost use Rattle.moo_files.specs.Contents.{HoldsTrees, HoldsTables, HoldsState, HasOtherTables, HasAnyTable, IsKept, ReadsAsOurs, HoldsNoTable};
 ghost use Rattle.moo_files.specs.Remains.{IsCleanRemains, MayStopAs, Spares, KeepsSuch, KeepsNothingBut, StillHolds, StillHoldsTrees};
-ghost use Rattle.moo_http.specs.Turns.{AttendedOn};
+ghost use Rattle.moo_http.specs.Turns.{attended_between};
 ghost use Rattle.moo_files.specs.Blank.{IsBlank};
 ghost use Rattle.moo_commands.specs.Lines.{Tells, store_failure};
 ghost use Rattle.moo_commands.specs.Run.{begins_anew, file_of, is_load, dump_word, given_by, only_reads, LeavesNothingNew, RunsFrom, RunsTask, ShowsTables};
@@ -27,14 +27,15 @@ use crate::host::BatchFiles;
 use crate::loading::{dump_word, read_world};
 use crate::output::report;
 use crate::over::{NO_INPUT, begins_anew, run_in, run_over};
-use moo_files::{Remains, create_from, load_from, open_from};
+use moo_files::{Remains, WorldFiles, create_from, load_from, open_from};
 use moo_http::Ports;
 use moo_store::{StoreFault, World};
 use moo_words::Task;
 use sqlite::{Connection, Error, ErrorCode, FileFrom, FileStore, Start};
 use sqlite_disk::Disk;
-use std::fs;
-use std::io::{Read, Write};
+use std::alloc::Global;
+use std::io::{Eprint, Read, Write};
+use std::time::Clock;
 
 const CANNOT_OPEN: Failure = Failure::Store(Error::SqliteFailure(ErrorCode::CannotOpen));
 
@@ -55,20 +56,21 @@ fn file_of<'a>(task: Task<'a>) -> &'a str
 
 /// `run_in` at the store in files, over any disk. What is known of that store weighs on each function that calls a generic one at it,
 /// so this call has a function of its own.
-fn run_in_files<H: BatchFiles + Ports, R: Read + Drop, W: Write, D: Disk + Drop>(
-    rt: &HostRuntime,
+fn run_in_files<H: BatchFiles + Ports, C: Clock + Eprint, R: Read + Drop, W: Write, D: Disk + Drop>(
+    alloc: Global,
+    console: &C,
     world: World<FileStore<D>>,
     task: Task<'_>,
-    host: &H,
+    host: &mut H,
     input: R,
     output: &mut W,
     status: &mut u8,
 ) -> Connection<FileStore<D>>
-    ensures runs { (known : Bool) (s : State) → StandsFor over_files known world s → RunsFrom task.entry s (given_by (R.remaining input) (H.text host.now) (AttendedOn H.Source.hands_out H.Source.takes_back H.Source.Reader.remaining H.Source.Writer.contents (H.opens host.now))) (W.contents output.old) (W.contents output.new) status.new (IsTrue known × HasCleanDisk (file_state result)) (CrashLeaves (file_state result)) (ShowsTables over_files world (file_state result)) }
+    ensures runs { (known : Bool) (s : State) → StandsFor over_files known world s → RunsFrom task.entry s (given_by (R.remaining input) (H.text host.old) (attended_between H.Source.hands_out H.Source.takes_back H.Source.Reader.remaining H.Source.Writer.contents H.listens H.closes host.old host.new)) (W.contents output.old) (W.contents output.new) status.new (IsTrue known × HasCleanDisk (file_state result)) (CrashLeaves (file_state result)) (ShowsTables over_files world (file_state result)) }
     ensures clean { (known : Bool) (s : State) → StandsFor over_files known world s → HasCleanDisk (file_state result) → HasCleanDisk (store_of over_files world) }
     ensures still { only_reads task.entry ≡ true → LeavesNothingNew (store_of over_files world) (file_state result) }
 {
-    run_in(rt, world, task, host, input, output, status)
+    run_in(alloc, console, world, task, host, input, output, status)
 }
 
 /// Each fault of opening refuses the file.
@@ -79,19 +81,25 @@ fn refusal(fault: StoreFault) -> Failure
 }
 
 /// Why a file isn't opened. A missing file is told apart, for what is said of it on standard error.
-fn refusal_of(rt: &HostRuntime, file: &str, task: Task<'_>, fault: StoreFault) -> Failure
+fn refusal_of<T: Start, H: WorldFiles<T>>(
+    host: &H,
+    file: &str,
+    task: Task<'_>,
+    fault: StoreFault,
+) -> Failure
     ensures { Tells fault result }
 {
     let failure = refusal(fault);
-    if failure == CANNOT_OPEN && !begins_anew(task) && fs::metadata(rt, file).is_err() {
+    if failure == CANNOT_OPEN && !begins_anew(task) && host.metadata(file).is_err() {
         return Failure::NoFile;
     }
     failure
 }
 
 /// The world that a task begins with. Only `init` makes a file.
-fn world_of<T: Start>(
-    rt: &HostRuntime,
+fn world_of<T: Start, H: WorldFiles<T>>(
+    alloc: Global,
+    host: &H,
     file: &str,
     start: T,
     task: Task<'_>,
@@ -123,62 +131,80 @@ fn world_of<T: Start>(
     ensures left { (s : State) → HoldsState (image_at T.Start) s → IfErr result (λ e. IsCleanRemains e.1 → StillHolds (image_at T.Start) e.1 s) }
 {
     if begins_anew(task) {
-        create_from(rt, file, start)
+        create_from(alloc, host, file, start)
     } else {
-        open_from(rt, file, start)
+        open_from(alloc, host, file, start)
     }
 }
 
 /// Makes the world of a dump in a file, does what the task says over it, and hands back what is left of the file.
-fn run_loaded<T: Start, H: BatchFiles + Ports, R: Read + Drop, W: Write>(
-    rt: &HostRuntime,
+fn run_loaded<
+    T: Start,
+    H: WorldFiles<T> + BatchFiles + Ports,
+    C: Clock + Eprint,
+    R: Read + Drop,
+    W: Write,
+>(
+    alloc: Global,
+    console: &C,
     file: &str,
     start: T,
     dump: &str,
     task: Task<'_>,
-    host: &H,
+    host: &mut H,
     input: R,
     output: &mut W,
     status: &mut u8,
 ) -> Ends<T, FileFrom<T>>
     requires load { is_load task ≡ true }
     requires word { dump_word task ≡ dump.now }
-    ensures { RunsFile task.entry (image_at T.Start) result (given_by (R.remaining input) (H.text host.now) (AttendedOn H.Source.hands_out H.Source.takes_back H.Source.Reader.remaining H.Source.Writer.contents (H.opens host.now))) (W.contents output.old) (W.contents output.new) status.new }
+    ensures { RunsFile task.entry (image_at T.Start) result (given_by (R.remaining input) (H.text host.old) (attended_between H.Source.hands_out H.Source.takes_back H.Source.Reader.remaining H.Source.Writer.contents H.listens H.closes host.old host.new)) (W.contents output.old) (W.contents output.new) status.new }
 {
-    let rows = match read_world(rt, dump, host, input) {
+    let rows = match read_world(alloc, dump, host, input) {
         Ok(rows) => rows,
         Err(failure) => {
-            *status = report(rt, failure, output);
+            *status = report(alloc, console, failure, output);
             return Ends::Refused(Remains::Untouched(start));
         }
     };
-    match load_from(rt, file, start, rows) {
-        Ok(world) => Ends::Ran(run_in_files(rt, world, task, host, NO_INPUT, output, status)),
+    match load_from(alloc, host, file, start, rows) {
+        Ok(world) => Ends::Ran(run_in_files(
+            alloc, console, world, task, host, NO_INPUT, output, status,
+        )),
         Err((fault, remains)) => {
-            *status = report(rt, refusal(fault), output);
+            *status = report(alloc, console, refusal(fault), output);
             Ends::Refused(remains)
         }
     }
 }
 
 /// Does what a task says over the world of its file or over the opening world, and hands back what is left of the file.
-fn run_begun<T: Start, H: BatchFiles + Ports, R: Read + Drop, W: Write>(
-    rt: &HostRuntime,
+fn run_begun<
+    T: Start,
+    H: WorldFiles<T> + BatchFiles + Ports,
+    C: Clock + Eprint,
+    R: Read + Drop,
+    W: Write,
+>(
+    alloc: Global,
+    console: &C,
     file: &str,
     start: T,
     task: Task<'_>,
-    host: &H,
+    host: &mut H,
     input: R,
     output: &mut W,
     status: &mut u8,
 ) -> Ends<T, FileFrom<T>>
     requires load { is_load task ≡ false }
-    ensures { RunsFile task.entry (image_at T.Start) result (given_by (R.remaining input) (H.text host.now) (AttendedOn H.Source.hands_out H.Source.takes_back H.Source.Reader.remaining H.Source.Writer.contents (H.opens host.now))) (W.contents output.old) (W.contents output.new) status.new }
+    ensures { RunsFile task.entry (image_at T.Start) result (given_by (R.remaining input) (H.text host.old) (attended_between H.Source.hands_out H.Source.takes_back H.Source.Reader.remaining H.Source.Writer.contents H.listens H.closes host.old host.new)) (W.contents output.old) (W.contents output.new) status.new }
 {
-    match world_of(rt, file, start, task) {
-        Ok(world) => Ends::Ran(run_in_files(rt, world, task, host, input, output, status)),
+    match world_of(alloc, host, file, start, task) {
+        Ok(world) => Ends::Ran(run_in_files(
+            alloc, console, world, task, host, input, output, status,
+        )),
         Err((fault, remains)) => {
-            *status = report(rt, refusal_of(rt, file, task, fault), output);
+            *status = report(alloc, console, refusal_of(host, file, task, fault), output);
             Ends::Refused(remains)
         }
     }
@@ -187,62 +213,83 @@ fn run_begun<T: Start, H: BatchFiles + Ports, R: Read + Drop, W: Write>(
 /// Does what a task says over its file, writes the line of a failure, and hands back what is left of the file. The status is that
 /// of `run_words`.
 ///
-/// `T` is what the file of the words holds, and `H` the files of batches and the ports: it is proved for all contents and all connections, and
+/// `T` is what the file of the words holds, and `H` the host, with its files and its ports: it is proved for all contents and all connections, and
 /// no code looks at them. The program calls it for files that nobody has read.
-pub fn run_from<T: Start, H: BatchFiles + Ports, R: Read + Drop, W: Write>(
-    rt: &HostRuntime,
+pub fn run_from<
+    T: Start,
+    H: WorldFiles<T> + BatchFiles + Ports,
+    C: Clock + Eprint,
+    R: Read + Drop,
+    W: Write,
+>(
+    alloc: Global,
+    console: &C,
     file: &str,
     start: T,
     task: Task<'_>,
-    host: &H,
+    host: &mut H,
     input: R,
     output: &mut W,
     status: &mut u8,
 ) -> Ends<T, FileFrom<T>>
-    ensures { RunsFile task.entry (image_at T.Start) result (given_by (R.remaining input) (H.text host.now) (AttendedOn H.Source.hands_out H.Source.takes_back H.Source.Reader.remaining H.Source.Writer.contents (H.opens host.now))) (W.contents output.old) (W.contents output.new) status.new }
+    ensures { RunsFile task.entry (image_at T.Start) result (given_by (R.remaining input) (H.text host.old) (attended_between H.Source.hands_out H.Source.takes_back H.Source.Reader.remaining H.Source.Writer.contents H.listens H.closes host.old host.new)) (W.contents output.old) (W.contents output.new) status.new }
 {
     match dump_word(task) {
-        Some(dump) => run_loaded(rt, file, start, dump, task, host, input, output, status),
-        None => run_begun(rt, file, start, task, host, input, output, status),
+        Some(dump) => run_loaded(
+            alloc, console, file, start, dump, task, host, input, output, status,
+        ),
+        None => run_begun(
+            alloc, console, file, start, task, host, input, output, status,
+        ),
     }
 }
 
 /// Does what a task says over a new world in memory.
-fn run_in_memory<H: BatchFiles + Ports, R: Read + Drop, W: Write>(
-    rt: &HostRuntime,
+fn run_in_memory<H: BatchFiles + Ports, C: Clock + Eprint, R: Read + Drop, W: Write>(
+    alloc: Global,
+    console: &C,
     task: Task<'_>,
-    host: &H,
+    host: &mut H,
     input: R,
     output: &mut W,
 ) -> u8
-    ensures { RunsTask task.entry (given_by (R.remaining input) (H.text host.now) (AttendedOn H.Source.hands_out H.Source.takes_back H.Source.Reader.remaining H.Source.Writer.contents (H.opens host.now))) (W.contents output.old) (W.contents output.new) result }
+    ensures { RunsTask task.entry (given_by (R.remaining input) (H.text host.old) (attended_between H.Source.hands_out H.Source.takes_back H.Source.Reader.remaining H.Source.Writer.contents H.listens H.closes host.old host.new)) (W.contents output.old) (W.contents output.new) result }
 {
-    let Ok(conn) = Connection::open_in_memory(rt.alloc()) else {
-        return report(rt, Failure::NoMemory, output);
+    let Ok(conn) = Connection::open_in_memory(alloc) else {
+        return report(alloc, console, Failure::NoMemory, output);
     };
     let mut status = 0;
-    let _conn = run_over(rt, conn, task, host, input, output, &mut status);
+    let _conn = run_over(alloc, console, conn, task, host, input, output, &mut status);
     status
 }
 
 /// Does what a task says, and hands back what is left of its file: on `:memory:`, the unspent start. The status is that of `run_words`.
-pub(crate) fn run_task<T: Start, H: BatchFiles + Ports, R: Read + Drop, W: Write>(
-    rt: &HostRuntime,
+pub(crate) fn run_task<
+    T: Start,
+    H: WorldFiles<T> + BatchFiles + Ports,
+    C: Clock + Eprint,
+    R: Read + Drop,
+    W: Write,
+>(
+    alloc: Global,
+    console: &C,
     task: Task<'_>,
     start: T,
-    host: &H,
+    host: &mut H,
     input: R,
     output: &mut W,
     status: &mut u8,
 ) -> Ends<T, FileFrom<T>>
-    ensures runs { RunsTask task.entry (given_by (R.remaining input) (H.text host.now) (AttendedOn H.Source.hands_out H.Source.takes_back H.Source.Reader.remaining H.Source.Writer.contents (H.opens host.now))) (W.contents output.old) (W.contents output.new) status.new }
-    ensures ends { EndsWith task.entry (image_at T.Start) result (given_by (R.remaining input) (H.text host.now) (AttendedOn H.Source.hands_out H.Source.takes_back H.Source.Reader.remaining H.Source.Writer.contents (H.opens host.now))) (W.contents output.old) (W.contents output.new) status.new }
+    ensures runs { RunsTask task.entry (given_by (R.remaining input) (H.text host.old) (attended_between H.Source.hands_out H.Source.takes_back H.Source.Reader.remaining H.Source.Writer.contents H.listens H.closes host.old host.new)) (W.contents output.old) (W.contents output.new) status.new }
+    ensures ends { EndsWith task.entry (image_at T.Start) result (given_by (R.remaining input) (H.text host.old) (attended_between H.Source.hands_out H.Source.takes_back H.Source.Reader.remaining H.Source.Writer.contents H.listens H.closes host.old host.new)) (W.contents output.old) (W.contents output.new) status.new }
 {
     let file = file_of(task);
     if file == ":memory:" {
-        *status = run_in_memory(rt, task, host, input, output);
+        *status = run_in_memory(alloc, console, task, host, input, output);
         Ends::NoFile(start)
     } else {
-        run_from(rt, file, start, task, host, input, output, status)
+        run_from(
+            alloc, console, file, start, task, host, input, output, status,
+        )
     }
 }

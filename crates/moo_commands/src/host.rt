@@ -1,9 +1,13 @@
-//! What a run finds on its host: files of batches, and ports.
+//! What a run finds on its host: the files of worlds and of batches, and ports.
 
 ghost use Rattle.std.specs.Prelude.{◌≡◌, IfOk, ℕ, List, Option, None, ⊤};
 
+use moo_files::WorldFiles;
 use moo_http::{Ports, Sockets};
-use std::fs::File;
+use sqlite::{FileFrom, Files, Start};
+use sqlite_std_file::OpenError;
+use std::fs::{self, File, Metadata};
+use std::hash::{BuildHasher, RandomState};
 use std::io::{Read, Result};
 
 /// Files of batches, by their paths.
@@ -16,11 +20,11 @@ pub trait BatchFiles {
     ghost text: { Self → List ℕ → Option (List ℕ) };
 
     /// Opens the file of a path. An error if there is none, or it can't be opened.
-    fn open(&self, rt: &HostRuntime, path: &str) -> Result<Self::Text>
+    fn open(&self, path: &str) -> Result<Self::Text>
         ensures { IfOk result (λ file. Self.Text.remaining file ≡ text self.now path.now) };
 }
 
-/// The files and the ports of the system. Nothing is known of their texts, or of the connections that come.
+/// The files and the ports of the system. Nothing is known of what the files hold, or of the connections that come.
 #[derive(Drop)]
 pub struct System<'a> {
     rt: &'a HostRuntime,
@@ -37,17 +41,41 @@ impl<'a> BatchFiles for System<'a> {
 
     ghost text = { λ _ _. None };
 
-    fn open(&self, rt: &HostRuntime, path: &str) -> Result<File> {
-        File::open(rt, path)
+    fn open(&self, path: &str) -> Result<File> {
+        File::open(self.rt, path)
+    }
+}
+
+impl<'a, T: Start> WorldFiles<T> for System<'a> {
+    fn metadata(&self, path: &str) -> Result<Metadata> {
+        fs::metadata(self.rt, path)
+    }
+
+    fn seed(&self) -> Result<u64> {
+        let state = RandomState::new(self.rt)?;
+        Ok(state.hash_one(&0u8))
+    }
+
+    fn open_database(
+        &self,
+        path: &str,
+        start: T,
+    ) -> std::result::Result<Files<FileFrom<T>>, OpenError> {
+        sqlite_std_file::open(self.rt, path, start)
     }
 }
 
 impl<'a> Ports for System<'a> {
     type Source = Sockets<'a, HostRuntime>;
 
-    ghost opens = { λ _ _ _. ⊤ };
+    fn listen(&mut self, port: u16) -> Option<Sockets<'a, HostRuntime>> {
+        Sockets::listen(self.rt, port).ok()
+    }
 
-    fn listen(&self, port: u16) -> Result<Sockets<'a, HostRuntime>> {
-        Sockets::listen(self.rt, port)
+    // A socket tells nothing of what is done to it. Dropped, it is closed.
+    fn close(&mut self, source: Sockets<'a, HostRuntime>)
+        ensures { ⊤ }
+    {
+        let _closed = source;
     }
 }

@@ -42,7 +42,7 @@ fn rows_of<R: Read + Drop>(alloc: Global, mut text: R) -> Result<Flat, Failure>
 
 /// The rows of the world that a file is the dump of, or the input for `-`.
 pub(crate) fn read_world<H: BatchFiles, R: Read + Drop>(
-    rt: &HostRuntime,
+    alloc: Global,
     dump: &str,
     host: &H,
     input: R,
@@ -53,10 +53,10 @@ pub(crate) fn read_world<H: BatchFiles, R: Read + Drop>(
     ensures failure { IfErr result IsOfDump }
 {
     if dump == "-" {
-        return rows_of(rt.alloc(), input);
+        return rows_of(alloc, input);
     }
-    match host.open(rt, dump) {
-        Ok(text) => rows_of(rt.alloc(), text),
+    match host.open(dump) {
+        Ok(text) => rows_of(alloc, text),
         Err(_) => Err(Failure::NoBatches),
     }
 }

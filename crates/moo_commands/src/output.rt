@@ -9,7 +9,7 @@ use moo_dump::put_all;
 use moo_store::Tally;
 use sqlite::{Error, ErrorCode};
 use std::alloc::{AllocError, Global};
-use std::io::Write;
+use std::io::{Eprint, Write};
 
 /// The line of a check.
 pub(crate) fn checked_text(alloc: Global, seq: u64, objects: u64) -> Result<String, AllocError>
@@ -67,7 +67,7 @@ fn store_cause(error: Error) -> Option<&'static str> {
 }
 
 /// Says on standard error why the store, the batches, the dump or the port failed.
-fn explain(rt: &HostRuntime, failure: Failure) {
+fn explain<C: Eprint>(console: &C, failure: Failure) {
     let cause = match failure {
         Failure::NoFile => Some("moo: store fault: no such file"),
         Failure::NoBatches => {
@@ -79,9 +79,9 @@ fn explain(rt: &HostRuntime, failure: Failure) {
         _ => return,
     };
     if let Some(cause) = cause {
-        let _said = eprintln!(rt; "{cause}");
+        let _said = eprintln!(console; "{cause}");
     } else if let Failure::Store(error) = failure {
-        let _said = eprintln!(rt; "moo: store fault: {error}");
+        let _said = eprintln!(console; "moo: store fault: {error}");
     }
 }
 
@@ -90,9 +90,9 @@ const LOST: &str =
 moo: the last `accepted S` is kept, and perhaps the batch after it: `moo check FILE` says the number\n";
 
 /// Says on standard error what to do if the store failed in a batch of a text.
-pub(crate) fn explain_lost(rt: &HostRuntime, tally: Tally) {
+pub(crate) fn explain_lost<C: Eprint>(console: &C, tally: Tally) {
     if tally.lost > 0 {
-        let _said = eprint!(rt; "{LOST}");
+        let _said = eprint!(console; "{LOST}");
     }
 }
 
@@ -132,13 +132,18 @@ fn put_not_a_dump<W: Write>(alloc: Global, line: u64, output: &mut W) -> u8
 
 /// Writes the line of a failure, and answers its status. If the store, the batches, the dump or the port failed, the cause goes to
 /// standard error.
-pub fn report<W: Write>(rt: &HostRuntime, failure: Failure, output: &mut W) -> u8
+pub fn report<C: Eprint, W: Write>(
+    alloc: Global,
+    console: &C,
+    failure: Failure,
+    output: &mut W,
+) -> u8
     ensures { Reports failure (W.contents output.old) (W.contents output.new) result }
 {
-    explain(rt, failure);
+    explain(console, failure);
     match failure {
-        Failure::Damaged(kind, key) => put_damage(rt.alloc(), kind, key, output),
-        Failure::NotADump(line) => put_not_a_dump(rt.alloc(), line, output),
+        Failure::Damaged(kind, key) => put_damage(alloc, kind, key, output),
+        Failure::NotADump(line) => put_not_a_dump(alloc, line, output),
         _ => put_line(failure.word(), failure.status(), output),
     }
 }

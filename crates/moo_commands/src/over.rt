@@ -9,7 +9,7 @@ ghost use Rattle.moo_tables.specs.Tables.{Tables};
 ghost use Rattle.moo_tables.specs.Inside.{Rests};
 ghost use Rattle.moo_store.specs.States.{ShowsState};
 ghost use Rattle.moo_store.specs.World.{store_of, CrashLeaves, StandsFor};
-ghost use Rattle.moo_http.specs.Turns.{AttendedOn};
+ghost use Rattle.moo_http.specs.Turns.{attended_between};
 ghost use Rattle.moo_commands.specs.Lines.{Reports};
 ghost use Rattle.moo_commands.specs.Run.{begins_anew, is_load, dump_word, BeginsWith, FailsToBegin, given_by, ShowsTables, RunsFrom, RunsOpened, RunsShown, FailsAtOnce, LeavesAsBefore, LeavesNothingNew, only_reads};
 
@@ -22,7 +22,9 @@ use moo_http::Ports;
 use moo_store::{World, adopt, create_in, load_in};
 use moo_words::Task;
 use sqlite::{Alter, Connection};
-use std::io::{Read, Write};
+use std::alloc::Global;
+use std::io::{Eprint, Read, Write};
+use std::time::Clock;
 
 /// Nothing is left to be read once a dump was.
 pub(crate) const NO_INPUT: &[u8] = &[];
@@ -42,12 +44,17 @@ pub(crate) fn begins_anew(task: Task<'_>) -> bool
 }
 
 /// The status of a task that is done; or the line of its failure, and the status of that.
-fn ended<W: Write>(rt: &HostRuntime, done: Result<u8, Failure>, output: &mut W) -> u8
+fn ended<C: Eprint, W: Write>(
+    alloc: Global,
+    console: &C,
+    done: Result<u8, Failure>,
+    output: &mut W,
+) -> u8
     ensures { MatchResult done (λ status. (result ≡ status) × (W.contents output.new ≡ W.contents output.old)) (λ failure. Reports failure (W.contents output.old) (W.contents output.new) result) }
 {
     match done {
         Ok(status) => status,
-        Err(failure) => report(rt, failure, output),
+        Err(failure) => report(alloc, console, failure, output),
     }
 }
 
@@ -55,57 +62,60 @@ fn ended<W: Write>(rt: &HostRuntime, done: Result<u8, Failure>, output: &mut W) 
 /// `run_words`.
 ///
 /// The World may be any: one whose tables are known to show its rows, or one of which only the rows are known.
-pub fn run_in<H: BatchFiles + Ports, R: Read + Drop, W: Write, S: Alter + Drop>(
-    rt: &HostRuntime,
+pub fn run_in<H: BatchFiles + Ports, C: Clock + Eprint, R: Read + Drop, W: Write, S: Alter + Drop>(
+    alloc: Global,
+    console: &C,
     mut world: World<S>,
     task: Task<'_>,
-    host: &H,
+    host: &mut H,
     input: R,
     output: &mut W,
     status: &mut u8,
 ) -> Connection<S>
     // The task runs from the state that the World stands for. A check that is done found that the tables show the World's rows.
-    ensures runs { (known : Bool) (s : State) → StandsFor S.Store known world s → RunsFrom task.entry s (given_by (R.remaining input) (H.text host.now) (AttendedOn H.Source.hands_out H.Source.takes_back H.Source.Reader.remaining H.Source.Writer.contents (H.opens host.now))) (W.contents output.old) (W.contents output.new) status.new (IsTrue known × HasCleanDisk (state S.Store result)) (CrashLeaves (state S.Store result)) (ShowsTables S.Store world (state S.Store result)) }
+    ensures runs { (known : Bool) (s : State) → StandsFor S.Store known world s → RunsFrom task.entry s (given_by (R.remaining input) (H.text host.old) (attended_between H.Source.hands_out H.Source.takes_back H.Source.Reader.remaining H.Source.Writer.contents H.listens H.closes host.old host.new)) (W.contents output.old) (W.contents output.new) status.new (IsTrue known × HasCleanDisk (state S.Store result)) (CrashLeaves (state S.Store result)) (ShowsTables S.Store world (state S.Store result)) }
     ensures clean { (known : Bool) (s : State) → StandsFor S.Store known world s → HasCleanDisk (state S.Store result) → HasCleanDisk (store_of S.Store world) }
     // A task that only reads commits nothing.
     ensures still { only_reads task.entry ≡ true → LeavesNothingNew (store_of S.Store world) (state S.Store result) }
 {
-    let done = do_task(rt, &mut world, task, host, input, output);
-    *status = ended(rt, done, output);
+    let done = do_task(alloc, console, &mut world, task, host, input, output);
+    *status = ended(alloc, console, done, output);
     world.into_connection()
 }
 
 /// Makes the opening world in a connection that has no tables, and does what a task says over it.
-fn run_anew<H: BatchFiles + Ports, R: Read + Drop, W: Write, S: Alter + Drop>(
-    rt: &HostRuntime,
+fn run_anew<H: BatchFiles + Ports, C: Clock + Eprint, R: Read + Drop, W: Write, S: Alter + Drop>(
+    alloc: Global,
+    console: &C,
     conn: Connection<S>,
     task: Task<'_>,
-    host: &H,
+    host: &mut H,
     input: R,
     output: &mut W,
     status: &mut u8,
 ) -> Connection<S>
     requires outside { conn.in_transaction ≡ false }
     requires load { is_load task ≡ false }
-    ensures { FailsToBegin task.entry (W.contents output.old) (W.contents output.new) status.new
-        ⊎ ((s : State) × BeginsWith task.entry (given_by (R.remaining input) (H.text host.now) (AttendedOn H.Source.hands_out H.Source.takes_back H.Source.Reader.remaining H.Source.Writer.contents (H.opens host.now))) s × RunsFrom task.entry s (given_by (R.remaining input) (H.text host.now) (AttendedOn H.Source.hands_out H.Source.takes_back H.Source.Reader.remaining H.Source.Writer.contents (H.opens host.now))) (W.contents output.old) (W.contents output.new) status.new (HasCleanDisk (state S.Store result)) (CrashLeaves (state S.Store result)) ⊤) }
+    ensures { ((host.new ≡ host.old) × FailsToBegin task.entry (W.contents output.old) (W.contents output.new) status.new)
+        ⊎ ((s : State) × BeginsWith task.entry (given_by (R.remaining input) (H.text host.old) (attended_between H.Source.hands_out H.Source.takes_back H.Source.Reader.remaining H.Source.Writer.contents H.listens H.closes host.old host.new)) s × RunsFrom task.entry s (given_by (R.remaining input) (H.text host.old) (attended_between H.Source.hands_out H.Source.takes_back H.Source.Reader.remaining H.Source.Writer.contents H.listens H.closes host.old host.new)) (W.contents output.old) (W.contents output.new) status.new (HasCleanDisk (state S.Store result)) (CrashLeaves (state S.Store result)) ⊤) }
 {
-    match create_in(rt.alloc(), conn) {
-        Ok(world) => run_in(rt, world, task, host, input, output, status),
+    match create_in(alloc, conn) {
+        Ok(world) => run_in(alloc, console, world, task, host, input, output, status),
         Err((fault, conn)) => {
-            *status = report(rt, Failure::from(fault), output);
+            *status = report(alloc, console, Failure::from(fault), output);
             conn
         }
     }
 }
 
 /// Makes the world of a dump in a connection that has no tables, and does what the task says over it.
-fn run_loaded<H: BatchFiles + Ports, R: Read + Drop, W: Write, S: Alter + Drop>(
-    rt: &HostRuntime,
+fn run_loaded<H: BatchFiles + Ports, C: Clock + Eprint, R: Read + Drop, W: Write, S: Alter + Drop>(
+    alloc: Global,
+    console: &C,
     conn: Connection<S>,
     dump: &str,
     task: Task<'_>,
-    host: &H,
+    host: &mut H,
     input: R,
     output: &mut W,
     status: &mut u8,
@@ -113,46 +123,47 @@ fn run_loaded<H: BatchFiles + Ports, R: Read + Drop, W: Write, S: Alter + Drop>(
     requires outside { conn.in_transaction ≡ false }
     requires load { is_load task ≡ true }
     requires word { dump_word task ≡ dump.now }
-    ensures { FailsToBegin task.entry (W.contents output.old) (W.contents output.new) status.new
-        ⊎ ((s : State) × BeginsWith task.entry (given_by (R.remaining input) (H.text host.now) (AttendedOn H.Source.hands_out H.Source.takes_back H.Source.Reader.remaining H.Source.Writer.contents (H.opens host.now))) s × RunsFrom task.entry s (given_by (R.remaining input) (H.text host.now) (AttendedOn H.Source.hands_out H.Source.takes_back H.Source.Reader.remaining H.Source.Writer.contents (H.opens host.now))) (W.contents output.old) (W.contents output.new) status.new (HasCleanDisk (state S.Store result)) (CrashLeaves (state S.Store result)) ⊤) }
+    ensures { ((host.new ≡ host.old) × FailsToBegin task.entry (W.contents output.old) (W.contents output.new) status.new)
+        ⊎ ((s : State) × BeginsWith task.entry (given_by (R.remaining input) (H.text host.old) (attended_between H.Source.hands_out H.Source.takes_back H.Source.Reader.remaining H.Source.Writer.contents H.listens H.closes host.old host.new)) s × RunsFrom task.entry s (given_by (R.remaining input) (H.text host.old) (attended_between H.Source.hands_out H.Source.takes_back H.Source.Reader.remaining H.Source.Writer.contents H.listens H.closes host.old host.new)) (W.contents output.old) (W.contents output.new) status.new (HasCleanDisk (state S.Store result)) (CrashLeaves (state S.Store result)) ⊤) }
 {
-    let rows = match read_world(rt, dump, host, input) {
+    let rows = match read_world(alloc, dump, host, input) {
         Ok(rows) => rows,
         Err(failure) => {
-            *status = report(rt, failure, output);
+            *status = report(alloc, console, failure, output);
             return conn;
         }
     };
-    match load_in(rt.alloc(), conn, rows) {
-        Ok(world) => run_in(rt, world, task, host, NO_INPUT, output, status),
+    match load_in(alloc, conn, rows) {
+        Ok(world) => run_in(alloc, console, world, task, host, NO_INPUT, output, status),
         Err((fault, conn)) => {
-            *status = report(rt, Failure::from(fault), output);
+            *status = report(alloc, console, Failure::from(fault), output);
             conn
         }
     }
 }
 
 /// Opens the world that the tables of a connection show, and does what a task says over it.
-fn run_opened<H: BatchFiles + Ports, R: Read + Drop, W: Write, S: Alter + Drop>(
-    rt: &HostRuntime,
+fn run_opened<H: BatchFiles + Ports, C: Clock + Eprint, R: Read + Drop, W: Write, S: Alter + Drop>(
+    alloc: Global,
+    console: &C,
     conn: Connection<S>,
     task: Task<'_>,
-    host: &H,
+    host: &mut H,
     input: R,
     output: &mut W,
     status: &mut u8,
 ) -> Connection<S>
     requires outside { conn.in_transaction ≡ false }
     ensures kept { (s : State) → ShowsState (state S.Store conn) s → HasCleanDisk (state S.Store result) →
-        (FailsAtOnce (W.contents output.old) (W.contents output.new) status.new × LeavesAsBefore s (state S.Store conn) (state S.Store result))
-        ⊎ RunsFrom task.entry s (given_by (R.remaining input) (H.text host.now) (AttendedOn H.Source.hands_out H.Source.takes_back H.Source.Reader.remaining H.Source.Writer.contents (H.opens host.now))) (W.contents output.old) (W.contents output.new) status.new (HasCleanDisk (state S.Store result)) (CrashLeaves (state S.Store result)) ⊤ }
-    ensures only { (tables : Tables) → Rests (state S.Store conn) tables → HasCleanDisk (state S.Store result) → RunsShown task.entry tables (given_by (R.remaining input) (H.text host.now) (AttendedOn H.Source.hands_out H.Source.takes_back H.Source.Reader.remaining H.Source.Writer.contents (H.opens host.now))) (W.contents output.old) (W.contents output.new) status.new }
-    ensures opened { RunsOpened task.entry (given_by (R.remaining input) (H.text host.now) (AttendedOn H.Source.hands_out H.Source.takes_back H.Source.Reader.remaining H.Source.Writer.contents (H.opens host.now))) (W.contents output.old) (W.contents output.new) status.new }
+        ((host.new ≡ host.old) × FailsAtOnce (W.contents output.old) (W.contents output.new) status.new × LeavesAsBefore s (state S.Store conn) (state S.Store result))
+        ⊎ RunsFrom task.entry s (given_by (R.remaining input) (H.text host.old) (attended_between H.Source.hands_out H.Source.takes_back H.Source.Reader.remaining H.Source.Writer.contents H.listens H.closes host.old host.new)) (W.contents output.old) (W.contents output.new) status.new (HasCleanDisk (state S.Store result)) (CrashLeaves (state S.Store result)) ⊤ }
+    ensures only { (tables : Tables) → Rests (state S.Store conn) tables → HasCleanDisk (state S.Store result) → RunsShown task.entry tables (given_by (R.remaining input) (H.text host.old) (attended_between H.Source.hands_out H.Source.takes_back H.Source.Reader.remaining H.Source.Writer.contents H.listens H.closes host.old host.new)) (W.contents output.old) (W.contents output.new) status.new }
+    ensures opened { RunsOpened task.entry (given_by (R.remaining input) (H.text host.old) (attended_between H.Source.hands_out H.Source.takes_back H.Source.Reader.remaining H.Source.Writer.contents H.listens H.closes host.old host.new)) (W.contents output.old) (W.contents output.new) status.new }
 {
-    match adopt(rt.alloc(), conn) {
-        Ok(world) => run_in(rt, world, task, host, input, output, status),
+    match adopt(alloc, conn) {
+        Ok(world) => run_in(alloc, console, world, task, host, input, output, status),
         Err((fault, conn)) => {
-            *status = report(rt, Failure::from(fault), output);
+            *status = report(alloc, console, Failure::from(fault), output);
             conn
         }
     }
@@ -163,36 +174,45 @@ fn run_opened<H: BatchFiles + Ports, R: Read + Drop, W: Write, S: Alter + Drop>(
 ///
 /// If the task begins with a new world, that is made in the connection, which must have no tables. Otherwise the world that its tables
 /// show is opened.
-pub fn run_over<H: BatchFiles + Ports, R: Read + Drop, W: Write, S: Alter + Drop>(
-    rt: &HostRuntime,
+pub fn run_over<
+    H: BatchFiles + Ports,
+    C: Clock + Eprint,
+    R: Read + Drop,
+    W: Write,
+    S: Alter + Drop,
+>(
+    alloc: Global,
+    console: &C,
     conn: Connection<S>,
     task: Task<'_>,
-    host: &H,
+    host: &mut H,
     input: R,
     output: &mut W,
     status: &mut u8,
 ) -> Connection<S>
     requires outside { conn.in_transaction ≡ false }
     // A task that begins with a new world runs from that.
-    ensures anew { begins_anew task.entry ≡ true → FailsToBegin task.entry (W.contents output.old) (W.contents output.new) status.new
-        ⊎ ((s : State) × BeginsWith task.entry (given_by (R.remaining input) (H.text host.now) (AttendedOn H.Source.hands_out H.Source.takes_back H.Source.Reader.remaining H.Source.Writer.contents (H.opens host.now))) s × RunsFrom task.entry s (given_by (R.remaining input) (H.text host.now) (AttendedOn H.Source.hands_out H.Source.takes_back H.Source.Reader.remaining H.Source.Writer.contents (H.opens host.now))) (W.contents output.old) (W.contents output.new) status.new (HasCleanDisk (state S.Store result)) (CrashLeaves (state S.Store result)) ⊤) }
+    ensures anew { begins_anew task.entry ≡ true → ((host.new ≡ host.old) × FailsToBegin task.entry (W.contents output.old) (W.contents output.new) status.new)
+        ⊎ ((s : State) × BeginsWith task.entry (given_by (R.remaining input) (H.text host.old) (attended_between H.Source.hands_out H.Source.takes_back H.Source.Reader.remaining H.Source.Writer.contents H.listens H.closes host.old host.new)) s × RunsFrom task.entry s (given_by (R.remaining input) (H.text host.old) (attended_between H.Source.hands_out H.Source.takes_back H.Source.Reader.remaining H.Source.Writer.contents H.listens H.closes host.old host.new)) (W.contents output.old) (W.contents output.new) status.new (HasCleanDisk (state S.Store result)) (CrashLeaves (state S.Store result)) ⊤) }
     // Any other runs from the state that the tables of the connection show, of either version, on a disk that returns what was written.
     ensures kept { (s : State) → begins_anew task.entry ≡ false → ShowsState (state S.Store conn) s → HasCleanDisk (state S.Store result) →
-        (FailsAtOnce (W.contents output.old) (W.contents output.new) status.new × LeavesAsBefore s (state S.Store conn) (state S.Store result))
-        ⊎ RunsFrom task.entry s (given_by (R.remaining input) (H.text host.now) (AttendedOn H.Source.hands_out H.Source.takes_back H.Source.Reader.remaining H.Source.Writer.contents (H.opens host.now))) (W.contents output.old) (W.contents output.new) status.new (HasCleanDisk (state S.Store result)) (CrashLeaves (state S.Store result)) ⊤ }
+        ((host.new ≡ host.old) × FailsAtOnce (W.contents output.old) (W.contents output.new) status.new × LeavesAsBefore s (state S.Store conn) (state S.Store result))
+        ⊎ RunsFrom task.entry s (given_by (R.remaining input) (H.text host.old) (attended_between H.Source.hands_out H.Source.takes_back H.Source.Reader.remaining H.Source.Writer.contents H.listens H.closes host.old host.new)) (W.contents output.old) (W.contents output.new) status.new (HasCleanDisk (state S.Store result)) (CrashLeaves (state S.Store result)) ⊤ }
     // If there are tables, it runs from the world that they show, or the line tells a fault of these tables.
     ensures only { (tables : Tables) → begins_anew task.entry ≡ false → Rests (state S.Store conn) tables → HasCleanDisk (state S.Store result) →
-        RunsShown task.entry tables (given_by (R.remaining input) (H.text host.now) (AttendedOn H.Source.hands_out H.Source.takes_back H.Source.Reader.remaining H.Source.Writer.contents (H.opens host.now))) (W.contents output.old) (W.contents output.new) status.new }
+        RunsShown task.entry tables (given_by (R.remaining input) (H.text host.old) (attended_between H.Source.hands_out H.Source.takes_back H.Source.Reader.remaining H.Source.Writer.contents H.listens H.closes host.old host.new)) (W.contents output.old) (W.contents output.new) status.new }
     // Whatever they show, it is refused, or the task runs from a well formed world.
-    ensures opened { begins_anew task.entry ≡ false → RunsOpened task.entry (given_by (R.remaining input) (H.text host.now) (AttendedOn H.Source.hands_out H.Source.takes_back H.Source.Reader.remaining H.Source.Writer.contents (H.opens host.now))) (W.contents output.old) (W.contents output.new) status.new }
+    ensures opened { begins_anew task.entry ≡ false → RunsOpened task.entry (given_by (R.remaining input) (H.text host.old) (attended_between H.Source.hands_out H.Source.takes_back H.Source.Reader.remaining H.Source.Writer.contents H.listens H.closes host.old host.new)) (W.contents output.old) (W.contents output.new) status.new }
 {
     match dump_word(task) {
-        Some(dump) => run_loaded(rt, conn, dump, task, host, input, output, status),
+        Some(dump) => run_loaded(
+            alloc, console, conn, dump, task, host, input, output, status,
+        ),
         None => {
             if begins_anew(task) {
-                run_anew(rt, conn, task, host, input, output, status)
+                run_anew(alloc, console, conn, task, host, input, output, status)
             } else {
-                run_opened(rt, conn, task, host, input, output, status)
+                run_opened(alloc, console, conn, task, host, input, output, status)
             }
         }
     }

@@ -4,7 +4,7 @@ ghost use Rattle.std.specs.Prelude.{◌≡◌, ℕ, List, map};
 ghost use Rattle.clap.specs.Kinds.{Kinds, HasKind};
 ghost use Rattle.moo_words.specs.Tasks.{IsRefusal, mistakes};
 ghost use Rattle.sqlite.specs.WalFiles.{image_at};
-ghost use Rattle.moo_http.specs.Turns.{AttendedOn};
+ghost use Rattle.moo_http.specs.Turns.{attended_between};
 ghost use Rattle.moo_commands.specs.Run.{mistake_status, given_by, EndsUsage, RunsWords};
 ghost use Rattle.moo_commands.specs.Ends.{RunsOver, RunsClosed};
 
@@ -14,11 +14,13 @@ use crate::files::run_task;
 use crate::host::BatchFiles;
 use crate::output::{put_line, report};
 use clap::error::ErrorKind;
-use moo_files::Remains;
+use moo_files::{Remains, WorldFiles};
 use moo_http::Ports;
 use moo_words::{Usage, read_words};
 use sqlite::{FileFrom, Start};
-use std::io::{Read, Write};
+use std::alloc::Global;
+use std::io::{Eprint, Read, Write};
+use std::time::Clock;
 
 /// The status of what the reader of the words says: 0 for help and the version, 2 for a mistake.
 fn mistake_status(kind: ErrorKind) -> u8
@@ -31,26 +33,36 @@ fn mistake_status(kind: ErrorKind) -> u8
 }
 
 /// Writes what the reader of the words says, and answers its status.
-fn put_mistake<W: Write>(rt: &HostRuntime, error: &clap::Error, output: &mut W) -> u8
+fn put_mistake<C: Eprint, W: Write>(
+    alloc: Global,
+    console: &C,
+    error: &clap::Error,
+    output: &mut W,
+) -> u8
     ensures { (found : Kinds) → HasKind found error.now → EndsUsage found (W.contents output.old) (W.contents output.new) result }
 {
     let kind = error.kind();
     if kind == ErrorKind::OutOfMemory {
-        return report(rt, Failure::NoMemory, output);
+        return report(alloc, console, Failure::NoMemory, output);
     }
-    let Ok(text) = error.to_string(rt.alloc()) else {
-        return report(rt, Failure::NoMemory, output);
+    let Ok(text) = error.to_string(alloc) else {
+        return report(alloc, console, Failure::NoMemory, output);
     };
     put_line(text.as_str(), mistake_status(kind), output)
 }
 
 /// Says why the words name no task.
-fn report_usage<W: Write>(rt: &HostRuntime, usage: &Usage, output: &mut W) -> u8
+fn report_usage<C: Eprint, W: Write>(
+    alloc: Global,
+    console: &C,
+    usage: &Usage,
+    output: &mut W,
+) -> u8
     ensures { (words : List (List ℕ)) → IsRefusal words usage.now → EndsUsage (mistakes words) (W.contents output.old) (W.contents output.new) result }
 {
     match usage {
-        Usage::Refused(error) => put_mistake(rt, error, output),
-        Usage::Absent => report(rt, Failure::Usage, output),
+        Usage::Refused(error) => put_mistake(alloc, console, error, output),
+        Usage::Absent => report(alloc, console, Failure::Usage, output),
     }
 }
 
@@ -64,26 +76,33 @@ fn report_usage<W: Write>(rt: &HostRuntime, usage: &Usage, output: &mut W) -> u8
 /// does a hint if a batch met a fault of the store. If a batch isn't accepted, standard error says its line and why. A connection that fails isn't a
 /// failure of `serve`.
 ///
-/// `T` is what the file of the words holds, and `H` the files of batches and the ports: it is proved for all contents and all connections, and
+/// `T` is what the file of the words holds, and `H` the host, with its files and its ports: it is proved for all contents and all connections, and
 /// no code looks at them. What is left of the file is handed back, to be closed: if the words have none, the unspent start.
-pub fn run_words<T: Start, H: BatchFiles + Ports, R: Read + Drop, W: Write>(
-    rt: &HostRuntime,
+pub fn run_words<
+    T: Start,
+    H: WorldFiles<T> + BatchFiles + Ports,
+    C: Clock + Eprint,
+    R: Read + Drop,
+    W: Write,
+>(
+    alloc: Global,
+    console: &C,
     words: &[&str],
     start: T,
-    host: &H,
+    host: &mut H,
     input: R,
     output: &mut W,
     status: &mut u8,
 ) -> Ends<T, FileFrom<T>>
     // What is written, whatever the file holds.
-    ensures words { RunsWords (map (λ word. word.now) words.now) (given_by (R.remaining input) (H.text host.now) (AttendedOn H.Source.hands_out H.Source.takes_back H.Source.Reader.remaining H.Source.Writer.contents (H.opens host.now))) (W.contents output.old) (W.contents output.new) status.new }
+    ensures words { RunsWords (map (λ word. word.now) words.now) (given_by (R.remaining input) (H.text host.old) (attended_between H.Source.hands_out H.Source.takes_back H.Source.Reader.remaining H.Source.Writer.contents H.listens H.closes host.old host.new)) (W.contents output.old) (W.contents output.new) status.new }
     // And by what it holds: the run is one over the world that it shows.
-    ensures over { RunsOver (map (λ word. word.now) words.now) (image_at T.Start) result (given_by (R.remaining input) (H.text host.now) (AttendedOn H.Source.hands_out H.Source.takes_back H.Source.Reader.remaining H.Source.Writer.contents (H.opens host.now))) (W.contents output.old) (W.contents output.new) status.new }
+    ensures over { RunsOver (map (λ word. word.now) words.now) (image_at T.Start) result (given_by (R.remaining input) (H.text host.old) (attended_between H.Source.hands_out H.Source.takes_back H.Source.Reader.remaining H.Source.Writer.contents H.listens H.closes host.old host.new)) (W.contents output.old) (W.contents output.new) status.new }
 {
-    match read_words(rt.alloc(), words) {
-        Ok(task) => run_task(rt, task, start, host, input, output, status),
+    match read_words(alloc, words) {
+        Ok(task) => run_task(alloc, console, task, start, host, input, output, status),
         Err(usage) => {
-            *status = report_usage(rt, &usage, output);
+            *status = report_usage(alloc, console, &usage, output);
             Ends::NoFile(start)
         }
     }
@@ -93,18 +112,25 @@ pub fn run_words<T: Start, H: BatchFiles + Ports, R: Read + Drop, W: Write>(
 /// and after a kill, a part of what was committed is in the log alone; the next open reads it, and the status is the same.
 ///
 /// What is left of the file is handed back, to be dropped: if the words have none, the unspent start.
-pub fn run_to_end<T: Start, H: BatchFiles + Ports, R: Read + Drop, W: Write>(
-    rt: &HostRuntime,
+pub fn run_to_end<
+    T: Start,
+    H: WorldFiles<T> + BatchFiles + Ports,
+    C: Clock + Eprint,
+    R: Read + Drop,
+    W: Write,
+>(
+    alloc: Global,
+    console: &C,
     words: &[&str],
     start: T,
-    host: &H,
+    host: &mut H,
     input: R,
     output: &mut W,
     status: &mut u8,
 ) -> Remains<T, FileFrom<T>>
-    ensures words { RunsWords (map (λ word. word.now) words.now) (given_by (R.remaining input) (H.text host.now) (AttendedOn H.Source.hands_out H.Source.takes_back H.Source.Reader.remaining H.Source.Writer.contents (H.opens host.now))) (W.contents output.old) (W.contents output.new) status.new }
+    ensures words { RunsWords (map (λ word. word.now) words.now) (given_by (R.remaining input) (H.text host.old) (attended_between H.Source.hands_out H.Source.takes_back H.Source.Reader.remaining H.Source.Writer.contents H.listens H.closes host.old host.new)) (W.contents output.old) (W.contents output.new) status.new }
     // The file is closed after a run over what it held.
-    ensures closed { RunsClosed (map (λ word. word.now) words.now) (image_at T.Start) result (given_by (R.remaining input) (H.text host.now) (AttendedOn H.Source.hands_out H.Source.takes_back H.Source.Reader.remaining H.Source.Writer.contents (H.opens host.now))) (W.contents output.old) (W.contents output.new) status.new }
+    ensures closed { RunsClosed (map (λ word. word.now) words.now) (image_at T.Start) result (given_by (R.remaining input) (H.text host.old) (attended_between H.Source.hands_out H.Source.takes_back H.Source.Reader.remaining H.Source.Writer.contents H.listens H.closes host.old host.new)) (W.contents output.old) (W.contents output.new) status.new }
 {
-    run_words(rt, words, start, host, input, output, status).close()
+    run_words(alloc, console, words, start, host, input, output, status).close()
 }

@@ -4,7 +4,7 @@ ghost use Rattle.std.specs.Prelude.{◌≡◌, ◌≢◌, ◌⊎◌, ◌∷◌, 
 ghost use Rattle.std.specs.IoError.{error_kind};
 ghost use Rattle.moo_commands.specs.Lines.{Reports};
 ghost use Rattle.sqlite.specs.WalFiles.{image_at};
-ghost use Rattle.moo_http.specs.Turns.{AttendedOn};
+ghost use Rattle.moo_http.specs.Turns.{attended_between};
 ghost use Rattle.moo_commands.specs.Run.{given_by};
 ghost use Rattle.moo_commands.specs.Ends.{IsUntouched, RunsClosed};
 
@@ -12,13 +12,14 @@ use crate::failure::Failure;
 use crate::host::{BatchFiles, System};
 use crate::output::report;
 use crate::run::run_to_end;
-use moo_files::Remains;
+use moo_files::{Remains, WorldFiles};
 use moo_http::Ports;
 use sqlite::{FileFrom, Start, Unknown};
 use std::alloc::{AllocError, Global};
 use std::env::args;
 use std::io;
-use std::io::{ErrorKind, Read, Write};
+use std::io::{Eprint, ErrorKind, Read, Write};
+use std::time::Clock;
 
 /// The words of a command line, with `moo` in place of the program's path.
 fn named_words(alloc: Global, mut words: Vec<String>) -> io::Result<Vec<String>>
@@ -57,35 +58,42 @@ fn words_failure(error: &io::Error) -> Failure
 
 /// Does what the words say and closes their file, or says why the words can't be read. What is left of the file is handed back, to be
 /// dropped: if no file was opened for them, the unspent start.
-pub fn run_given<T: Start, H: BatchFiles + Ports, R: Read + Drop, W: Write>(
-    rt: &HostRuntime,
+pub fn run_given<
+    T: Start,
+    H: WorldFiles<T> + BatchFiles + Ports,
+    C: Clock + Eprint,
+    R: Read + Drop,
+    W: Write,
+>(
+    alloc: Global,
+    console: &C,
     words: io::Result<Vec<String>>,
     start: T,
-    host: &H,
+    host: &mut H,
     input: R,
     output: &mut W,
     status: &mut u8,
 ) -> Remains<T, FileFrom<T>>
     // What the words come to, as `run_to_end` says it; or memory runs out before that, and their file isn't opened.
-    ensures read { IfOk words (λ words. (Reports Failure.NoMemory (W.contents output.old) (W.contents output.new) status.new × IsUntouched result)
-        ⊎ RunsClosed (map string_bytes words.items) (image_at T.Start) result (given_by (R.remaining input) (H.text host.now) (AttendedOn H.Source.hands_out H.Source.takes_back H.Source.Reader.remaining H.Source.Writer.contents (H.opens host.now))) (W.contents output.old) (W.contents output.new) status.new) }
-    // If they can't be read, the line says whether memory ran out, and no file is opened.
+    ensures read { IfOk words (λ words. (Reports Failure.NoMemory (W.contents output.old) (W.contents output.new) status.new × IsUntouched result × (host.new ≡ host.old))
+        ⊎ RunsClosed (map string_bytes words.items) (image_at T.Start) result (given_by (R.remaining input) (H.text host.old) (attended_between H.Source.hands_out H.Source.takes_back H.Source.Reader.remaining H.Source.Writer.contents H.listens H.closes host.old host.new)) (W.contents output.old) (W.contents output.new) status.new) }
+    // If they can't be read, the line says whether memory ran out, no file is opened, and nothing is asked of the ports.
     ensures memory { IfErr words (λ error. error_kind error ≡ ErrorKind.OutOfMemory → Reports Failure.NoMemory (W.contents output.old) (W.contents output.new) status.new) }
     ensures unread { IfErr words (λ error. error_kind error ≢ ErrorKind.OutOfMemory → Reports Failure.Usage (W.contents output.old) (W.contents output.new) status.new) }
-    ensures unopened { IfErr words (λ _. IsUntouched result) }
+    ensures unopened { IfErr words (λ _. IsUntouched result × (host.new ≡ host.old)) }
 {
     let words = match words {
         Ok(words) => words,
         Err(error) => {
-            *status = report(rt, words_failure(&error), output);
+            *status = report(alloc, console, words_failure(&error), output);
             return Remains::Untouched(start);
         }
     };
-    let Ok(words) = borrowed(rt.alloc(), &words) else {
-        *status = report(rt, Failure::NoMemory, output);
+    let Ok(words) = borrowed(alloc, &words) else {
+        *status = report(alloc, console, Failure::NoMemory, output);
         return Remains::Untouched(start);
     };
-    run_to_end(rt, &words, start, host, input, output, status)
+    run_to_end(alloc, console, &words, start, host, input, output, status)
 }
 
 /// The words of the command line.
@@ -98,10 +106,11 @@ fn command_words(rt: &HostRuntime) -> io::Result<Vec<String>> {
 pub fn run_command(rt: &HostRuntime) -> u8 {
     let mut status = 0;
     let _closed = run_given(
+        rt.alloc(),
         rt,
         command_words(rt),
         Unknown,
-        &System::new(rt),
+        &mut System::new(rt),
         rt.stdin(),
         &mut rt.stdout(),
         &mut status,

@@ -8,6 +8,7 @@ mod loading;
 mod making;
 mod opening;
 mod pair;
+mod paths;
 mod remains;
 
 pub use again::open_again;
@@ -17,4 +18,5 @@ pub use loading::load_from;
 pub use making::{create_at, create_from};
 pub use opening::{open_at, open_from};
 pub use pair::NotOpened;
+pub use paths::WorldFiles;
 pub use remains::Remains;

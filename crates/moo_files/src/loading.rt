@@ -16,6 +16,7 @@ ghost use Rattle.moo_files.specs.Contents.{HoldsTrees, HoldsState, HasAnyTable, 
 ghost use Rattle.moo_files.specs.Remains.{IsCleanRemains, MayStopAs, KeepsSuch, StillHolds, KeepsNothingBut, Spares};
 
 use crate::making::leaves_its_state;
+use crate::paths::WorldFiles;
 use crate::remains::{Remains, open_new};
 use moo_flat::Flat;
 use moo_store::{StoreFault, World, load_in};
@@ -48,8 +49,9 @@ fn load_files<D: Disk + Drop>(
 /// The rows have to be good, and `seq` below 2^63. They are written in one transaction. Store with `ErrorCode::NameTaken`: the file
 /// has a table, an index or a view already, and stays as it is. Store with any other code: the file can't be made or opened, isn't
 /// a database, is open elsewhere, or the disk failed. OutOfMemory: memory ran out, and nothing was written.
-pub fn load_from<T: Start>(
-    rt: &HostRuntime,
+pub fn load_from<T: Start, H: WorldFiles<T>>(
+    alloc: Global,
+    host: &H,
     path: &str,
     start: T,
     rows: Flat,
@@ -79,11 +81,11 @@ pub fn load_from<T: Start>(
     // A crash of a new World leaves it as it was made.
     ensures crash { IfOk result (λ world. HasCleanDisk (store_of over_files world) → Left (store_of over_files world) (state_of rows.maps)) }
 {
-    let conn = match open_new(rt, path, start) {
+    let conn = match open_new(alloc, host, path, start) {
         Ok(conn) => conn,
         Err((fault, remains)) => return Err((fault, remains)),
     };
-    match load_files(rt.alloc(), conn, rows) {
+    match load_files(alloc, conn, rows) {
         Ok(world) => {
             leaves_its_state(&world);
             Ok(world)

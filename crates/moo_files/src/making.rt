@@ -15,6 +15,7 @@ ghost use Rattle.moo_files.specs.Blank.{IsBlank};
 ghost use Rattle.moo_files.specs.Contents.{HoldsTrees, HoldsState, HasAnyTable, HoldsNoTable};
 ghost use Rattle.moo_files.specs.Remains.{IsCleanRemains, MayStopAs, KeepsSuch, StillHolds, KeepsNothingBut, Spares};
 
+use crate::paths::WorldFiles;
 use crate::remains::{Remains, open_new};
 use moo_store::{StoreFault, World, create_in};
 use sqlite::{Connection, Error, ErrorCode, File, FileFrom, FileStore, Start, Unknown};
@@ -45,8 +46,9 @@ pub(crate) fn leaves_its_state<D: Disk + Drop>(world: &World<FileStore<D>>)
 }
 
 /// As `create_at`, for any contents: `T` stands for what the files hold, and no code reads it.
-pub fn create_from<T: Start>(
-    rt: &HostRuntime,
+pub fn create_from<T: Start, H: WorldFiles<T>>(
+    alloc: Global,
+    host: &H,
     path: &str,
     start: T,
 ) -> Result<World<FileStore<FileFrom<T>>>, (StoreFault, Remains<T, FileFrom<T>>)>
@@ -73,11 +75,11 @@ pub fn create_from<T: Start>(
     // A crash of a new World leaves it as it was made.
     ensures crash { IfOk result (λ world. HasCleanDisk (store_of over_files world) → Left (store_of over_files world) (state_of opening_maps)) }
 {
-    let conn = match open_new(rt, path, start) {
+    let conn = match open_new(alloc, host, path, start) {
         Ok(conn) => conn,
         Err((fault, remains)) => return Err((fault, remains)),
     };
-    match create_files(rt.alloc(), conn) {
+    match create_files(alloc, conn) {
         Ok(world) => {
             leaves_its_state(&world);
             Ok(world)
@@ -92,11 +94,15 @@ pub fn create_from<T: Start>(
 /// Store with `ErrorCode::NameTaken`: it has a table, an index or a view already, and stays as it is. Store with any other code:
 /// the file can't be made or opened, isn't a database, is open elsewhere, or the disk failed. OutOfMemory: memory was refused. At
 /// each refusal the file is closed.
-pub fn create_at(rt: &HostRuntime, path: &str) -> Result<World<FileStore<File>>, StoreFault>
+pub fn create_at<H: WorldFiles<Unknown>>(
+    alloc: Global,
+    host: &H,
+    path: &str,
+) -> Result<World<FileStore<File>>, StoreFault>
     ensures stands { IfOk result (λ world. StandsFor over_files true world (state_of opening_maps)) }
     ensures fault { IfErr result IsOfStore }
 {
-    match create_from(rt, path, Unknown) {
+    match create_from(alloc, host, path, Unknown) {
         Ok(world) => Ok(world),
         Err((fault, remains)) => {
             let _closed = remains.close();

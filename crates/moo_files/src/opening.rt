@@ -19,12 +19,13 @@ ghost use Rattle.moo_files.specs.Contents.{HoldsTrees, HoldsTables, HoldsState, 
 ghost use Rattle.moo_files.specs.Opened.{OpensHeld, RefusesHeld, OpensTables, OpensGood};
 ghost use Rattle.moo_files.specs.Remains.{cannot_open, IsCleanRemains, MayStopAs, StillHolds, StillHoldsTrees, KeepsNothingBut, Spares};
 
+use crate::paths::WorldFiles;
 use crate::remains::{Remains, open_connection};
 use moo_store::{StoreFault, World, adopt};
 use sqlite::{Connection, Error, ErrorCode, File, FileFrom, FileStore, Start, Unknown};
 use sqlite_disk::Disk;
 use std::alloc::Global;
-use std::fs::{self, Metadata};
+use std::fs::Metadata;
 use std::io;
 
 const CANNOT_OPEN: StoreFault = StoreFault::Store(Error::SqliteFailure(ErrorCode::CannotOpen));
@@ -76,8 +77,9 @@ pub fn adopt_files<D: Disk + Drop>(
 }
 
 /// As `open_at`, for any contents: `T` stands for what the files hold, and no code reads it.
-pub fn open_from<T: Start>(
-    rt: &HostRuntime,
+pub fn open_from<T: Start, H: WorldFiles<T>>(
+    alloc: Global,
+    host: &H,
     path: &str,
     start: T,
 ) -> Result<World<FileStore<FileFrom<T>>>, (StoreFault, Remains<T, FileFrom<T>>)>
@@ -113,14 +115,14 @@ pub fn open_from<T: Start>(
     ensures refused { (s : State) → HoldsState (image_at T.Start) s → IfErr result (λ e. IsCleanRemains e.1 → StillHolds (image_at T.Start) e.1 s) }
     ensures crash { (s : State) → HoldsState (image_at T.Start) s → IfOk result (λ world. HasCleanDisk (store_of over_files world) → Left (store_of over_files world) s) }
 {
-    if let Some(fault) = unfit(fs::metadata(rt, path)) {
+    if let Some(fault) = unfit(host.metadata(path)) {
         return Err((fault, Remains::Untouched(start)));
     }
-    let conn = match open_connection(rt, path, start) {
+    let conn = match open_connection(alloc, host, path, start) {
         Ok(conn) => conn,
         Err((fault, remains)) => return Err((fault, remains)),
     };
-    match adopt_files(rt.alloc(), conn) {
+    match adopt_files(alloc, conn) {
         Ok(world) => Ok(world),
         Err((fault, conn)) => Err((fault, Remains::Connection(conn))),
     }
@@ -134,12 +136,16 @@ pub fn open_from<T: Start>(
 /// other tables than ours. Any other Store: the disk failed, or what it holds isn't a whole database. Damaged and NewerVersion: its
 /// tables show no world, and say where, or are those of a later version. OutOfMemory: memory was refused. At each refusal the
 /// file is closed; a log that an earlier run left is copied into it first.
-pub fn open_at(rt: &HostRuntime, path: &str) -> Result<World<FileStore<File>>, StoreFault>
+pub fn open_at<H: WorldFiles<Unknown>>(
+    alloc: Global,
+    host: &H,
+    path: &str,
+) -> Result<World<FileStore<File>>, StoreFault>
     // Whatever the file holds, the World works, its rows are good, and what is said of rows alone is said of them.
     ensures rows { IfOk result (λ world. IsGood world.rows.maps × StandsFor over_files false world (state_of world.rows.maps)) }
     ensures works { IfOk result (λ world. world.failed ≡ false) }
 {
-    match open_from(rt, path, Unknown) {
+    match open_from(alloc, host, path, Unknown) {
         Ok(world) => Ok(world),
         Err((fault, remains)) => {
             let _closed = remains.close();

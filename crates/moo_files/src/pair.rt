@@ -3,8 +3,9 @@
 ghost use Rattle.std.specs.Prelude.{true, false, IsTrue, IfOk};
 ghost use Rattle.sqlite_std_file.specs.File.{file_is_usable, IsFresh};
 
+use crate::paths::WorldFiles;
 use sqlite::{FileFrom, Files, Start};
-use sqlite_std_file::{OpenError, open};
+use sqlite_std_file::OpenError;
 use std::marker::PhantomData;
 
 /// The two files couldn't be opened, and nothing came back. `T` is the start that was spent on them: only `open_files` makes a seal,
@@ -13,15 +14,15 @@ use std::marker::PhantomData;
 pub struct NotOpened<T>(PhantomData<T>);
 
 /// The two files at a path, or why they can't be opened.
-pub(crate) fn open_files<T: Start>(
-    rt: &HostRuntime,
+pub(crate) fn open_files<T: Start, H: WorldFiles<T>>(
+    host: &H,
     path: &str,
     start: T,
 ) -> Result<Files<FileFrom<T>>, (OpenError, NotOpened<T>)>
     ensures usable { IfOk result (λ files. IsTrue (file_is_usable T.Start files.log) × IsTrue (file_is_usable T.Start files.db)) }
     ensures fresh { IfOk result (λ files. IsFresh true files.log × IsFresh false files.db) }
 {
-    match open(rt, path, start) {
+    match host.open_database(path, start) {
         Ok(files) => Ok(files),
         Err(error) => Err((error, NotOpened(PhantomData))),
     }

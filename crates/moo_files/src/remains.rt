@@ -18,11 +18,12 @@ ghost use Rattle.moo_files.specs.Closing.{IsClosedFrom};
 use crate::blank::open_or_make;
 use crate::closing::{close_connection, leave_commit};
 use crate::pair::{NotOpened, open_files};
+use crate::paths::WorldFiles;
 use moo_store::StoreFault;
 use sqlite::{Connection, Error, ErrorCode, FileFrom, FileStore, Files, Leftover, Options, Start};
 use sqlite_disk::Disk;
 use sqlite_std_file::OpenError as PathError;
-use std::hash::{BuildHasher, RandomState};
+use std::alloc::Global;
 use std::io::ErrorKind;
 
 /// What is left of the files if no world was opened or made. `T` is the start that is spent on opening them.
@@ -84,15 +85,9 @@ fn path_fault(error: PathError) -> StoreFault
     }
 }
 
-/// How `sqlite` opens files, with a random seed for the log's salts. None if there is none.
-fn options(rt: &HostRuntime) -> Option<Options> {
-    let state = RandomState::new(rt).ok()?;
-    Some(Options::new(state.hash_one(&0u8)))
-}
-
-/// The two files at a path, and how `sqlite` opens them. `:memory:` and a URI aren't paths.
-fn open_pair<T: Start>(
-    rt: &HostRuntime,
+/// The two files at a path, and how `sqlite` opens them, with a random seed for the log's salts. `:memory:` and a URI aren't paths.
+fn open_pair<T: Start, H: WorldFiles<T>>(
+    host: &H,
     path: &str,
     start: T,
 ) -> Result<(Files<FileFrom<T>>, Options), (StoreFault, Remains<T, FileFrom<T>>)>
@@ -105,19 +100,20 @@ fn open_pair<T: Start>(
     if path == ":memory:" || path.starts_with("file:") {
         return Err((CANNOT_OPEN, Remains::Untouched(start)));
     }
-    let Some(options) = options(rt) else {
+    let Ok(seed) = host.seed() else {
         return Err((CANNOT_OPEN, Remains::Untouched(start)));
     };
-    match open_files(rt, path, start) {
-        Ok(files) => Ok((files, options)),
+    match open_files(host, path, start) {
+        Ok(files) => Ok((files, Options::new(seed))),
         Err((error, seal)) => Err((path_fault(error), Remains::NotOpened(seal))),
     }
 }
 
 /// A connection to files in which a world is to be made, or the fault and what is left of them. In files that hold no database a
 /// blank one is made first, as `open_or_make` does.
-pub(crate) fn open_new<T: Start>(
-    rt: &HostRuntime,
+pub(crate) fn open_new<T: Start, H: WorldFiles<T>>(
+    alloc: Global,
+    host: &H,
     path: &str,
     start: T,
 ) -> Result<Connection<FileStore<FileFrom<T>>>, (StoreFault, Remains<T, FileFrom<T>>)>
@@ -132,11 +128,11 @@ pub(crate) fn open_new<T: Start>(
     ensures begun { IsBlank (image_at T.Start) → IfErr result (λ e. IsCleanRemains e.1 → KeepsNothingBut (λ _. ⊥) (image_at T.Start) e.1) }
     ensures spared { ¬ IsNothing (image_at T.Start) → ¬ IsBlank (image_at T.Start) → IfErr result (λ e. IsCleanRemains e.1 → Spares (image_at T.Start) e.1) }
 {
-    let (files, options) = match open_pair(rt, path, start) {
+    let (files, options) = match open_pair(host, path, start) {
         Ok(pair) => pair,
         Err(refused) => return Err(refused),
     };
-    match open_or_make(rt.alloc(), files, options) {
+    match open_or_make(alloc, files, options) {
         Ok(made) => {
             leave_commit(&made);
             Ok(made)
@@ -146,8 +142,9 @@ pub(crate) fn open_new<T: Start>(
 }
 
 /// A connection to the files, or the fault and what is left of them.
-pub(crate) fn open_connection<T: Start>(
-    rt: &HostRuntime,
+pub(crate) fn open_connection<T: Start, H: WorldFiles<T>>(
+    alloc: Global,
+    host: &H,
     path: &str,
     start: T,
 ) -> Result<Connection<FileStore<FileFrom<T>>>, (StoreFault, Remains<T, FileFrom<T>>)>
@@ -161,11 +158,11 @@ pub(crate) fn open_connection<T: Start>(
     ensures blank { IsNothing (image_at T.Start) → IfErr result (λ e. IsCleanRemains e.1 → KeepsNothingBut (λ _. ⊥) (image_at T.Start) e.1) }
     ensures spared { ¬ IsNothing (image_at T.Start) → IfErr result (λ e. IsCleanRemains e.1 → Spares (image_at T.Start) e.1) }
 {
-    let (files, options) = match open_pair(rt, path, start) {
+    let (files, options) = match open_pair(host, path, start) {
         Ok(pair) => pair,
         Err(refused) => return Err(refused),
     };
-    match Connection::open_files(rt.alloc(), files, options) {
+    match Connection::open_files(alloc, files, options) {
         Ok(conn) => {
             leave_commit(&conn);
             Ok(conn)

@@ -1,6 +1,6 @@
 -- The connections that a source hands out, served one after another.
 use Rattle.std.proofs.Common.{◌≡◌, inl, inr, ℕ, suc, ◌+◌, Bool, true, false, List, [], ◌∷◌, Option, Some, None, length, refl, sym, ap, subst, ◌∙◌, arith}
-use Rattle.std.specs.Prelude.{Result, Ok, Err, is_ok, IsTrue}
+use Rattle.std.specs.Prelude.{◌≢◌, Result, Ok, Err, is_ok, IfErr, IsTrue}
 use Rattle.sqlite.specs.State.{HasCleanDisk}
 use Rattle.sqlite.specs.Store.{Ghosts}
 use Rattle.moo_store.specs.Stand.{Stand}
@@ -15,7 +15,7 @@ use Rattle.moo_http.specs.declared.service.ServiceFault.{ServiceFault}
 use Rattle.moo_http.specs.declared.service.ServiceFault.TheVariants as service
 use Rattle.moo_http.specs.Connections.{Moves, AfterConnections, StandsAtEnd}
 use Rattle.moo_http.specs.Serves.{Gets, Serves, StandsStill, Served}
-use Rattle.moo_http.specs.Turns.{Yields, Exchanged, Visited, Visit, AfterTurns, Attended, ServesFrom, AttendedOn, ServesOn, answered_in, failed_in}
+use Rattle.moo_http.specs.Turns.{Yields, Exchanged, Visited, Visit, AfterTurns, Attended, ServesFrom, attended_between, ServesOn, answered_in, failed_in}
 
 -- the same end, of which something else holds
 pub ends_as : {S : Type 0} (g : Ghosts S) (known : Bool) (world : World S) (P Q : Stand → Type 0) → ((end : Stand) → P end → Q end) → StandsAtEnd g known world P → StandsAtEnd g known world Q
@@ -131,12 +131,18 @@ module _ {A R W : Type 0} (hands_out : A → Option (Connection R W) → A → T
       let all : answered_in turns + failed_in turns ≡ count = omega (arith, answered_are, failed_are, sum) in
       subst (λ n. AfterConnections n old new) all (after_turns turns from old to new it)
 
-  -- from the connections of a source that was opened on a port to those of the port
-  pub serves_on : (Opens : ℕ → A → Type 0) (r : Result (Unit {0}) ServiceFault) (port count : ℕ) (from : A) (old : Stand) (to : A) (new : Stand) (before after : Option (List ℕ)) → Opens port from
-      → ServesFrom hands_out takes_back remaining contents r port count from old to new before after → ServesOn (AttendedOn hands_out takes_back remaining contents Opens) r port count old new before after
-  serves_on Opens (Ok done) port count from old to new before after opened (text, (answered, failed, sum, holds, is), wrote) = (text, (answered, failed, sum, (from, to, opened, holds), is), wrote)
-  serves_on Opens (Err service.Port) port count from old to new before after opened (stays, same) = (stays.1, same)
-  serves_on Opens (Err service.Write) port count from old to new before after opened (inl (stays, front)) = inl (stays.1, front)
-  serves_on Opens (Err service.Write) port count from old to new before after opened (inr (text, (answered, failed, sum, holds, is), front)) = inr (text, (answered, failed, sum, (from, to, opened, holds), is), front)
-  serves_on Opens (Err service.OutOfMemory) port count from old to new before after opened (inl (stays, front)) = inl (stays.1, front)
-  serves_on Opens (Err service.OutOfMemory) port count from old to new before after opened (inr (text, (answered, failed, sum, holds, is), front)) = inr (text, (answered, failed, sum, (from, to, opened, holds), is), front)
+  -- from the connections of a source that was opened on a port and closed to those of the port
+  pub serves_on : {P : Type 0} (listens : P → ℕ → Option A → P → Type 0) (closes : P → A → P → Type 0) (first between last : P) (r : Result (Unit {0}) ServiceFault) (port count : ℕ) (from : A) (old : Stand) (to : A) (new : Stand) (before after : Option (List ℕ))
+      → listens first port (Some from) between → closes between to last → IfErr r (λ fault. fault ≢ service.Port)
+      → ServesFrom hands_out takes_back remaining contents r port count from old to new before after → ServesOn (attended_between hands_out takes_back remaining contents listens closes first last) r port count old new before after
+  serves_on listens closes first between last (Ok done) port count from old to new before after opened closed other (text, (answered, failed, sum, holds, is), wrote) =
+      (text, (answered, failed, sum, (between, from, to, opened, holds, closed), is), wrote)
+  serves_on listens closes first between last (Err service.Port) port count from old to new before after opened closed other it = absurd (other refl)
+  serves_on listens closes first between last (Err service.Write) port count from old to new before after opened closed other (inl (stays, front)) =
+      inl ((stays.1, (between, from, to, opened, ([], refl, refl, stays), closed)), front)
+  serves_on listens closes first between last (Err service.Write) port count from old to new before after opened closed other (inr (text, (answered, failed, sum, holds, is), front)) =
+      inr (text, (answered, failed, sum, (between, from, to, opened, holds, closed), is), front)
+  serves_on listens closes first between last (Err service.OutOfMemory) port count from old to new before after opened closed other (inl (stays, front)) =
+      inl ((stays.1, (between, from, to, opened, ([], refl, refl, stays), closed)), front)
+  serves_on listens closes first between last (Err service.OutOfMemory) port count from old to new before after opened closed other (inr (text, (answered, failed, sum, holds, is), front)) =
+      inr (text, (answered, failed, sum, (between, from, to, opened, holds, closed), is), front)

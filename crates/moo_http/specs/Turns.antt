@@ -8,6 +8,7 @@ use Rattle.moo_http.specs.declared.arrivals.Connection.{Connection}
 use Rattle.moo_http.specs.declared.fault.ServeFault.{ServeFault}
 use Rattle.moo_http.specs.declared.fault.ServeFault.TheVariants.{Read, Write, OutOfMemory}
 use Rattle.moo_http.specs.declared.service.ServiceFault.{ServiceFault}
+use Rattle.moo_http.specs.declared.service.ServiceFault.TheVariants.{Port}
 use Rattle.moo_http.specs.Serves.{Gets}
 use Rattle.moo_http.specs.Connections.{SaysAll, SaysByResult}
 
@@ -30,7 +31,19 @@ abbrev pub Visited : Bool → Stand → Stand → Option (List ℕ) → Option (
 Visited true old new left rest before after = Exchanged (Ok tt) old new left rest before after
 Visited false old new left rest before after = (fault : ServeFault) × Exchanged (Err fault) old new left rest before after
 
--- ---- a source of them
+-- ---- ports
+
+-- What came of the ports, from what they were to what they are.
+pub record Attendance : Type 1 where
+  -- This port was listened on, so many of the connections to it were answered and so many failed, which led from a stand to another; and
+  -- its source was closed. Nothing else was asked of the ports.
+  pub attends : ℕ → ℕ → ℕ → Stand → Stand → Type 0
+  -- this port couldn't be listened on
+  pub refuses : ℕ → Type 0
+  -- none was listened on
+  pub rests : Type 0
+
+-- ---- a source of connections
 
 abbrev pub answered_in : List Bool → ℕ
 answered_in [] = 0
@@ -69,21 +82,24 @@ module _ {A R W : Type 0} (hands_out : A → Option (Connection R W) → A → T
   ServesFrom result port count from old to new before after =
       SaysByResult (λ answered failed. Attended answered failed from old to new) ((to ≡ from) × (new ≡ old)) result port count before after
 
-  -- A source that was opened on this port handed out connections, of which so many were answered and so many failed.
-  abbrev pub AttendedOn : (ℕ → A → Type 0) → ℕ → ℕ → ℕ → Stand → Stand → Type 0
-  AttendedOn Opens port answered failed old new = (from to : A) × Opens port from × Attended answered failed from old to new
+  -- What came of the ports, from these to those, by what they are before and after one is listened on and its source is closed.
+  abbrev pub attended_between : {P : Type 0} → (P → ℕ → Option A → P → Type 0) → (P → A → P → Type 0) → P → P → Attendance
+  attended_between {P} listens closes before after = record {
+    attends = λ port answered failed old new.
+        (between : P) × (from to : A) × listens before port (Some from) between × Attended answered failed from old to new × closes between to after;
+    refuses = λ port. listens before port None after;
+    rests = after ≡ before;
+  }
 
 -- ---- a port
 
--- how many of the connections to a port were answered, how many failed, and from which stand to which they led
-abbrev pub Attendance : Type 1
-Attendance = ℕ → ℕ → ℕ → Stand → Stand → Type 0
-
 -- this text says how many of so many connections to a port were answered, and how many failed
 abbrev pub SaysAttended : Attendance → ℕ → ℕ → Stand → Stand → List ℕ → Type 0
-SaysAttended Attends port count old new text = SaysAll (λ answered failed. Attends port answered failed old new) port count text
+SaysAttended ports port count old new text = SaysAll (λ answered failed. ports.attends port answered failed old new) port count text
 
--- What comes of the service on a port, by its result.
+-- What comes of the service on a port, by its result. If the port can't be listened on, nothing else is asked of the ports. If the output
+-- fails or memory runs out before the first connection, none is taken.
 abbrev pub ServesOn : Attendance → Result (Unit {0}) ServiceFault → ℕ → ℕ → Stand → Stand → Option (List ℕ) → Option (List ℕ) → Type 0
-ServesOn Attends result port count old new before after =
-    SaysByResult (λ answered failed. Attends port answered failed old new) (new ≡ old) result port count before after
+ServesOn ports (Err Port) port count old new before after = (new ≡ old) × ports.refuses port × (after ≡ before)
+ServesOn ports result port count old new before after =
+    SaysByResult (λ answered failed. ports.attends port answered failed old new) ((new ≡ old) × ports.attends port 0 0 old new) result port count before after

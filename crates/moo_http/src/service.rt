@@ -8,7 +8,7 @@ ghost use Rattle.moo_http.specs.declared.service.ServiceFault.TheVariants.{OutOf
 ghost use Rattle.std.specs.Io.KnownBytes.{Appends};
 ghost use Rattle.moo_http.specs.Lines.{listening_line, served_line};
 ghost use Rattle.moo_http.specs.Connections.{StandsAtEnd, ServesPort, WritesFront};
-ghost use Rattle.moo_http.specs.Turns.{ServesFrom, AttendedOn, ServesOn};
+ghost use Rattle.moo_http.specs.Turns.{ServesFrom, attended_between, ServesOn};
 
 use crate::arrivals::Arrivals;
 use crate::listen::{Served, serve_on};
@@ -19,7 +19,8 @@ use moo_request::Routes;
 use moo_store::World;
 use sqlite::Alter;
 use std::alloc::{AllocError, Global};
-use std::io::Write;
+use std::io::{Eprint, Write};
+use std::time::Clock;
 
 /// Why the service ended before its last line.
 #[derive(Clone, Copy, Debug, PartialEq, Eq, Drop)]
@@ -89,8 +90,9 @@ fn say_served<W: Write>(alloc: Global, output: &mut W, served: Served) -> Result
 ///
 /// The faults: Write if the output fails, and OutOfMemory, with a front of the two lines written: then no connection was taken, or all of
 /// them were. A connection that fails isn't a fault.
-pub fn serve_from<S: Alter + Drop, A: Arrivals, W: Write>(
-    rt: &HostRuntime,
+pub fn serve_from<S: Alter + Drop, A: Arrivals, C: Clock + Eprint, W: Write>(
+    alloc: Global,
+    console: &C,
     arrivals: &mut A,
     world: &mut World<S>,
     port: u16,
@@ -102,39 +104,43 @@ pub fn serve_from<S: Alter + Drop, A: Arrivals, W: Write>(
     // The same of the World alone, whatever the source tells.
     ensures moves { (known : Bool) (stand : Stand) → StandsAt S.Store known world.old stand →
         StandsAtEnd S.Store known world.new (λ end. ServesPort result port count stand end (W.contents output.old) (W.contents output.new)) }
+    ensures fault { IfErr result (λ fault. fault ≢ ServiceFault.Port) }
     ensures clean { HasCleanDisk (store_of S.Store world.new) → HasCleanDisk (store_of S.Store world.old) }
 {
     world.leaves();
-    let alloc = rt.alloc();
     let routes = Routes::new(alloc)?;
     say_listening(alloc, output, port)?;
-    let mut log = Log::new(rt);
+    let mut log = Log::new(console);
     let served = serve_on(alloc, &routes, arrivals, &mut log, world, count);
     log.finish();
     say_served(alloc, output, served)
 }
 
-/// Listens on a port, says so, serves so many connections, and says how many were answered and how many failed. Standard error has a line
-/// for each that failed and each answer of 503, at most ten in a second.
+/// Listens on a port, says so, serves so many connections, says how many were answered and how many failed, and stops listening. Standard
+/// error has a line for each that failed and each answer of 503, at most ten in a second.
 ///
 /// The faults: Port if the port can't be bound, and nothing is written; else those of `serve_from`.
-pub fn serve_port<S: Alter + Drop, P: Ports, W: Write>(
-    rt: &HostRuntime,
-    ports: &P,
+pub fn serve_port<S: Alter + Drop, P: Ports, C: Clock + Eprint, W: Write>(
+    alloc: Global,
+    console: &C,
+    ports: &mut P,
     world: &mut World<S>,
     port: u16,
     count: u32,
     output: &mut W,
 ) -> Result<(), ServiceFault>
-    // The World moved by what the connections asked that came to this port, as `serve_from` says it, and by nothing else.
+    // The World moved by what the connections asked that came to this port, as `serve_from` says it, and by nothing else. No other port
+    // was listened on, and none was taken after the last of them.
     ensures serves { (known : Bool) (stand : Stand) → StandsAt S.Store known world.old stand → StandsAtEnd S.Store known world.new (λ end.
-        ServesOn (AttendedOn P.Source.hands_out P.Source.takes_back P.Source.Reader.remaining P.Source.Writer.contents (P.opens ports.now)) result port count stand end (W.contents output.old) (W.contents output.new)) }
+        ServesOn (attended_between P.Source.hands_out P.Source.takes_back P.Source.Reader.remaining P.Source.Writer.contents P.listens P.closes ports.old ports.new) result port count stand end (W.contents output.old) (W.contents output.new)) }
     // A disk that returns what was written did so before.
     ensures clean { HasCleanDisk (store_of S.Store world.new) → HasCleanDisk (store_of S.Store world.old) }
 {
     world.leaves();
-    let Ok(mut source) = ports.listen(port) else {
+    let Some(mut source) = ports.listen(port) else {
         return Err(ServiceFault::Port);
     };
-    serve_from(rt, &mut source, world, port, count, output)
+    let done = serve_from(alloc, console, &mut source, world, port, count, output);
+    ports.close(source);
+    done
 }

@@ -8,6 +8,7 @@ pub returns-in-Init : goal.returns-in-Init
 returns-in-Init g c = record {
   done = λ known s stands. rw c.in-Init.is (on_ok _ _ c.put_text.result (λ status it. unchanged g.S.Store known c.args.world.now s _ (c.leaves.ensures known (Works s) stands) (refl, it.0, it.1)) c.put_text.ensures.done);
   stops = λ known s stands. rw c.in-Init.is (on_err _ _ c.put_text.result (λ failure it. unchanged g.S.Store known c.args.world.now s _ (c.leaves.ensures known (Works s) stands) (refl, it)) c.put_text.ensures.stops);
+  rests = λ other. refl;
   still = λ reads clean trees may. may;
 }
 
@@ -15,6 +16,7 @@ pub returns-in-Apply : goal.returns-in-Apply
 returns-in-Apply g c = record {
   done = λ known s stands. rw c.in-Apply.is (c.apply.ensures.done known s stands);
   stops = λ known s stands. rw c.in-Apply.is (c.apply.ensures.stops known s stands);
+  rests = λ other. refl;
   still = rw c.in-Apply.is (λ reads. absurd (true≢false (sym reads)));
 }
 
@@ -22,6 +24,7 @@ pub returns-in-Ask : goal.returns-in-Ask
 returns-in-Ask g c = record {
   done = λ known s stands. rw c.in-Ask.is (on_ok _ _ c.ask.result (λ status it. unchanged g.S.Store known c.args.world.now s _ (c.leaves.ensures known (Works s) stands) (refl, it)) (c.ask.ensures.done known s stands));
   stops = λ known s stands. rw c.in-Ask.is (on_err _ _ c.ask.result (λ failure it. unchanged g.S.Store known c.args.world.now s _ (c.leaves.ensures known (Works s) stands) (refl, it)) (c.ask.ensures.stops known s stands));
+  rests = λ other. refl;
   still = λ reads clean trees may. may;
 }
 
@@ -29,6 +32,7 @@ pub returns-in-Dump : goal.returns-in-Dump
 returns-in-Dump g c = record {
   done = λ known s stands. rw c.in-Dump.is (on_ok _ _ c.show.result (λ status it. unchanged g.S.Store known c.args.world.now s _ (c.leaves.ensures known (Works s) stands) (refl, it.0, it.1)) (c.show.ensures.done known s stands));
   stops = λ known s stands. rw c.in-Dump.is (on_err _ _ c.show.result (λ failure it. unchanged g.S.Store known c.args.world.now s _ (c.leaves.ensures known (Works s) stands) (refl, it)) (c.show.ensures.stops known s stands));
+  rests = λ other. refl;
   still = λ reads clean trees may. may;
 }
 
@@ -36,6 +40,7 @@ pub returns-in-Load : goal.returns-in-Load
 returns-in-Load g c = record {
   done = λ known s stands. rw c.in-Load.is (on_ok _ _ c.show_loaded.result (λ status it. unchanged g.S.Store known c.args.world.now s _ (c.leaves.ensures known (Works s) stands) (refl, it.0, it.1)) (c.show_loaded.ensures.done known s stands));
   stops = λ known s stands. rw c.in-Load.is (on_err _ _ c.show_loaded.result (λ failure it. unchanged g.S.Store known c.args.world.now s _ (c.leaves.ensures known (Works s) stands) (refl, it)) (c.show_loaded.ensures.stops known s stands));
+  rests = λ other. refl;
   still = λ reads clean trees may. may;
 }
 
@@ -43,6 +48,7 @@ pub returns-in-Check : goal.returns-in-Check
 returns-in-Check g c = record {
   done = λ known s stands. rw c.in-Check.is (on_ok _ _ c.check.result (λ status it. stays_at g.S.Store known c.args.world.now c.check.new.world s _ c.check.ensures.crash (c.leaves.ensures known (Works s) stands) (refl, it.1, it.0.0, it.0.1)) (both_ok c.check.result _ _ (c.check.ensures.done known s stands) c.check.ensures.shown));
   stops = λ known s stands. rw c.in-Check.is (on_err _ _ c.check.result (λ failure it. stays_at g.S.Store known c.args.world.now c.check.new.world s _ c.check.ensures.crash (c.leaves.ensures known (Works s) stands) (refl, it)) (c.check.ensures.stops known s stands));
+  rests = λ other. refl;
   still = λ reads clean trees may. elim (c.check.ensures.crash.crash clean trees may) [ inl before ↦ before | inr none ↦ absurd none ];
 }
 
@@ -50,5 +56,6 @@ pub returns-in-Serve : goal.returns-in-Serve
 returns-in-Serve g c = record {
   done = λ known s stands. rw c.in-Serve.is (c.serve.ensures.done known s stands);
   stops = λ known s stands. rw c.in-Serve.is (c.serve.ensures.stops known s stands);
+  rests = rw c.in-Serve.is (λ other. absurd (true≢false other));
   still = rw c.in-Serve.is (λ reads. absurd (true≢false (sym reads)));
 }

@@ -1,4 +1,4 @@
-use Rattle.std.proofs.Common.{inl, true, false}
+use Rattle.std.proofs.Common.{inl, true, false, refl}
 use Rattle.sqlite.specs.WalFiles.{image_at}
 use Rattle.moo_rows.specs.Opening.{opening_maps}
 use Rattle.moo_world.specs.Judge.{state_of}
@@ -40,6 +40,7 @@ returns-in-Ok g c =
       fresh = λ anew none. tt;
       begun = λ anew half. tt;
       blank = λ other none. tt;
+      rests = tt;
       told = tt;
     }
 
@@ -74,5 +75,6 @@ returns-in-Err g c =
       begun = λ anew half clean.
           fresh_begins c.args.task _ (state_of opening_maps) (begins_opening c.args.task _ c.requires.load) (image_at g.T.Start) c.in-Err.remains (c.in-Err.ensures.begun anew half clean);
       blank = λ other none. c.in-Err.ensures.blank other none;
+      rests = refl;
       told = inl (fault, c.in-Err.ensures.stopped, reports);
     }

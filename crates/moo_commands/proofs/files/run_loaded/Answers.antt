@@ -1,7 +1,7 @@
 use Rattle.std.proofs.Common.{inl, inr, refl, true}
 use Rattle.sqlite.specs.WalFiles.{image_at}
 use Rattle.moo_world.specs.Judge.{state_of}
-use Rattle.moo_http.specs.Turns.{AttendedOn}
+use Rattle.moo_http.specs.Turns.{attended_between}
 use Rattle.moo_commands.specs.Run.{given_by}
 use Rattle.moo_commands.proofs.Beginning.{begins_dumped, held_rows, of_other_texts, fails_to_begin, unmade_begins, fresh_begins, load_begins, never_other}
 use Rattle.moo_commands.proofs.Connections.{surely}
@@ -33,12 +33,13 @@ returns-in-Err g c =
       fresh = λ anew none clean. inl none;
       begun = λ anew half clean. inr (inl half);
       blank = λ other none. never_other c.args.task c.requires.load other;
+      rests = refl;
       told = inr (c.requires.load, (c.args.start, refl), c.in-Err.failure, c.in-Err.ensures.failure, c.report.ensures);
     }
 
 pub returns-in-Ok-load_from : goal.returns-in-Ok-load_from
 returns-in-Ok-load_from g c =
-    let given = given_by (g.R.Read.remaining c.args.input) (g.H.BatchFiles.text c.args.host.now) (AttendedOn g.H.Source.Arrivals.hands_out g.H.Source.Arrivals.takes_back g.H.Source.Reader.Read.remaining g.H.Source.Writer.Write.contents (g.H.Ports.opens c.args.host.now)) in
+    let given = given_by (g.R.Read.remaining c.args.input) (g.H.BatchFiles.text c.args.host.now) (attended_between g.H.Source.Arrivals.hands_out g.H.Source.Arrivals.takes_back g.H.Source.Reader.Read.remaining g.H.Source.Writer.Write.contents g.H.Ports.listens g.H.Ports.closes c.args.host.now c.run_in_files.new.host) in
     let s = state_of c.in-Ok.rows.maps in
     let stands = c.in-Ok-load_from.ensures.stands in
     let ran = c.run_in_files.ensures in
@@ -46,7 +47,7 @@ returns-in-Ok-load_from g c =
       anew = λ anew. (
         s,
         begins_dumped c.args.task given c.args.dump.now s c.requires.load c.requires.word c.in-Ok.ensures.dumped (held_rows c.in-Ok.rows.maps c.in-Ok.ensures.good c.in-Ok.ensures.limit),
-        of_other_texts c.args.task c.requires.load s _ given _ _ _ _ _ _ (surely _ _ _ _ _ _ _ _ _ (ran.runs true s stands)),
+        of_other_texts c.args.task c.requires.load s _ given _ _ _ _ _ _ (surely _ _ _ _ _ _ _ _ _ (ran.runs true s stands)) (λ rests. rests),
       );
       taken = λ t anew holds clean. c.in-Ok-load_from.ensures.taken t holds (ran.clean true s stands clean);
       kept = λ s other holds. never_other c.args.task c.requires.load other;
@@ -68,6 +69,7 @@ returns-in-Ok-load_from g c =
       fresh = λ anew none. tt;
       begun = λ anew half. tt;
       blank = λ other none. tt;
+      rests = tt;
       told = tt;
     }
 
@@ -75,7 +77,7 @@ pub returns-in-Err-load_from : goal.returns-in-Err-load_from
 returns-in-Err-load_from g c =
     let fault = c.in-Err-load_from.fault in
     let image = image_at g.T.Start in
-    let given = given_by (g.R.Read.remaining c.args.input) (g.H.BatchFiles.text c.args.host.now) (AttendedOn g.H.Source.Arrivals.hands_out g.H.Source.Arrivals.takes_back g.H.Source.Reader.Read.remaining g.H.Source.Writer.Write.contents (g.H.Ports.opens c.args.host.now)) in
+    let given = given_by (g.R.Read.remaining c.args.input) (g.H.BatchFiles.text c.args.host.now) (attended_between g.H.Source.Arrivals.hands_out g.H.Source.Arrivals.takes_back g.H.Source.Reader.Read.remaining g.H.Source.Writer.Write.contents g.H.Ports.listens g.H.Ports.closes c.args.host.now c.args.host.now) in
     let s = state_of c.in-Ok.rows.maps in
     let begins = begins_dumped c.args.task given c.args.dump.now s c.requires.load c.requires.word c.in-Ok.ensures.dumped (held_rows c.in-Ok.rows.maps c.in-Ok.ensures.good c.in-Ok.ensures.limit) in
     let old = g.W.Write.contents c.args.output.now in
@@ -104,5 +106,6 @@ returns-in-Err-load_from g c =
       fresh = λ anew none clean. fresh_begins c.args.task given s begins image c.in-Err-load_from.remains (c.in-Err-load_from.ensures.blank none clean);
       begun = λ anew half clean. fresh_begins c.args.task given s begins image c.in-Err-load_from.remains (c.in-Err-load_from.ensures.begun half clean);
       blank = λ other none. never_other c.args.task c.requires.load other;
+      rests = refl;
       told = inl (fault, c.in-Err-load_from.ensures.stopped, reports);
     }

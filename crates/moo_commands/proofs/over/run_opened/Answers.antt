@@ -1,4 +1,4 @@
-use Rattle.std.proofs.Common.{inl, inr, true, false, subst}
+use Rattle.std.proofs.Common.{inl, inr, true, false, refl, subst}
 use Rattle.sqlite.specs.Held.{state}
 use Rattle.moo_world.specs.Judge.{state_of}
 use Rattle.moo_commands.specs.Lines.{Reports}
@@ -22,7 +22,7 @@ returns-in-Ok g c =
 pub returns-in-Err : goal.returns-in-Err
 returns-in-Err g c = record {
   kept = λ s keeps clean.
-      inl ((c.from.result, of_opening c.in-Err.fault c.from.result c.from.ensures (c.in-Err.ensures.whole s keeps clean), c.report.ensures), as_before (state g.S.Store c.args.conn) (state g.S.Store c.in-Err.conn) s keeps c.in-Err.ensures.crash_refused clean);
-  only = λ tables rests clean. inl (c.in-Err.fault, c.in-Err.ensures.fault clean tables rests, subst (λ f. Reports f (g.W.Write.contents c.args.output.now) (g.W.Write.contents c.report.new.output) c.report.result) c.from.ensures c.report.ensures);
-  opened = inl (c.from.result, of_refusal c.in-Err.fault c.from.result c.from.ensures, c.report.ensures);
+      inl (refl, (c.from.result, of_opening c.in-Err.fault c.from.result c.from.ensures (c.in-Err.ensures.whole s keeps clean), c.report.ensures), as_before (state g.S.Store c.args.conn) (state g.S.Store c.in-Err.conn) s keeps c.in-Err.ensures.crash_refused clean);
+  only = λ tables rests clean. inl (refl, c.in-Err.fault, c.in-Err.ensures.fault clean tables rests, subst (λ f. Reports f (g.W.Write.contents c.args.output.now) (g.W.Write.contents c.report.new.output) c.report.result) c.from.ensures c.report.ensures);
+  opened = inl (refl, c.from.result, of_refusal c.in-Err.fault c.from.result c.from.ensures, c.report.ensures);
 }
