@@ -175,7 +175,7 @@ fn print_each<K: Copy + Drop, C: Drop, V: Print<K, C>>(
     Ok(cells)
 }
 
-/// The cells of a row where none is there. The only error is out of memory.
+/// The cells of a row if none is there. The only error is out of memory.
 fn new_cells<'a, K, C, V: Print<K, C>>(alloc: Global, row: &'a V) -> Result<C, AllocError>
     ensures { IfOk result (λ cells. V.prints None cells row.now) }
 {
