@@ -1,5 +1,5 @@
 -- A row that is printed over the cells of another shows itself, and keeps the columns that stay.
-use Rattle.std.proofs.Common.{◌≡◌, ◌≢◌, ℕ, pos, List, [], ◌∷◌, Option, Some, None, Vec, refl, sym, ap, ◌∙◌, subst, subst₂}
+use Rattle.std.proofs.Common.{◌≡◌, ℕ, pos, List, [], ◌∷◌, Option, Some, None, Vec, refl, sym, ap, ◌∙◌, subst, subst₂}
 use Rattle.std.specs.Option.{option_map}
 use Rattle.std.specs.declared.alloc.Global.{Global}
 use Rattle.sqlite.specs.Order.{Row, column}
@@ -77,7 +77,7 @@ object_columns n a b v w stay = record {
 }
 
 pub lays_object : (base : Option ObjRow) (n : ObjNo) (c : ObjectCells) (row : ObjRow) (old : Option Row) → PrintsObject base c row → ShowsOrNone (ShowsObject n) old base → ShowsOrNone (ShowsObject n) (object_cells n c old) (Some row) × IfBoth ObjectColumns base (Some row) old (object_cells n c old)
-lays_object base n c row old p shown = lays_over (object_row n) 11 (λ r. r.accept) ShowsAccept ObjectColumns (λ x v. refl) (object_columns n) (object_row n c.row) row (λ v. ap (λ r. object_row n r v) p.row) base old c.accept p.accept shown
+lays_object base n c row old p shown = lays_over (object_row n) 11 (λ r. r.accept) ShowsAccept ObjectColumns (λ x v. refl) (object_columns n) (object_row n c.row) row (λ v. ap (λ r. object_row n r v) p.row_is) base old c.accept p.accept shown
 
 -- ---- properties
 

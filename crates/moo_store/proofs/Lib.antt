@@ -1,6 +1,7 @@
 pub mod Versions
 pub mod Written
 pub mod Laid
+pub mod Exactly
 pub mod AllRows
 pub mod Shown
 pub mod Committed

@@ -1,5 +1,5 @@
 -- In a row that changes, a column whose value stays keeps its cell, byte for byte, whatever spelling of the value it holds.
-use Rattle.std.specs.Prelude.{◌≡◌, ℕ, Option, Some, None, ⊤}
+use Rattle.std.specs.Prelude.{◌≡◌, ℕ, Option, Some, ⊤}
 use Rattle.sqlite.specs.Order.{Row, column}
 use Rattle.moo_rows.specs.declared.row.Head.{Head}
 use Rattle.moo_rows.specs.declared.row.ObjRow.{ObjRow}

@@ -3,14 +3,10 @@ use Rattle.std.specs.Prelude.{◌≡◌, ◌≢◌, ◌==◌, if◌then◌else�
 use Rattle.std.specs.FinMap.{FinMap, entries, get}
 use Rattle.std.specs.declared.alloc.Global.{Global}
 use Rattle.std.specs.declared.cmp.Ordering.{Ordering}
-use Rattle.moo_value.specs.declared.value.ObjNo.{ObjNo}
 use Rattle.moo_rows.specs.declared.row.ObjRow.{ObjRow}
-use Rattle.moo_rows.specs.declared.row.PropId.{PropId}
 use Rattle.moo_rows.specs.declared.row.PropRow.{PropRow}
 use Rattle.moo_rows.specs.declared.row.SlotRow.{SlotRow}
-use Rattle.moo_rows.specs.declared.row.VerbId.{VerbId}
 use Rattle.moo_rows.specs.declared.row.VerbRow.{VerbRow}
-use Rattle.moo_rows.specs.declared.row.PetitionId.{PetitionId}
 use Rattle.moo_rows.specs.declared.row.PetitionRow.{PetitionRow}
 use Rattle.moo_rows.specs.Maps.{Maps}
 use Rattle.moo_tables.specs.declared.object.ObjectCells.{ObjectCells}
@@ -33,7 +29,7 @@ PrintsOver shows old new None = old ≡ Some new
 
 -- the cells of a row, to be written over those of the row that is there, if one is
 pub record PrintsObject (old : Option ObjRow) (cells : ObjectCells) (row : ObjRow) : Type 0 where
-  pub row : cells.row ≡ row
+  pub row_is : cells.row ≡ row
   pub accept : PrintsOver ShowsAccept (option_map (λ r. r.accept) old) row.accept cells.accept
 
 pub record PrintsProp (old : Option PropRow) (cells : PropCells) (row : PropRow) : Type 0 where

@@ -61,7 +61,7 @@ fn state_cell(alloc: Global, state: &SlotState) -> Result<Vec<u8>, AllocError>
 
 /// Whether a row is there, with this accept list.
 fn has_accept(row: Option<&ObjRow>, accept: &Option<ObjList>) -> bool
-    ensures { IsTrue result ↔ option_map (λ r. r.accept) (option_map (λ r. r.now) row) ≡ Some accept.now }
+    ensures { IsTrue result ↔ option_map (λ r. r.accept) (option_map (λ r. r.now) row.entry) ≡ Some accept.now }
 {
     match row {
         Some(row) => row.accept == *accept,
@@ -75,7 +75,7 @@ pub(crate) fn accept_over(
     old: Option<&ObjRow>,
     row: &ObjRow,
 ) -> Result<Option<Vec<u8>>, AllocError>
-    ensures { IfOk result (λ cell. PrintsOver ShowsAccept (option_map (λ r. r.accept) (option_map (λ r. r.now) old)) row.now.accept cell) }
+    ensures { IfOk result (λ cell. PrintsOver ShowsAccept (option_map (λ r. r.accept) (option_map (λ r. r.now) old.entry)) row.now.accept cell) }
 {
     if has_accept(old, &row.accept) {
         return Ok(None);
@@ -85,7 +85,7 @@ pub(crate) fn accept_over(
 
 /// Whether a row is there, and holds this.
 fn has_state(row: Option<&SlotRow>, state: &SlotState) -> bool
-    ensures { IsTrue result ↔ option_map (λ r. r.state) (option_map (λ r. r.now) row) ≡ Some state.now }
+    ensures { IsTrue result ↔ option_map (λ r. r.state) (option_map (λ r. r.now) row.entry) ≡ Some state.now }
 {
     match row {
         Some(row) => row.state == *state,
@@ -99,7 +99,7 @@ pub(crate) fn state_over(
     old: Option<&SlotRow>,
     row: &SlotRow,
 ) -> Result<Option<Vec<u8>>, AllocError>
-    ensures { IfOk result (λ cell. PrintsOver ShowsSlotState (option_map (λ r. r.state) (option_map (λ r. r.now) old)) row.now.state cell) }
+    ensures { IfOk result (λ cell. PrintsOver ShowsSlotState (option_map (λ r. r.state) (option_map (λ r. r.now) old.entry)) row.now.state cell) }
 {
     if has_state(old, &row.state) {
         return Ok(None);
@@ -109,7 +109,7 @@ pub(crate) fn state_over(
 
 /// Whether a row is there, with these bits.
 fn has_bits(row: Option<&VerbRow>, bits: &VerbBits) -> bool
-    ensures { IsTrue result ↔ option_map (λ r. r.bits) (option_map (λ r. r.now) row) ≡ Some bits.now }
+    ensures { IsTrue result ↔ option_map (λ r. r.bits) (option_map (λ r. r.now) row.entry) ≡ Some bits.now }
 {
     match row {
         Some(row) => row.bits == *bits,
@@ -123,7 +123,7 @@ pub(crate) fn bits_over(
     old: Option<&VerbRow>,
     row: &VerbRow,
 ) -> Result<Option<Vec<u8>>, AllocError>
-    ensures { IfOk result (λ cell. PrintsOver (λ text bits. verb_bits_of text ≡ Some bits) (option_map (λ r. r.bits) (option_map (λ r. r.now) old)) row.now.bits cell) }
+    ensures { IfOk result (λ cell. PrintsOver (λ text bits. verb_bits_of text ≡ Some bits) (option_map (λ r. r.bits) (option_map (λ r. r.now) old.entry)) row.now.bits cell) }
 {
     if has_bits(old, &row.bits) {
         return Ok(None);
@@ -133,7 +133,7 @@ pub(crate) fn bits_over(
 
 /// Whether a row is there, with these calls.
 fn has_calls(row: Option<&PetitionRow>, calls: &ValueList) -> bool
-    ensures { IsTrue result ↔ option_map (λ r. r.calls) (option_map (λ r. r.now) row) ≡ Some calls.now }
+    ensures { IsTrue result ↔ option_map (λ r. r.calls) (option_map (λ r. r.now) row.entry) ≡ Some calls.now }
 {
     match row {
         Some(row) => row.calls == *calls,
@@ -147,7 +147,7 @@ pub(crate) fn calls_over(
     old: Option<&PetitionRow>,
     row: &PetitionRow,
 ) -> Result<Option<Vec<u8>>, AllocError>
-    ensures { IfOk result (λ cell. PrintsOver (λ text calls. Spells (a_list calls) text) (option_map (λ r. r.calls) (option_map (λ r. r.now) old)) row.now.calls cell) }
+    ensures { IfOk result (λ cell. PrintsOver (λ text calls. Spells (a_list calls) text) (option_map (λ r. r.calls) (option_map (λ r. r.now) old.entry)) row.now.calls cell) }
 {
     if has_calls(old, &row.calls) {
         return Ok(None);

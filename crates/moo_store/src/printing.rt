@@ -32,7 +32,7 @@ trait Print<K, C> {
 
     /// A column with several spellings of one value is printed only if its value changes. The only error is out of memory.
     fn cells(&self, alloc: Global, old: Option<&Self>) -> Result<C, AllocError>
-        ensures { IfOk result (λ cells. prints (option_map (λ row. row.now) old) cells self.now) };
+        ensures { IfOk result (λ cells. prints (option_map (λ row. row.now) old.entry) cells self.now) };
 }
 
 impl Print<ObjNo, ObjectCells> for ObjRow {
@@ -152,7 +152,7 @@ fn print_row<K, C, V: Print<K, C>>(
     old: Option<&V>,
     row: &Option<V>,
 ) -> Result<Option<C>, AllocError>
-    ensures { IfOk result (λ cells. ShowsOrNone (V.prints (option_map (λ row. row.now) old)) cells row.now) }
+    ensures { IfOk result (λ cells. ShowsOrNone (V.prints (option_map (λ row. row.now) old.entry)) cells row.now) }
 {
     match row {
         Some(row) => Ok(Some(row.cells(alloc, old)?)),
@@ -175,11 +175,12 @@ fn print_each<K: Copy + Drop, C: Drop, V: Print<K, C>>(
     Ok(cells)
 }
 
-/// The cells of a row where none is there. The only error is out of memory.
-fn new_cells<K, C, V: Print<K, C>>(alloc: Global, row: &V) -> Result<C, AllocError>
+/// The cells of a row if none is there. The only error is out of memory.
+fn new_cells<'a, K, C, V: Print<K, C>>(alloc: Global, row: &'a V) -> Result<C, AllocError>
     ensures { IfOk result (λ cells. V.prints None cells row.now) }
 {
-    row.cells(alloc, None)
+    let none: Option<&'a V> = None;
+    row.cells(alloc, none)
 }
 
 /// The cells of rows that come one after another, each with its key. The only error is out of memory.

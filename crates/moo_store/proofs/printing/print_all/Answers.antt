@@ -9,7 +9,7 @@ use Rattle.moo_store.proofs.printing.print_all.Goals as goal
 
 -- no row is there of an empty map
 from_empty : {K C X : Type 0} (cmp : K → K → Ordering) (prints : Option X → C → X → Type 0) (cells : List (K × Option C)) (changes : List (K × Option X)) → PrintEach (λ key. prints None) cells changes → PrintEach (λ key. prints (get (let none : FinMap cmp X = empty in none) key)) cells changes
-from_empty cmp prints cells changes p = subst (λ held. PrintEach (λ key. prints (held key)) cells changes) (λ i key. sym (get-empty cmp key) i) p
+from_empty {K = K} {X = X} cmp prints cells changes p = subst (λ (held : K → Option X). PrintEach (λ key. prints (held key)) cells changes) (λ i key. sym (get-empty cmp key) i) p
 
 pub returns : goal.returns
 returns c = record {

@@ -1,0 +1,7 @@
+use Rattle.std.proofs.Common.{ap, option_map, Bor}
+use Rattle.moo_rows.specs.declared.row.SlotRow.{SlotRow}
+use Rattle.moo_store.proofs.Exactly.{has_part, state-exact}
+use Rattle.moo_store.proofs.columns.has_state.Goals as goal
+
+pub returns-in-Some : goal.returns-in-Some
+returns-in-Some c = has_part _ state-exact (λ (r : SlotRow). r.state) c.eq.result _ c.in-Some.row.now c.args.state.now c.eq.ensures (ap (option_map (λ (r : Bor SlotRow). r.now)) c.in-Some.is)
