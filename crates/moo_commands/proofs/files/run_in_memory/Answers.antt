@@ -6,7 +6,7 @@ use Rattle.moo_commands.proofs.Beginning.{new_unseen}
 use Rattle.moo_commands.proofs.files.run_in_memory.Goals as goal
 
 pub returns-in_default : goal.returns-in_default
-returns-in_default g c = record { anew = λ anew. inl (refl, NoMemory, inl tt, c.report.ensures); opened = λ other. inl (refl, NoMemory, tt, c.report.ensures) }
+returns-in_default g c = record { anew = λ anew. inl (refl, (NoMemory, inl tt, c.report.ensures)); opened = λ other. inl (refl, (NoMemory, tt, c.report.ensures)) }
 
 pub returns : goal.returns
 returns g c = record {

@@ -13,4 +13,4 @@ returns-in-Ok g c =
     inr (s, begins_opening c.args.task (given_by (g.R.Read.remaining c.args.input) (g.H.BatchFiles.text c.args.host.now) (attended_between g.H.Source.Arrivals.hands_out g.H.Source.Arrivals.takes_back g.H.Source.Reader.Read.remaining g.H.Source.Writer.Write.contents g.H.Ports.listens g.H.Ports.closes c.args.host.now c.run_in.new.host)) c.requires.load, surely _ _ _ _ _ _ _ _ _ (c.run_in.ensures.runs true s c.in-Ok.ensures.stands))
 
 pub returns-in-Err : goal.returns-in-Err
-returns-in-Err g c = inl (refl, c.from.result, inl (of_making c.in-Err.fault c.from.result c.from.ensures c.in-Err.ensures.fault), c.report.ensures)
+returns-in-Err g c = inl (refl, (c.from.result, inl (of_making c.in-Err.fault c.from.result c.from.ensures c.in-Err.ensures.fault), c.report.ensures))

@@ -18,4 +18,4 @@ returns-in-Ok-load_in g c =
 
 pub returns-in-Err-load_in : goal.returns-in-Err-load_in
 returns-in-Err-load_in g c =
-    inl (refl, c.from.result, inl (of_making c.in-Err-load_in.fault c.from.result c.from.ensures c.in-Err-load_in.ensures.fault), c.report-in-Err-load_in.ensures)
+    inl (refl, (c.from.result, inl (of_making c.in-Err-load_in.fault c.from.result c.from.ensures c.in-Err-load_in.ensures.fault), c.report-in-Err-load_in.ensures))
