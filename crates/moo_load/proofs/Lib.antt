@@ -5,6 +5,7 @@ pub mod Held
 pub mod Items
 pub mod Listed
 pub mod One
+pub mod Shown
 pub mod OneLine
 pub mod Taken
 pub mod Within

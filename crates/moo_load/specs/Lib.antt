@@ -1,6 +1,7 @@
 pub mod Lines
 pub mod Printed
 pub mod Rows
+pub mod RowsOf
 pub mod Entries
 pub mod Loaded
 pub mod OneState

@@ -127,7 +127,7 @@ size_in n = 0
 abbrev number_in : ObjNo → ℕ
 number_in x = size_in x.0
 
-apart : (k j : ℕ) → (k ≡ j → ⊥) → same_object (object_at k) (object_at j) ≡ false
+pub apart : (k j : ℕ) → (k ≡ j → ⊥) → same_object (object_at k) (object_at j) ≡ false
 apart k j differ = by (same_object (object_at k) (object_at j)) refl
   where
     by : (b : Bool) → same_object (object_at k) (object_at j) ≡ b → b ≡ false
