@@ -10,22 +10,30 @@ use Rattle.moo_value.specs.declared.value.Value.TheVariants.{Int, Obj, Str, Erro
 use Rattle.moo_value.specs.Literal.{Fits, HoldInside, InRange}
 use Rattle.moo_value.specs.Text.{IsText}
 use Rattle.moo_value.specs.Value.{gather}
-use Rattle.moo_rows.specs.Maps.{Maps}
-use Rattle.moo_load.specs.Entries.{Entry, an_object, a_property, a_slot, a_verb, a_petition, entry_text, entry_values, entry_lines, EntryFits, NumberIsLeft, NumbersAreLeft, entry_taken, entries_taken}
+use Rattle.moo_load.specs.Entries.{Entry, an_object, a_property, a_slot, a_verb, a_petition, entry_text, entry_values, entry_lines, EntryFits, carried, EachHas}
 use Rattle.moo_load.specs.Printed.{IsOneLine, word_text}
 use Rattle.moo_load.proofs.OneLine.{one_line_append, list_plain}
 use Rattle.moo_load.proofs.Taken.{word_of, line_of, text_is}
 
--- the entries that are ahead: their lines are the rest of the text
-pub record Ahead (es : List Entry) (first now : Maps) (rest : List ℕ) : Type 0 where
+-- The entries that are ahead: their lines are the rest of the text. What they are sure to have they have, and what they need they have if
+-- all had it.
+pub record Ahead (T : Type 0) (step : Entry → T → T) (Sure Needs : Entry → T → Type 0) (es : List Entry) (first now : T) (rest : List ℕ) : Type 0 where
   pub left : List Entry
   pub fit : AllByRecursion EntryFits left
   pub printed : rest ≡ entry_lines left
-  pub same : entries_taken left now ≡ entries_taken es first
-  pub numbers : NumbersAreLeft es first → NumbersAreLeft left now
+  pub same : carried step left now ≡ carried step es first
+  pub sure : EachHas Sure step left now
+  pub needs : EachHas Needs step es first → EachHas Needs step left now
 
-pub all_ahead : (es : List Entry) (m : Maps) (rest : List ℕ) → AllByRecursion EntryFits es → rest ≡ entry_lines es → Ahead es m m rest
-all_ahead es m rest fit printed = record { left = es; fit = fit; printed = printed; same = refl; numbers = λ n. n }
+pub all_ahead : {T : Type 0} {step : Entry → T → T} {Sure Needs : Entry → T → Type 0} (es : List Entry) (t : T) (rest : List ℕ) → AllByRecursion EntryFits es → EachHas Sure step es t → rest ≡ entry_lines es → Ahead T step Sure Needs es t t rest
+all_ahead es t rest fit sure printed = record { left = es; fit = fit; printed = printed; same = refl; sure = sure; needs = λ n. n }
+
+abbrev pub Nothing : {T : Type 0} → Entry → T → Type 0
+Nothing e t = Unit {0}
+
+pub nothing_needed : {T : Type 0} (step : Entry → T → T) (es : List Entry) (t : T) → EachHas Nothing step es t
+nothing_needed step [] t = tt
+nothing_needed step (e ∷ es) t = (tt, nothing_needed step es (step e t))
 
 held_inside : (vs : List Value) → AllByRecursion Fits vs → HoldInside InRange IsText (gather vs)
 held_inside [] a = tt
@@ -67,47 +75,49 @@ no_end (a_petition e) is = false≢true ((Decides-eqb 213 211).1 (ap mark is))
 abbrev pub IsFirst : List ℕ → List ℕ → Type 0
 IsFirst line rest = (l r : List ℕ) → IsOneLine l → rest ≡ l ++ 10 ∷ r → line ≡ l
 
--- there is a line
-pub some_line : {es : List Entry} {first now : Maps} {rest : List ℕ} → Ahead es first now rest → ((l r : List ℕ) → IsOneLine l → rest ≡ l ++ 10 ∷ r → ⊥) → ⊥
-some_line {rest = rest} a none = by a.left a.fit a.printed
-  where
-    by : (left : List Entry) → AllByRecursion EntryFits left → rest ≡ entry_lines left → ⊥
-    by [] fit printed = none (codes "end") [] refl printed
-    by (e ∷ more) fit printed = none (line_of e) (entry_lines more) (line_plain e fit.0) (printed ∙ first_line e more)
+module _ {T : Type 0} {step : Entry → T → T} {Sure Needs : Entry → T → Type 0} {es : List Entry} {first now : T} {rest : List ℕ} (a : Ahead T step Sure Needs es first now rest) where
+  -- there is a line
+  pub some_line : ((l r : List ℕ) → IsOneLine l → rest ≡ l ++ 10 ∷ r → ⊥) → ⊥
+  some_line none = by a.left a.fit a.printed
+    where
+      by : (left : List Entry) → AllByRecursion EntryFits left → rest ≡ entry_lines left → ⊥
+      by [] fit printed = none (codes "end") [] refl printed
+      by (e ∷ more) fit printed = none (line_of e) (entry_lines more) (line_plain e fit.0) (printed ∙ first_line e more)
 
--- at the last line all are taken
-pub at_end : {es : List Entry} {first now : Maps} {rest : List ℕ} → Ahead es first now rest → (line : List ℕ) → IsFirst line rest → line ≡ codes "end" → now ≡ entries_taken es first
-at_end {es = es} {first = first} {now = now} {rest = rest} a line is end = by a.left a.fit a.printed a.same
-  where
-    by : (left : List Entry) → AllByRecursion EntryFits left → rest ≡ entry_lines left → entries_taken left now ≡ entries_taken es first → now ≡ entries_taken es first
-    by [] fit printed same = same
-    by (e ∷ more) fit printed same = absurd (no_end e (sym (is (line_of e) (entry_lines more) (line_plain e fit.0) (printed ∙ first_line e more)) ∙ end))
+  -- at the last line all are taken
+  pub at_end : (line : List ℕ) → IsFirst line rest → line ≡ codes "end" → now ≡ carried step es first
+  at_end line is end = by a.left a.fit a.printed a.same
+    where
+      by : (left : List Entry) → AllByRecursion EntryFits left → rest ≡ entry_lines left → carried step left now ≡ carried step es first → now ≡ carried step es first
+      by [] fit printed same = same
+      by (e ∷ more) fit printed same = absurd (no_end e (sym (is (line_of e) (entry_lines more) (line_plain e fit.0) (printed ∙ first_line e more)) ∙ end))
 
--- another line that isn't taken is that of no entry
-pub not_refused : {es : List Entry} {first now : Maps} {rest : List ℕ} → Ahead es first now rest → (line : List ℕ) → IsFirst line rest → (line ≡ codes "end" → ⊥) → ((e : Entry) → EntryFits e → NumberIsLeft e now → line ++ 10 ∷ [] ≡ entry_text e → ⊥) → NumbersAreLeft es first → ⊥
-not_refused {now = now} {rest = rest} a line is on none numbers = by a.left a.fit a.printed (a.numbers numbers)
-  where
-    by : (left : List Entry) → AllByRecursion EntryFits left → rest ≡ entry_lines left → NumbersAreLeft left now → ⊥
-    by [] fit printed left = on (is (codes "end") [] refl printed)
-    by (e ∷ more) fit printed left =
-        let own = is (line_of e) (entry_lines more) (line_plain e fit.0) (printed ∙ first_line e more) in
-        none e fit.0 left.0 (ap (λ (t : List ℕ). t ++ 10 ∷ []) own ∙ sym (text_is e))
+  -- another line that isn't taken is that of no entry
+  pub not_refused : (line : List ℕ) → IsFirst line rest → (line ≡ codes "end" → ⊥) → ((e : Entry) → EntryFits e → Sure e now → Needs e now → line ++ 10 ∷ [] ≡ entry_text e → ⊥) → EachHas Needs step es first → ⊥
+  not_refused line is on none needs = by a.left a.fit a.printed a.sure (a.needs needs)
+    where
+      by : (left : List Entry) → AllByRecursion EntryFits left → rest ≡ entry_lines left → EachHas Sure step left now → EachHas Needs step left now → ⊥
+      by [] fit printed sure left = on (is (codes "end") [] refl printed)
+      by (e ∷ more) fit printed sure left =
+          let own = is (line_of e) (entry_lines more) (line_plain e fit.0) (printed ∙ first_line e more) in
+          none e fit.0 sure.0 left.0 (ap (λ (t : List ℕ). t ++ 10 ∷ []) own ∙ sym (text_is e))
 
--- after another line that is taken
-pub one_taken : {es : List Entry} {first now : Maps} {rest : List ℕ} → Ahead es first now rest → (new : Maps) (line : List ℕ) → IsFirst line rest → (line ≡ codes "end" → ⊥) → ((e : Entry) → EntryFits e → line ++ 10 ∷ [] ≡ entry_text e → new ≡ entry_taken e now) → Ahead es first new (drop (length line + 1) rest)
-one_taken {es = es} {first = first} {now = now} {rest = rest} a new line is on put = by a.left a.fit a.printed a.same a.numbers
-  where
-    by : (left : List Entry) → AllByRecursion EntryFits left → rest ≡ entry_lines left → entries_taken left now ≡ entries_taken es first → (NumbersAreLeft es first → NumbersAreLeft left now) → Ahead es first new (drop (length line + 1) rest)
-    by [] fit printed same numbers = absurd (on (is (codes "end") [] refl printed))
-    by (e ∷ more) fit printed same numbers =
-        let own = is (line_of e) (entry_lines more) (line_plain e fit.0) (printed ∙ first_line e more) in
-        let now_is : new ≡ entry_taken e now = put e fit.0 (ap (λ (t : List ℕ). t ++ 10 ∷ []) own ∙ sym (text_is e)) in
-        let whole : rest ≡ (line_of e ++ 10 ∷ []) ++ entry_lines more = printed ∙ first_line e more ∙ sym (append_assoc (line_of e) (10 ∷ []) (entry_lines more)) in
-        let count : length line + 1 ≡ length (line_of e ++ 10 ∷ []) = ap (λ (t : List ℕ). length t + 1) own ∙ sym (length-append (line_of e) (10 ∷ [])) in
-        record {
-          left = more;
-          fit = fit.1;
-          printed = ap (drop (length line + 1)) whole ∙ ap (λ (n : ℕ). drop n ((line_of e ++ 10 ∷ []) ++ entry_lines more)) count ∙ drop_at (line_of e ++ 10 ∷ []) (entry_lines more) (length (line_of e ++ 10 ∷ [])) refl;
-          same = ap (entries_taken more) now_is ∙ same;
-          numbers = λ n. subst (NumbersAreLeft more) (sym now_is) (numbers n).1;
-        }
+  -- after another line that is taken
+  pub one_taken : (new : T) (line : List ℕ) → IsFirst line rest → (line ≡ codes "end" → ⊥) → ((e : Entry) → EntryFits e → Sure e now → line ++ 10 ∷ [] ≡ entry_text e → new ≡ step e now) → Ahead T step Sure Needs es first new (drop (length line + 1) rest)
+  one_taken new line is on put = by a.left a.fit a.printed a.same a.sure a.needs
+    where
+      by : (left : List Entry) → AllByRecursion EntryFits left → rest ≡ entry_lines left → carried step left now ≡ carried step es first → EachHas Sure step left now → (EachHas Needs step es first → EachHas Needs step left now) → Ahead T step Sure Needs es first new (drop (length line + 1) rest)
+      by [] fit printed same sure needs = absurd (on (is (codes "end") [] refl printed))
+      by (e ∷ more) fit printed same sure needs =
+          let own = is (line_of e) (entry_lines more) (line_plain e fit.0) (printed ∙ first_line e more) in
+          let now_is : new ≡ step e now = put e fit.0 sure.0 (ap (λ (t : List ℕ). t ++ 10 ∷ []) own ∙ sym (text_is e)) in
+          let whole : rest ≡ (line_of e ++ 10 ∷ []) ++ entry_lines more = printed ∙ first_line e more ∙ sym (append_assoc (line_of e) (10 ∷ []) (entry_lines more)) in
+          let count : length line + 1 ≡ length (line_of e ++ 10 ∷ []) = ap (λ (t : List ℕ). length t + 1) own ∙ sym (length-append (line_of e) (10 ∷ [])) in
+          record {
+            left = more;
+            fit = fit.1;
+            printed = ap (drop (length line + 1)) whole ∙ ap (λ (n : ℕ). drop n ((line_of e ++ 10 ∷ []) ++ entry_lines more)) count ∙ drop_at (line_of e ++ 10 ∷ []) (entry_lines more) (length (line_of e ++ 10 ∷ [])) refl;
+            same = ap (carried step more) now_is ∙ same;
+            sure = subst (EachHas Sure step more) (sym now_is) sure.1;
+            needs = λ n. subst (EachHas Needs step more) (sym now_is) (needs n).1;
+          }

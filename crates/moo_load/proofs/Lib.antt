@@ -1,11 +1,15 @@
 pub mod Accepting
 pub mod Ahead
 pub mod Ends
+pub mod Headed
 pub mod Held
 pub mod Items
 pub mod Listed
+pub mod NextOne
 pub mod One
 pub mod Shown
 pub mod OneLine
+pub mod OnResults
+pub mod ReadBack
 pub mod Taken
 pub mod Within

@@ -59,14 +59,14 @@ abbrev count_in : ℕ → Result (Value × ℕ) LiteralFault → ℕ
 count_in n (Ok r) = r.1
 count_in n (Err e) = n
 
--- a value that is in front isn't refused
-pub refused : (f : LiteralFault) (v : Value) (n : ℕ) → Fails f (Read v n) → f ≢ OutOfMemory → ⊥
-refused NotALiteral v n is some = let e : Read v n ≡ Err NotALiteral = is in cc
-refused OutOfRange v n is some = let e : Read v n ≡ Err OutOfRange = is in cc
-refused BadByte v n is some = let e : Read v n ≡ Err BadByte = is in cc
-refused TooDeep v n is some = let e : Read v n ≡ Err TooDeep = is in cc
-refused TooLong v n is some = let e : Read v n ≡ Err TooLong = is in cc
-refused OutOfMemory v n is some = some refl
+-- what gives a value has no fault
+pub refused : {Y : Type 0} (f : LiteralFault) (y : Y) → Fails f (Ok y) → f ≢ OutOfMemory → ⊥
+refused NotALiteral y is some = let h : Ok y ≡ Err NotALiteral = is in cc
+refused OutOfRange y is some = let h : Ok y ≡ Err OutOfRange = is in cc
+refused BadByte y is some = let h : Ok y ≡ Err BadByte = is in cc
+refused TooDeep y is some = let h : Ok y ≡ Err TooDeep = is in cc
+refused TooLong y is some = let h : Ok y ≡ Err TooLong = is in cc
+refused OutOfMemory y is some = some refl
 
 -- the next value is what was read, and the text after it is that of the others
 pub next_read : {values done : List Value} {rest : List ℕ} (l : Left values done rest) (value : Value) (used : ℕ) → Read l.next (length (print l.next)) ≡ Read value used → (l.next ≡ value) × (drop used rest ≡ after_value l.more)

@@ -55,10 +55,10 @@ spelled_plain z b s = by s.negative s.digits s.each s.whole
 spaced_plain : (P : List ℕ → Type 0) → ((t : List ℕ) → P t → IsOneLine t) → (b : List ℕ) → Spaced P b → IsOneLine b
 spaced_plain P f b s = ap (list_all plain) s.4 ∙ one_line_append s.0 s.1 (blanks_plain s.0 s.2) (f s.1 s.3)
 
-integer_plain : (z : ℤ) → InRange an_integer z → IsOneLine (signed_decimal z)
+pub integer_plain : (z : ℤ) → InRange an_integer z → IsOneLine (signed_decimal z)
 integer_plain z fits = spaced_plain (SpellsNumber z) (spelled_plain z) (signed_decimal z) (spelled (Int z) fits)
 
-object_plain : (z : ℤ) → InRange an_object z → IsOneLine (35 ∷ signed_decimal z)
+pub object_plain : (z : ℤ) → InRange an_object z → IsOneLine (35 ∷ signed_decimal z)
 object_plain z fits = spaced_plain (SpellsObject z) (λ t o. ap (list_all plain) o.1 ∙ spelled_plain z o.0 o.2) (35 ∷ signed_decimal z) (spelled (Obj (record { 0 = z })) fits)
 
 escaped_plain : (c : ℕ) → is_allowed c ≡ true → IsOneLine (escape c)

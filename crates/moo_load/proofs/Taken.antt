@@ -12,18 +12,23 @@ use Rattle.moo_value.specs.Literal.{print}
 use Rattle.moo_rows.specs.declared.row.ObjRow.{ObjRow}
 use Rattle.moo_rows.specs.declared.row.PetitionId.{PetitionId}
 use Rattle.moo_rows.specs.declared.row.PetitionRow.{PetitionRow}
+use Rattle.moo_rows.specs.declared.row.PropId.{PropId}
 use Rattle.moo_rows.specs.declared.row.PropRow.{PropRow}
 use Rattle.moo_rows.specs.declared.row.VerbRow.{VerbRow}
 use Rattle.moo_rows.specs.Maps.{Maps}
 use Rattle.moo_dump.specs.Dump.{object_values, verb_values}
+use Rattle.moo_world.specs.Objects.{Pair}
 use Rattle.moo_world.specs.Petitions.{petition_fits}
-use Rattle.moo_world.specs.World.{row_fits, verb_fits, is_property_name}
+use Rattle.moo_world.specs.World.{Slot as ASlot, row_fits, state_fits, verb_fits, is_property_name}
 use Rattle.moo_world.specs.Answers.{list_of}
 use Rattle.moo_load.specs.declared.line.Word.{Word}
 use Rattle.moo_load.specs.declared.line.Word.TheVariants.{Object, Property, Slot, Verb, Petition}
 use Rattle.moo_load.specs.Entries.{Entry, an_object, a_property, a_slot, a_verb, a_petition, entry_text, entry_values, EntryFits, NumberIsLeft, entry_taken}
-use Rattle.moo_load.specs.Printed.{ArePrinted, word_text, petition_values}
+use Rattle.moo_load.specs.Printed.{ArePrinted, word_text, petition_values, slot_values}
 use Rattle.moo_load.specs.Rows.{property_taken, verb_taken, petition_taken}
+use Rattle.moo_load.specs.RowsOf.{slot_row}
+use Rattle.moo_load.specs.Slots.{IsNextProperty, SlotIsNext, slot_line_put}
+use Rattle.moo_load.specs.declared.taking.LastSlot.{LastSlot}
 
 abbrev pub word_of : Entry → Word
 word_of (an_object x row) = Object
@@ -125,3 +130,22 @@ no_verb m values none e within room w v = absurd (false≢true ((Decides-eqb (ki
 pub no_petition : (values : List Value) → ((id : PetitionId) (row : PetitionRow) → 0 < id.0 → id.0 < 4294967295 → petition_fits row ≡ true → values ≡ petition_values id row → ⊥) → (e : Entry) → EntryFits e → Petition ≡ word_of e → values ≡ entry_values e → ⊥
 no_petition values none (a_petition e) within w v = none e.0 e.1 within.row.0 within.row.1 within.row.2 v
 no_petition values none e within w v = absurd (false≢true ((Decides-eqb (kind Petition) (kind (word_of e))).1 (ap kind w)))
+
+-- ---- slots
+
+pub slot_is_put : (old new : Maps) (last put : LastSlot) (values : List Value) → ((x : ObjNo) (p : Pair) (k : ASlot) (id : PropId) → values ≡ slot_values x p.0 p.1 (slot_row k) → IsNextProperty old last x p id → (put ≡ record { object = x; definer = p.0; id = id }) × (new ≡ record old { slots = insert old.slots (x, id) (slot_row k) }))
+    → (number : Pair → PropId) (e : Entry) → Slot ≡ word_of e → SlotIsNext number e (last, old) → values ≡ entry_values e → (put, new) ≡ slot_line_put number e (last, old)
+slot_is_put old new last put values is number (a_slot x p k) w next v = let o = is x p k (number p) v next in λ i. (o.0 i, o.1 i)
+slot_is_put old new last put values is number e w next v = absurd (false≢true ((Decides-eqb (kind Slot) (kind (word_of e))).1 (ap kind w)))
+
+pub no_slot_line : (m : Maps) (last : LastSlot) (values : List Value) → ((x : ObjNo) (p : Pair) (k : ASlot) (id : PropId) → state_fits k.state ≡ true → IsNextProperty m last x p id → values ≡ slot_values x p.0 p.1 (slot_row k) → ⊥)
+    → (number : Pair → PropId) (e : Entry) → EntryFits e → Slot ≡ word_of e → SlotIsNext number e (last, m) → values ≡ entry_values e → ⊥
+no_slot_line m last values none number (a_slot x p k) within w next v = none x p k (number p) within.row next v
+no_slot_line m last values none number e within w next v = absurd (false≢true ((Decides-eqb (kind Slot) (kind (word_of e))).1 (ap kind w)))
+
+pub no_slot_put : (t : LastSlot × Maps) (number : Pair → PropId) (e : Entry) → (word_of e ≡ Slot → ⊥) → t ≡ slot_line_put number e t
+no_slot_put t number (an_object x row) other = refl
+no_slot_put t number (a_property x n) other = refl
+no_slot_put t number (a_slot x p k) other = absurd (other refl)
+no_slot_put t number (a_verb x v) other = refl
+no_slot_put t number (a_petition e) other = refl

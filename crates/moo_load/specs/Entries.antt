@@ -76,12 +76,20 @@ entry_taken (a_petition e) m = petition_taken m e.0 e.1
 abbrev pub entry_lines : List Entry → List ℕ
 entry_lines es = flat_map entry_text es ++ codes "end\n"
 
+-- what is carried over entries, one after another
+abbrev pub carried : {T : Type 0} → (Entry → T → T) → List Entry → T → T
+carried step [] t = t
+carried step (e ∷ es) t = carried step es (step e t)
+
+-- each of them has what it needs of what is carried to it
+abbrev pub EachHas : {T : Type 0} → (Entry → T → Type 0) → (Entry → T → T) → List Entry → T → Type 0
+EachHas Needs step [] t = Unit {0}
+EachHas Needs step (e ∷ es) t = Needs e t × EachHas Needs step es (step e t)
+
 -- the maps with the rows of these entries put, one after another, but for the slots
 abbrev pub entries_taken : List Entry → Maps → Maps
-entries_taken [] m = m
-entries_taken (e ∷ es) m = entries_taken es (entry_taken e m)
+entries_taken es m = carried entry_taken es m
 
 -- a number is left for each row
 abbrev pub NumbersAreLeft : List Entry → Maps → Type 0
-NumbersAreLeft [] m = Unit {0}
-NumbersAreLeft (e ∷ es) m = NumberIsLeft e m × NumbersAreLeft es (entry_taken e m)
+NumbersAreLeft es m = EachHas NumberIsLeft entry_taken es m

@@ -2,17 +2,23 @@
 use Rattle.std.specs.Prelude.{◌<◌, ◌^◌, ◌+◌, max}
 use Rattle.std.specs.FinMap.{insert}
 use Rattle.moo_value.specs.declared.value.ObjNo.{ObjNo}
+use Rattle.moo_rows.specs.declared.row.Head.{Head}
 use Rattle.moo_rows.specs.declared.row.PetitionId.{PetitionId}
 use Rattle.moo_rows.specs.declared.row.PetitionRow.{PetitionRow}
 use Rattle.moo_rows.specs.declared.row.PropRow.{PropRow}
 use Rattle.moo_rows.specs.declared.row.VerbRow.{VerbRow}
 use Rattle.moo_rows.specs.Maps.{Maps}
+use Rattle.moo_world.specs.Judge.{State}
 use Rattle.moo_damage.specs.Limits.{AreWithin}
 
 -- rows within the limits, and fewer than 2^63 batches that were accepted
 pub record AreRead (m : Maps) : Type 0 where
   pub within : AreWithin m
   pub limit : m.head.seq < 2 ^ 63
+
+-- the head of a state of which no row is read: the next property, verb and petition are the first ones
+abbrev pub first_head : State → Head
+first_head s = record { top = s.world.top; next_prop = 1; next_verb = 1; next_petition = 1; seq = s.seq }
 
 -- with a property more, under the next number
 abbrev pub property_taken : Maps → PropRow → Maps

@@ -1,26 +1,69 @@
 //! The first two lines of a dump.
 
-ghost use Rattle.std.specs.Prelude.{◌≡◌, ◌<◌, ◌≤◌, ◌^◌, pos, negsuc, ◌≤ℤ◌, length, FitsSigned, IfOk, IfErr};
+ghost use Rattle.std.specs.Prelude.{◌≡◌, ◌≢◌, ◌<◌, ◌≤◌, ◌^◌, ◌++◌, ℕ, List, pos, negsuc, ◌≤ℤ◌, length, drop, FitsSigned, IfOk, IfErr, codes};
+ghost use Rattle.std.specs.Fmt.{decimal};
 ghost use Rattle.std.specs.Int.{w32};
+ghost use Rattle.moo_value.specs.declared.value.ObjNo.{ObjNo as Object};
+ghost use Rattle.moo_value.specs.declared.value.Value.{Value as A};
+ghost use Rattle.moo_value.specs.declared.value.Value.TheVariants.{Int, Obj};
+ghost use Rattle.moo_value.specs.Literal.{Fits, print};
 ghost use Rattle.moo_rows.specs.Maps.{no_maps};
+ghost use Rattle.moo_dump.specs.Dump.{heading};
+ghost use Rattle.moo_world.specs.Judge.{State};
 ghost use Rattle.moo_load.specs.Loaded.{SaysOfText};
-ghost use Rattle.moo_load.specs.Rows.{AreRead};
+ghost use Rattle.moo_load.specs.OneState.{IsHeld};
+ghost use Rattle.moo_load.specs.Rows.{AreRead, first_head};
 
 use crate::fault::{LineFault, LoadFault};
-use crate::line::next_line;
+use crate::line::{after, next_line};
 use moo_rows::Head;
 use moo_value::{ObjNo, Value, read_whole_literal};
 use std::alloc::Global;
 
+/// The integer that a value is, from 0 on.
+fn count_of(value: &Value) -> Result<u64, LineFault>
+    ensures limit { IfOk result (λ n. n < 2 ^ 63) }
+    ensures ok { IfOk result (λ n. value.now ≡ Int (pos n)) }
+    ensures err { IfErr result (λ _. (n : ℕ) → value.now ≢ Int (pos n)) }
+{
+    match value {
+        Value::Int(n) if 0 <= *n => Ok(*n as u64),
+        _ => Err(LineFault::Unreadable),
+    }
+}
+
+/// The number of the object that a value is, from -1 on.
+fn assigned_of(value: &Value) -> Result<i32, LineFault>
+    ensures least { IfOk result (λ n. negsuc 0 ≤ℤ n) }
+    ensures fits { IfOk result (λ n. FitsSigned w32 n) }
+    ensures ok { IfOk result (λ n. value.now ≡ Obj (record { 0 = n })) }
+    ensures err { IfErr result (λ _. (x : Object) → negsuc 0 ≤ℤ x.0 → value.now ≢ Obj x) }
+{
+    match value {
+        Value::Obj(ObjNo(n)) if -1 <= *n => Ok(*n),
+        _ => Err(LineFault::Unreadable),
+    }
+}
+
+/// The value of a line that is a prefix and one literal.
+fn value_after(alloc: Global, prefix: &[u8], line: &[u8]) -> Result<Value, LineFault>
+    ensures fits { IfOk result (λ value. Fits value) }
+    ensures ok { IfOk result (λ value. (v : A) → Fits v → line.now ≡ prefix.now ++ print v → value ≡ v) }
+    ensures err { IfErr result (λ fault. fault ≡ LineFault.Unreadable → (v : A) → Fits v → line.now ≢ prefix.now ++ print v) }
+{
+    let literal = after(prefix, line)?;
+    let value = read_whole_literal(alloc, literal)?;
+    Ok(value)
+}
+
 /// How many batches were accepted.
 fn seq_of(alloc: Global, line: &[u8]) -> Result<u64, LineFault>
     ensures limit { IfOk result (λ seq. seq < 2 ^ 63) }
+    ensures ok { IfOk result (λ seq. (n : ℕ) → n < 2 ^ 63 → line.now ≡ codes "seq " ++ decimal n → seq ≡ n) }
+    ensures err { IfErr result (λ fault. fault ≡ LineFault.Unreadable → (n : ℕ) → n < 2 ^ 63 → line.now ≢ codes "seq " ++ decimal n) }
 {
-    let literal = line.strip_prefix(b"seq ").ok_or(LineFault::Unreadable)?;
-    match read_whole_literal(alloc, literal)? {
-        Value::Int(seq) if 0 <= seq => Ok(seq as u64),
-        _ => Err(LineFault::Unreadable),
-    }
+    let value = value_after(alloc, b"seq ", line)?;
+    count_of(&value)
 }
 
 /// The greatest number that an object was given.
@@ -28,18 +71,20 @@ fn top_of(alloc: Global, line: &[u8]) -> Result<i32, LineFault>
     ensures least { IfOk result (λ top. negsuc 0 ≤ℤ top) }
     ensures most { IfOk result (λ top. top ≤ℤ pos 2147483647) }
     ensures fits { IfOk result (λ top. FitsSigned w32 top) }
+    ensures ok { IfOk result (λ top. (x : Object) → negsuc 0 ≤ℤ x.0 → x.0 ≤ℤ pos 2147483647 → line.now ≡ codes "top " ++ print (Obj x) → top ≡ x.0) }
+    ensures err { IfErr result (λ fault. fault ≡ LineFault.Unreadable → (x : Object) → negsuc 0 ≤ℤ x.0 → x.0 ≤ℤ pos 2147483647 → line.now ≢ codes "top " ++ print (Obj x)) }
 {
-    let literal = line.strip_prefix(b"top ").ok_or(LineFault::Unreadable)?;
-    match read_whole_literal(alloc, literal)? {
-        Value::Obj(ObjNo(top)) if -1 <= top => Ok(top),
-        _ => Err(LineFault::Unreadable),
-    }
+    let value = value_after(alloc, b"top ", line)?;
+    assigned_of(&value)
 }
 
 /// The head of the first two lines, with the first number of each kind as the next one, and the place at which the third begins.
 pub(crate) fn read_heading(alloc: Global, text: &[u8]) -> Result<(Head, usize), LoadFault>
     ensures read { IfOk result (λ r. AreRead (record no_maps { head = r.0 })) }
     ensures start { IfOk result (λ r. r.1 ≤ length text.now) }
+    // The heading of a state is read as its head.
+    ensures ok { IfOk result (λ r. (s : State) (rest : List ℕ) → IsHeld s → text.now ≡ heading s ++ rest → (r.0 ≡ first_head s) × (drop r.1 text.now ≡ rest)) }
+    ensures err { IfErr result (λ fault. fault ≢ LoadFault.OutOfMemory → (s : State) (rest : List ℕ) → IsHeld s → text.now ≢ heading s ++ rest) }
     ensures fault { IfErr result (SaysOfText text.now) }
 {
     let first = next_line(text, 0)?;

@@ -3,9 +3,16 @@
 
 ghost use Rattle.std.specs.Prelude.{◌≡◌, ◌≢◌, ◌≤◌, ◌∷◌, ◌++◌, [], List, length, drop, IfOk, IfErr, OnOk};
 ghost use Rattle.std.specs.List.{AllByRecursion};
-ghost use Rattle.moo_load.specs.Entries.{Entry, entry_text, entry_lines, EntryFits, NumberIsLeft, NumbersAreLeft, entry_taken, entries_taken};
+ghost use Rattle.moo_rows.specs.declared.row.PropId.{PropId as AProperty};
+ghost use Rattle.moo_load.specs.Entries.{Entry, entry_text, entry_lines, EntryFits, NumberIsLeft, NumbersAreLeft, entry_taken, entries_taken, carried, EachHas};
 ghost use Rattle.moo_load.specs.Loaded.{SaysOfText};
+ghost use Rattle.moo_load.specs.OneState.{IsHeld};
 ghost use Rattle.moo_load.specs.Rows.{AreRead};
+ghost use Rattle.moo_load.specs.RowsOf.{AreRowsOf, HasNumbers};
+ghost use Rattle.moo_load.specs.Slots.{no_slot, SlotIsNext, slot_line_put};
+ghost use Rattle.moo_dump.specs.Dump.{dump};
+ghost use Rattle.moo_world.specs.Judge.{State};
+ghost use Rattle.moo_world.specs.Objects.{Pair};
 
 use crate::fault::{LineFault, LoadFault};
 use crate::heading::read_heading;
@@ -46,14 +53,20 @@ fn take_slot_line(
     rows: &mut Flat,
 ) -> Result<LastSlot, LineFault>
     requires { AreRead rows.old.maps }
-    ensures { OnOk result (AreRead rows.new.maps) }
+    ensures read { OnOk result (AreRead rows.new.maps) }
+    // The line of an entry puts its slot, if the slot's property is the next one of its definer.
+    ensures put { IfOk result (λ put. (number : Pair → AProperty) (e : Entry) → EntryFits e → SlotIsNext number e (last, rows.old.maps) → line.now ++ 10 ∷ [] ≡ entry_text e
+        → (put, rows.new.maps) ≡ slot_line_put number e (last, rows.old.maps)) }
+    ensures err { IfErr result (λ fault. fault ≡ LineFault.Unreadable → (number : Pair → AProperty) (e : Entry) → EntryFits e → SlotIsNext number e (last, rows.old.maps)
+        → line.now ++ 10 ∷ [] ≢ entry_text e) }
 {
     let (word, literal) = split_word(line)?;
-    if word != Word::Slot {
-        return Ok(last);
+    if word == Word::Slot {
+        let values = values_of(alloc, literal)?;
+        take_slot(alloc, &values, last, rows)
+    } else {
+        Ok(last)
     }
-    let values = values_of(alloc, literal)?;
-    take_slot(alloc, &values, last, rows)
 }
 
 /// Puts the rows of the lines from a place to the last line, but for the slots.
@@ -86,6 +99,12 @@ fn take_slots(alloc: Global, text: &[u8], start: usize, rows: &mut Flat) -> Resu
     requires start { start ≤ length text.now }
     requires read { AreRead rows.old.maps }
     ensures read { OnOk result (AreRead rows.new.maps) }
+    // The lines of entries put their slots, if each has the next property of its definer.
+    ensures put { OnOk result ((number : Pair → AProperty) (es : List Entry) → AllByRecursion EntryFits es
+        → EachHas (SlotIsNext number) (slot_line_put number) es (no_slot, rows.old.maps) → drop start text.now ≡ entry_lines es
+        → rows.new.maps ≡ (carried (slot_line_put number) es (no_slot, rows.old.maps)).1) }
+    ensures err { IfErr result (λ fault. fault ≢ LoadFault.OutOfMemory → (number : Pair → AProperty) (es : List Entry) → AllByRecursion EntryFits es
+        → EachHas (SlotIsNext number) (slot_line_put number) es (no_slot, rows.old.maps) → drop start text.now ≢ entry_lines es) }
     ensures fault { IfErr result (SaysOfText text.now) }
 {
     let mut at = start;
@@ -110,6 +129,9 @@ fn take_slots(alloc: Global, text: &[u8], start: usize, rows: &mut Flat) -> Resu
 /// The rows of a dump, within their limits. Whether they show a world, and whether its dump is the text, isn't asked.
 pub(crate) fn read_rows(alloc: Global, text: &[u8]) -> Result<Flat, LoadFault>
     ensures read { IfOk result (λ rows. AreRead rows.maps) }
+    // The dump of a state is read as the rows of the state, unless memory runs out.
+    ensures put { IfOk result (λ rows. (s : State) → IsHeld s → dump s ≡ text.now → AreRowsOf s rows.maps) }
+    ensures err { IfErr result (λ fault. fault ≢ LoadFault.OutOfMemory → (s : State) → IsHeld s → HasNumbers s → dump s ≢ text.now) }
     ensures fault { IfErr result (SaysOfText text.now) }
 {
     let (head, start) = read_heading(alloc, text)?;

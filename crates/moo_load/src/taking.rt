@@ -1,19 +1,23 @@
 //! Rows, put as their lines say.
 
-ghost use Rattle.std.specs.Prelude.{◌≡◌, ◌≢◌, ◌<◌, ◌∷◌, [], true, OnOk, IfErr};
+ghost use Rattle.std.specs.Prelude.{◌≡◌, ◌≢◌, ◌<◌, ◌∷◌, [], true, Some, OnOk, IfOk, IfErr};
 ghost use Rattle.moo_value.specs.declared.value.ObjNo.{ObjNo as Object};
 ghost use Rattle.moo_value.specs.declared.value.Value.TheVariants.{Obj, Str};
 ghost use Rattle.moo_rows.specs.declared.row.ObjRow.{ObjRow as ObjectRow};
 ghost use Rattle.moo_rows.specs.declared.row.PetitionId.{PetitionId as Id};
 ghost use Rattle.moo_rows.specs.declared.row.PetitionRow.{PetitionRow as APetition};
+ghost use Rattle.moo_rows.specs.declared.row.PropId.{PropId as AProperty};
 ghost use Rattle.moo_rows.specs.declared.row.PropRow.{PropRow as Property};
 ghost use Rattle.moo_rows.specs.declared.row.VerbRow.{VerbRow as Verb};
-ghost use Rattle.moo_rows.specs.Maps.{with_object};
+ghost use Rattle.moo_rows.specs.Maps.{with_object, with_slot};
 ghost use Rattle.moo_dump.specs.Dump.{object_values, verb_values};
-ghost use Rattle.moo_load.specs.Printed.{petition_values};
+ghost use Rattle.moo_load.specs.Printed.{petition_values, slot_values};
 ghost use Rattle.moo_load.specs.Rows.{AreRead, property_taken, verb_taken, petition_taken};
+ghost use Rattle.moo_load.specs.RowsOf.{slot_row};
+ghost use Rattle.moo_load.specs.Slots.{IsNextProperty, number_before as the_number_before};
+ghost use Rattle.moo_world.specs.Objects.{Pair};
 ghost use Rattle.moo_world.specs.Petitions.{petition_fits};
-ghost use Rattle.moo_world.specs.World.{row_fits, verb_fits, is_property_name};
+ghost use Rattle.moo_world.specs.World.{Slot, row_fits, state_fits, verb_fits, is_property_name};
 
 use crate::fault::LineFault;
 use crate::object::read_object;
@@ -114,14 +118,30 @@ pub(crate) struct LastSlot {
     pub(crate) id: PropId,
 }
 
+/// The number of the property whose slot was put just before, if that was one of this definer on this object, or else 0.
+fn number_before(last: LastSlot, object: ObjNo, definer: ObjNo) -> PropId
+    ensures { result ≡ the_number_before last object definer }
+{
+    if last.object == object && last.definer == definer {
+        last.id
+    } else {
+        PropId(0)
+    }
+}
+
 /// The property of a slot. A dump has the slots of an object that one definer has given it in the order of its properties, so
 /// that the next one is the property after the last.
-fn property_of<R: Rows>(rows: &R, last: LastSlot, slot: &SlotLine) -> Option<PropId> {
-    let goes_on = last.object == slot.object && last.definer == slot.definer;
-    let after = if goes_on { last.id } else { PropId(0) };
+fn property_of<R: Rows>(rows: &R, last: LastSlot, slot: &SlotLine) -> Option<PropId>
+    ensures { (id : AProperty) → IsNextProperty (R.held rows.now).maps last slot.now.object (slot.now.definer, slot.now.name) id → result ≡ Some id }
+{
+    let after = number_before(last, slot.object, slot.definer);
     let id = rows.next_defined(slot.definer, after)?;
     let row = rows.prop(id)?;
-    (row.name == slot.name).then_some(id)
+    if row.name == slot.name {
+        Some(id)
+    } else {
+        None
+    }
 }
 
 /// Puts a slot, the next one after the last.
@@ -132,7 +152,12 @@ pub(crate) fn take_slot(
     rows: &mut Flat,
 ) -> Result<LastSlot, LineFault>
     requires { AreRead rows.old.maps }
-    ensures { OnOk result (AreRead rows.new.maps) }
+    ensures read { OnOk result (AreRead rows.new.maps) }
+    // The slot of the next property is put under its number.
+    ensures put { IfOk result (λ put. (x : Object) (p : Pair) (k : Slot) (id : AProperty) → values.now ≡ slot_values x p.0 p.1 (slot_row k)
+        → IsNextProperty rows.old.maps last x p id → (put ≡ record { object = x; definer = p.0; id = id }) × (rows.new ≡ with_slot rows.old (x, id) (slot_row k))) }
+    ensures err { IfErr result (λ fault. fault ≡ LineFault.Unreadable → (x : Object) (p : Pair) (k : Slot) (id : AProperty) → state_fits k.state ≡ true
+        → IsNextProperty rows.old.maps last x p id → values.now ≢ slot_values x p.0 p.1 (slot_row k)) }
 {
     let slot = read_slot(alloc, values)?;
     let Some(id) = property_of(rows, last, &slot) else {

@@ -134,7 +134,7 @@ apart k j differ = by (same_object (object_at k) (object_at j)) refl
     by true e = absurd (differ (ap number_in ((same_object-Decides (object_at k) (object_at j)).0 e)))
     by false e = refl
 
-found : (w : World) (k n : ℕ) → k < n → filter (is_of (object_at k)) (flat_map (object_entries w) (map object_at (numbers_below n))) ≡ object_entries w (object_at k)
+pub found : (w : World) (k n : ℕ) → k < n → filter (is_of (object_at k)) (flat_map (object_entries w) (map object_at (numbers_below n))) ≡ object_entries w (object_at k)
 found w k zero less = absurd (omega arith)
 found w k (suc n) less = elim (cases_lt k n) [
   | inl below ↦ step w (object_at k) n ∙ (λ i. found w k n below i ++ no_block w (object_at k) (object_at n) (apart k n (λ e. omega arith)) i) ∙ append-nil (object_entries w (object_at k))

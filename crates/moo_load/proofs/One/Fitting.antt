@@ -65,11 +65,11 @@ pub all_each : {A : Type 0} (P : A → Type 0) → ((a : A) → P a) → (l : Li
 all_each P f [] = tt
 all_each P f (x ∷ l) = (f x, all_each P f l)
 
-all_both : {A : Type 0} (P Q : A → Type 0) (l : List A) → AllByRecursion P l → AllByRecursion Q l → AllByRecursion (λ a. P a × Q a) l
+pub all_both : {A : Type 0} (P Q : A → Type 0) (l : List A) → AllByRecursion P l → AllByRecursion Q l → AllByRecursion (λ a. P a × Q a) l
 all_both P Q [] a b = tt
 all_both P Q (x ∷ l) a b = ((a.0, b.0), all_both P Q l a.1 b.1)
 
-all_tested : {A : Type 0} (test : A → Bool) (l : List A) → list_all test l ≡ true → AllByRecursion (λ a. test a ≡ true) l
+pub all_tested : {A : Type 0} (test : A → Bool) (l : List A) → list_all test l ≡ true → AllByRecursion (λ a. test a ≡ true) l
 all_tested test [] e = tt
 all_tested test (x ∷ l) e = let p = and_parts (test x) (list_all test l) e in (p.0, all_tested test l p.1)
 
@@ -183,7 +183,7 @@ module _ (w : World) (wf : IsWellFormed w) where
       all_weaker (λ n. is_property_name n ≡ true) (λ n. is_text n ≡ true) (λ n h. (and_parts (is_text n) _ h).0) r.defines
       (all_tested is_property_name r.defines (subst (λ (o : Option Record). list_all is_property_name (unwrap_or (option_map (λ k. k.defines) (option_map (with_slots (λ n. None)) o)) []) ≡ true) e (wf.limits.names d)))
 
-  verbs_fit : (x : ObjNo) (r : Record) → w.object x ≡ Some r → AllByRecursion (λ v. verb_fits v ≡ true) r.verbs
+  pub verbs_fit : (x : ObjNo) (r : Record) → w.object x ≡ Some r → AllByRecursion (λ v. verb_fits v ≡ true) r.verbs
   verbs_fit x r e =
       all_tested verb_fits r.verbs (subst (λ (o : Option Record). list_all verb_fits (unwrap_or (option_map (λ k. k.verbs) (option_map (with_slots (λ n. None)) o)) []) ≡ true) e (wf.limits.directories x))
 

@@ -36,16 +36,16 @@ abbrev slot_by : List (Pair × Slot) → Name → Option Slot
 slot_by l n = option_map (λ e. e.1) (find (λ (e : Pair × Slot). same_text (folded e.0.1) n) l)
 
 module _ {A : Type 0} (f : Entry → Option A) (w : World) (x : ObjNo) (r : Record) where
-  three : (a b c : List A) → filter_map f (map (a_property x) r.defines) ≡ a → filter_map f (flat_map (owed_entry w x) (owed_by w (chain w x))) ≡ b → filter_map f (map (a_verb x) r.verbs) ≡ c → filter_map f (beside_row w x r) ≡ a ++ (b ++ c)
+  pub three : (a b c : List A) → filter_map f (map (a_property x) r.defines) ≡ a → filter_map f (flat_map (owed_entry w x) (owed_by w (chain w x))) ≡ b → filter_map f (map (a_verb x) r.verbs) ≡ c → filter_map f (beside_row w x r) ≡ a ++ (b ++ c)
   three a b c p q s =
       let slots = flat_map (owed_entry w x) (owed_by w (chain w x)) in
       filter_map-append f (map (a_property x) r.defines) (slots ++ map (a_verb x) r.verbs)
       ∙ (λ i. p i ++ (filter_map-append f slots (map (a_verb x) r.verbs) ∙ (λ j. q j ++ s j)) i)
 
-  none_of_each : {B : Type 0} (made : B → Entry) → ((b : B) → f (made b) ≡ None) → (l : List B) → filter_map f (map made l) ≡ []
+  pub none_of_each : {B : Type 0} (made : B → Entry) → ((b : B) → f (made b) ≡ None) → (l : List B) → filter_map f (map made l) ≡ []
   none_of_each made none l = none_made f (map made l) (all_map (λ e. f e ≡ None) made l (all_each (λ b. f (made b) ≡ None) none l))
 
-  none_owed : ((p : Pair) (s : Slot) → f (a_slot x p s) ≡ None) → (l : List Pair) → filter_map f (flat_map (owed_entry w x) l) ≡ []
+  pub none_owed : ((p : Pair) (s : Slot) → f (a_slot x p s) ≡ None) → (l : List Pair) → filter_map f (flat_map (owed_entry w x) l) ≡ []
   none_owed none l = none_made f (flat_map (owed_entry w x) l) (all_flat (λ e. f e ≡ None) (owed_entry w x) l (all_each (λ p. AllByRecursion (λ e. f e ≡ None) (owed_entry w x p)) each l))
     where
       each : (p : Pair) → AllByRecursion (λ e. f e ≡ None) (owed_entry w x p)

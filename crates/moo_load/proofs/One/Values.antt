@@ -44,11 +44,11 @@ abbrev pub text_in : Value → List ℕ
 text_in (Str s) = s
 text_in v = []
 
-abbrev integer_in : Value → ℤ
+abbrev pub integer_in : Value → ℤ
 integer_in (Int n) = n
 integer_in v = pos 0
 
-abbrev size_in : ℤ → ℕ
+abbrev pub size_in : ℤ → ℕ
 size_in (pos n) = n
 size_in n = 0
 

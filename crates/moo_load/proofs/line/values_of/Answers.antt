@@ -20,7 +20,7 @@ loop-values-init c v vs are = rw c.new-values.ensures.items (left_first v vs c.a
 pub returns-in_err-value-clause-err : goal.returns-in_err-value-clause-err
 returns-in_err-value-clause-err c =
     let p = err_from_is_err_and c.from_residual-in_err-value.result c.from_residual-in_err-value.ensures.1 in
-    rw p.1 (λ unreadable v vs are. let l = c.loop-values.invariant v vs are in refused c.in_err-value.field-0.0 l.next (length (print l.next)) (c.in_err-value.ensures.only l.next (length (print l.next)) (next_front l)) (p.2 unreadable))
+    rw p.1 (λ unreadable v vs are. let l = c.loop-values.invariant v vs are in refused c.in_err-value.field-0.0 (l.next, length (print l.next)) (c.in_err-value.ensures.only l.next (length (print l.next)) (next_front l)) (p.2 unreadable))
 
 pub returns-then-eq-clause-ok : goal.returns-then-eq-clause-ok
 returns-then-eq-clause-ok c v vs are =

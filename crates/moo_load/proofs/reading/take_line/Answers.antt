@@ -1,21 +1,13 @@
-use Rattle.std.proofs.Common.{rules, ◌≡◌, Result, Ok, Err, OnOk, sym, ap, ◌∙◌}
-use Rattle.std.specs.Prelude.{IfErr}
+use Rattle.std.proofs.Common.{rules, ◌≡◌, sym, ap, ◌∙◌}
 use Rattle.std.proofs.lemmas.Result.{err_from_is_err_and}
 use Rattle.moo_value.specs.Literal.{print}
 use Rattle.moo_rows.specs.Maps.{Held}
 use Rattle.moo_world.specs.Answers.{list_of}
 use Rattle.moo_load.specs.declared.line.Word.TheVariants.{Object, Property, Slot, Verb, Petition}
 use Rattle.moo_load.specs.Entries.{entry_values}
+use Rattle.moo_load.proofs.OnResults.{on_ok, if_err}
 use Rattle.moo_load.proofs.Taken.{word_of, line_is, split_is, values_told, none_told, slot_taken, object_taken, property_is_taken, verb_is_taken, petition_is_taken, no_object, no_property, no_verb, no_petition}
 use Rattle.moo_load.proofs.reading.take_line.Goals as goal
-
-on_ok : {A E : Type 0} {P Q : Type 0} (r : Result A E) → (P → Q) → OnOk r P → OnOk r Q
-on_ok (Ok x) f h = f h
-on_ok (Err e) f h = h
-
-if_err : {A E : Type 0} {P Q : E → Type 0} (r : Result A E) → ((e : E) → P e → Q e) → IfErr r P → IfErr r Q
-if_err (Ok x) f h = h
-if_err (Err e) f h = f e h
 
 pub returns-in_err-word-clause-err : goal.returns-in_err-word-clause-err
 returns-in_err-word-clause-err c =

@@ -1,15 +1,16 @@
 use Rattle.std.proofs.Common.{◌≡◌, ◌≤◌, ◌-◌, List, length, drop}
 use Rattle.std.specs.List.{AllByRecursion}
-use Rattle.moo_load.specs.Entries.{Entry, EntryFits, entry_lines}
+use Rattle.moo_rows.specs.Maps.{Maps}
+use Rattle.moo_load.specs.Entries.{Entry, EntryFits, NumberIsLeft, entry_lines, entry_taken}
 use Rattle.moo_load.specs.Rows.{AreRead}
-use Rattle.moo_load.proofs.Ahead.{Ahead}
+use Rattle.moo_load.proofs.Ahead.{Ahead, Nothing}
 use Rattle.moo_load.proofs.reading.take_lines.Given as goal
 
 abbrev pub invariant-loop-line : goal.invariant-loop-line
 invariant-loop-line l = record {
   within : l.at ≤ length l.text;
   read : AreRead l.rows.maps;
-  ahead : (es : List Entry) → AllByRecursion EntryFits es → drop l.start l.text ≡ entry_lines es → Ahead es l.initial.rows.maps l.rows.maps (drop l.at l.text);
+  ahead : (es : List Entry) → AllByRecursion EntryFits es → drop l.start l.text ≡ entry_lines es → Ahead Maps entry_taken Nothing NumberIsLeft es l.initial.rows.maps l.rows.maps (drop l.at l.text);
 }
 
 abbrev pub decreases-loop-line : goal.decreases-loop-line

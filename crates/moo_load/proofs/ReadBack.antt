@@ -1,0 +1,9 @@
+pub mod Puts
+pub mod Lists
+pub mod Taken
+pub mod Once
+pub mod Numbers
+pub mod Finding
+pub mod Fit
+pub mod Whole
+pub mod Dumped

@@ -1,0 +1,49 @@
+-- The text of a dump, as it is read.
+use Rattle.std.proofs.Common.{◌≡◌, ℕ, List, ◌++◌, sym, ap, subst, ◌∙◌}
+use Rattle.std.specs.List.{AllByRecursion}
+use Rattle.moo_rows.specs.declared.row.Head.{Head}
+use Rattle.moo_rows.specs.declared.row.PropId.{PropId}
+use Rattle.moo_rows.specs.Maps.{Maps, no_maps}
+use Rattle.moo_dump.specs.Dump.{heading, dump}
+use Rattle.moo_world.specs.Judge.{State}
+use Rattle.moo_world.specs.Objects.{Pair}
+use Rattle.moo_load.specs.Entries.{EntryFits, entry_lines, entries_taken, carried, EachHas, NumbersAreLeft}
+use Rattle.moo_load.specs.OneState.{IsHeld}
+use Rattle.moo_load.specs.Rows.{first_head}
+use Rattle.moo_load.specs.RowsOf.{HasNumbers, AreRowsOf}
+use Rattle.moo_load.specs.Slots.{no_slot, SlotIsNext, slot_line_put}
+use Rattle.moo_load.proofs.One.Entries.{entries_of, dump_is}
+use Rattle.moo_load.proofs.ReadBack.Fit.{all_fit}
+use Rattle.moo_load.proofs.ReadBack.Numbers.{number}
+use Rattle.moo_load.proofs.ReadBack.Whole.{slots_in_turn, rows_are, enough_numbers}
+
+module _ (s : State) (held : IsHeld s) where
+  abbrev pub lines : List ℕ
+  lines = entry_lines (entries_of s)
+
+  pub text_is : (text : List ℕ) → dump s ≡ text → text ≡ heading s ++ lines
+  text_is text same = sym same ∙ dump_is s
+
+  pub fit : AllByRecursion EntryFits (entries_of s)
+  fit = all_fit s held.formed
+
+  abbrev pub number_by : Pair → PropId
+  number_by = number s.world held.formed.world
+
+  -- the maps before the first line of an entry
+  module _ (first : Maps) (head : Head) (begun : first ≡ record no_maps { head = head }) (own : head ≡ first_head s) where
+    same_first : first ≡ record no_maps { head = first_head s }
+    same_first = begun ∙ ap (λ (h : Head). let m : Maps = record no_maps { head = h } in m) own
+
+    pub numbers_are : HasNumbers s → NumbersAreLeft (entries_of s) first
+    numbers_are few = subst (NumbersAreLeft (entries_of s)) (sym same_first) (enough_numbers s held.formed few)
+
+    module _ (taken : Maps) (is : taken ≡ entries_taken (entries_of s) first) where
+      same_taken : taken ≡ entries_taken (entries_of s) (record no_maps { head = first_head s })
+      same_taken = is ∙ ap (entries_taken (entries_of s)) same_first
+
+      pub slots_are_next : EachHas (SlotIsNext number_by) (slot_line_put number_by) (entries_of s) (no_slot, taken)
+      slots_are_next = subst (λ (m : Maps). EachHas (SlotIsNext number_by) (slot_line_put number_by) (entries_of s) (no_slot, m)) (sym same_taken) (slots_in_turn s held.formed)
+
+      pub all_read : (new : Maps) → new ≡ (carried (slot_line_put number_by) (entries_of s) (no_slot, taken)).1 → AreRowsOf s new
+      all_read new e = subst (AreRowsOf s) (sym (e ∙ ap (λ (m : Maps). (carried (slot_line_put number_by) (entries_of s) (no_slot, m)).1) same_taken)) (rows_are s held.formed)

@@ -1,0 +1,240 @@
+-- The lines of slots come in the order in which their properties are found.
+use Rattle.std.proofs.Common.{◌≡◌, ℕ, ◌+◌, ◌<◌, ◌≤◌, Bool, true, false, cond, Option, Some, None, List, [], ◌∷◌, ◌++◌, map, length, refl, sym, ap, subst, ◌∙◌, arith, append_assoc, length-append, append-nil}
+use Rattle.std.specs.Prelude.{◌&&◌, is_some}
+use Rattle.std.specs.Cmp.{nat_cmp_is, ranked}
+use Rattle.std.specs.FinMap.{get, entries}
+use Rattle.std.specs.List.{AllByRecursion, IsDistinct, flat_map, filter}
+use Rattle.std.specs.Option.{option_map}
+use Rattle.std.specs.Ordering.{int_eq}
+use Rattle.std.specs.declared.cmp.Ordering.TheVariants.{Less}
+use Rattle.std.proofs.lemmas.List.{length-map}
+use Rattle.std.proofs.lemmas.List.Concat.{flat_map-append}
+use Rattle.std.proofs.lemmas.Option.{none-some}
+use Rattle.moo_value.specs.declared.value.ObjNo.{ObjNo}
+use Rattle.moo_rows.specs.declared.row.PropId.{PropId}
+use Rattle.moo_rows.specs.Links.{is_definer, row_defined}
+use Rattle.moo_rows.specs.Maps.{Maps}
+use Rattle.moo_world.specs.Judge.{State}
+use Rattle.moo_world.specs.ObjectLists.{objects_of}
+use Rattle.moo_world.specs.Objects.{Name, Pair, nothing, object_at, folded, same_object, is_among, same_object-Decides}
+use Rattle.moo_world.specs.Rows.{numbers_below}
+use Rattle.moo_world.specs.World.{World, Record, Slot, IsWellFormed, Climbs, is_object, parent_of, slot_of, pair_named, names_of, defined_by, owed_by, chain, numbers_to}
+use Rattle.moo_world.proofs.Ancestry.Chains.{Climbs-once}
+use Rattle.moo_world.proofs.Ancestry.Trees.{linked, no_parent, Chain-chain}
+use Rattle.moo_world.proofs.Inheritance.Owed.{all_right}
+use Rattle.moo_world.proofs.Inheritance.Reparenting.{all_left}
+use Rattle.moo_world.proofs.Shown.EntriesInOrder.{all_weaker}
+use Rattle.moo_damage.proofs.Apart.{none_any}
+use Rattle.moo_load.specs.declared.taking.LastSlot.{LastSlot}
+use Rattle.moo_load.specs.Entries.{Entry, an_object, a_property, a_slot, a_verb, a_petition, EachHas}
+use Rattle.moo_load.specs.RowsOf.{all_properties, at_number, property_row}
+use Rattle.moo_load.specs.Slots.{no_slot, number_before, IsNextProperty, SlotIsNext, slot_line_put}
+use Rattle.moo_load.proofs.One.Entries.{owed_entry, record_entries, object_entries, entries_of}
+use Rattle.moo_load.proofs.One.Fitting.{own_names}
+use Rattle.moo_load.proofs.ReadBack.Lists.{of_all, number_at}
+use Rattle.moo_load.proofs.ReadBack.Numbers.{place, number, number_is, numbered_front, around}
+use Rattle.moo_load.proofs.ReadBack.Once.{objects_once, object_stands}
+
+-- the slots of this definer on x were put just before
+abbrev goes_on : LastSlot → ObjNo → ObjNo → Bool
+goes_on last x d = int_eq last.object.0 x.0 && int_eq last.definer.0 d.0
+
+same_number : (x : ObjNo) → int_eq x.0 x.0 ≡ true
+unfolding same_object
+same_number x = (same_object-Decides x x).1 refl
+
+own_goes_on : (x d : ObjNo) (id : PropId) → goes_on (record { object = x; definer = d; id = id }) x d ≡ true
+own_goes_on x d id = λ i. same_number x i && same_number d i
+
+other_stops : (x d e : ObjNo) (id : PropId) → same_object d e ≡ false → goes_on (record { object = x; definer = d; id = id }) x e ≡ false
+unfolding same_object
+other_stops x d e id h = λ i. same_number x i && h i
+
+other_object_stops : (last : LastSlot) (x d : ObjNo) → same_object last.object x ≡ false → goes_on last x d ≡ false
+unfolding same_object
+other_object_stops last x d h = ap (λ b. b && int_eq last.definer.0 d.0) h
+
+all_unmapped : {A B : Type 0} (P : B → Type 0) (f : A → B) (l : List A) → AllByRecursion P (map f l) → AllByRecursion (λ a. P (f a)) l
+all_unmapped P f [] a = tt
+all_unmapped P f (x ∷ l) a = (a.0, all_unmapped P f l a.1)
+
+module _ (w : World) (wf : IsWellFormed w) where
+  abbrev all : List Pair
+  all = all_properties w
+
+  -- the maps have the properties by their numbers
+  abbrev pub Numbered : Maps → Type 0
+  Numbered m = (id : PropId) → get m.props id ≡ option_map property_row (at_number all id.0)
+
+  abbrev pub Each : List Entry → LastSlot × Maps → Type 0
+  Each es t = EachHas (SlotIsNext (number w wf)) (slot_line_put (number w wf)) es t
+
+  other_definer : (m : Maps) → Numbered m → (d : ObjNo) (id : PropId) → ((p : Pair) → at_number all id.0 ≡ Some p → same_object p.0 d ≡ false) → is_definer m d id ≡ false
+  unfolding same_object
+  other_definer m num d id h = ap (row_defined d) (num id) ∙ by (at_number all id.0) refl
+    where
+      by : (o : Option Pair) → at_number all id.0 ≡ o → row_defined d (option_map property_row o) ≡ false
+      by None e = refl
+      by (Some p) e = h p e
+
+  own_definer : (m : Maps) → Numbered m → (p : Pair) (id : PropId) → at_number all id.0 ≡ Some p → is_definer m p.0 id ≡ true
+  own_definer m num p id e = ap (row_defined p.0) (num id ∙ ap (option_map property_row) e) ∙ same_number p.0
+
+  abbrev HasSlot : ObjNo → Pair → Type 0
+  HasSlot x p = (k : Slot) × (slot_of w x (folded p.1) ≡ Some k)
+
+  -- ---- the slots that one definer has given an object
+
+  module _ (x d : ObjNo) (front back : List Pair) (whole : all ≡ front ++ (defined_by w d ++ back)) (others : AllByRecursion (λ (p : Pair). same_object p.0 d ≡ false) front) (R : LastSlot → Type 0) (own : (id : PropId) → R (record { object = x; definer = d; id = id })) where
+    -- up to this number no other property of the definer is left
+    abbrev Before : ℕ → LastSlot → Type 0
+    Before base last = ((number_before last x d).0 ≤ base) × ((q : ℕ) → (number_before last x d).0 < q → q ≤ base → (p : Pair) → at_number all q ≡ Some p → same_object p.0 d ≡ false)
+
+    abbrev named : List Name → List Pair
+    named l = map (λ n. let p : Pair = (d, n) in p) l
+
+    named_append : (l m : List Name) → named (l ++ m) ≡ named l ++ named m
+    named_append [] m = refl
+    named_append (k ∷ l) m = ap (λ (r : List Pair). (d, k) ∷ r) (named_append l m)
+
+    named_length : (l : List Name) → length (named l) ≡ length l
+    named_length l = length-map l (λ n. let p : Pair = (d, n) in p)
+
+    own_place : (a b : List Name) (n : Name) → names_of w d ≡ a ++ n ∷ b → at_number all (length front + length a + 1) ≡ Some (d, n)
+    own_place a b n e =
+        let p : Pair = (d, n) in
+        let parts : defined_by w d ≡ named a ++ p ∷ named b = ap named e ∙ named_append a (n ∷ b) in
+        let all_is : all ≡ (front ++ named a) ++ p ∷ (named b ++ back) =
+        whole ∙ ap (λ (l : List Pair). front ++ (l ++ back)) parts ∙ ap (λ (l : List Pair). front ++ l) (append_assoc (named a) (p ∷ named b) back) ∙ sym (append_assoc front (named a) (p ∷ (named b ++ back))) in
+        let count : length (front ++ named a) ≡ length front + length a = length-append front (named a) ∙ ap (λ (k : ℕ). length front + k) (named_length a) in
+        ap (λ (l : List Pair). at_number l (length front + length a + 1)) all_is ∙ number_at (front ++ named a) (named b ++ back) p (length front + length a + 1) (omega arith)
+
+    is_next : (t : LastSlot × Maps) (a b : List Name) (n : Name) → names_of w d ≡ a ++ n ∷ b → Numbered t.1 → Before (length front + length a) t.0 → IsNextProperty t.1 t.0 x (d, n) (number w wf (d, n))
+    is_next t a b n e num before =
+        let at = own_place a b n e in
+        let own_number : place (d, n) all ≡ length front + length a + 1 = number_is w wf (length front + length a + 1) (d, n) at in
+        let found : at_number all (place (d, n) all) ≡ Some (d, n) = ap (at_number all) own_number ∙ at in
+        record {
+          next = (
+            own_definer t.1 num (d, n) (number w wf (d, n)) found,
+            sym (nat_cmp_is (number_before t.0 x d).0 (place (d, n) all) Less (let h = before.0 in omega arith)),
+            λ q above below. other_definer t.1 num d q (before.1 q.0 (ranked (number_before t.0 x d).0 q.0 Less (sym above)) (let h : q.0 < place (d, n) all = ranked q.0 (place (d, n) all) Less (sym below) in omega arith)),
+          );
+          row = num (number w wf (d, n)) ∙ ap (option_map property_row) found;
+        }
+
+    then_before : (a b : List Name) (n : Name) → names_of w d ≡ a ++ n ∷ b → Before (length front + length (a ++ n ∷ [])) (record { object = x; definer = d; id = number w wf (d, n) })
+    then_before a b n e =
+        let last : LastSlot = record { object = x; definer = d; id = number w wf (d, n) } in
+        let own_number : place (d, n) all ≡ length front + length a + 1 = number_is w wf (length front + length a + 1) (d, n) (own_place a b n e) in
+        let count : length (a ++ n ∷ []) ≡ length a + 1 = length-append a (n ∷ []) in
+        let now : (number_before last x d).0 ≡ place (d, n) all = ap (λ (c : Bool). (let id : PropId = cond c (number w wf (d, n)) (record { 0 = 0 }) in id).0) (own_goes_on x d (number w wf (d, n))) in
+        (omega arith, λ q above below. absurd (omega arith))
+
+    names_next : (b a : List Name) → names_of w d ≡ a ++ b → (fs : List Entry) (t : LastSlot × Maps) → Numbered t.1 → R t.0 → Before (length front + length a) t.0 → AllByRecursion (λ n. HasSlot x (d, n)) b
+        → ((u : LastSlot × Maps) → Numbered u.1 → R u.0 → Each fs u) → Each (flat_map (owed_entry w x) (map (λ n. (d, n)) b) ++ fs) t
+    names_next [] a e fs t num r before slots on = on t num r
+    names_next (n ∷ b) a e fs t num r before slots on =
+        let p : Pair = (d, n) in
+        let k = slots.0.0 in
+        let rest = flat_map (owed_entry w x) (map (λ n. (d, n)) b) in
+        let u = slot_line_put (number w wf) (a_slot x p k) t in
+        let entry : a_slot x p k ∷ (rest ++ fs) ≡ (owed_entry w x p ++ rest) ++ fs = ap (λ (o : Option Slot). (elim o [ None ↦ [] | Some s ↦ a_slot x p s ∷ [] ] ++ rest) ++ fs) (sym slots.0.1) in
+        let more = names_next b (a ++ n ∷ []) (e ∙ sym (append_assoc a (n ∷ []) b)) fs u num (own (number w wf p)) (then_before a b n e) slots.1 on in
+        subst (λ es. Each es t) entry (is_next t a b n e num before, more)
+
+    first_before : (last : LastSlot) → goes_on last x d ≡ false → Before (length front + 0) last
+    first_before last stops =
+        let none : (number_before last x d).0 ≡ 0 = ap (λ (c : Bool). (let id : PropId = cond c last.id (record { 0 = 0 }) in id).0) stops in
+        (omega arith, λ q above below p e. of_all (λ (k : Pair). same_object k.0 d ≡ false) front p others (numbered_front front (defined_by w d ++ back) q p (omega arith) (ap (λ l. at_number l q) (sym whole) ∙ e)))
+
+  -- ---- the slots of an object
+
+  abbrev Fresh : ObjNo → List ObjNo → LastSlot → Type 0
+  Fresh x ds last = AllByRecursion (λ d. goes_on last x d ≡ false) ds
+
+  chain_next : (x : ObjNo) (R : LastSlot → Type 0) → ((d : ObjNo) (id : PropId) → R (record { object = x; definer = d; id = id }))
+      → (ds : List ObjNo) (y : ObjNo) → Climbs (parent_of w) y ds → (fs : List Entry) (t : LastSlot × Maps) → Numbered t.1 → R t.0 → Fresh x ds t.0 → AllByRecursion (HasSlot x) (owed_by w ds)
+      → ((u : LastSlot × Maps) → Numbered u.1 → R u.0 → Each fs u) → Each (flat_map (owed_entry w x) (owed_by w ds) ++ fs) t
+  chain_next x R own [] y c fs t num r fresh slots on = on t num r
+  chain_next x R own (d ∷ ds) y c fs t num r fresh slots on =
+      let here : is_object w d ≡ true = subst (λ z. is_object w z ≡ true) c.0 (linked (w.object y) (λ k. k.row.parent) c.1 c.2) in
+      let a = around w wf d (object_stands w wf d here) in
+      let below : AllByRecursion (λ e. same_object d e ≡ false) ds = none_any (same_object d) ds (subst (λ z. is_among z ds ≡ false) c.0 (Climbs-once (parent_of w) (no_parent w wf.tree) ds y d c)) in
+      let more = flat_map (owed_entry w x) (owed_by w ds) ++ fs in
+      let split : flat_map (owed_entry w x) (defined_by w d) ++ more ≡ flat_map (owed_entry w x) (owed_by w (d ∷ ds)) ++ fs =
+      sym (append_assoc (flat_map (owed_entry w x) (defined_by w d)) (flat_map (owed_entry w x) (owed_by w ds)) fs) ∙ ap (λ l. l ++ fs) (sym (flat_map-append (owed_entry w x) (defined_by w d) (owed_by w ds))) in
+      let both : LastSlot → Type 0 = λ last. R last × Fresh x ds last in
+      let own_both : (id : PropId) → both (record { object = x; definer = d; id = id }) = λ id. (own d id, all_weaker (λ e. same_object d e ≡ false) (λ e. goes_on (record { object = x; definer = d; id = id }) x e ≡ false) (λ e h. other_stops x d e id h) ds below) in
+      subst (λ es. Each es t) split
+      (names_next x d a.0 a.1 a.2 a.3 both own_both (names_of w d) [] refl more t num (r, fresh.1) (first_before x d a.0 a.1 a.2 a.3 both own_both t.0 fresh.0)
+      (all_unmapped (HasSlot x) (λ n. (d, n)) (names_of w d) (all_left (HasSlot x) (defined_by w d) (owed_by w ds) slots))
+      (λ u num r. chain_next x R own ds c.1 c.3 fs u num r.0 r.1 (all_right (HasSlot x) (defined_by w d) (owed_by w ds) slots) on))
+
+  -- ---- all objects
+
+  skip : {A : Type 0} (made : A → Entry) → ((a : A) (t : LastSlot × Maps) (es : List Entry) → Each es t → Each (made a ∷ es) t) → (l : List A) (es : List Entry) (t : LastSlot × Maps) → Each es t → Each (map made l ++ es) t
+  skip made over [] es t h = h
+  skip made over (a ∷ l) es t h = over a t (map made l ++ es) (skip made over l es t h)
+
+  owed_slots : (x : ObjNo) → is_object w x ≡ true → AllByRecursion (HasSlot x) (owed_by w (chain w x))
+  owed_slots x here =
+      let c = Chain-chain w wf.tree x here in
+      let owed = owed_by w (chain w x) in
+      all_weaker (λ p. pair_named owed (folded p.1) ≡ Some p) (HasSlot x) (λ p e. by p (slot_of w x (folded p.1)) refl (wf.slots x (chain w x) (folded p.1) here c ∙ ap (option_map (λ (k : Pair). k.0)) e)) owed (own_names owed (wf.names x (chain w x) c))
+    where
+      by : (p : Pair) (o : Option Slot) → slot_of w x (folded p.1) ≡ o → option_map (λ (k : Slot). k.definer) (slot_of w x (folded p.1)) ≡ Some p.0 → HasSlot x p
+      by p None e h = absurd (none-some p.0 (sym (ap (option_map (λ (k : Slot). k.definer)) e) ∙ h))
+      by p (Some k) e h = (k, e)
+
+  abbrev Off : List ObjNo → LastSlot → Type 0
+  Off os last = AllByRecursion (λ y. same_object last.object y ≡ false) os
+
+  record_next : (x : ObjNo) (r : Record) → w.object x ≡ Some r → (os : List ObjNo) → AllByRecursion (λ y. same_object x y ≡ false) os → (fs : List Entry) (t : LastSlot × Maps) → Numbered t.1 → Off (x ∷ os) t.0
+      → ((u : LastSlot × Maps) → Numbered u.1 → Off os u.0 → Each fs u) → Each (record_entries w x r ++ fs) t
+  record_next x r e os apart fs t num off on =
+      let here : is_object w x ≡ true = ap is_some e in
+      let slots = flat_map (owed_entry w x) (owed_by w (chain w x)) in
+      let whole : map (a_property x) r.defines ++ (slots ++ (map (a_verb x) r.verbs ++ fs)) ≡ (map (a_property x) r.defines ++ (slots ++ map (a_verb x) r.verbs)) ++ fs =
+      ap (λ l. map (a_property x) r.defines ++ l) (sym (append_assoc slots (map (a_verb x) r.verbs) fs)) ∙ sym (append_assoc (map (a_property x) r.defines) (slots ++ map (a_verb x) r.verbs) fs) in
+      subst (λ es. Each (an_object x r.row ∷ es) t) whole (
+        tt,
+        skip (a_property x) (λ n t es h. (tt, h)) r.defines (slots ++ (map (a_verb x) r.verbs ++ fs)) t
+            (chain_next x (Off os) (λ d id. apart) (chain w x) x (Chain-chain w wf.tree x here) (map (a_verb x) r.verbs ++ fs) t num off.1 (all_each_fresh (chain w x)) (owed_slots x here)
+            (λ u num off. skip (a_verb x) (λ v t es h. (tt, h)) r.verbs fs u (on u num off))),
+      )
+    where
+      all_each_fresh : (ds : List ObjNo) → Fresh x ds t.0
+      all_each_fresh [] = tt
+      all_each_fresh (d ∷ ds) = (other_object_stops t.0 x d off.0, all_each_fresh ds)
+
+  objects_next : (os : List ObjNo) → IsDistinct same_object os → (fs : List Entry) (t : LastSlot × Maps) → Numbered t.1 → Off os t.0 → ((u : LastSlot × Maps) → Numbered u.1 → Each fs u) → Each (flat_map (object_entries w) os ++ fs) t
+  unfolding IsDistinct
+  objects_next [] once fs t num off on = on t num
+  objects_next (x ∷ os) once fs t num off on = by (w.object x) refl (λ u num off. objects_next os once.1 fs u num off on)
+    where
+      by : (o : Option Record) → w.object x ≡ o → ((u : LastSlot × Maps) → Numbered u.1 → Off os u.0 → Each (flat_map (object_entries w) os ++ fs) u) → Each ((object_entries w x ++ flat_map (object_entries w) os) ++ fs) t
+      by None e r = subst (λ (o : Option Record). Each ((elim o [ None ↦ [] | Some k ↦ record_entries w x k ] ++ flat_map (object_entries w) os) ++ fs) t) (sym e) (r t num off.1)
+      by (Some k) e r =
+          subst (λ (o : Option Record). Each ((elim o [ None ↦ [] | Some k ↦ record_entries w x k ] ++ flat_map (object_entries w) os) ++ fs) t) (sym e)
+          (subst (λ es. Each es t) (sym (append_assoc (record_entries w x k) (flat_map (object_entries w) os) fs)) (record_next x k e os once.0 (flat_map (object_entries w) os ++ fs) t num off r))
+
+  -- no slot is put on an object yet
+  none_yet : (l : List ℕ) → AllByRecursion (λ y. same_object nothing y ≡ false) (filter (is_object w) (map object_at l))
+  unfolding same_object
+  none_yet [] = tt
+  none_yet (n ∷ l) = by (is_object w (object_at n)) (none_yet l)
+    where
+      by : (b : Bool) → AllByRecursion (λ y. same_object nothing y ≡ false) (filter (is_object w) (map object_at l)) → AllByRecursion (λ y. same_object nothing y ≡ false) (cond b (object_at n ∷ filter (is_object w) (map object_at l)) (filter (is_object w) (map object_at l)))
+      by true r = (refl, r)
+      by false r = r
+
+  nothing_off : Off (objects_of w) no_slot
+  nothing_off = none_yet (numbers_below (numbers_to w.top))
+
+-- the slots of a state come in the order in which their properties are found
+pub slots_next : (s : State) (wf : IsWellFormed s.world) (m : Maps) → Numbered s.world wf m → Each s.world wf (entries_of s) (no_slot, m)
+slots_next s wf m num =
+    let ps = entries s.petitions in
+    objects_next s.world wf (objects_of s.world) (objects_once s.world) (map a_petition ps) (no_slot, m) num (nothing_off s.world wf)
+    (λ u num. subst (λ es. Each s.world wf es u) (append-nil (map a_petition ps)) (skip s.world wf a_petition (λ e t es h. (tt, h)) ps [] u tt))
