@@ -7,6 +7,7 @@ pub mod Items
 pub mod Listed
 pub mod NextOne
 pub mod One
+pub mod Shown
 pub mod OneLine
 pub mod OnResults
 pub mod ReadBack

@@ -26,9 +26,9 @@ abbrev pub all_verbs : World → List (ObjNo × VerbRow)
 all_verbs w = flat_map (λ x. map (λ v. (x, v)) (directory_of w x)) (objects_of w)
 
 -- what has a number in a list, if the first has 1
-abbrev pub numbered : {A : Type 0} → List A → ℕ → Option A
-numbered l zero = None
-numbered l (suc n) = slice_get l n
+abbrev pub at_number : {A : Type 0} → List A → ℕ → Option A
+at_number l zero = None
+at_number l (suc n) = slice_get l n
 
 abbrev pub property_row : Pair → PropRow
 property_row p = record { definer = p.0; name = p.1 }
@@ -63,7 +63,7 @@ pub record AreRowsOf (s : State) (m : Maps) : Type 0 where
   pub next_verb : m.head.next_verb ≡ length (all_verbs s.world) + 1
   pub next_petition : IsAbove s.petitions m.head.next_petition
   pub objects : (x : ObjNo) → get m.objects x ≡ row_of s.world x
-  pub props : (id : PropId) → get m.props id ≡ option_map property_row (numbered (all_properties s.world) id.0)
-  pub slots : (x : ObjNo) (id : PropId) → get m.slots (x, id) ≡ option_and_then (slot_of_property s.world x) (numbered (all_properties s.world) id.0)
-  pub verbs : (x : ObjNo) (id : VerbId) → get m.verbs (x, id) ≡ option_and_then (verb_on x) (numbered (all_verbs s.world) id.0)
+  pub props : (id : PropId) → get m.props id ≡ option_map property_row (at_number (all_properties s.world) id.0)
+  pub slots : (x : ObjNo) (id : PropId) → get m.slots (x, id) ≡ option_and_then (slot_of_property s.world x) (at_number (all_properties s.world) id.0)
+  pub verbs : (x : ObjNo) (id : VerbId) → get m.verbs (x, id) ≡ option_and_then (verb_on x) (at_number (all_verbs s.world) id.0)
   pub petitions : m.petitions ≡ s.petitions

@@ -1,5 +1,5 @@
 -- The slots that the lines of a dump put, by the numbers of their properties.
-use Rattle.std.specs.Prelude.{◌≡◌, ℕ, ◌&&◌, negsuc, Some, if◌then◌else◌}
+use Rattle.std.specs.Prelude.{◌≡◌, ◌&&◌, negsuc, Some, if◌then◌else◌}
 use Rattle.std.specs.FinMap.{get, insert}
 use Rattle.std.specs.Ordering.{int_eq}
 use Rattle.moo_value.specs.declared.value.ObjNo.{ObjNo}
@@ -30,7 +30,7 @@ SlotIsNext number (a_slot x p k) t = IsNextProperty t.1 t.0 x p (number p)
 SlotIsNext number e t = Unit {0}
 
 -- the slot that is put last, and the maps, after a line
-abbrev pub slot_put : (Pair → PropId) → Entry → LastSlot × Maps → LastSlot × Maps
-slot_put number (a_slot x p k) t =
+abbrev pub slot_line_put : (Pair → PropId) → Entry → LastSlot × Maps → LastSlot × Maps
+slot_line_put number (a_slot x p k) t =
     (record { object = x; definer = p.0; id = number p }, record (t.1) { slots = insert t.1.slots (x, number p) (slot_row k) })
-slot_put number e t = t
+slot_line_put number e t = t

@@ -1,7 +1,6 @@
 //! A world from the text that it was dumped as.
 #![tactic(auto)]
 
-mod comparing;
 mod fault;
 mod heading;
 mod input;

@@ -1,35 +1,50 @@
 //! A world from its dump.
 
-ghost use Rattle.std.specs.Prelude.{◌≡◌, ◌<◌, ◌^◌, IfOk, IfErr, OnOk};
+ghost use Rattle.std.specs.Prelude.{◌≡◌, ◌≢◌, ◌<◌, ◌^◌, IfOk, IfErr, OnOk};
 ghost use Rattle.moo_world.specs.Rows.{IsGood};
-ghost use Rattle.moo_world.specs.Judge.{state_of};
+ghost use Rattle.moo_world.specs.Judge.{State, state_of};
+ghost use Rattle.moo_damage.specs.Limits.{AreWithin};
 ghost use Rattle.moo_dump.specs.Dump.{dump};
 ghost use Rattle.moo_load.specs.Loaded.{SaysOfText};
+ghost use Rattle.moo_load.specs.OneState.{IsHeld};
+ghost use Rattle.moo_load.specs.RowsOf.{HasNumbers, AreRowsOf};
 
-use crate::comparing::Comparing;
 use crate::fault::LoadFault;
 use crate::place::line_at;
 use crate::reading::read_rows;
 use moo_damage::damage_of;
-use moo_dump::{DumpFault, dump};
+use moo_dump::{CompareFault, compare};
 use moo_flat::Flat;
 use moo_rows::Rows;
 use std::alloc::Global;
 
 /// Refuses rows whose dump isn't the text, with the first line that differs.
-fn compare<R: Rows>(alloc: Global, rows: &R, text: &[u8]) -> Result<(), LoadFault>
+fn check_dump<R: Rows>(alloc: Global, rows: &R, text: &[u8]) -> Result<(), LoadFault>
     requires { IsGood (R.held rows.now).maps }
     ensures same { OnOk result (dump (state_of (R.held rows.now).maps) ≡ text.now) }
     ensures fault { IfErr result (SaysOfText text.now) }
+    ensures err { IfErr result (λ fault. fault ≢ LoadFault.OutOfMemory → dump (state_of (R.held rows.now).maps) ≢ text.now) }
 {
-    let mut writer = Comparing::new(text);
-    match dump(alloc, rows, &mut writer) {
-        Ok(()) if writer.has_taken(text) => Ok(()),
-        Err(DumpFault::OutOfMemory) => Err(LoadFault::OutOfMemory),
-        Ok(()) | Err(DumpFault::Write) => {
-            let at = writer.at.min(text.len());
-            Err(LoadFault::NotADump(line_at(text, at)))
-        }
+    match compare(alloc, rows, text) {
+        Ok(()) => Ok(()),
+        Err(CompareFault::Differs(place)) => Err(LoadFault::NotADump(line_at(text, place))),
+        Err(CompareFault::OutOfMemory) => Err(LoadFault::OutOfMemory),
+    }
+}
+
+/// Refuses rows that show no world, and rows whose dump isn't the text.
+fn judge_rows<R: Rows>(alloc: Global, rows: &R, text: &[u8]) -> Result<(), LoadFault>
+    requires { AreWithin (R.held rows.now).maps }
+    ensures good { OnOk result (IsGood (R.held rows.now).maps) }
+    ensures same { OnOk result (dump (state_of (R.held rows.now).maps) ≡ text.now) }
+    ensures fault { IfErr result (SaysOfText text.now) }
+    // The rows of a state aren't refused if the text is its dump.
+    ensures complete { IfErr result (λ fault. fault ≢ LoadFault.OutOfMemory → (s : State) → IsHeld s → HasNumbers s → dump s ≡ text.now
+        → ¬ (AreRowsOf s (R.held rows.now).maps)) }
+{
+    match damage_of(alloc, rows)? {
+        Some((kind, key)) => Err(LoadFault::Damaged(kind, key)),
+        None => check_dump(alloc, rows, text),
     }
 }
 
@@ -49,12 +64,6 @@ pub fn read_dump(alloc: Global, text: &[u8]) -> Result<Flat, LoadFault>
     ensures fault { IfErr result (SaysOfText text.now) }
 {
     let rows = read_rows(alloc, text)?;
-    let damage = damage_of(alloc, &rows)?;
-    match damage {
-        Some((kind, key)) => Err(LoadFault::Damaged(kind, key)),
-        None => {
-            compare(alloc, &rows, text)?;
-            Ok(rows)
-        }
-    }
+    judge_rows(alloc, &rows, text)?;
+    Ok(rows)
 }

@@ -7,12 +7,11 @@ use Rattle.moo_rows.specs.Maps.{Maps, no_maps}
 use Rattle.moo_dump.specs.Dump.{heading, dump}
 use Rattle.moo_world.specs.Judge.{State}
 use Rattle.moo_world.specs.Objects.{Pair}
-use Rattle.moo_load.specs.declared.taking.LastSlot.{LastSlot}
-use Rattle.moo_load.specs.Entries.{Entry, EntryFits, entry_lines, entries_taken, carried, EachHas, NumbersAreLeft}
+use Rattle.moo_load.specs.Entries.{EntryFits, entry_lines, entries_taken, carried, EachHas, NumbersAreLeft}
 use Rattle.moo_load.specs.OneState.{IsHeld}
 use Rattle.moo_load.specs.Rows.{first_head}
 use Rattle.moo_load.specs.RowsOf.{HasNumbers, AreRowsOf}
-use Rattle.moo_load.specs.Slots.{no_slot, SlotIsNext, slot_put}
+use Rattle.moo_load.specs.Slots.{no_slot, SlotIsNext, slot_line_put}
 use Rattle.moo_load.proofs.One.Entries.{entries_of, dump_is}
 use Rattle.moo_load.proofs.ReadBack.Fit.{all_fit}
 use Rattle.moo_load.proofs.ReadBack.Numbers.{number}
@@ -43,8 +42,8 @@ module _ (s : State) (held : IsHeld s) where
       same_taken : taken ≡ entries_taken (entries_of s) (record no_maps { head = first_head s })
       same_taken = is ∙ ap (entries_taken (entries_of s)) same_first
 
-      pub slots_are_next : EachHas (SlotIsNext number_by) (slot_put number_by) (entries_of s) (no_slot, taken)
-      slots_are_next = subst (λ (m : Maps). EachHas (SlotIsNext number_by) (slot_put number_by) (entries_of s) (no_slot, m)) (sym same_taken) (slots_in_turn s held.formed)
+      pub slots_are_next : EachHas (SlotIsNext number_by) (slot_line_put number_by) (entries_of s) (no_slot, taken)
+      slots_are_next = subst (λ (m : Maps). EachHas (SlotIsNext number_by) (slot_line_put number_by) (entries_of s) (no_slot, m)) (sym same_taken) (slots_in_turn s held.formed)
 
-      pub all_read : (new : Maps) → new ≡ (carried (slot_put number_by) (entries_of s) (no_slot, taken)).1 → AreRowsOf s new
-      all_read new e = subst (AreRowsOf s) (sym (e ∙ ap (λ (m : Maps). (carried (slot_put number_by) (entries_of s) (no_slot, m)).1) same_taken)) (rows_are s held.formed)
+      pub all_read : (new : Maps) → new ≡ (carried (slot_line_put number_by) (entries_of s) (no_slot, taken)).1 → AreRowsOf s new
+      all_read new e = subst (AreRowsOf s) (sym (e ∙ ap (λ (m : Maps). (carried (slot_line_put number_by) (entries_of s) (no_slot, m)).1) same_taken)) (rows_are s held.formed)

@@ -1,6 +1,6 @@
 -- The lines of slots come in the order in which their properties are found.
-use Rattle.std.proofs.Common.{◌≡◌, ℕ, zero, suc, ◌+◌, ◌<◌, ◌≤◌, Bool, true, false, cond, Option, Some, None, List, [], ◌∷◌, ◌++◌, map, length, refl, sym, ap, subst, ◌∙◌, arith, append_assoc, length-append, append-nil}
-use Rattle.std.specs.Prelude.{◌&&◌, is_some, unwrap_or, negsuc}
+use Rattle.std.proofs.Common.{◌≡◌, ℕ, ◌+◌, ◌<◌, ◌≤◌, Bool, true, false, cond, Option, Some, None, List, [], ◌∷◌, ◌++◌, map, length, refl, sym, ap, subst, ◌∙◌, arith, append_assoc, length-append, append-nil}
+use Rattle.std.specs.Prelude.{◌&&◌, is_some}
 use Rattle.std.specs.Cmp.{nat_cmp_is, ranked}
 use Rattle.std.specs.FinMap.{get, entries}
 use Rattle.std.specs.List.{AllByRecursion, IsDistinct, flat_map, filter}
@@ -9,21 +9,16 @@ use Rattle.std.specs.Ordering.{int_eq}
 use Rattle.std.specs.declared.cmp.Ordering.TheVariants.{Less}
 use Rattle.std.proofs.lemmas.List.{length-map}
 use Rattle.std.proofs.lemmas.List.Concat.{flat_map-append}
-use Rattle.std.proofs.lemmas.Option.{same_Some, none-some}
+use Rattle.std.proofs.lemmas.Option.{none-some}
 use Rattle.moo_value.specs.declared.value.ObjNo.{ObjNo}
-use Rattle.moo_rows.specs.declared.row.ObjRow.{ObjRow}
-use Rattle.moo_rows.specs.declared.row.PetitionId.{PetitionId}
-use Rattle.moo_rows.specs.declared.row.PetitionRow.{PetitionRow}
 use Rattle.moo_rows.specs.declared.row.PropId.{PropId}
-use Rattle.moo_rows.specs.declared.row.PropRow.{PropRow}
-use Rattle.moo_rows.specs.declared.row.VerbRow.{VerbRow}
 use Rattle.moo_rows.specs.Links.{is_definer, row_defined}
 use Rattle.moo_rows.specs.Maps.{Maps}
 use Rattle.moo_world.specs.Judge.{State}
 use Rattle.moo_world.specs.ObjectLists.{objects_of}
 use Rattle.moo_world.specs.Objects.{Name, Pair, nothing, object_at, folded, same_object, is_among, same_object-Decides}
 use Rattle.moo_world.specs.Rows.{numbers_below}
-use Rattle.moo_world.specs.World.{World, Record, Slot, IsWellFormed, Climbs, Chain, is_object, parent_of, slot_of, pair_named, names_of, defined_by, owed_by, chain, numbers_to}
+use Rattle.moo_world.specs.World.{World, Record, Slot, IsWellFormed, Climbs, is_object, parent_of, slot_of, pair_named, names_of, defined_by, owed_by, chain, numbers_to}
 use Rattle.moo_world.proofs.Ancestry.Chains.{Climbs-once}
 use Rattle.moo_world.proofs.Ancestry.Trees.{linked, no_parent, Chain-chain}
 use Rattle.moo_world.proofs.Inheritance.Owed.{all_right}
@@ -32,11 +27,11 @@ use Rattle.moo_world.proofs.Shown.EntriesInOrder.{all_weaker}
 use Rattle.moo_damage.proofs.Apart.{none_any}
 use Rattle.moo_load.specs.declared.taking.LastSlot.{LastSlot}
 use Rattle.moo_load.specs.Entries.{Entry, an_object, a_property, a_slot, a_verb, a_petition, EachHas}
-use Rattle.moo_load.specs.RowsOf.{all_properties, numbered, property_row}
-use Rattle.moo_load.specs.Slots.{no_slot, number_before, IsNextProperty, SlotIsNext, slot_put}
+use Rattle.moo_load.specs.RowsOf.{all_properties, at_number, property_row}
+use Rattle.moo_load.specs.Slots.{no_slot, number_before, IsNextProperty, SlotIsNext, slot_line_put}
 use Rattle.moo_load.proofs.One.Entries.{owed_entry, record_entries, object_entries, entries_of}
 use Rattle.moo_load.proofs.One.Fitting.{own_names}
-use Rattle.moo_load.proofs.ReadBack.Lists.{Stands, stands_left, stands_right, stands_map, of_all, number_at}
+use Rattle.moo_load.proofs.ReadBack.Lists.{of_all, number_at}
 use Rattle.moo_load.proofs.ReadBack.Numbers.{place, number, number_is, numbered_front, around}
 use Rattle.moo_load.proofs.ReadBack.Once.{objects_once, object_stands}
 
@@ -69,20 +64,20 @@ module _ (w : World) (wf : IsWellFormed w) where
 
   -- the maps have the properties by their numbers
   abbrev pub Numbered : Maps → Type 0
-  Numbered m = (id : PropId) → get m.props id ≡ option_map property_row (numbered all id.0)
+  Numbered m = (id : PropId) → get m.props id ≡ option_map property_row (at_number all id.0)
 
   abbrev pub Each : List Entry → LastSlot × Maps → Type 0
-  Each es t = EachHas (SlotIsNext (number w wf)) (slot_put (number w wf)) es t
+  Each es t = EachHas (SlotIsNext (number w wf)) (slot_line_put (number w wf)) es t
 
-  other_definer : (m : Maps) → Numbered m → (d : ObjNo) (id : PropId) → ((p : Pair) → numbered all id.0 ≡ Some p → same_object p.0 d ≡ false) → is_definer m d id ≡ false
+  other_definer : (m : Maps) → Numbered m → (d : ObjNo) (id : PropId) → ((p : Pair) → at_number all id.0 ≡ Some p → same_object p.0 d ≡ false) → is_definer m d id ≡ false
   unfolding same_object
-  other_definer m num d id h = ap (row_defined d) (num id) ∙ by (numbered all id.0) refl
+  other_definer m num d id h = ap (row_defined d) (num id) ∙ by (at_number all id.0) refl
     where
-      by : (o : Option Pair) → numbered all id.0 ≡ o → row_defined d (option_map property_row o) ≡ false
+      by : (o : Option Pair) → at_number all id.0 ≡ o → row_defined d (option_map property_row o) ≡ false
       by None e = refl
       by (Some p) e = h p e
 
-  own_definer : (m : Maps) → Numbered m → (p : Pair) (id : PropId) → numbered all id.0 ≡ Some p → is_definer m p.0 id ≡ true
+  own_definer : (m : Maps) → Numbered m → (p : Pair) (id : PropId) → at_number all id.0 ≡ Some p → is_definer m p.0 id ≡ true
   own_definer m num p id e = ap (row_defined p.0) (num id ∙ ap (option_map property_row) e) ∙ same_number p.0
 
   abbrev HasSlot : ObjNo → Pair → Type 0
@@ -93,7 +88,7 @@ module _ (w : World) (wf : IsWellFormed w) where
   module _ (x d : ObjNo) (front back : List Pair) (whole : all ≡ front ++ (defined_by w d ++ back)) (others : AllByRecursion (λ (p : Pair). same_object p.0 d ≡ false) front) (R : LastSlot → Type 0) (own : (id : PropId) → R (record { object = x; definer = d; id = id })) where
     -- up to this number no other property of the definer is left
     abbrev Before : ℕ → LastSlot → Type 0
-    Before base last = ((number_before last x d).0 ≤ base) × ((q : ℕ) → (number_before last x d).0 < q → q ≤ base → (p : Pair) → numbered all q ≡ Some p → same_object p.0 d ≡ false)
+    Before base last = ((number_before last x d).0 ≤ base) × ((q : ℕ) → (number_before last x d).0 < q → q ≤ base → (p : Pair) → at_number all q ≡ Some p → same_object p.0 d ≡ false)
 
     abbrev named : List Name → List Pair
     named l = map (λ n. let p : Pair = (d, n) in p) l
@@ -105,25 +100,25 @@ module _ (w : World) (wf : IsWellFormed w) where
     named_length : (l : List Name) → length (named l) ≡ length l
     named_length l = length-map l (λ n. let p : Pair = (d, n) in p)
 
-    own_place : (a b : List Name) (n : Name) → names_of w d ≡ a ++ n ∷ b → numbered all (length front + length a + 1) ≡ Some (d, n)
+    own_place : (a b : List Name) (n : Name) → names_of w d ≡ a ++ n ∷ b → at_number all (length front + length a + 1) ≡ Some (d, n)
     own_place a b n e =
         let p : Pair = (d, n) in
         let parts : defined_by w d ≡ named a ++ p ∷ named b = ap named e ∙ named_append a (n ∷ b) in
         let all_is : all ≡ (front ++ named a) ++ p ∷ (named b ++ back) =
         whole ∙ ap (λ (l : List Pair). front ++ (l ++ back)) parts ∙ ap (λ (l : List Pair). front ++ l) (append_assoc (named a) (p ∷ named b) back) ∙ sym (append_assoc front (named a) (p ∷ (named b ++ back))) in
         let count : length (front ++ named a) ≡ length front + length a = length-append front (named a) ∙ ap (λ (k : ℕ). length front + k) (named_length a) in
-        ap (λ (l : List Pair). numbered l (length front + length a + 1)) all_is ∙ number_at (front ++ named a) (named b ++ back) p (length front + length a + 1) (omega arith)
+        ap (λ (l : List Pair). at_number l (length front + length a + 1)) all_is ∙ number_at (front ++ named a) (named b ++ back) p (length front + length a + 1) (omega arith)
 
     is_next : (t : LastSlot × Maps) (a b : List Name) (n : Name) → names_of w d ≡ a ++ n ∷ b → Numbered t.1 → Before (length front + length a) t.0 → IsNextProperty t.1 t.0 x (d, n) (number w wf (d, n))
     is_next t a b n e num before =
         let at = own_place a b n e in
         let own_number : place (d, n) all ≡ length front + length a + 1 = number_is w wf (length front + length a + 1) (d, n) at in
-        let found : numbered all (place (d, n) all) ≡ Some (d, n) = ap (numbered all) own_number ∙ at in
+        let found : at_number all (place (d, n) all) ≡ Some (d, n) = ap (at_number all) own_number ∙ at in
         record {
           next = (
             own_definer t.1 num (d, n) (number w wf (d, n)) found,
             sym (nat_cmp_is (number_before t.0 x d).0 (place (d, n) all) Less (let h = before.0 in omega arith)),
-            λ q above below. other_definer t.1 num d q (before.1 q.0 (ranked (number_before t.0 x d).0 q.0 Less (sym above)) (let h : q.0 < place (d, n) all = ranked q.0 (place (d, n) all) Less (sym below) in omega arith))
+            λ q above below. other_definer t.1 num d q (before.1 q.0 (ranked (number_before t.0 x d).0 q.0 Less (sym above)) (let h : q.0 < place (d, n) all = ranked q.0 (place (d, n) all) Less (sym below) in omega arith)),
           );
           row = num (number w wf (d, n)) ∙ ap (option_map property_row) found;
         }
@@ -143,7 +138,7 @@ module _ (w : World) (wf : IsWellFormed w) where
         let p : Pair = (d, n) in
         let k = slots.0.0 in
         let rest = flat_map (owed_entry w x) (map (λ n. (d, n)) b) in
-        let u = slot_put (number w wf) (a_slot x p k) t in
+        let u = slot_line_put (number w wf) (a_slot x p k) t in
         let entry : a_slot x p k ∷ (rest ++ fs) ≡ (owed_entry w x p ++ rest) ++ fs = ap (λ (o : Option Slot). (elim o [ None ↦ [] | Some s ↦ a_slot x p s ∷ [] ] ++ rest) ++ fs) (sym slots.0.1) in
         let more = names_next b (a ++ n ∷ []) (e ∙ sym (append_assoc a (n ∷ []) b)) fs u num (own (number w wf p)) (then_before a b n e) slots.1 on in
         subst (λ es. Each es t) entry (is_next t a b n e num before, more)
@@ -151,7 +146,7 @@ module _ (w : World) (wf : IsWellFormed w) where
     first_before : (last : LastSlot) → goes_on last x d ≡ false → Before (length front + 0) last
     first_before last stops =
         let none : (number_before last x d).0 ≡ 0 = ap (λ (c : Bool). (let id : PropId = cond c last.id (record { 0 = 0 }) in id).0) stops in
-        (omega arith, λ q above below p e. of_all (λ (k : Pair). same_object k.0 d ≡ false) front p others (numbered_front front (defined_by w d ++ back) q p (omega arith) (ap (λ l. numbered l q) (sym whole) ∙ e)))
+        (omega arith, λ q above below p e. of_all (λ (k : Pair). same_object k.0 d ≡ false) front p others (numbered_front front (defined_by w d ++ back) q p (omega arith) (ap (λ l. at_number l q) (sym whole) ∙ e)))
 
   -- ---- the slots of an object
 
@@ -202,10 +197,12 @@ module _ (w : World) (wf : IsWellFormed w) where
       let slots = flat_map (owed_entry w x) (owed_by w (chain w x)) in
       let whole : map (a_property x) r.defines ++ (slots ++ (map (a_verb x) r.verbs ++ fs)) ≡ (map (a_property x) r.defines ++ (slots ++ map (a_verb x) r.verbs)) ++ fs =
       ap (λ l. map (a_property x) r.defines ++ l) (sym (append_assoc slots (map (a_verb x) r.verbs) fs)) ∙ sym (append_assoc (map (a_property x) r.defines) (slots ++ map (a_verb x) r.verbs) fs) in
-      subst (λ es. Each (an_object x r.row ∷ es) t) whole (tt,
+      subst (λ es. Each (an_object x r.row ∷ es) t) whole (
+        tt,
         skip (a_property x) (λ n t es h. (tt, h)) r.defines (slots ++ (map (a_verb x) r.verbs ++ fs)) t
-        (chain_next x (Off os) (λ d id. apart) (chain w x) x (Chain-chain w wf.tree x here) (map (a_verb x) r.verbs ++ fs) t num off.1 (all_each_fresh (chain w x)) (owed_slots x here)
-        (λ u num off. skip (a_verb x) (λ v t es h. (tt, h)) r.verbs fs u (on u num off))))
+            (chain_next x (Off os) (λ d id. apart) (chain w x) x (Chain-chain w wf.tree x here) (map (a_verb x) r.verbs ++ fs) t num off.1 (all_each_fresh (chain w x)) (owed_slots x here)
+            (λ u num off. skip (a_verb x) (λ v t es h. (tt, h)) r.verbs fs u (on u num off))),
+      )
     where
       all_each_fresh : (ds : List ObjNo) → Fresh x ds t.0
       all_each_fresh [] = tt

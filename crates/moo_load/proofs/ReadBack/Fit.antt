@@ -1,28 +1,26 @@
 -- The entries of a state fit, and are its rows.
-use Rattle.std.proofs.Common.{◌≡◌, ℕ, suc, ◌+◌, ◌<◌, ◌≤◌, Bool, true, false, Option, Some, None, List, [], ◌∷◌, ◌++◌, map, length, refl, sym, ap, subst, ◌∙◌, arith, append-nil}
+use Rattle.std.proofs.Common.{◌≡◌, ℕ, suc, ◌+◌, ◌<◌, ◌≤◌, true, Option, Some, None, List, [], ◌∷◌, ◌++◌, map, length, refl, ap, subst, ◌∙◌, arith, append-nil}
 use Rattle.std.specs.Prelude.{is_some, unwrap_or}
 use Rattle.std.specs.FinMap.{get, get-entries, entries, entries_sorted, find as find_key}
 use Rattle.std.specs.List.{AllByRecursion, flat_map, filter_map, cons_option, list_all}
 use Rattle.std.specs.Option.{option_map}
 use Rattle.std.proofs.lemmas.List.Elements.{filter_map-append}
-use Rattle.std.proofs.lemmas.Option.{same_Some}
 use Rattle.moo_value.specs.declared.value.ObjNo.{ObjNo}
 use Rattle.moo_rows.specs.declared.row.PetitionId.{PetitionId}
 use Rattle.moo_rows.specs.declared.row.PetitionRow.{PetitionRow}
-use Rattle.moo_rows.specs.declared.row.VerbRow.{VerbRow}
 use Rattle.moo_rows.specs.Maps.{Maps, petition_cmp}
 use Rattle.moo_rows.proofs.Orders.{petition_total}
 use Rattle.moo_world.specs.Judge.{State}
 use Rattle.moo_world.specs.ObjectLists.{objects_of}
-use Rattle.moo_world.specs.Objects.{Name, Pair, folded}
+use Rattle.moo_world.specs.Objects.{Pair, folded}
 use Rattle.moo_world.specs.Requests.{IsFormed}
-use Rattle.moo_world.specs.World.{World, Record, Slot, IsWellFormed, is_property_name, with_slots, slot_of, names_of, defined_by, owed_by, chain, directory_of}
+use Rattle.moo_world.specs.World.{World, Record, Slot, IsWellFormed, is_property_name, with_slots, slot_of, defined_by, owed_by, chain, directory_of}
 use Rattle.moo_world.proofs.Form.Limits.{row_fitting, slot_state}
 use Rattle.moo_world.proofs.Shown.EntriesInOrder.{own_entries, all_weaker}
-use Rattle.moo_load.specs.Entries.{Entry, an_object, a_property, a_slot, a_verb, a_petition, RowFits, EntryFits, NumberIsLeft, NumbersAreLeft, entry_taken}
+use Rattle.moo_load.specs.Entries.{Entry, an_object, a_property, a_slot, a_verb, a_petition, RowFits, EntryFits, NumbersAreLeft, entry_taken}
 use Rattle.moo_load.specs.RowsOf.{all_properties, all_verbs}
 use Rattle.moo_load.proofs.One.Blocks.{none_made}
-use Rattle.moo_load.proofs.One.Entries.{owed_entry, beside_row, record_entries, object_entries, entries_of}
+use Rattle.moo_load.proofs.One.Entries.{owed_entry, record_entries, object_entries, entries_of}
 use Rattle.moo_load.proofs.One.Fitting.{all_append, all_map, all_flat, all_each, all_both, all_tested, verbs_fit, entries_fit}
 use Rattle.moo_load.proofs.One.Injective.{IsFit}
 use Rattle.moo_load.proofs.One.Records.{three, none_of_each, none_owed}
@@ -89,6 +87,7 @@ numbers_left (a_property x n ∷ es) m p v = (less m.head.next_prop (length (fil
   where
     less : (n k : ℕ) → n + suc k ≤ 4294967295 → n < 4294967295
     less n k h = omega arith
+
     shifted : (n k : ℕ) → n + suc k ≤ 4294967295 → n + 1 + k ≤ 4294967295
     shifted n k h = omega arith
 numbers_left (a_slot x p k ∷ es) m q v = (tt, numbers_left es m q v)
@@ -96,6 +95,7 @@ numbers_left (a_verb x r ∷ es) m p v = (less m.head.next_verb (length (filter_
   where
     less : (n k : ℕ) → n + suc k ≤ 4294967295 → n < 4294967295
     less n k h = omega arith
+
     shifted : (n k : ℕ) → n + suc k ≤ 4294967295 → n + 1 + k ≤ 4294967295
     shifted n k h = omega arith
 numbers_left (a_petition e ∷ es) m p v = (tt, numbers_left es (entry_taken (a_petition e) m) p v)

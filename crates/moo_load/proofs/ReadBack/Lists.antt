@@ -1,10 +1,10 @@
 -- Lists, what stands in them, and their numbers.
-use Rattle.std.proofs.Common.{◌≡◌, ℕ, zero, suc, ◌+◌, ◌<◌, Bool, true, false, cond, Option, Some, None, List, [], ◌∷◌, ◌++◌, map, length, refl, sym, ap, subst, ◌∙◌, ◌⊎◌, inl, inr, arith, append_assoc, length-append}
+use Rattle.std.proofs.Common.{◌≡◌, ℕ, zero, suc, ◌+◌, Option, Some, None, List, [], ◌∷◌, ◌++◌, map, length, refl, sym, ap, subst, ◌∙◌, ◌⊎◌, inl, inr, arith, append_assoc, length-append}
 use Rattle.std.specs.Prelude.{slice_get}
 use Rattle.std.specs.List.{AllByRecursion, filter_map, flat_map, cons_option}
 use Rattle.std.proofs.lemmas.Option.{same_Some, none-some}
 use Rattle.std.proofs.lemmas.List.Elements.{filter_map-append}
-use Rattle.moo_load.specs.RowsOf.{numbered}
+use Rattle.moo_load.specs.RowsOf.{at_number}
 
 -- it stands in the list
 abbrev pub Stands : {A : Type 0} → A → List A → Type 0
@@ -80,15 +80,15 @@ got_at [] back x n e = ap (slice_get (x ∷ back)) e
 got_at (y ∷ front) back x zero e = absurd (omega arith)
 got_at (y ∷ front) back x (suc n) e = got_at front back x n (omega arith)
 
-pub number_at : {A : Type 0} (front back : List A) (x : A) (n : ℕ) → n ≡ length front + 1 → numbered (front ++ x ∷ back) n ≡ Some x
+pub number_at : {A : Type 0} (front back : List A) (x : A) (n : ℕ) → n ≡ length front + 1 → at_number (front ++ x ∷ back) n ≡ Some x
 number_at front back x zero e = absurd (omega arith)
 number_at front back x (suc n) e = got_at front back x n (omega arith)
 
 -- each of them has its number in the whole list
-pub all_counted : {A B : Type 0} (P : B → Type 0) (made : ℕ → A → B) (whole front l : List A) (n : ℕ) → whole ≡ front ++ l → n ≡ length front + 1 → ((i : ℕ) (x : A) → numbered whole i ≡ Some x → P (made i x)) → AllByRecursion P (counted made n l)
+pub all_counted : {A B : Type 0} (P : B → Type 0) (made : ℕ → A → B) (whole front l : List A) (n : ℕ) → whole ≡ front ++ l → n ≡ length front + 1 → ((i : ℕ) (x : A) → at_number whole i ≡ Some x → P (made i x)) → AllByRecursion P (counted made n l)
 all_counted P made whole front [] n e count h = tt
 all_counted P made whole front (x ∷ l) n e count h = (
-  h n x (ap (λ k. numbered k n) e ∙ number_at front l x n count),
+  h n x (ap (λ k. at_number k n) e ∙ number_at front l x n count),
   all_counted P made whole (front ++ x ∷ []) l (n + 1) (e ∙ sym (append_assoc front (x ∷ []) l)) (let c : length (front ++ x ∷ []) ≡ length front + 1 = length-append front (x ∷ []) in omega arith) h,
 )
 
@@ -97,6 +97,6 @@ stands_from made [] n i x e = absurd (none-some x e)
 stands_from made (y ∷ l) n zero x e = let z : n + 0 ≡ n = omega arith in inl (λ j. made (z j) (same_Some x y (sym e) j))
 stands_from made (y ∷ l) n (suc i) x e = let z : n + 1 + i ≡ n + suc i = omega arith in inr (subst (λ k. Stands (made k x) (counted made (n + 1) l)) z (stands_from made l (n + 1) i x e))
 
-pub stands_counted : {A B : Type 0} (made : ℕ → A → B) (l : List A) (i : ℕ) (x : A) → numbered l i ≡ Some x → Stands (made i x) (counted made 1 l)
+pub stands_counted : {A B : Type 0} (made : ℕ → A → B) (l : List A) (i : ℕ) (x : A) → at_number l i ≡ Some x → Stands (made i x) (counted made 1 l)
 stands_counted made l zero x e = absurd (none-some x e)
 stands_counted made l (suc i) x e = let z : 1 + i ≡ suc i = omega arith in subst (λ k. Stands (made k x) (counted made 1 l)) z (stands_from made l 1 i x e)

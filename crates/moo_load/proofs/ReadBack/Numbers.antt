@@ -1,20 +1,20 @@
 -- The number of a property in the list of all.
-use Rattle.std.proofs.Common.{◌≡◌, ℕ, zero, suc, ◌+◌, ◌<◌, ◌≤◌, Bool, true, false, cond, Option, Some, None, List, [], ◌∷◌, ◌++◌, map, length, refl, sym, ap, subst, ◌∙◌, ◌⊎◌, inl, inr, arith, append_assoc, length-append}
+use Rattle.std.proofs.Common.{◌≡◌, ℕ, zero, suc, ◌+◌, ◌<◌, ◌≤◌, Bool, true, false, cond, Some, List, [], ◌∷◌, ◌++◌, length, refl, sym, ap, subst, ◌∙◌, ◌⊎◌, inl, inr, arith}
 use Rattle.std.specs.Prelude.{◌&&◌, slice_get}
-use Rattle.std.specs.List.{AllByRecursion, IsDistinct, flat_map}
+use Rattle.std.specs.List.{AllByRecursion, IsDistinct}
 use Rattle.std.proofs.lemmas.Bool.{false≢true}
 use Rattle.std.proofs.lemmas.Option.{same_Some, none-some}
 use Rattle.moo_value.specs.declared.value.ObjNo.{ObjNo}
 use Rattle.moo_rows.specs.declared.row.PropId.{PropId}
 use Rattle.moo_world.specs.ObjectLists.{objects_of}
-use Rattle.moo_world.specs.Objects.{Name, Pair, folded, same_object, same_text, same_pair, same_pair-self, same_object-Decides, same_text-Decides}
-use Rattle.moo_world.specs.World.{World, IsWellFormed, NamesDiffer, defined_by, names_of, owed_by}
+use Rattle.moo_world.specs.Objects.{Pair, folded, same_object, same_text, same_pair, same_pair-self, same_object-Decides, same_text-Decides}
+use Rattle.moo_world.specs.World.{World, IsWellFormed, defined_by, names_of, owed_by}
 use Rattle.moo_world.proofs.Inheritance.Owed.{owed_by-append}
 use Rattle.moo_world.proofs.Shown.EntriesInOrder.{all_weaker}
 use Rattle.moo_damage.proofs.Apart.{distinct_append}
-use Rattle.moo_load.specs.RowsOf.{all_properties, numbered}
-use Rattle.moo_load.proofs.One.Fitting.{all_append, all_map, all_flat, all_each}
-use Rattle.moo_load.proofs.ReadBack.Lists.{Stands, stands_left, stands_right, stands_map, stands_flat, of_all, number_at}
+use Rattle.moo_load.specs.RowsOf.{all_properties, at_number}
+use Rattle.moo_load.proofs.One.Fitting.{all_map, all_flat, all_each}
+use Rattle.moo_load.proofs.ReadBack.Lists.{Stands, of_all}
 use Rattle.moo_load.proofs.ReadBack.Once.{split, before_differs, objects_once, own_names_differ, other_pair, distinct_weaker}
 
 pub pair_is : (p q : Pair) → same_pair p q ≡ true → p ≡ q
@@ -31,15 +31,15 @@ abbrev pub place : Pair → List Pair → ℕ
 place p [] = 0
 place p (q ∷ l) = cond (same_pair p q) 1 (place p l + 1)
 
-later : {A : Type 0} (x a : A) (l : List A) (n : ℕ) → numbered l n ≡ Some a → numbered (x ∷ l) (n + 1) ≡ Some a
+later : {A : Type 0} (x a : A) (l : List A) (n : ℕ) → at_number l n ≡ Some a → at_number (x ∷ l) (n + 1) ≡ Some a
 later x a l zero e = absurd (none-some a e)
-later x a l (suc n) e = let z : suc n + 1 ≡ suc (suc n) = omega arith in ap (numbered (x ∷ l)) z ∙ e
+later x a l (suc n) e = let z : suc n + 1 ≡ suc (suc n) = omega arith in ap (at_number (x ∷ l)) z ∙ e
 
-pub place_found : (p : Pair) (l : List Pair) → Stands p l → numbered l (place p l) ≡ Some p
+pub place_found : (p : Pair) (l : List Pair) → Stands p l → at_number l (place p l) ≡ Some p
 place_found p [] s = absurd s
 place_found p (q ∷ l) s = by s (λ k. place_found p l k) (same_pair p q) refl
   where
-    by : (p ≡ q) ⊎ Stands p l → (Stands p l → numbered l (place p l) ≡ Some p) → (b : Bool) → same_pair p q ≡ b → numbered (q ∷ l) (cond b 1 (place p l + 1)) ≡ Some p
+    by : (p ≡ q) ⊎ Stands p l → (Stands p l → at_number l (place p l) ≡ Some p) → (b : Bool) → same_pair p q ≡ b → at_number (q ∷ l) (cond b 1 (place p l + 1)) ≡ Some p
     by s r true e = λ i. Some (sym (pair_is p q e) i)
     by (inl same) r false e = absurd (false≢true (sym e ∙ ap (same_pair p) (sym same) ∙ same_pair-self p))
     by (inr k) r false e = later q p l (place p l) (r k)
@@ -49,7 +49,7 @@ stands_at [] n a e = absurd (none-some a e)
 stands_at (x ∷ l) zero a e = inl (same_Some a x (sym e))
 stands_at (x ∷ l) (suc n) a e = inr (stands_at l n a e)
 
-pub numbered_stands : {A : Type 0} (l : List A) (n : ℕ) (a : A) → numbered l n ≡ Some a → Stands a l
+pub numbered_stands : {A : Type 0} (l : List A) (n : ℕ) (a : A) → at_number l n ≡ Some a → Stands a l
 numbered_stands l zero a e = absurd (none-some a e)
 numbered_stands l (suc n) a e = stands_at l n a e
 
@@ -58,7 +58,7 @@ front_at [] back n a less e = absurd (omega arith)
 front_at (x ∷ front) back zero a less e = inl (same_Some a x (sym e))
 front_at (x ∷ front) back (suc n) a less e = inr (front_at front back n a (omega arith) e)
 
-pub numbered_front : {A : Type 0} (front back : List A) (n : ℕ) (a : A) → n ≤ length front → numbered (front ++ back) n ≡ Some a → Stands a front
+pub numbered_front : {A : Type 0} (front back : List A) (n : ℕ) (a : A) → n ≤ length front → at_number (front ++ back) n ≡ Some a → Stands a front
 numbered_front front back zero a less e = absurd (none-some a e)
 numbered_front front back (suc n) a less e = front_at front back n a (omega arith) e
 
@@ -71,7 +71,7 @@ one_place (x ∷ l) d (suc i) zero p e f = absurd (false≢true (sym (of_all (λ
 one_place (x ∷ l) d (suc i) (suc j) p e f = ap (λ (n : ℕ). suc n) (one_place l d.1 i j p e f)
 
 -- a pair has one number
-pub one_number : (l : List Pair) → IsDistinct same_pair l → (i j : ℕ) (p : Pair) → numbered l i ≡ Some p → numbered l j ≡ Some p → i ≡ j
+pub one_number : (l : List Pair) → IsDistinct same_pair l → (i j : ℕ) (p : Pair) → at_number l i ≡ Some p → at_number l j ≡ Some p → i ≡ j
 one_number l d zero j p e f = absurd (none-some p e)
 one_number l d (suc i) zero p e f = absurd (none-some p f)
 one_number l d (suc i) (suc j) p e f = ap (λ (n : ℕ). suc n) (one_place l d i j p e f)
@@ -103,7 +103,7 @@ module _ (w : World) (wf : IsWellFormed w) where
   number p = record { 0 = place p (all_properties w) }
 
   -- the number of a property is the one that it has in the list
-  pub number_is : (n : ℕ) (p : Pair) → numbered (all_properties w) n ≡ Some p → place p (all_properties w) ≡ n
+  pub number_is : (n : ℕ) (p : Pair) → at_number (all_properties w) n ≡ Some p → place p (all_properties w) ≡ n
   number_is n p e = one_number (all_properties w) properties_once (place p (all_properties w)) n p (place_found p (all_properties w) (numbered_stands (all_properties w) n p e)) e
 
   -- the properties of a definer among all of them

@@ -1,23 +1,21 @@
 -- Objects, and properties with their definers, stand once in their lists.
-use Rattle.std.proofs.Common.{◌≡◌, ℕ, zero, suc, ◌+◌, ◌<◌, Bool, true, false, cond, Option, Some, None, List, [], ◌∷◌, ◌++◌, map, length, refl, sym, ap, subst, ◌∙◌, ◌⊎◌, inl, inr, arith}
-use Rattle.std.specs.Prelude.{◌&&◌, is_some, slice_get, unwrap_or}
+use Rattle.std.proofs.Common.{◌≡◌, ℕ, zero, suc, ◌<◌, Bool, true, false, cond, Option, Some, None, List, [], ◌∷◌, ◌++◌, map, refl, sym, ap, subst, ◌∙◌, ◌⊎◌, inl, inr, arith}
+use Rattle.std.specs.Prelude.{◌&&◌, is_some, unwrap_or}
 use Rattle.std.specs.Option.{option_map}
-use Rattle.std.specs.List.{AllByRecursion, filter, filter_map, cons_option, flat_map, list_any, IsDistinct}
+use Rattle.std.specs.List.{AllByRecursion, filter, filter_map, cons_option, IsDistinct}
 use Rattle.std.proofs.lemmas.Bool.{false≢true, cases_lt}
 use Rattle.std.proofs.lemmas.Option.{same_Some, none-some}
 use Rattle.moo_value.specs.declared.value.ObjNo.{ObjNo}
 use Rattle.moo_world.specs.ObjectLists.{objects_of}
-use Rattle.moo_world.specs.Objects.{Name, Pair, object_at, folded, same_object, same_text, same_pair, is_among, same_object-Decides, same_text-Decides}
+use Rattle.moo_world.specs.Objects.{Pair, object_at, folded, same_object, same_text, same_pair, same_text-Decides}
 use Rattle.moo_world.specs.Rows.{numbers_below}
 use Rattle.moo_world.specs.World.{World, Record, IsWellFormed, NamesDiffer, is_object, defined_by, owed_by, chain, numbers_to}
 use Rattle.moo_world.proofs.Ancestry.Trees.{assigned, Chain-chain, chain-step}
 use Rattle.moo_world.proofs.Shown.EntriesInOrder.{all_weaker}
 use Rattle.moo_world.proofs.Shown.PairLists.{pairs_left}
-use Rattle.moo_damage.proofs.Apart.{distinct_append, distinct_numbers}
-use Rattle.moo_load.specs.RowsOf.{all_properties, numbered}
+use Rattle.moo_damage.proofs.Apart.{distinct_numbers}
 use Rattle.moo_load.proofs.One.Blocks.{apart}
-use Rattle.moo_load.proofs.One.Fitting.{all_map, all_flat, all_each}
-use Rattle.moo_load.proofs.ReadBack.Lists.{Stands, stands_left, stands_map, of_all, all_of}
+use Rattle.moo_load.proofs.ReadBack.Lists.{Stands, stands_left, stands_map, of_all}
 
 -- ---- lists
 
@@ -73,10 +71,10 @@ made_filter {B = B} test f (x ∷ l) = by (test (f x)) (made_filter test f l)
     by false e = e
 
 module _ (w : World) where
-  abbrev at_number : ℕ → Option ObjNo
-  at_number n = cond (is_object w (object_at n)) (Some (object_at n)) None
+  abbrev with_number : ℕ → Option ObjNo
+  with_number n = cond (is_object w (object_at n)) (Some (object_at n)) None
 
-  own_number : (n : ℕ) (x : ObjNo) → at_number n ≡ Some x → object_at n ≡ x
+  own_number : (n : ℕ) (x : ObjNo) → with_number n ≡ Some x → object_at n ≡ x
   own_number n x e = by (is_object w (object_at n)) e
     where
       by : (b : Bool) → cond b (Some (object_at n)) None ≡ Some x → object_at n ≡ x
@@ -87,7 +85,7 @@ module _ (w : World) where
   objects_once =
       let n = numbers_to w.top in
       subst (IsDistinct same_object) (made_filter (is_object w) object_at (numbers_below n))
-      (distinct_numbers same_object at_number n (λ i j u v less f g. (λ k. same_object (sym (own_number i u f) k) (sym (own_number j v g) k)) ∙ apart i j (λ e. omega arith)))
+      (distinct_numbers same_object with_number n (λ i j u v less f g. (λ k. same_object (sym (own_number i u f) k) (sym (own_number j v g) k)) ∙ apart i j (λ e. omega arith)))
 
 module _ (w : World) (wf : IsWellFormed w) where
   pub object_stands : (x : ObjNo) → is_object w x ≡ true → Stands x (objects_of w)

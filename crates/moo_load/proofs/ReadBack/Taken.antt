@@ -1,5 +1,5 @@
 -- What the rows of entries make of maps, map by map.
-use Rattle.std.proofs.Common.{◌≡◌, ℕ, suc, ◌+◌, Option, Some, None, List, [], ◌∷◌, length, refl, sym, ap, ◌∙◌, arith}
+use Rattle.std.proofs.Common.{◌≡◌, ℕ, suc, ◌+◌, Option, Some, None, List, [], ◌∷◌, length, refl, arith}
 use Rattle.std.specs.Prelude.{max}
 use Rattle.std.specs.List.{filter_map}
 use Rattle.moo_value.specs.declared.value.ObjNo.{ObjNo}
@@ -16,7 +16,7 @@ use Rattle.moo_world.specs.Objects.{Pair}
 use Rattle.moo_load.specs.declared.taking.LastSlot.{LastSlot}
 use Rattle.moo_load.specs.Entries.{Entry, an_object, a_property, a_slot, a_verb, a_petition, entry_taken, entries_taken, carried}
 use Rattle.moo_load.specs.RowsOf.{property_row, slot_row}
-use Rattle.moo_load.specs.Slots.{slot_put}
+use Rattle.moo_load.specs.Slots.{slot_line_put}
 use Rattle.moo_load.proofs.One.Blocks.{petition_in}
 use Rattle.moo_load.proofs.ReadBack.Lists.{counted}
 use Rattle.moo_load.proofs.ReadBack.Puts.{puts}
@@ -126,10 +126,10 @@ head_taken (a_petition e ∷ es) m =
 
 -- ---- the slots
 
-pub slots_taken : (number : Pair → PropId) (es : List Entry) (t : LastSlot × Maps) → (carried (slot_put number) es t).1 ≡ record (t.1) { slots = puts (filter_map (slot_in number) es) t.1.slots }
+pub slots_taken : (number : Pair → PropId) (es : List Entry) (t : LastSlot × Maps) → (carried (slot_line_put number) es t).1 ≡ record (t.1) { slots = puts (filter_map (slot_in number) es) t.1.slots }
 slots_taken number [] t = refl
 slots_taken number (an_object x row ∷ es) t = slots_taken number es t
 slots_taken number (a_property x n ∷ es) t = slots_taken number es t
-slots_taken number (a_slot x p k ∷ es) t = slots_taken number es (slot_put number (a_slot x p k) t)
+slots_taken number (a_slot x p k ∷ es) t = slots_taken number es (slot_line_put number (a_slot x p k) t)
 slots_taken number (a_verb x v ∷ es) t = slots_taken number es t
 slots_taken number (a_petition e ∷ es) t = slots_taken number es t

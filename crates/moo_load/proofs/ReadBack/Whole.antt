@@ -1,5 +1,5 @@
 -- What is read of the entries of a state are its rows.
-use Rattle.std.proofs.Common.{◌≡◌, ℕ, zero, suc, ◌+◌, ◌<◌, ◌≤◌, Bool, true, false, cond, Option, Some, None, List, [], ◌∷◌, ◌++◌, map, length, refl, sym, ap, subst, ◌∙◌, ◌⊎◌, inl, inr, arith}
+use Rattle.std.proofs.Common.{◌≡◌, ℕ, ◌+◌, ◌<◌, ◌≤◌, Bool, true, false, cond, Option, Some, None, List, [], ◌∷◌, ◌++◌, map, length, refl, sym, ap, subst, ◌∙◌, inl, inr, arith}
 use Rattle.std.specs.Prelude.{is_some, unwrap_or, max}
 use Rattle.std.specs.FinMap.{FinMap, get, get-entries, entries, entries_sorted, empty, same_map, find as find_key}
 use Rattle.std.specs.List.{AllByRecursion, IsDistinct, flat_map, filter_map, find}
@@ -23,27 +23,25 @@ use Rattle.moo_world.specs.Judge.{State}
 use Rattle.moo_world.specs.ObjectLists.{objects_of}
 use Rattle.moo_world.specs.Objects.{Name, Pair, folded, same_object, same_text, same_object-Decides, same_text-Decides}
 use Rattle.moo_world.specs.Requests.{IsFormed}
-use Rattle.moo_world.specs.World.{World, Record, Slot, IsWellFormed, is_object, row_of, slot_of, pair_named, names_of, defined_by, owed_by, chain}
+use Rattle.moo_world.specs.World.{World, Record, Slot, is_object, row_of, slot_of, pair_named, names_of, defined_by, owed_by, chain}
 use Rattle.moo_world.proofs.Ancestry.Trees.{Chain-chain}
 use Rattle.moo_world.proofs.Inheritance.Owed.{named_so}
 use Rattle.moo_world.proofs.Shown.MapLaws.{key-Decides}
 use Rattle.moo_world.proofs.Shown.EntriesInOrder.{own_entries, all_weaker}
-use Rattle.moo_load.specs.declared.taking.LastSlot.{LastSlot}
 use Rattle.moo_load.specs.Entries.{Entry, an_object, a_property, a_slot, a_verb, a_petition, NumbersAreLeft, entries_taken, carried}
-use Rattle.moo_load.specs.OneState.{IsHeld}
 use Rattle.moo_load.specs.Rows.{first_head}
-use Rattle.moo_load.specs.RowsOf.{all_properties, all_verbs, numbered, property_row, slot_row, slot_of_property, verb_on, IsAbove, HasNumbers, AreRowsOf}
-use Rattle.moo_load.specs.Slots.{no_slot, slot_put}
+use Rattle.moo_load.specs.RowsOf.{all_properties, all_verbs, at_number, property_row, slot_row, slot_of_property, verb_on, IsAbove, HasNumbers, AreRowsOf}
+use Rattle.moo_load.specs.Slots.{no_slot, slot_line_put}
 use Rattle.moo_load.proofs.One.Blocks.{petition_in, petitions_of}
-use Rattle.moo_load.proofs.One.Entries.{owed_entry, beside_row, record_entries, object_entries, entries_of}
+use Rattle.moo_load.proofs.One.Entries.{owed_entry, record_entries, object_entries, entries_of}
 use Rattle.moo_load.proofs.One.Fitting.{all_append, all_map, all_flat, all_each, own_names}
-use Rattle.moo_load.proofs.ReadBack.Finding.{Numbered, Each, slots_next}
+use Rattle.moo_load.proofs.ReadBack.Finding.{Each, slots_next}
 use Rattle.moo_load.proofs.ReadBack.Fit.{numbers_left, properties_are, verbs_are}
 use Rattle.moo_load.proofs.ReadBack.Lists.{Stands, stands_left, stands_right, stands_map, stands_flat, stands_made, of_all, all_of, all_made_by, counted, all_counted, stands_counted}
 use Rattle.moo_load.proofs.ReadBack.Numbers.{place, number, number_is, place_found, numbered_stands}
 use Rattle.moo_load.proofs.ReadBack.Once.{object_stands, own_names_differ}
 use Rattle.moo_load.proofs.ReadBack.Puts.{puts, exactly, Others}
-use Rattle.moo_load.proofs.ReadBack.Taken.{row_in, property_in, verb_in, slot_in, property_entry, verb_entry, above_all, objects_taken, props_taken, verbs_taken, petitions_taken, slots_stay, head_taken, slots_taken}
+use Rattle.moo_load.proofs.ReadBack.Taken.{row_in, slot_in, property_entry, verb_entry, above_all, objects_taken, props_taken, verbs_taken, petitions_taken, slots_stay, head_taken, slots_taken}
 
 -- ---- lists
 
@@ -165,9 +163,11 @@ module _ (s : State) (formed : IsFormed s) where
       by None e = tt
       by (Some r) e =
           let owed = owed_by s.world (chain s.world x) in
-          let slots : AllByRecursion IsSo (flat_map (owed_entry s.world x) owed) = all_flat IsSo (owed_entry s.world x) owed (all_of (λ p. AllByRecursion IsSo (owed_entry s.world x p)) owed (slot_so x (ap is_some e))) in
-          (ap (option_map (λ (k : Record). k.row)) e, all_append IsSo (map (a_property x) r.defines) (flat_map (owed_entry s.world x) owed ++ map (a_verb x) r.verbs) (all_map IsSo (a_property x) r.defines (all_each (λ n. IsSo (a_property x n)) (λ n. tt) r.defines))
-          (all_append IsSo (flat_map (owed_entry s.world x) owed) (map (a_verb x) r.verbs) slots (all_map IsSo (a_verb x) r.verbs (all_each (λ v. IsSo (a_verb x v)) (λ v. tt) r.verbs))))
+          let slots : AllByRecursion IsSo (flat_map (owed_entry s.world x) owed) = all_flat IsSo (owed_entry s.world x) owed (all_of (λ p. AllByRecursion IsSo (owed_entry s.world x p)) owed (slot_so x (ap is_some e))) in (
+            ap (option_map (λ (k : Record). k.row)) e,
+            all_append IsSo (map (a_property x) r.defines) (flat_map (owed_entry s.world x) owed ++ map (a_verb x) r.verbs) (all_map IsSo (a_property x) r.defines (all_each (λ n. IsSo (a_property x n)) (λ n. tt) r.defines))
+                (all_append IsSo (flat_map (owed_entry s.world x) owed) (map (a_verb x) r.verbs) slots (all_map IsSo (a_verb x) r.verbs (all_each (λ v. IsSo (a_verb x v)) (λ v. tt) r.verbs))),
+          )
 
   all_so : AllByRecursion IsSo (entries_of s)
   all_so =
@@ -204,34 +204,34 @@ module _ (s : State) (formed : IsFormed s) where
               of_all (λ (k : ObjNo × ObjRow). k.0 ≡ x → ⊥) (filter_map row_in (entries_of s)) (x, r.row) others
               (stands_made row_in (entries_of s) (an_object x r.row) (x, r.row) (entry_stands x r g (an_object x r.row) (inl refl)) refl) refl
 
-  props_are : (id : PropId) → get (puts {cmp = prop_cmp} (counted property_entry 1 all) empty) id ≡ option_map property_row (numbered all id.0)
-  props_are id = exactly prop_total prop_exact (λ (k : PropId). option_map property_row (numbered all k.0)) id (counted property_entry 1 all)
-      (all_counted (λ (e : PropId × PropRow). option_map property_row (numbered all e.0.0) ≡ Some e.1) property_entry all [] all 1 refl refl (λ i p e. ap (option_map property_row) e)) every
+  props_are : (id : PropId) → get (puts {cmp = prop_cmp} (counted property_entry 1 all) empty) id ≡ option_map property_row (at_number all id.0)
+  props_are id = exactly prop_total prop_exact (λ (k : PropId). option_map property_row (at_number all k.0)) id (counted property_entry 1 all)
+      (all_counted (λ (e : PropId × PropRow). option_map property_row (at_number all e.0.0) ≡ Some e.1) property_entry all [] all 1 refl refl (λ i p e. ap (option_map property_row) e)) every
     where
-      every : (row : PropRow) → option_map property_row (numbered all id.0) ≡ Some row → Others prop_total prop_exact (λ (k : PropId). option_map property_row (numbered all k.0)) id (counted property_entry 1 all) → ⊥
-      every row e others = by (numbered all id.0) refl
+      every : (row : PropRow) → option_map property_row (at_number all id.0) ≡ Some row → Others prop_total prop_exact (λ (k : PropId). option_map property_row (at_number all k.0)) id (counted property_entry 1 all) → ⊥
+      every row e others = by (at_number all id.0) refl
         where
-          by : (o : Option Pair) → numbered all id.0 ≡ o → ⊥
+          by : (o : Option Pair) → at_number all id.0 ≡ o → ⊥
           by None g = none-some row (sym (ap (option_map property_row) g) ∙ e)
           by (Some p) g = of_all (λ (k : PropId × PropRow). k.0 ≡ id → ⊥) (counted property_entry 1 all) (property_entry id.0 p) others (stands_counted property_entry all id.0 p g) refl
 
   abbrev told : ObjNo × VerbId → Option VerbRow
-  told k = option_and_then (verb_on k.0) (numbered (all_verbs s.world) k.1.0)
+  told k = option_and_then (verb_on k.0) (at_number (all_verbs s.world) k.1.0)
 
-  verbs_are_by : (x : ObjNo) (id : VerbId) → get (puts {cmp = verb_cmp} (counted verb_entry 1 (all_verbs s.world)) empty) (x, id) ≡ option_and_then (verb_on x) (numbered (all_verbs s.world) id.0)
+  verbs_are_by : (x : ObjNo) (id : VerbId) → get (puts {cmp = verb_cmp} (counted verb_entry 1 (all_verbs s.world)) empty) (x, id) ≡ option_and_then (verb_on x) (at_number (all_verbs s.world) id.0)
   verbs_are_by x id = exactly verb_total verb_exact told (x, id) (counted verb_entry 1 (all_verbs s.world)) (all_counted (λ (e : (ObjNo × VerbId) × VerbRow). told e.0 ≡ Some e.1) verb_entry (all_verbs s.world) [] (all_verbs s.world) 1 refl refl each) every
     where
-      each : (i : ℕ) (e : ObjNo × VerbRow) → numbered (all_verbs s.world) i ≡ Some e → option_and_then (verb_on e.0) (numbered (all_verbs s.world) i) ≡ Some e.1
+      each : (i : ℕ) (e : ObjNo × VerbRow) → at_number (all_verbs s.world) i ≡ Some e → option_and_then (verb_on e.0) (at_number (all_verbs s.world) i) ≡ Some e.1
       each i e h = ap (option_and_then (verb_on e.0)) h ∙ ap (λ b. cond b (Some e.1) None) ((same_object-Decides e.0 e.0).1 refl)
 
       every : (v : VerbRow) → told (x, id) ≡ Some v → Others verb_total verb_exact told (x, id) (counted verb_entry 1 (all_verbs s.world)) → ⊥
-      every v e others = by (numbered (all_verbs s.world) id.0) refl
+      every v e others = by (at_number (all_verbs s.world) id.0) refl
         where
           own : (q : ObjNo × VerbRow) → (b : Bool) → same_object x q.0 ≡ b → cond b (Some q.1) None ≡ Some v → x ≡ q.0
           own q true g h = (same_object-Decides x q.0).0 g
           own q false g h = absurd (none-some v h)
 
-          by : (o : Option (ObjNo × VerbRow)) → numbered (all_verbs s.world) id.0 ≡ o → ⊥
+          by : (o : Option (ObjNo × VerbRow)) → at_number (all_verbs s.world) id.0 ≡ o → ⊥
           by None g = none-some v (sym (ap (option_and_then (verb_on x)) g) ∙ e)
           by (Some q) g =
               let same : x ≡ q.0 = own q (same_object x q.0) refl (sym (ap (option_and_then (verb_on x)) g) ∙ e) in
@@ -250,7 +250,7 @@ module _ (s : State) (formed : IsFormed s) where
   number_by = number s.world formed.world
 
   abbrev slot_told : ObjNo × PropId → Option SlotRow
-  slot_told k = option_and_then (slot_of_property s.world k.0) (numbered all k.1.0)
+  slot_told k = option_and_then (slot_of_property s.world k.0) (at_number all k.1.0)
 
   held : (x : ObjNo) (p : Pair) (k : Slot) → slot_of s.world x (folded p.1) ≡ Some k → k.definer ≡ p.0 → slot_of_property s.world x p ≡ Some (slot_row k)
   held x p k e own = ap (option_and_then (λ (j : Slot). cond (same_object j.definer p.0) (Some (slot_row j)) None)) e ∙ ap (λ b. cond b (Some (slot_row k)) None) ((same_object-Decides k.definer p.0).1 own)
@@ -288,9 +288,9 @@ module _ (s : State) (formed : IsFormed s) where
       (subst (λ (o : Option Slot). Stands (a_slot x p k) (elim o [ None ↦ [] | Some j ↦ a_slot x p j ∷ [] ])) (sym e) (inl refl))))))
 
   every_slot : (x : ObjNo) (id : PropId) (row : SlotRow) → slot_told (x, id) ≡ Some row → Others slot_total slot_exact slot_told (x, id) (filter_map (slot_in number_by) (entries_of s)) → ⊥
-  every_slot x id row e others = by (numbered all id.0) refl
+  every_slot x id row e others = by (at_number all id.0) refl
     where
-      last : (r : Record) (p : Pair) (k : Slot) → s.world.object x ≡ Some r → numbered all id.0 ≡ Some p → slot_of s.world x (folded p.1) ≡ Some k → k.definer ≡ p.0 → ⊥
+      last : (r : Record) (p : Pair) (k : Slot) → s.world.object x ≡ Some r → at_number all id.0 ≡ Some p → slot_of s.world x (folded p.1) ≡ Some k → k.definer ≡ p.0 → ⊥
       last r p k here g h own =
           let owed = slot_owed x p k (ap is_some here) (numbered_stands all id.0 p g) h own in
           let mine : place p all ≡ id.0 = number_is s.world formed.world id.0 p g in
@@ -301,15 +301,15 @@ module _ (s : State) (formed : IsFormed s) where
       own p k true g h = (same_object-Decides k.definer p.0).0 g
       own p k false g h = absurd (none-some row h)
 
-      object_of : (p : Pair) (k : Slot) (o : Option Record) → s.world.object x ≡ o → numbered all id.0 ≡ Some p → slot_of s.world x (folded p.1) ≡ Some k → k.definer ≡ p.0 → ⊥
+      object_of : (p : Pair) (k : Slot) (o : Option Record) → s.world.object x ≡ o → at_number all id.0 ≡ Some p → slot_of s.world x (folded p.1) ≡ Some k → k.definer ≡ p.0 → ⊥
       object_of p k None here g h o = none-some k (sym (ap (option_and_then (λ (r : Record). r.slot (folded p.1))) here) ∙ h)
       object_of p k (Some r) here g h o = last r p k here g h o
 
-      slot_is : (p : Pair) → numbered all id.0 ≡ Some p → (o : Option Slot) → slot_of s.world x (folded p.1) ≡ o → slot_of_property s.world x p ≡ Some row → ⊥
+      slot_is : (p : Pair) → at_number all id.0 ≡ Some p → (o : Option Slot) → slot_of s.world x (folded p.1) ≡ o → slot_of_property s.world x p ≡ Some row → ⊥
       slot_is p g None h f = none-some row (sym (ap (option_and_then (λ (j : Slot). cond (same_object j.definer p.0) (Some (slot_row j)) None)) h) ∙ f)
       slot_is p g (Some k) h f = object_of p k (s.world.object x) refl g h (own p k (same_object k.definer p.0) refl (sym (ap (option_and_then (λ (j : Slot). cond (same_object j.definer p.0) (Some (slot_row j)) None)) h) ∙ f))
 
-      by : (o : Option Pair) → numbered all id.0 ≡ o → ⊥
+      by : (o : Option Pair) → at_number all id.0 ≡ o → ⊥
       by None g = none-some row (sym (ap (option_and_then (slot_of_property s.world x)) g) ∙ e)
       by (Some p) g = slot_is p g (slot_of s.world x (folded p.1)) refl (sym (ap (option_and_then (slot_of_property s.world x)) g) ∙ e)
 
@@ -327,13 +327,13 @@ module _ (s : State) (formed : IsFormed s) where
   abbrev taken : Maps
   taken = entries_taken (entries_of s) first
 
-  props_got : (id : PropId) → get taken.props id ≡ option_map property_row (numbered all id.0)
+  props_got : (id : PropId) → get taken.props id ≡ option_map property_row (at_number all id.0)
   props_got id = ap (λ (m : FinMap prop_cmp PropRow). get m id) (props_taken (entries_of s) first ∙ ap (λ (l : List Pair). puts {cmp = prop_cmp} (counted property_entry 1 l) empty) (properties_are s)) ∙ props_are id
 
   pub slots_in_turn : Each s.world formed.world (entries_of s) (no_slot, taken)
   slots_in_turn = slots_next s formed.world taken props_got
 
-  pub rows_are : AreRowsOf s (carried (slot_put number_by) (entries_of s) (no_slot, taken)).1
+  pub rows_are : AreRowsOf s (carried (slot_line_put number_by) (entries_of s) (no_slot, taken)).1
   rows_are =
       let h = head_taken (entries_of s) first in
       let plus : (n k : ℕ) → 1 + n ≡ n + 1 = λ n k. omega arith in

@@ -3,7 +3,6 @@ use Rattle.std.proofs.lemmas.Int.{to_z-of_z}
 use Rattle.std.proofs.lemmas.Result.{err_from_is_err_and}
 use Rattle.moo_dump.specs.Dump.{heading}
 use Rattle.moo_world.specs.Judge.{State}
-use Rattle.moo_load.specs.OneState.{IsHeld}
 use Rattle.moo_load.proofs.Headed.{top_of, seq_line, top_line, seq_plain, top_plain, lines_are, after_line}
 use Rattle.moo_load.proofs.Within.{none_read}
 use Rattle.moo_load.proofs.heading.read_heading.Goals as goal

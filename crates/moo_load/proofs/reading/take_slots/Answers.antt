@@ -4,7 +4,7 @@ use Rattle.std.proofs.lemmas.List.{drop-drop}
 use Rattle.std.proofs.lemmas.Result.{err_from_is_err_and}
 use Rattle.moo_rows.specs.Maps.{Maps}
 use Rattle.moo_load.specs.declared.taking.LastSlot.{LastSlot}
-use Rattle.moo_load.specs.Slots.{no_slot, SlotIsNext, slot_put}
+use Rattle.moo_load.specs.Slots.{no_slot, SlotIsNext, slot_line_put}
 use Rattle.moo_load.proofs.Ahead.{Ahead, Nothing, nothing_needed, all_ahead, some_line, at_end, not_refused, one_taken}
 use Rattle.moo_load.proofs.reading.take_slots.Goals as goal
 
@@ -24,14 +24,14 @@ pub returns-in-Err-clause-err : goal.returns-in-Err-clause-err
 returns-in-Err-clause-err c some number es fit next same =
     not_refused (c.loop-line.invariant.ahead number es fit next same) c.in_ok-line.line.now (λ l r one is. c.in_ok-line.ensures.found l r one is)
     (λ end. false≢true (sym c.if-is_end.false ∙ c.is_end.ensures.1 end))
-    (λ e fits sure left text. c.in-Err.ensures.err (c.within.ensures.line some) number e fits sure text) (nothing_needed (slot_put number) es (no_slot, c.args.rows.now.maps))
+    (λ e fits sure left text. c.in-Err.ensures.err (c.within.ensures.line some) number e fits sure text) (nothing_needed (slot_line_put number) es (no_slot, c.args.rows.now.maps))
 
 pub loop-line-preserved : goal.loop-line-preserved
 loop-line-preserved c = record {
   within = omega (arith, c.in_ok-line.ensures.ok);
   read = c.in-Ok.ensures.read;
   ahead = λ number es fit next same.
-      subst (λ (r : List ℕ). Ahead (LastSlot × Maps) (slot_put number) (SlotIsNext number) Nothing es (no_slot, c.args.rows.now.maps) (c.in-Ok.slot, c.take_slot_line.new.rows.maps) r) (drop-drop (length c.in_ok-line.line.now + 1) c.loop-line.at c.args.text.now)
+      subst (λ (r : List ℕ). Ahead (LastSlot × Maps) (slot_line_put number) (SlotIsNext number) Nothing es (no_slot, c.args.rows.now.maps) (c.in-Ok.slot, c.take_slot_line.new.rows.maps) r) (drop-drop (length c.in_ok-line.line.now + 1) c.loop-line.at c.args.text.now)
       (one_taken (c.loop-line.invariant.ahead number es fit next same) (c.in-Ok.slot, c.take_slot_line.new.rows.maps) c.in_ok-line.line.now (λ l r one is. c.in_ok-line.ensures.found l r one is)
       (λ end. false≢true (sym c.if-is_end.false ∙ c.is_end.ensures.1 end)) (λ e fits sure text. c.in-Ok.ensures.put number e fits sure text));
 }

@@ -1,0 +1,5 @@
+pub mod Lists
+pub mod Objects
+pub mod Look
+pub mod Good
+pub mod Counts
