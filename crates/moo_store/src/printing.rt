@@ -20,7 +20,7 @@ use std::alloc::{AllocError, Global};
 
 /// A row that is printed as cells.
 trait Print<K, C> {
-    /// The cells of a row, to be written over those of the row that is there, if one is.
+    /// The cells of a row, to be written over those of the row that is there, if there is one.
     ghost prints: { Option Self → C → Self → Type 0 };
 
     /// The rows of this kind.
@@ -175,7 +175,7 @@ fn print_each<K: Copy + Drop, C: Drop, V: Print<K, C>>(
     Ok(cells)
 }
 
-/// The cells of a row if none is there. The only error is out of memory.
+/// The cells of a new row. The only error is out of memory.
 fn new_cells<'a, K, C, V: Print<K, C>>(alloc: Global, row: &'a V) -> Result<C, AllocError>
     ensures { IfOk result (λ cells. V.prints None cells row.now) }
 {
