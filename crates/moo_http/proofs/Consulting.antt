@@ -1,30 +1,40 @@
 -- What a run of one batch, and a question, say of a World wherever it stands.
 use Rattle.std.proofs.Common.{◌≡◌, ◌≢◌, inl, inr, ℕ, ◌<◌, List, [], ◌∷◌, length, refl, sym, ap, subst, ◌∙◌, arith, Bool, true, false}
-use Rattle.std.specs.Prelude.{◌⊎◌, Result, Ok, Err, IsTrue, IsErrOf, IfOk, IfErr, OnOk, Option}
+use Rattle.std.specs.Prelude.{◌⊎◌, Result, Ok, Err, IsTrue, IsErrOf, IfOk, IfErr, OnOk, Option, ⊤}
 use Rattle.std.specs.Result.{IsOkAnd}
+use Rattle.sqlite.specs.declared.error.Error.{Error}
+use Rattle.sqlite.specs.State.{HasCleanDisk}
 use Rattle.sqlite.specs.Store.{Ghosts}
 use Rattle.moo_world.specs.declared.call.Batch.{Batch}
-use Rattle.moo_world.specs.Judge.{State, judge}
+use Rattle.moo_world.specs.Judge.{State, state_of, judge}
+use Rattle.moo_world.specs.Rows.{IsGood}
+use Rattle.moo_tables.specs.Tables.{Tables}
+use Rattle.moo_tables.specs.Inside.{Rests}
 use Rattle.moo_value.specs.declared.value.ObjNo.{ObjNo}
 use Rattle.moo_text.specs.declared.reply.Answer.TheVariants as answered
 use Rattle.moo_text.specs.declared.reply.Reply.{Reply}
 use Rattle.moo_text.specs.declared.reply.Reply.TheVariants.{NoMemory}
 use Rattle.moo_dump.specs.declared.seen.Look.{Look}
 use Rattle.moo_dump.specs.Look.{look_of}
-use Rattle.moo_store.specs.Answered.{answer_of, IsRun, added}
+use Rattle.moo_store.specs.Answered.{answer_of, IsRun, acknowledged, added}
 use Rattle.moo_store.specs.Stand.{Stand, Works, Failed, StoreFailed, RunsBatch}
 use Rattle.moo_store.specs.Kept.{World}
 use Rattle.moo_store.specs.Text.{RunsAll}
-use Rattle.moo_store.specs.World.{StandsFor, StandsAt}
+use Rattle.moo_store.specs.Reopened.{RunLeaves}
+use Rattle.moo_store.specs.States.{KeepsRows}
+use Rattle.moo_store.specs.Untouched.{StandsOver, HasWritten, IsKnown, IsMovedBy}
+use Rattle.moo_store.specs.World.{store_of, ShowsItsRows, IsAt, StandsFor, StandsAt, MatchStore, IsOfRun}
 use Rattle.moo_store.specs.declared.fault.StoreFault.{StoreFault}
 use Rattle.moo_store.specs.declared.fault.StoreFault.TheVariants.{Store, Damaged, NewerVersion, OutOfMemory, Closed}
 use Rattle.moo_store.proofs.Asking.{asked_one}
+use Rattle.moo_store.proofs.Crashes.{IsSettled}
+use Rattle.moo_store.proofs.Untouched.{written_none}
 use Rattle.moo_request.specs.declared.asked.Asked.TheVariants.{Calls, Seq, Object}
 use Rattle.moo_request.specs.declared.asked.Mode.TheVariants.{Run, Ask}
 use Rattle.moo_responses.specs.declared.outcome.Outcome.{Outcome}
 use Rattle.moo_responses.specs.declared.outcome.Outcome.TheVariants as outcome
 use Rattle.moo_responses.specs.Outcomes.{looked}
-use Rattle.moo_http.specs.Answers.{MayAnswer}
+use Rattle.moo_http.specs.Answers.{MayAnswer, taken_by, failed_by}
 use Rattle.moo_http.specs.Settled.{ComesOfRun, lost_by}
 
 -- ---- where a World stands, by whether it failed
@@ -122,6 +132,102 @@ ran_one g known was new stand batch all old replies r o one none at ran settles 
     let none_before : added old replies ≡ replies = ap (λ (rs : List Reply). added rs replies) none in
     let plain = subst (λ (rs : List Reply). Ran g known was new stand all rs r) none_before ran in
     settled g known was new stand batch replies r o at (subst (λ (bs : List Batch). Ran g known was new stand bs replies r) one plain) settles
+
+-- ---- what a run of one batch did to the World
+
+-- what a run of these batches says of that
+pub record RanOver {S : Type 0} (g : Ghosts S) (was new : World S) (all : List Batch) (replies : List Reply) (r : Result (Unit {0}) StoreFault) : Type 0 where
+  pub clean : HasCleanDisk (store_of g new) → HasCleanDisk (store_of g was)
+  pub cells : (s : State) → IsAt g true was s → HasCleanDisk (store_of g new) → IsKnown (store_of g new) r → (tables : Tables) → Rests (store_of g was) tables → HasWritten g was new tables (acknowledged all replies)
+  pub led : RunLeaves g was new all replies
+  pub same : acknowledged all replies ≡ [] → MatchStore r (new ≡ was) ⊤
+  pub fewer : was.failed ≡ false → IfErr r (λ fault. fault ≢ OutOfMemory → length replies < length all)
+  pub memory : IsErrOf r OutOfMemory → new ≡ was
+  pub closed : IsTrue was.failed → IsErrOf r Closed × (new ≡ was)
+  pub failed : IfErr r (λ fault. (fault ≡ OutOfMemory) ⊎ IsTrue new.failed)
+  pub fault : IfErr r IsOfRun
+
+-- a World that works is at the state of its rows, if its tables show them
+at_over : {S : Type 0} (g : Ghosts S) (was : World S) (tables : Tables) → was.failed ≡ false → IsGood was.rows.maps → StandsOver g was tables → IsAt g true was (state_of was.rows.maps)
+at_over g was tables works good over =
+    let keeps : KeepsRows (store_of g was) was.rows.maps = record { tables = tables; rests = over.rests; current = over.current works; shows = over.shows works } in
+    record { tables = λ sure clean. record { rows = was.rows.maps; good = good; state = refl; keeps = keeps }; rows = λ still. refl; shown = λ sure still clean. keeps }
+
+stands_shown : {S : Type 0} (g : Ghosts S) (was : World S) → was.failed ≡ false → IsGood was.rows.maps → ShowsItsRows g was → StandsFor g true was (state_of was.rows.maps)
+stands_shown g was works good shown = record {
+  works = works;
+  is_at = record { tables = λ sure clean. record { rows = was.rows.maps; good = good; state = refl; keeps = shown clean }; rows = λ still. refl; shown = λ sure still. shown };
+}
+
+-- by what came of it
+abbrev pub MovedAs : {S : Type 0} (g : Ghosts S) → World S → World S → Batch → Outcome → Type 0
+MovedAs g was new batch o = IsMovedBy g was new (taken_by (Calls Run batch) o) (failed_by (Calls Run batch) o)
+
+moved_ok : {S : Type 0} (g : Ghosts S) (was new : World S) (batch : Batch) (reply : Reply) (x : Unit {0}) → was.failed ≡ false → IsGood was.rows.maps → RanOver g was new (batch ∷ []) (reply ∷ []) (Ok x) → MovedAs g was new batch (outcome.Replied reply)
+moved_ok g was new batch reply x works good ran = record {
+  clean = ran.clean;
+  works = λ still. works;
+  none = λ still. refl;
+  closed = λ failed. let no : true ≡ false = sym failed ∙ works in absurd cc;
+  written = λ clean known tables over. ran.cells (state_of was.rows.maps) (at_over g was tables works good over) clean tt tables over.rests;
+  led = λ clean shown fine. ran.led (state_of was.rows.maps) (stands_shown g was works good shown) clean;
+}
+
+moved_lost : {S : Type 0} (g : Ghosts S) (was new : World S) (batch : Batch) (error : Error) → was.failed ≡ false → IsGood was.rows.maps → new.failed ≡ true → RanOver g was new (batch ∷ []) [] (Err (Store error)) → MovedAs g was new batch outcome.Fault
+moved_lost g was new batch error works good failed ran = record {
+  clean = ran.clean;
+  works = λ still. works;
+  none = λ still. let no : true ≡ false = sym failed ∙ still in absurd cc;
+  closed = λ before. let no : true ≡ false = sym before ∙ works in absurd cc;
+  written = λ clean known tables over. elim known [
+    | inl still ↦ (let no : true ≡ false = sym failed ∙ still in absurd cc)
+    | inr opened ↦ ran.cells (state_of was.rows.maps) (at_over g was tables works good over) clean opened tables over.rests
+  ];
+  led = λ clean shown fine. ran.led (state_of was.rows.maps) (stands_shown g was works good shown) clean;
+}
+
+moved_not : {S : Type 0} (g : Ghosts S) (was new : World S) → IsSettled (store_of g was) → new ≡ was → IsMovedBy g was new [] []
+moved_not g was new settled same = subst (λ w. IsMovedBy g was w [] []) (sym same) (written_none g was settled)
+
+no_reply_to : {S : Type 0} (g : Ghosts S) (was new : World S) (batch : Batch) (replies : List Reply) (fault : StoreFault) → fault ≢ OutOfMemory → was.failed ≡ false → RanOver g was new (batch ∷ []) replies (Err fault) → RanOver g was new (batch ∷ []) [] (Err fault)
+no_reply_to g was new batch replies fault other works ran = subst (λ rs. RanOver g was new (batch ∷ []) rs (Err fault)) (no_reply replies (ran.fewer works other)) ran
+
+moved_fault : {S : Type 0} (g : Ghosts S) (was new : World S) (batch : Batch) (replies : List Reply) (fault : StoreFault) → IsSettled (store_of g was) → was.failed ≡ false → IsGood was.rows.maps → RanOver g was new (batch ∷ []) replies (Err fault)
+    → MovedAs g was new batch (lost_by fault)
+moved_fault g was new batch replies (Store error) settled works good ran =
+    let failed : new.failed ≡ true = elim ran.failed [ inl e ↦ absurd cc | inr e ↦ e ] in
+    moved_lost g was new batch error works good failed (no_reply_to g was new batch replies (Store error) (λ e. cc) works ran)
+moved_fault g was new batch replies (Damaged kind key) settled works good ran = elim ran.fault [
+  | inl e ↦ (let no : Damaged kind key ≡ Store e.0 = e.1 in absurd cc)
+  | inr e ↦ (elim e [ inl no ↦ absurd cc | inr no ↦ absurd cc ])
+]
+moved_fault g was new batch replies NewerVersion settled works good ran = elim ran.fault [
+  | inl e ↦ (let no : NewerVersion ≡ Store e.0 = e.1 in absurd cc)
+  | inr e ↦ (elim e [ inl no ↦ absurd cc | inr no ↦ absurd cc ])
+]
+moved_fault g was new batch replies OutOfMemory settled works good ran = moved_not g was new settled (ran.memory refl)
+moved_fault g was new batch replies Closed settled works good ran = moved_not g was new settled ((no_reply_to g was new batch replies Closed (λ e. cc) works ran).same refl)
+
+moved_by : {S : Type 0} (g : Ghosts S) (was new : World S) (batch : Batch) (replies : List Reply) (r : Result (Unit {0}) StoreFault) (o : Outcome) → IsSettled (store_of g was) → (was.failed ≡ false → IsGood was.rows.maps)
+    → RanOver g was new (batch ∷ []) replies r → ComesOfRun r replies o → MovedAs g was new batch o
+moved_by g was new batch replies (Ok x) o settled good ran settles =
+    let one = subst (λ rs. RanOver g was new (batch ∷ []) rs (Ok x)) settles.1 ran in
+    let there : MovedAs g was new batch (outcome.Replied settles.0) = elim (either was.failed) [
+      | inl failed ↦ (let no : Ok x ≡ Err Closed = (one.closed failed).0 in absurd cc)
+      | inr works ↦ moved_ok g was new batch settles.0 x works (good works) one
+    ] in subst (MovedAs g was new batch) (sym settles.2) there
+moved_by g was new batch replies (Err fault) o settled good ran settles =
+    let there : MovedAs g was new batch (lost_by fault) = elim (either was.failed) [
+      | inl failed ↦ (let c = ran.closed failed in subst (λ f. MovedAs g was new batch (lost_by f)) (sym (of_err (Err fault) fault Closed refl c.0)) (moved_not g was new settled c.1))
+      | inr works ↦ moved_fault g was new batch replies fault settled works (good works) ran
+    ] in subst (MovedAs g was new batch) (sym settles) there
+
+pub moved_one : {S : Type 0} (g : Ghosts S) (was new : World S) (batch : Batch) (all : List Batch) (old replies : List Reply) (r : Result (Unit {0}) StoreFault) (o : Outcome)
+    → all ≡ batch ∷ [] → old ≡ [] → IsSettled (store_of g was) → (was.failed ≡ false → IsGood was.rows.maps) → RanOver g was new all (added old replies) r → ComesOfRun r replies o → MovedAs g was new batch o
+moved_one g was new batch all old replies r o one none settled good ran settles =
+    let none_before : added old replies ≡ replies = ap (λ (rs : List Reply). added rs replies) none in
+    let plain = subst (λ (rs : List Reply). RanOver g was new all rs r) none_before ran in
+    moved_by g was new batch replies r o settled good (subst (λ (bs : List Batch). RanOver g was new bs replies r) one plain) settles
 
 -- ---- questions
 

@@ -5,6 +5,7 @@ use Rattle.std.specs.Io.KnownBytes.{Appends}
 use Rattle.sqlite.specs.Store.{Ghosts}
 use Rattle.moo_store.specs.Stand.{Stand}
 use Rattle.moo_store.specs.Kept.{World}
+use Rattle.moo_store.specs.Untouched.{IsMovedBy}
 use Rattle.moo_store.specs.World.{StandsAt}
 use Rattle.moo_request.specs.Request.{Takes}
 use Rattle.moo_request.specs.declared.asked.Asked.{Asked}
@@ -14,7 +15,7 @@ use Rattle.moo_request.specs.declared.request.Received.TheVariants.{Nothing, Req
 use Rattle.moo_http.specs.declared.fault.ServeFault.{ServeFault}
 use Rattle.moo_http.specs.declared.fault.ServeFault.TheVariants.{Read, Write, OutOfMemory}
 use Rattle.moo_responses.specs.declared.outcome.Outcome.{Outcome}
-use Rattle.moo_http.specs.Answers.{Consulted}
+use Rattle.moo_http.specs.Answers.{Consulted, taken_by, failed_by}
 use Rattle.moo_http.specs.Faults.{fault_of}
 use Rattle.moo_responses.specs.Responses.{response_of, response_text}
 use Rattle.moo_http.specs.Serves.{Serves, StandsStill, Written, Served}
@@ -43,27 +44,28 @@ unread_at g known (Err e) fault old was left rest before is stays = subst (λ e.
 
 pub nothing : {S : Type 0} (g : Ghosts S) (known : Bool) (old : Stand) (was : World S) (left rest before : Option (List ℕ)) (done : Unit {0}) → Takes left rest Nothing → StandsAt g known was old → StandsStill g known old was was → Served g known (Ok done) old was was left rest before before
 nothing g known old was left rest before done takes at stays =
-    ([], record { received = Nothing; takes = takes; new = old; gets = (refl, refl); stands = at; crash = stays.crash }, appends_nothing before)
+    ([], record { received = Nothing; takes = takes; new = old; gets = (refl, refl); stands = at; crash = stays.crash; moved = refl }, appends_nothing before)
 
 -- ---- a request came
 
-answered : {S : Type 0} (g : Ghosts S) (known : Bool) (old : Stand) (world : World S) (left rest : Option (List ℕ)) (is_head : Bool) (asked : Asked) (o : Outcome) → Takes left rest (Request is_head asked) → Consulted g known old world asked o
-    → Serves g known old left rest world (response_text is_head (response_of o))
-answered g known old world left rest is_head asked o takes consulted = record {
+answered : {S : Type 0} (g : Ghosts S) (known : Bool) (old : Stand) (was world : World S) (left rest : Option (List ℕ)) (is_head : Bool) (asked : Asked) (o : Outcome) → Takes left rest (Request is_head asked) → Consulted g known old world asked o
+    → IsMovedBy g was world (taken_by asked o) (failed_by asked o) → Serves g known old left rest was world (response_text is_head (response_of o))
+answered g known old was world left rest is_head asked o takes consulted moved = record {
   received = Request is_head asked;
   takes = takes;
   new = consulted.new;
   gets = (o, consulted.answers, refl);
   stands = consulted.stands;
   crash = consulted.crash;
+  moved = moved;
 }
 
 pub served : {S : Type 0} (g : Ghosts S) (known : Bool) (r : Result (Unit {0}) ServeFault) (old : Stand) (was world : World S) (left rest before behind : Option (List ℕ)) (is_head : Bool) (asked : Asked) (o : Outcome)
-    → Takes left rest (Request is_head asked) → Consulted g known old world asked o → Written r before behind (response_text is_head (response_of o)) → IfErr r (λ fault. fault ≢ Read) → Served g known r old was world left rest before behind
-served g known (Ok done) old was world left rest before behind is_head asked o takes consulted written other =
-    (response_text is_head (response_of o), answered g known old world left rest is_head asked o takes consulted, written)
-served g known (Err Write) old was world left rest before behind is_head asked o takes consulted written other =
-    (response_text is_head (response_of o), answered g known old world left rest is_head asked o takes consulted, written.0, written.1)
-served g known (Err Read) old was world left rest before behind is_head asked o takes consulted written other = absurd (other refl)
-served g known (Err OutOfMemory) old was world left rest before behind is_head asked o takes consulted written other =
-    (written, inr (response_text is_head (response_of o), answered g known old world left rest is_head asked o takes consulted))
+    → Takes left rest (Request is_head asked) → Consulted g known old world asked o → IsMovedBy g was world (taken_by asked o) (failed_by asked o) → Written r before behind (response_text is_head (response_of o)) → IfErr r (λ fault. fault ≢ Read) → Served g known r old was world left rest before behind
+served g known (Ok done) old was world left rest before behind is_head asked o takes consulted moved written other =
+    (response_text is_head (response_of o), answered g known old was world left rest is_head asked o takes consulted moved, written)
+served g known (Err Write) old was world left rest before behind is_head asked o takes consulted moved written other =
+    (response_text is_head (response_of o), answered g known old was world left rest is_head asked o takes consulted moved, written.0, written.1)
+served g known (Err Read) old was world left rest before behind is_head asked o takes consulted moved written other = absurd (other refl)
+served g known (Err OutOfMemory) old was world left rest before behind is_head asked o takes consulted moved written other =
+    (written, inr (response_text is_head (response_of o), answered g known old was world left rest is_head asked o takes consulted moved))

@@ -25,7 +25,7 @@ ends_as g known world P Q then it = record { end = it.end; stands = it.stands; c
 
 module _ {S : Type 0} (g : Ghosts S) (known : Bool) (old : Stand) (was world : World S) (left rest before after : Option (List ℕ)) where
   -- what is served is yielded by the stand
-  yields : (P : Stand → Type 0) (output : List ℕ) → ((new : Stand) → Yields old new left rest output → P new) → Serves g known old left rest world output → StandsAtEnd g known world P
+  yields : (P : Stand → Type 0) (output : List ℕ) → ((new : Stand) → Yields old new left rest output → P new) → Serves g known old left rest was world output → StandsAtEnd g known world P
   yields P output then it = record { end = it.new; stands = it.stands; crash = it.crash; ends = then it.new (it.received, it.takes, it.gets) }
 
   still : (P : Stand → Type 0) → P old → StandsAt g known was old → StandsStill g known old was world → StandsAtEnd g known world P

@@ -1,11 +1,12 @@
 -- What is answered at a state, and what a World that is asked answers and does.
-use Rattle.std.specs.Prelude.{◌≡◌, ◌⊎◌, ⊤, Bool, IsTrue}
+use Rattle.std.specs.Prelude.{◌≡◌, ◌⊎◌, ⊤, Bool, List, [], ◌∷◌, IsTrue}
 use Rattle.sqlite.specs.State.{HasCleanDisk}
 use Rattle.sqlite.specs.Store.{Ghosts}
 use Rattle.moo_text.specs.declared.reply.Answer.{Answer}
+use Rattle.moo_world.specs.declared.call.Batch.{Batch}
 use Rattle.moo_world.specs.Judge.{State, judge}
 use Rattle.moo_dump.specs.Look.{look_of}
-use Rattle.moo_store.specs.Answered.{reply_of, answer_of, state_behind}
+use Rattle.moo_store.specs.Answered.{reply_of, answer_of, state_behind, acknowledged}
 use Rattle.moo_store.specs.Stand.{Stand, Works, Failed, StoreFailed, RunsBatch, AsksBatch}
 use Rattle.moo_store.specs.Kept.{World}
 use Rattle.moo_store.specs.World.{store_of, CrashLeaves, StandsAt}
@@ -58,3 +59,29 @@ pub record Consulted {S : Type 0} (g : Ghosts S) (known : Bool) (old : Stand) (w
   pub stands : StandsAt g known world new
   pub answers : MayAnswer old asked o new
   pub crash : IsTrue known → HasCleanDisk (store_of g world) → CrashLeaves (store_of g world) new
+
+-- ---- the batch of what was asked
+
+-- the batch, if it was run and is acknowledged
+abbrev pub acknowledged_of : Batch → Outcome → List Batch
+acknowledged_of batch (outcome.Replied reply) = acknowledged (batch ∷ []) (reply ∷ [])
+acknowledged_of batch o = []
+
+abbrev pub taken_by : Asked → Outcome → List Batch
+taken_by (Refused refusal) o = []
+taken_by (Calls Run batch) o = acknowledged_of batch o
+taken_by (Calls Ask batch) o = []
+taken_by Seq o = []
+taken_by (Object n) o = []
+
+-- the batch, if it was run and the store failed in it
+abbrev pub failed_of : Batch → Outcome → List Batch
+failed_of batch outcome.Fault = batch ∷ []
+failed_of batch o = []
+
+abbrev pub failed_by : Asked → Outcome → List Batch
+failed_by (Refused refusal) o = []
+failed_by (Calls Run batch) o = failed_of batch o
+failed_by (Calls Ask batch) o = []
+failed_by Seq o = []
+failed_by (Object n) o = []

@@ -1,11 +1,12 @@
 //! Asking the World.
 
 ghost use Rattle.std.specs.Prelude.{◌≡◌, ◌∷◌, [], length, OnOk, Bool};
+ghost use Rattle.moo_store.specs.Untouched.{IsMovedBy};
 ghost use Rattle.moo_store.specs.Stand.{Stand};
 ghost use Rattle.sqlite.specs.State.{HasCleanDisk};
 ghost use Rattle.moo_store.specs.World.{store_of, StandsAt};
 ghost use Rattle.moo_responses.specs.Outcomes.{looked};
-ghost use Rattle.moo_http.specs.Answers.{MayAnswer, Consulted};
+ghost use Rattle.moo_http.specs.Answers.{MayAnswer, Consulted, taken_by, failed_by};
 ghost use Rattle.moo_http.specs.Settled.{ComesOfRun, lost_by};
 
 use moo_dump::Look;
@@ -54,7 +55,9 @@ fn settle(ran: Result<(), StoreFault>, replies: Vec<Reply>) -> Outcome
 fn run_batch<S: Alter + Drop>(alloc: Global, world: &mut World<S>, batch: &Batch) -> Outcome
     ensures clean { HasCleanDisk (store_of S.Store world.new) → HasCleanDisk (store_of S.Store world.old) }
     ensures comes { (known : Bool) (stand : Stand) → StandsAt S.Store known world.old stand → (new : Stand) × StandsAt S.Store known world.new new × MayAnswer stand (Asked.Calls Mode.Run batch.now) result new }
+    ensures moved { IsMovedBy S.Store world.old world.new (taken_by (Asked.Calls Mode.Run batch.now) result) (failed_by (Asked.Calls Mode.Run batch.now) result) }
 {
+    world.has_good_rows();
     let mut replies = Vec::new(alloc);
     let ran = world.run(slice::from_ref(batch), &mut replies);
     settle(ran, replies)
@@ -106,6 +109,7 @@ fn take_batch<S: Alter + Drop>(
 ) -> Outcome
     ensures clean { HasCleanDisk (store_of S.Store world.new) → HasCleanDisk (store_of S.Store world.old) }
     ensures comes { (known : Bool) (stand : Stand) → StandsAt S.Store known world.old stand → (new : Stand) × StandsAt S.Store known world.new new × MayAnswer stand (Asked.Calls mode batch.now) result new }
+    ensures moved { IsMovedBy S.Store world.old world.new (taken_by (Asked.Calls mode batch.now) result) (failed_by (Asked.Calls mode batch.now) result) }
 {
     match mode {
         Mode::Run => run_batch(alloc, world, batch),
@@ -116,6 +120,7 @@ fn take_batch<S: Alter + Drop>(
 fn answer<S: Alter + Drop>(alloc: Global, world: &mut World<S>, asked: &Asked) -> Outcome
     ensures clean { HasCleanDisk (store_of S.Store world.new) → HasCleanDisk (store_of S.Store world.old) }
     ensures comes { (known : Bool) (stand : Stand) → StandsAt S.Store known world.old stand → (new : Stand) × StandsAt S.Store known world.new new × MayAnswer stand asked.now result new }
+    ensures moved { IsMovedBy S.Store world.old world.new (taken_by asked.now result) (failed_by asked.now result) }
 {
     match asked {
         Asked::Refused(refusal) => Outcome::Refused(*refusal),
@@ -133,6 +138,8 @@ pub(crate) fn consult<S: Alter + Drop>(
 ) -> Outcome
     ensures clean { HasCleanDisk (store_of S.Store world.new) → HasCleanDisk (store_of S.Store world.old) }
     ensures comes { (known : Bool) (stand : Stand) → StandsAt S.Store known world.old stand → Consulted S.Store known stand world.new asked.now result }
+    // Only a batch that is run changes rows and tables: it keeps the cells of the rows that it leaves as they are, and all numbers.
+    ensures moved { IsMovedBy S.Store world.old world.new (taken_by asked.now result) (failed_by asked.now result) }
 {
     let outcome = answer(alloc, world, asked);
     world.leaves();

@@ -1,11 +1,13 @@
 //! One request, answered.
 
-ghost use Rattle.std.specs.Prelude.{◌≡◌, ◌≢◌, IfErr, Bool};
+ghost use Rattle.std.specs.Prelude.{◌≡◌, ◌≢◌, IfErr, Bool, List};
+ghost use Rattle.moo_world.specs.declared.call.Batch.{Batch};
+ghost use Rattle.moo_store.specs.Untouched.{IsMovedBy};
 ghost use Rattle.moo_store.specs.Stand.{Stand};
 ghost use Rattle.sqlite.specs.State.{HasCleanDisk};
 ghost use Rattle.moo_store.specs.World.{store_of, StandsAt};
 ghost use Rattle.moo_responses.specs.declared.outcome.Outcome.{Outcome};
-ghost use Rattle.moo_http.specs.Answers.{Consulted};
+ghost use Rattle.moo_http.specs.Answers.{Consulted, taken_by, failed_by};
 ghost use Rattle.moo_responses.specs.Responses.{response_of, response_text};
 ghost use Rattle.moo_http.specs.Serves.{Written, Served};
 
@@ -30,9 +32,10 @@ fn serve_asked<S: Alter + Drop, W: Write>(
     note: &mut Note,
 ) -> Result<(), ServeFault>
     ensures answered { (known : Bool) (stand : Stand) → StandsAt S.Store known world.old stand → (o : Outcome) × Consulted S.Store known stand world.new asked.now o
-        × Written result (W.contents writer.old) (W.contents writer.new) (response_text is_head (response_of o)) }
+        × IsMovedBy S.Store world.old world.new (taken_by asked.now o) (failed_by asked.now o) × Written result (W.contents writer.old) (W.contents writer.new) (response_text is_head (response_of o)) }
     ensures unwritten { IfErr result (λ fault. fault ≢ ServeFault.Write → writer.new ≡ writer.old) }
     ensures fault { IfErr result (λ fault. fault ≢ ServeFault.Read) }
+    ensures moved { (batches lost : List Batch) × IsMovedBy S.Store world.old world.new batches lost }
     ensures clean { HasCleanDisk (store_of S.Store world.new) → HasCleanDisk (store_of S.Store world.old) }
 {
     note.asks(asked);
@@ -61,6 +64,8 @@ pub fn serve_one<S: Alter + Drop, R: Read, W: Write>(
         Served S.Store known result stand world.old world.new (R.remaining reader.old) (R.remaining reader.new) (W.contents writer.old) (W.contents writer.new) }
     ensures unwritten { IfErr result (λ fault. fault ≢ ServeFault.Write → writer.new ≡ writer.old) }
     ensures unread { IfErr result (λ fault. fault ≡ ServeFault.Read → world.new ≡ world.old) }
+    // Whatever comes of it, the World was moved by accepted batches, and by nothing else: each wrote only rows that differ, and kept all numbers.
+    ensures moved { (batches lost : List Batch) × IsMovedBy S.Store world.old world.new batches lost }
     // A disk that returns what was written did so before.
     ensures clean { HasCleanDisk (store_of S.Store world.new) → HasCleanDisk (store_of S.Store world.old) }
 {

@@ -1,7 +1,9 @@
 //! The service on a port of this machine, from binding to its last line.
 
-ghost use Rattle.std.specs.Prelude.{◌≡◌, ◌≢◌, IfOk, IfErr, OnOk, OnErr, Bool, string_bytes};
+ghost use Rattle.std.specs.Prelude.{◌≡◌, ◌≢◌, IfOk, IfErr, OnOk, OnErr, Bool, List, string_bytes};
 ghost use Rattle.sqlite.specs.State.{HasCleanDisk};
+ghost use Rattle.moo_world.specs.declared.call.Batch.{Batch};
+ghost use Rattle.moo_store.specs.Untouched.{IsMovedBy};
 ghost use Rattle.moo_store.specs.Stand.{Stand};
 ghost use Rattle.moo_store.specs.World.{store_of, StandsAt};
 ghost use Rattle.moo_http.specs.declared.service.ServiceFault.TheVariants.{OutOfMemory};
@@ -106,6 +108,8 @@ pub fn serve_from<S: Alter + Drop, A: Arrivals, C: Clock + Eprint, W: Write>(
         StandsAtEnd S.Store known world.new (λ end. ServesPort result port count stand end (W.contents output.old) (W.contents output.new)) }
     ensures fault { IfErr result (λ fault. fault ≢ ServiceFault.Port) }
     ensures clean { HasCleanDisk (store_of S.Store world.new) → HasCleanDisk (store_of S.Store world.old) }
+    // It moved by accepted batches, one after another: each wrote only rows that differ, and kept all numbers.
+    ensures moved { (batches lost : List Batch) × IsMovedBy S.Store world.old world.new batches lost }
 {
     world.leaves();
     let routes = Routes::new(alloc)?;
@@ -135,6 +139,8 @@ pub fn serve_port<S: Alter + Drop, P: Ports, C: Clock + Eprint, W: Write>(
         ServesOn (attended_between P.Source.hands_out P.Source.takes_back P.Source.Reader.remaining P.Source.Writer.contents P.listens P.closes ports.old ports.new) result port count stand end (W.contents output.old) (W.contents output.new)) }
     // A disk that returns what was written did so before.
     ensures clean { HasCleanDisk (store_of S.Store world.new) → HasCleanDisk (store_of S.Store world.old) }
+    // It moved by accepted batches, one after another: each wrote only rows that differ, and kept all numbers.
+    ensures moved { (batches lost : List Batch) × IsMovedBy S.Store world.old world.new batches lost }
 {
     world.leaves();
     let Some(mut source) = ports.listen(port) else {

@@ -1,4 +1,5 @@
 use Rattle.std.proofs.Common.{refl, inl}
+use Rattle.moo_store.proofs.Untouched.{written_none}
 use Rattle.moo_http.proofs.consult.answer.Goals as goal
 
 pub returns-in-Refused-clause-comes : goal.returns-in-Refused-clause-comes
@@ -12,3 +13,15 @@ returns-in-Seq-clause-comes g c known stand at = (stand, at, rw c.in-Seq.is (c.a
 
 pub returns-in-Object-clause-comes : goal.returns-in-Object-clause-comes
 returns-in-Object-clause-comes g c known stand at = (stand, at, rw c.in-Object.is (c.look_at.ensures known stand at))
+
+pub returns-in-Refused-clause-moved : goal.returns-in-Refused-clause-moved
+returns-in-Refused-clause-moved g c = rw c.in-Refused.is (written_none g.S.Store c.args.world.now (g.met.S.Store.settled c.args.world.now.connection.store))
+
+pub returns-in-Calls-clause-moved : goal.returns-in-Calls-clause-moved
+returns-in-Calls-clause-moved g c = rw c.in-Calls.is c.take_batch.ensures.moved
+
+pub returns-in-Seq-clause-moved : goal.returns-in-Seq-clause-moved
+returns-in-Seq-clause-moved g c = rw c.in-Seq.is (written_none g.S.Store c.args.world.now (g.met.S.Store.settled c.args.world.now.connection.store))
+
+pub returns-in-Object-clause-moved : goal.returns-in-Object-clause-moved
+returns-in-Object-clause-moved g c = rw c.in-Object.is (written_none g.S.Store c.args.world.now (g.met.S.Store.settled c.args.world.now.connection.store))

@@ -1,5 +1,6 @@
-use Rattle.std.proofs.Common.{false}
+use Rattle.std.proofs.Common.{[], false}
 use Rattle.moo_http.specs.Turns.{Visited}
+use Rattle.moo_store.proofs.Untouched.{written_none}
 use Rattle.moo_http.proofs.Connections.{connected, stood}
 use Rattle.moo_http.proofs.Turns.{visited, unvisited}
 use Rattle.moo_http.proofs.listen.serve_connection.Goals as goal
@@ -16,3 +17,9 @@ returns-then-not-is_limited-clause-visited g c known stand at =
     let left = g.R.Read.remaining c.args.reader.now in
     let before = g.W.Write.contents c.args.writer.now in
     stood g.S.Store known stand c.args.world.now (λ end. Visited false stand end left left before before) at (c.leaves.ensures known stand at) (unvisited stand left left before)
+
+pub returns-clause-moved : goal.returns-clause-moved
+returns-clause-moved g c = c.serve_one-served.ensures.moved
+
+pub returns-then-not-is_limited-clause-moved : goal.returns-then-not-is_limited-clause-moved
+returns-then-not-is_limited-clause-moved g c = ([], [], written_none g.S.Store c.args.world.now (g.met.S.Store.settled c.args.world.now.connection.store))

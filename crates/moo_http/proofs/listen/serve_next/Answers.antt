@@ -1,5 +1,6 @@
-use Rattle.std.proofs.Common.{false, inl, inr, refl}
+use Rattle.std.proofs.Common.{[], false, inl, inr, refl}
 use Rattle.moo_http.specs.Turns.{Visited, Visit}
+use Rattle.moo_store.proofs.Untouched.{written_none}
 use Rattle.moo_http.proofs.Connections.{stood}
 use Rattle.moo_http.proofs.Turns.{ends_as}
 use Rattle.moo_http.proofs.listen.serve_next.Goals as goal
@@ -19,3 +20,9 @@ returns-in_default-clause-turn g c known stand at =
     stood g.S.Store known stand c.args.world.now
     (λ end. Visit g.A.Arrivals.hands_out g.A.Arrivals.takes_back g.A.Reader.Read.remaining g.A.Writer.Write.contents false c.args.arrivals.now stand c.accept.new.self end) at (c.leaves.ensures known stand at)
     (inr (refl, refl, c.in_default.ensures))
+
+pub returns-clause-moved : goal.returns-clause-moved
+returns-clause-moved g c = c.serve_connection-is_answered.ensures.moved
+
+pub returns-in_default-clause-moved : goal.returns-in_default-clause-moved
+returns-in_default-clause-moved g c = ([], [], written_none g.S.Store c.args.world.now (g.met.S.Store.settled c.args.world.now.connection.store))

@@ -1,6 +1,7 @@
-use Rattle.std.proofs.Common.{◌≡◌, ◌+◌, ◌∷◌, [], refl, sym, subst, rules}
+use Rattle.std.proofs.Common.{◌≡◌, ◌+◌, ◌∷◌, ◌++◌, [], refl, sym, subst, rules}
 use Rattle.moo_http.specs.declared.listen.Served.{Served}
 use Rattle.moo_http.specs.Turns.{Visit, AfterTurns, Attended}
+use Rattle.moo_store.proofs.Untouched.{written_none, moved_then}
 use Rattle.moo_http.proofs.Turns.{Counted, none_counted, one_answered, one_failed, ends_as, leads_nowhere, leads_on}
 use Rattle.moo_http.proofs.listen.serve_on.Goals as goal
 use Rattle.moo_http.proofs.listen.serve_on.Goals.{then-serve_next, else-serve_next}
@@ -11,12 +12,16 @@ loop-init g c = record {
   counted = none_counted;
   leads = leads_nowhere g.S.Store c.args.world.now (λ old new. AfterTurns g.A.Arrivals.hands_out g.A.Arrivals.takes_back g.A.Reader.Read.remaining g.A.Writer.Write.contents [] c.args.arrivals.now old c.args.arrivals.now new)
       (λ stand. (refl, refl)) c.leaves.ensures;
+  batches = [];
+  lost = [];
+  moved = written_none g.S.Store c.args.world.now (g.met.S.Store.settled c.args.world.now.connection.store);
 }
 
 pub loop-preserved : goal.loop-preserved
 loop-preserved g c =
     let before = c.loop.invariant in
     let result = c.serve_next.result in
+    let one = c.serve_next.ensures.moved in
     record {
       turns = result ∷ before.turns;
       counted = elim c.if-serve_next.branch [
@@ -28,6 +33,9 @@ loop-preserved g c =
           (λ old new. Visit g.A.Arrivals.hands_out g.A.Arrivals.takes_back g.A.Reader.Read.remaining g.A.Writer.Write.contents result c.loop.arrivals old c.serve_next.new.arrivals new)
           (λ old new. AfterTurns g.A.Arrivals.hands_out g.A.Arrivals.takes_back g.A.Reader.Read.remaining g.A.Writer.Write.contents (result ∷ before.turns) c.args.arrivals.now old c.serve_next.new.arrivals new)
           (λ old mid new earlier turn. (c.loop.arrivals, mid, earlier, turn)) before.leads c.serve_next.ensures.turn c.serve_next.ensures.clean;
+      batches = before.batches ++ one.0;
+      lost = before.lost ++ one.1;
+      moved = moved_then g.S.Store c.args.world.now c.loop.world c.serve_next.new.world before.batches before.lost one.0 one.1 before.moved one.2;
     }
 
 pub returns-clause-count : goal.returns-clause-count
@@ -45,3 +53,6 @@ returns-clause-serves g c known stand at =
 
 pub returns-clause-clean : goal.returns-clause-clean
 returns-clause-clean g c = c.loop.invariant.leads.clean
+
+pub returns-clause-moved : goal.returns-clause-moved
+returns-clause-moved g c = let it = c.loop.invariant in (it.batches, it.lost, it.moved)

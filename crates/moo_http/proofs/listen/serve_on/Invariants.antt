@@ -1,4 +1,6 @@
 use Rattle.std.proofs.Common.{Bool, List}
+use Rattle.moo_world.specs.declared.call.Batch.{Batch}
+use Rattle.moo_store.specs.Untouched.{IsMovedBy}
 use Rattle.moo_http.specs.Turns.{AfterTurns}
 use Rattle.moo_http.proofs.Turns.{Counted, Leads}
 use Rattle.moo_http.proofs.listen.serve_on.Given as goal
@@ -8,4 +10,7 @@ invariant-loop g l = record {
   turns : List Bool;
   counted : Counted turns l.served.answered l.served.failed l.counter;
   leads : Leads g.S.Store l.fn.world l.world (λ old new. AfterTurns g.A.Arrivals.hands_out g.A.Arrivals.takes_back g.A.Reader.Read.remaining g.A.Writer.Write.contents turns l.fn.arrivals old l.arrivals new);
+  batches : List Batch;
+  lost : List Batch;
+  moved : IsMovedBy g.S.Store l.fn.world l.world batches lost;
 }

@@ -1,5 +1,6 @@
-use Rattle.std.proofs.Common.{refl, subst}
+use Rattle.std.proofs.Common.{[], refl, subst}
 use Rattle.moo_request.specs.Request.{Takes}
+use Rattle.moo_store.proofs.Untouched.{written_none}
 use Rattle.moo_http.proofs.Serving.{unread_at, nothing, served}
 use Rattle.moo_http.proofs.serve.serve_one.Goals as goal
 
@@ -16,4 +17,13 @@ pub returns-in-Request-clause-served : goal.returns-in-Request-clause-served
 returns-in-Request-clause-served g c known stand at =
     let done = c.serve_asked.ensures.answered known stand at in
     served g.S.Store known c.serve_asked.result stand c.args.world.now c.serve_asked.new.world _ _ _ _ c.in-Request.is_head c.in-Request.asked done.0
-    (subst (λ r. Takes (g.R.Read.remaining c.args.reader.now) (g.R.Read.remaining c.read_request.new.reader) r) c.in-Request.is c.in_ok-read_request.ensures.takes) done.1 done.2 c.serve_asked.ensures.fault
+    (subst (λ r. Takes (g.R.Read.remaining c.args.reader.now) (g.R.Read.remaining c.read_request.new.reader) r) c.in-Request.is c.in_ok-read_request.ensures.takes) done.1 done.2 done.3 c.serve_asked.ensures.fault
+
+pub returns-in_err-read_request-clause-moved : goal.returns-in_err-read_request-clause-moved
+returns-in_err-read_request-clause-moved g c = ([], [], written_none g.S.Store c.args.world.now (g.met.S.Store.settled c.args.world.now.connection.store))
+
+pub returns-in-Nothing-clause-moved : goal.returns-in-Nothing-clause-moved
+returns-in-Nothing-clause-moved g c = ([], [], written_none g.S.Store c.args.world.now (g.met.S.Store.settled c.args.world.now.connection.store))
+
+pub returns-in-Request-clause-moved : goal.returns-in-Request-clause-moved
+returns-in-Request-clause-moved g c = c.serve_asked.ensures.moved

@@ -1,4 +1,4 @@
-use Rattle.std.proofs.Common.{◌≡◌, ℕ, Option, List, Bool, refl}
+use Rattle.std.proofs.Common.{◌≡◌, ℕ, Option, List, [], Bool, refl}
 use Rattle.std.specs.Prelude.{Result}
 use Rattle.sqlite.specs.Store.{Ghosts}
 use Rattle.moo_store.specs.Stand.{Stand}
@@ -7,6 +7,7 @@ use Rattle.moo_http.specs.Turns.{Attended, ServesFrom}
 use Rattle.moo_http.specs.Lines.{listening_line}
 use Rattle.moo_http.specs.declared.service.ServiceFault.{ServiceFault}
 use Rattle.moo_http.specs.declared.service.ServiceFault.TheVariants.{OutOfMemory}
+use Rattle.moo_store.proofs.Untouched.{written_none}
 use Rattle.moo_http.proofs.Connections.{stood, no_front, fails_early, says_all}
 use Rattle.moo_http.proofs.Turns.{attended_moves}
 use Rattle.moo_http.proofs.service.serve_from.Goals as goal
@@ -77,3 +78,12 @@ returns-clause-moves g c known stand at =
           c.args.port c.args.count c.say_served.result served.result.answered served.result.failed (g.W.Write.contents c.args.output.now) (g.W.Write.contents c.say_listening.new.output) (g.W.Write.contents c.say_served.new.output)
           served.ensures.count moved c.in_ok-say_listening.ensures.ok c.say_served.ensures.ok c.say_served.ensures.err c.say_served.ensures.fault;
     }
+
+pub returns-in_err-routes-clause-moved : goal.returns-in_err-routes-clause-moved
+returns-in_err-routes-clause-moved g c = ([], [], written_none g.S.Store c.args.world.now (g.met.S.Store.settled c.args.world.now.connection.store))
+
+pub returns-in_err-say_listening-clause-moved : goal.returns-in_err-say_listening-clause-moved
+returns-in_err-say_listening-clause-moved g c = ([], [], written_none g.S.Store c.args.world.now (g.met.S.Store.settled c.args.world.now.connection.store))
+
+pub returns-clause-moved : goal.returns-clause-moved
+returns-clause-moved g c = c.serve_on-served.ensures.moved

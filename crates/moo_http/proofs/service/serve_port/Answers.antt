@@ -1,5 +1,6 @@
-use Rattle.std.proofs.Common.{refl}
+use Rattle.std.proofs.Common.{[], refl}
 use Rattle.moo_http.specs.Turns.{ServesFrom, attended_between, ServesOn}
+use Rattle.moo_store.proofs.Untouched.{written_none}
 use Rattle.moo_http.proofs.Connections.{stood}
 use Rattle.moo_http.proofs.Turns.{ends_as, serves_on}
 use Rattle.moo_http.proofs.service.serve_port.Goals as goal
@@ -26,3 +27,9 @@ returns-clause-serves g c known stand at =
     (λ end. ServesOn (attended_between source.hands_out source.takes_back remaining contents ports.listens ports.closes first last) c.serve_from-done.result c.args.port c.args.count stand end before after)
     (λ end it. serves_on source.hands_out source.takes_back remaining contents ports.listens ports.closes first between last c.serve_from-done.result c.args.port c.args.count from stand to end before after c.in-Some.ensures c.close.ensures c.serve_from-done.ensures.fault it)
     (c.serve_from-done.ensures.serves known stand at)
+
+pub returns-in_default-clause-moved : goal.returns-in_default-clause-moved
+returns-in_default-clause-moved g c = ([], [], written_none g.S.Store c.args.world.now (g.met.S.Store.settled c.args.world.now.connection.store))
+
+pub returns-clause-moved : goal.returns-clause-moved
+returns-clause-moved g c = c.serve_from-done.ensures.moved
