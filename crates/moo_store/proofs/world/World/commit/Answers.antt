@@ -101,7 +101,7 @@ returns-in-Err-clause-kept g c = subst (λ w. KeepsFaults (store_of g.S.Store w)
 pub returns-clause-kept : goal.returns-clause-kept
 returns-clause-kept g c =
     let was : KeepsFaults (store_of g.S.Store c.args.self.now) (state g.S.Store c.commit_cells.new.conn) =
-        subst (λ w. KeepsFaults (store_of g.S.Store w) (state g.S.Store c.commit_cells.new.conn)) c.self.view_is (record { faults = c.commit_cells.ensures.counts; steps = c.commit_cells.ensures.steps }) in
+    subst (λ w. KeepsFaults (store_of g.S.Store w) (state g.S.Store c.commit_cells.new.conn)) c.self.view_is (record { faults = c.commit_cells.ensures.counts; steps = c.commit_cells.ensures.steps }) in
     elim c.if-is_err.branch [
       | then-is_err w ↦ subst (λ v. KeepsFaults (store_of g.S.Store c.args.self.now) (store_of g.S.Store v)) (sym w.self-is) was
       | else-is_err w ↦ subst (λ v. KeepsFaults (store_of g.S.Store c.args.self.now) (store_of g.S.Store v)) (sym w.self-is) was
