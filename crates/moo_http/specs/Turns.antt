@@ -58,12 +58,14 @@ failed_in (false ∷ turns) = suc (failed_in turns)
 -- a source of connections, by what it is before and after it hands one out and takes one back, and by the bytes that are known of them
 module _ {A R W : Type 0} (hands_out : A → Option (Connection R W) → A → Type 0) (takes_back : A → Connection R W → A → Type 0)
     (remaining : R → Option (List ℕ)) (contents : W → Option (List ℕ)) where
-  -- One turn, by whether a connection was answered: the source hands one out, which is visited, and takes it back; or it hands out none.
+  -- One turn, by whether a connection was answered: the source hands one out, which is visited, and takes it back; or it hands out none. A
+  -- connection whose waits have no limit isn't read, and nothing is written to it.
   abbrev pub Visit : Bool → A → Stand → A → Stand → Type 0
   Visit answered from old to new =
       ((opened closed : Connection R W) × (between : A) × hands_out from (Some opened) between
       × Visited answered old new (remaining opened.reader) (remaining closed.reader) (contents opened.writer) (contents closed.writer)
-      × takes_back between closed to)
+      × takes_back between closed to
+      × (opened.is_limited ≡ false → (answered ≡ false) × (new ≡ old) × (closed ≡ opened)))
       ⊎ ((answered ≡ false) × (new ≡ old) × hands_out from None to)
 
   -- turns one after another; the head of the list tells the last one
