@@ -3,37 +3,55 @@
 ghost use Rattle.std.specs.Prelude.{ℕ, List, Option};
 ghost use Rattle.sqlite_wal.specs.Recovery.{Image};
 ghost use Rattle.moo_files.specs.declared.remains.Remains.{Remains};
-ghost use Rattle.moo_commands.specs.Run.{Given};
+ghost use Rattle.moo_http.specs.Turns.{attended_between};
+ghost use Rattle.moo_commands.specs.Run.{given_by};
 ghost use Rattle.moo_commands.specs.Ends.{RunsOver, RunsClosed};
 ghost use Rattle.moo_commands.specs.Again.{TakesUp, CrashesTo, ClosesTo};
 ghost use Rattle.moo_commands.specs.declared.ends.Ends.{Ends};
 
+use crate::host::BatchFiles;
+use moo_http::Ports;
 use sqlite_disk::Disk;
-
-/// What a run is given beside its words and their file. A law over `G: Gives` holds whatever that is.
-pub trait Gives {
-    ghost given: { Given };
-}
+use std::io::Read;
 
 /// Words that run over a file, and then words that run over what a crash left of it.
 ///
-/// Each run is what the clause `over` of `run_words` says of it (`RunsOver`). `image` is what the files held at first, and `next_image` what
-/// they held after the crash, which comes when the task is at its end and its file isn't closed yet.
-pub fn run_crash_run<T, D: Disk, G: Gives, U, E: Disk, N: Gives>()
+/// Each run is what the clause `over` of `run_words` says of it (`RunsOver`): words over files that held `image`, with an input, over a host
+/// that was `host` and is `after`. `next_image` is what the files held after the crash, which comes when the task is at its end and its file
+/// isn't closed yet.
+pub fn run_crash_run<
+    T,
+    D: Disk,
+    H: BatchFiles + Ports,
+    R: Read,
+    U,
+    E: Disk,
+    G: BatchFiles + Ports,
+    Q: Read,
+>()
     // What a crash left of the first file holds a state that the run's end may leave; or, if no task ran over it, the state that it held. The
     // next run takes up that state.
-    ensures reopened { (words next_words : List (List ℕ)) (image next_image : Image) (ends : Ends T D D.Disk) (next_ends : Ends U E E.Disk) (old new next_old next_new : Option (List ℕ)) (status next_status : ℕ) →
-        RunsOver words image ends G.given old new status → RunsOver next_words next_image next_ends N.given next_old next_new next_status →
-        CrashesTo words image ends G.given old new status next_image (λ t. TakesUp next_words t next_ends N.given next_old next_new next_status) }
+    ensures reopened { (words next_words : List (List ℕ)) (input : R) (host after : H) (next_input : Q) (next_host next_after : G) (image next_image : Image) (ends : Ends T D D.Disk) (next_ends : Ends U E E.Disk) (old new next_old next_new : Option (List ℕ)) (status next_status : ℕ) →
+        RunsOver words image ends (given_by (R.remaining input) (H.text host) (attended_between H.Source.hands_out H.Source.takes_back H.Source.Reader.remaining H.Source.Writer.contents H.listens H.closes host after)) old new status → RunsOver next_words next_image next_ends (given_by (Q.remaining next_input) (G.text next_host) (attended_between G.Source.hands_out G.Source.takes_back G.Source.Reader.remaining G.Source.Writer.contents G.listens G.closes next_host next_after)) next_old next_new next_status →
+        CrashesTo words image ends (given_by (R.remaining input) (H.text host) (attended_between H.Source.hands_out H.Source.takes_back H.Source.Reader.remaining H.Source.Writer.contents H.listens H.closes host after)) old new status next_image (λ t. TakesUp next_words t next_ends (given_by (Q.remaining next_input) (G.text next_host) (attended_between G.Source.hands_out G.Source.takes_back G.Source.Reader.remaining G.Source.Writer.contents G.listens G.closes next_host next_after)) next_old next_new next_status) }
 {}
 
 /// Words that run over a file, which is then closed, and words that run over what it holds or a crash left of it.
 ///
 /// The first run is what the clause `closed` of `run_to_end` says of it (`RunsClosed`), which is the program's own call, and the next one
 /// what the clause `over` of `run_words` says.
-pub fn run_close_run<T, D: Disk, G: Gives, U, E: Disk, N: Gives>()
+pub fn run_close_run<
+    T,
+    D: Disk,
+    H: BatchFiles + Ports,
+    R: Read,
+    U,
+    E: Disk,
+    G: BatchFiles + Ports,
+    Q: Read,
+>()
     // What the closed file holds, and what a crash leaves of it, is such a state too, and the next run takes up that state.
-    ensures reopened { (words next_words : List (List ℕ)) (image next_image : Image) (closed : Remains T D D.Disk) (next_ends : Ends U E E.Disk) (old new next_old next_new : Option (List ℕ)) (status next_status : ℕ) →
-        RunsClosed words image closed G.given old new status → RunsOver next_words next_image next_ends N.given next_old next_new next_status →
-        ClosesTo words image closed G.given old new status next_image (λ t. TakesUp next_words t next_ends N.given next_old next_new next_status) }
+    ensures reopened { (words next_words : List (List ℕ)) (input : R) (host after : H) (next_input : Q) (next_host next_after : G) (image next_image : Image) (closed : Remains T D D.Disk) (next_ends : Ends U E E.Disk) (old new next_old next_new : Option (List ℕ)) (status next_status : ℕ) →
+        RunsClosed words image closed (given_by (R.remaining input) (H.text host) (attended_between H.Source.hands_out H.Source.takes_back H.Source.Reader.remaining H.Source.Writer.contents H.listens H.closes host after)) old new status → RunsOver next_words next_image next_ends (given_by (Q.remaining next_input) (G.text next_host) (attended_between G.Source.hands_out G.Source.takes_back G.Source.Reader.remaining G.Source.Writer.contents G.listens G.closes next_host next_after)) next_old next_new next_status →
+        ClosesTo words image closed (given_by (R.remaining input) (H.text host) (attended_between H.Source.hands_out H.Source.takes_back H.Source.Reader.remaining H.Source.Writer.contents H.listens H.closes host after)) old new status next_image (λ t. TakesUp next_words t next_ends (given_by (Q.remaining next_input) (G.text next_host) (attended_between G.Source.hands_out G.Source.takes_back G.Source.Reader.remaining G.Source.Writer.contents G.listens G.closes next_host next_after)) next_old next_new next_status) }
 {}

@@ -26,7 +26,7 @@ use Rattle.moo_load.specs.declared.line.Word.TheVariants.{Object, Property, Slot
 use Rattle.moo_load.specs.Entries.{Entry, an_object, a_property, a_slot, a_verb, a_petition, entry_text, entry_values, EntryFits, NumberIsLeft, entry_taken}
 use Rattle.moo_load.specs.Printed.{ArePrinted, word_text, petition_values, slot_values}
 use Rattle.moo_load.specs.Rows.{property_taken, verb_taken, petition_taken}
-use Rattle.moo_load.specs.RowsOf.{slot_row}
+use Rattle.moo_load.specs.RowsOf.{dumped_slot}
 use Rattle.moo_load.specs.Slots.{IsNextProperty, SlotIsNext, slot_line_put}
 use Rattle.moo_load.specs.declared.taking.LastSlot.{LastSlot}
 
@@ -133,12 +133,12 @@ no_petition values none e within w v = absurd (false≢true ((Decides-eqb (kind 
 
 -- ---- slots
 
-pub slot_is_put : (old new : Maps) (last put : LastSlot) (values : List Value) → ((x : ObjNo) (p : Pair) (k : ASlot) (id : PropId) → values ≡ slot_values x p.0 p.1 (slot_row k) → IsNextProperty old last x p id → (put ≡ record { object = x; definer = p.0; id = id }) × (new ≡ record old { slots = insert old.slots (x, id) (slot_row k) }))
+pub slot_is_put : (old new : Maps) (last put : LastSlot) (values : List Value) → ((x : ObjNo) (p : Pair) (k : ASlot) (id : PropId) → values ≡ slot_values x p.0 p.1 (dumped_slot k) → IsNextProperty old last x p id → (put ≡ record { object = x; definer = p.0; id = id }) × (new ≡ record old { slots = insert old.slots (x, id) (dumped_slot k) }))
     → (number : Pair → PropId) (e : Entry) → Slot ≡ word_of e → SlotIsNext number e (last, old) → values ≡ entry_values e → (put, new) ≡ slot_line_put number e (last, old)
 slot_is_put old new last put values is number (a_slot x p k) w next v = let o = is x p k (number p) v next in λ i. (o.0 i, o.1 i)
 slot_is_put old new last put values is number e w next v = absurd (false≢true ((Decides-eqb (kind Slot) (kind (word_of e))).1 (ap kind w)))
 
-pub no_slot_line : (m : Maps) (last : LastSlot) (values : List Value) → ((x : ObjNo) (p : Pair) (k : ASlot) (id : PropId) → state_fits k.state ≡ true → IsNextProperty m last x p id → values ≡ slot_values x p.0 p.1 (slot_row k) → ⊥)
+pub no_slot_line : (m : Maps) (last : LastSlot) (values : List Value) → ((x : ObjNo) (p : Pair) (k : ASlot) (id : PropId) → state_fits k.state ≡ true → IsNextProperty m last x p id → values ≡ slot_values x p.0 p.1 (dumped_slot k) → ⊥)
     → (number : Pair → PropId) (e : Entry) → EntryFits e → Slot ≡ word_of e → SlotIsNext number e (last, m) → values ≡ entry_values e → ⊥
 no_slot_line m last values none number (a_slot x p k) within w next v = none x p k (number p) within.row next v
 no_slot_line m last values none number e within w next v = absurd (false≢true ((Decides-eqb (kind Slot) (kind (word_of e))).1 (ap kind w)))

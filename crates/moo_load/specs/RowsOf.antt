@@ -33,12 +33,12 @@ at_number l (suc n) = slice_get l n
 abbrev pub property_row : Pair → PropRow
 property_row p = record { definer = p.0; name = p.1 }
 
-abbrev pub slot_row : Slot → SlotRow
-slot_row k = record { owner = k.owner; bits = k.bits; state = k.state }
+abbrev pub dumped_slot : Slot → SlotRow
+dumped_slot k = record { owner = k.owner; bits = k.bits; state = k.state }
 
 -- the slot of this property on x
 abbrev pub slot_of_property : World → ObjNo → Pair → Option SlotRow
-slot_of_property w x p = option_and_then (λ k. if same_object k.definer p.0 then Some (slot_row k) else None) (slot_of w x (folded p.1))
+slot_of_property w x p = option_and_then (λ k. if same_object k.definer p.0 then Some (dumped_slot k) else None) (slot_of w x (folded p.1))
 
 -- the verb, if it is one of x
 abbrev pub verb_on : ObjNo → ObjNo × VerbRow → Option VerbRow

@@ -9,7 +9,7 @@ use Rattle.moo_rows.specs.Maps.{Maps, prop_cmp}
 use Rattle.moo_world.specs.Objects.{Pair}
 use Rattle.moo_load.specs.declared.taking.LastSlot.{LastSlot}
 use Rattle.moo_load.specs.Entries.{Entry, a_slot}
-use Rattle.moo_load.specs.RowsOf.{property_row, slot_row}
+use Rattle.moo_load.specs.RowsOf.{property_row, dumped_slot}
 
 -- no slot is put yet
 abbrev pub no_slot : LastSlot
@@ -32,5 +32,5 @@ SlotIsNext number e t = Unit {0}
 -- the slot that is put last, and the maps, after a line
 abbrev pub slot_line_put : (Pair → PropId) → Entry → LastSlot × Maps → LastSlot × Maps
 slot_line_put number (a_slot x p k) t =
-    (record { object = x; definer = p.0; id = number p }, record (t.1) { slots = insert t.1.slots (x, number p) (slot_row k) })
+    (record { object = x; definer = p.0; id = number p }, record (t.1) { slots = insert t.1.slots (x, number p) (dumped_slot k) })
 slot_line_put number e t = t

@@ -1,6 +1,6 @@
 //! A world from its dump.
 
-ghost use Rattle.std.specs.Prelude.{◌≡◌, ◌≢◌, ◌<◌, ◌^◌, IfOk, IfErr, OnOk};
+ghost use Rattle.std.specs.Prelude.{◌≡◌, ◌≢◌, ◌<◌, ◌^◌, length, IfOk, IfErr, OnOk};
 ghost use Rattle.moo_world.specs.Rows.{IsGood};
 ghost use Rattle.moo_world.specs.Judge.{State, state_of};
 ghost use Rattle.moo_damage.specs.Limits.{AreWithin};
@@ -53,6 +53,8 @@ fn judge_rows<R: Rows>(alloc: Global, rows: &R, text: &[u8]) -> Result<(), LoadF
 /// Objects and petitions keep the numbers that the text gives them. Properties and verbs are numbered from 1, in the order of
 /// the text, and the number of the next petition is one above the greatest.
 ///
+/// The dump of a well formed state, if it has fewer than 4,294,967,295 bytes, is refused only if memory runs out.
+///
 /// Errors: `NotADump` with the number of the first line that can't be read, or if each can, that differs from the dump of what
 /// was read; `Damaged` if each line can be read and the rows show no world; `OutOfMemory` if memory runs out.
 ///
@@ -61,7 +63,11 @@ pub fn read_dump(alloc: Global, text: &[u8]) -> Result<Flat, LoadFault>
     ensures loaded { IfOk result (λ rows. dump (state_of rows.maps) ≡ text.now) }
     ensures good { IfOk result (λ rows. IsGood rows.maps) }
     ensures limit { IfOk result (λ rows. rows.maps.head.seq < 2 ^ 63) }
+    // Properties and verbs have the numbers of their order in the text. The next number of each kind is one above the last.
+    ensures numbered { IfOk result (λ rows. AreRowsOf (state_of rows.maps) rows.maps) }
     ensures fault { IfErr result (SaysOfText text.now) }
+    // No dump of a well formed state is refused. A longer one may have more properties or verbs than there are numbers.
+    ensures complete { IfErr result (λ fault. fault ≢ LoadFault.OutOfMemory → length text.now < 4294967295 → (s : State) → IsHeld s → dump s ≢ text.now) }
 {
     let rows = read_rows(alloc, text)?;
     judge_rows(alloc, &rows, text)?;

@@ -60,7 +60,7 @@ fn state_of(alloc: Global, values: &[Value]) -> Result<SlotState, LineFault>
 }
 
 /// The slot.
-pub(crate) fn read_slot(alloc: Global, values: &[Value]) -> Result<SlotLine, LineFault>
+pub(crate) fn dumped_slot(alloc: Global, values: &[Value]) -> Result<SlotLine, LineFault>
     ensures shown { IfOk result (λ slot. values.now ≡ slot_values slot.object slot.definer slot.name slot.row) }
     ensures fits { IfOk result (λ slot. (is_number slot.row.owner && state_fits slot.row.state) ≡ true) }
     ensures err { IfErr result (λ fault. fault ≡ LineFault.Unreadable → (x definer : Object) (name : Name) (row : Row) → state_fits row.state ≡ true

@@ -13,7 +13,7 @@ ghost use Rattle.moo_rows.specs.Maps.{with_object, with_slot};
 ghost use Rattle.moo_dump.specs.Dump.{object_values, verb_values};
 ghost use Rattle.moo_load.specs.Printed.{petition_values, slot_values};
 ghost use Rattle.moo_load.specs.Rows.{AreRead, property_taken, verb_taken, petition_taken};
-ghost use Rattle.moo_load.specs.RowsOf.{slot_row};
+ghost use Rattle.moo_load.specs.RowsOf.{dumped_slot};
 ghost use Rattle.moo_load.specs.Slots.{IsNextProperty, number_before as the_number_before};
 ghost use Rattle.moo_world.specs.Objects.{Pair};
 ghost use Rattle.moo_world.specs.Petitions.{petition_fits};
@@ -23,7 +23,7 @@ use crate::fault::LineFault;
 use crate::object::read_object;
 use crate::petition::read_petition;
 use crate::property::read_property;
-use crate::slot::{SlotLine, read_slot};
+use crate::slot::{SlotLine, dumped_slot};
 use crate::verb::read_verb;
 use moo_flat::Flat;
 use moo_rows::{PetitionId, PropId, Rows, VerbId};
@@ -154,12 +154,12 @@ pub(crate) fn take_slot(
     requires { AreRead rows.old.maps }
     ensures read { OnOk result (AreRead rows.new.maps) }
     // The slot of the next property is put under its number.
-    ensures put { IfOk result (λ put. (x : Object) (p : Pair) (k : Slot) (id : AProperty) → values.now ≡ slot_values x p.0 p.1 (slot_row k)
-        → IsNextProperty rows.old.maps last x p id → (put ≡ record { object = x; definer = p.0; id = id }) × (rows.new ≡ with_slot rows.old (x, id) (slot_row k))) }
+    ensures put { IfOk result (λ put. (x : Object) (p : Pair) (k : Slot) (id : AProperty) → values.now ≡ slot_values x p.0 p.1 (dumped_slot k)
+        → IsNextProperty rows.old.maps last x p id → (put ≡ record { object = x; definer = p.0; id = id }) × (rows.new ≡ with_slot rows.old (x, id) (dumped_slot k))) }
     ensures err { IfErr result (λ fault. fault ≡ LineFault.Unreadable → (x : Object) (p : Pair) (k : Slot) (id : AProperty) → state_fits k.state ≡ true
-        → IsNextProperty rows.old.maps last x p id → values.now ≢ slot_values x p.0 p.1 (slot_row k)) }
+        → IsNextProperty rows.old.maps last x p id → values.now ≢ slot_values x p.0 p.1 (dumped_slot k)) }
 {
-    let slot = read_slot(alloc, values)?;
+    let slot = dumped_slot(alloc, values)?;
     let Some(id) = property_of(rows, last, &slot) else {
         return Err(LineFault::Unreadable);
     };

@@ -15,7 +15,7 @@ use Rattle.moo_rows.specs.Maps.{Maps}
 use Rattle.moo_world.specs.Objects.{Pair}
 use Rattle.moo_load.specs.declared.taking.LastSlot.{LastSlot}
 use Rattle.moo_load.specs.Entries.{Entry, an_object, a_property, a_slot, a_verb, a_petition, entry_taken, entries_taken, carried}
-use Rattle.moo_load.specs.RowsOf.{property_row, slot_row}
+use Rattle.moo_load.specs.RowsOf.{property_row, dumped_slot}
 use Rattle.moo_load.specs.Slots.{slot_line_put}
 use Rattle.moo_load.proofs.One.Blocks.{petition_in}
 use Rattle.moo_load.proofs.ReadBack.Lists.{counted}
@@ -36,7 +36,7 @@ verb_in (a_verb x v) = Some (x, v)
 verb_in e = None
 
 abbrev pub slot_in : (Pair → PropId) → Entry → Option ((ObjNo × PropId) × SlotRow)
-slot_in number (a_slot x p k) = Some ((x, number p), slot_row k)
+slot_in number (a_slot x p k) = Some ((x, number p), dumped_slot k)
 slot_in number e = None
 
 abbrev pub property_entry : ℕ → Pair → PropId × PropRow

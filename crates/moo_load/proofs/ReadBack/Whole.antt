@@ -30,7 +30,7 @@ use Rattle.moo_world.proofs.Shown.MapLaws.{key-Decides}
 use Rattle.moo_world.proofs.Shown.EntriesInOrder.{own_entries, all_weaker}
 use Rattle.moo_load.specs.Entries.{Entry, an_object, a_property, a_slot, a_verb, a_petition, NumbersAreLeft, entries_taken, carried}
 use Rattle.moo_load.specs.Rows.{first_head}
-use Rattle.moo_load.specs.RowsOf.{all_properties, all_verbs, at_number, property_row, slot_row, slot_of_property, verb_on, IsAbove, HasNumbers, AreRowsOf}
+use Rattle.moo_load.specs.RowsOf.{all_properties, all_verbs, at_number, property_row, dumped_slot, slot_of_property, verb_on, IsAbove, HasNumbers, AreRowsOf}
 use Rattle.moo_load.specs.Slots.{no_slot, slot_line_put}
 use Rattle.moo_load.proofs.One.Blocks.{petition_in, petitions_of}
 use Rattle.moo_load.proofs.One.Entries.{owed_entry, record_entries, object_entries, entries_of}
@@ -252,14 +252,14 @@ module _ (s : State) (formed : IsFormed s) where
   abbrev slot_told : ObjNo × PropId → Option SlotRow
   slot_told k = option_and_then (slot_of_property s.world k.0) (at_number all k.1.0)
 
-  held : (x : ObjNo) (p : Pair) (k : Slot) → slot_of s.world x (folded p.1) ≡ Some k → k.definer ≡ p.0 → slot_of_property s.world x p ≡ Some (slot_row k)
-  held x p k e own = ap (option_and_then (λ (j : Slot). cond (same_object j.definer p.0) (Some (slot_row j)) None)) e ∙ ap (λ b. cond b (Some (slot_row k)) None) ((same_object-Decides k.definer p.0).1 own)
+  held : (x : ObjNo) (p : Pair) (k : Slot) → slot_of s.world x (folded p.1) ≡ Some k → k.definer ≡ p.0 → slot_of_property s.world x p ≡ Some (dumped_slot k)
+  held x p k e own = ap (option_and_then (λ (j : Slot). cond (same_object j.definer p.0) (Some (dumped_slot j)) None)) e ∙ ap (λ b. cond b (Some (dumped_slot k)) None) ((same_object-Decides k.definer p.0).1 own)
 
   said_of_slot : (a : Entry) → IsSo a → (b : (ObjNo × PropId) × SlotRow) → slot_in number_by a ≡ Some b → slot_told b.0 ≡ Some b.1
   said_of_slot (an_object y row) h b e = absurd (none-some b e)
   said_of_slot (a_property y n) h b e = absurd (none-some b e)
   said_of_slot (a_slot y p k) h b e =
-      subst (λ (j : (ObjNo × PropId) × SlotRow). slot_told j.0 ≡ Some j.1) (same_Some ((y, number_by p), slot_row k) b e)
+      subst (λ (j : (ObjNo × PropId) × SlotRow). slot_told j.0 ≡ Some j.1) (same_Some ((y, number_by p), dumped_slot k) b e)
       (ap (option_and_then (slot_of_property s.world y)) (place_found p all h.0) ∙ held y p k h.1 h.2)
   said_of_slot (a_verb y v) h b e = absurd (none-some b e)
   said_of_slot (a_petition q) h b e = absurd (none-some b e)
@@ -294,10 +294,10 @@ module _ (s : State) (formed : IsFormed s) where
       last r p k here g h own =
           let owed = slot_owed x p k (ap is_some here) (numbered_stands all id.0 p g) h own in
           let mine : place p all ≡ id.0 = number_is s.world formed.world id.0 p g in
-          of_all (λ (j : (ObjNo × PropId) × SlotRow). j.0 ≡ (x, id) → ⊥) (filter_map (slot_in number_by) (entries_of s)) ((x, number_by p), slot_row k) others
-          (stands_made (slot_in number_by) (entries_of s) (a_slot x p k) ((x, number_by p), slot_row k) (slot_stands x r p k here owed h) refl) (λ i. (x, record { 0 = mine i }))
+          of_all (λ (j : (ObjNo × PropId) × SlotRow). j.0 ≡ (x, id) → ⊥) (filter_map (slot_in number_by) (entries_of s)) ((x, number_by p), dumped_slot k) others
+          (stands_made (slot_in number_by) (entries_of s) (a_slot x p k) ((x, number_by p), dumped_slot k) (slot_stands x r p k here owed h) refl) (λ i. (x, record { 0 = mine i }))
 
-      own : (p : Pair) (k : Slot) (b : Bool) → same_object k.definer p.0 ≡ b → cond b (Some (slot_row k)) None ≡ Some row → k.definer ≡ p.0
+      own : (p : Pair) (k : Slot) (b : Bool) → same_object k.definer p.0 ≡ b → cond b (Some (dumped_slot k)) None ≡ Some row → k.definer ≡ p.0
       own p k true g h = (same_object-Decides k.definer p.0).0 g
       own p k false g h = absurd (none-some row h)
 
@@ -306,8 +306,8 @@ module _ (s : State) (formed : IsFormed s) where
       object_of p k (Some r) here g h o = last r p k here g h o
 
       slot_is : (p : Pair) → at_number all id.0 ≡ Some p → (o : Option Slot) → slot_of s.world x (folded p.1) ≡ o → slot_of_property s.world x p ≡ Some row → ⊥
-      slot_is p g None h f = none-some row (sym (ap (option_and_then (λ (j : Slot). cond (same_object j.definer p.0) (Some (slot_row j)) None)) h) ∙ f)
-      slot_is p g (Some k) h f = object_of p k (s.world.object x) refl g h (own p k (same_object k.definer p.0) refl (sym (ap (option_and_then (λ (j : Slot). cond (same_object j.definer p.0) (Some (slot_row j)) None)) h) ∙ f))
+      slot_is p g None h f = none-some row (sym (ap (option_and_then (λ (j : Slot). cond (same_object j.definer p.0) (Some (dumped_slot j)) None)) h) ∙ f)
+      slot_is p g (Some k) h f = object_of p k (s.world.object x) refl g h (own p k (same_object k.definer p.0) refl (sym (ap (option_and_then (λ (j : Slot). cond (same_object j.definer p.0) (Some (dumped_slot j)) None)) h) ∙ f))
 
       by : (o : Option Pair) → at_number all id.0 ≡ o → ⊥
       by None g = none-some row (sym (ap (option_and_then (slot_of_property s.world x)) g) ∙ e)

@@ -21,7 +21,7 @@ use Rattle.moo_world.proofs.Ancestry.Trees.{Chain-chain}
 use Rattle.moo_world.proofs.Inheritance.Keeping.{same_pair-is}
 use Rattle.moo_world.proofs.Inheritance.Owed.{definer_among, named_owed, named_so}
 use Rattle.moo_world.proofs.Shown.ObjectEntries.{same_object-symm}
-use Rattle.moo_load.specs.RowsOf.{all_properties, all_verbs, at_number, property_row, slot_row, slot_of_property, verb_on, AreRowsOf}
+use Rattle.moo_load.specs.RowsOf.{all_properties, all_verbs, at_number, property_row, dumped_slot, slot_of_property, verb_on, AreRowsOf}
 use Rattle.moo_load.proofs.Shown.Lists.{all_by_number, first_made, some_made, of_object}
 use Rattle.moo_load.proofs.Shown.Objects.{objects_apart}
 
@@ -85,22 +85,22 @@ module _ (s : State) (wf : IsWellFormed s.world) (m : Maps) (rows : AreRowsOf s 
       by (Some p) = refl
 
   -- the slot of a property is that of its name, with its definer
-  pub of_property : (x : ObjNo) (p : Pair) (row : SlotRow) → slot_of_property w x p ≡ Some row → (k : Slot) × (slot_of w x (folded p.1) ≡ Some k) × (k.definer ≡ p.0) × (row ≡ slot_row k)
+  pub of_property : (x : ObjNo) (p : Pair) (row : SlotRow) → slot_of_property w x p ≡ Some row → (k : Slot) × (slot_of w x (folded p.1) ≡ Some k) × (k.definer ≡ p.0) × (row ≡ dumped_slot k)
   of_property x p row e = by (slot_of w x (folded p.1)) e
     where
-      by : (o : Option Slot) → option_and_then (λ (k : Slot). cond (same_object k.definer p.0) (Some (slot_row k)) None) o ≡ Some row → (k : Slot) × (o ≡ Some k) × (k.definer ≡ p.0) × (row ≡ slot_row k)
+      by : (o : Option Slot) → option_and_then (λ (k : Slot). cond (same_object k.definer p.0) (Some (dumped_slot k)) None) o ≡ Some row → (k : Slot) × (o ≡ Some k) × (k.definer ≡ p.0) × (row ≡ dumped_slot k)
       by None h = absurd (none-some row h)
       by (Some k) h = same (same_object k.definer p.0) refl h
         where
-          same : (b : Bool) → same_object k.definer p.0 ≡ b → cond b (Some (slot_row k)) None ≡ Some row → (j : Slot) × (Some k ≡ Some j) × (j.definer ≡ p.0) × (row ≡ slot_row j)
-          same true g f = (k, refl, (same_object-Decides k.definer p.0).0 g, sym (same_Some (slot_row k) row f))
+          same : (b : Bool) → same_object k.definer p.0 ≡ b → cond b (Some (dumped_slot k)) None ≡ Some row → (j : Slot) × (Some k ≡ Some j) × (j.definer ≡ p.0) × (row ≡ dumped_slot j)
+          same true g f = (k, refl, (same_object-Decides k.definer p.0).0 g, sym (same_Some (dumped_slot k) row f))
           same false g f = absurd (none-some row f)
 
   -- and the other way
-  pub has_property : (x : ObjNo) (p : Pair) (k : Slot) → slot_of w x (folded p.1) ≡ Some k → k.definer ≡ p.0 → slot_of_property w x p ≡ Some (slot_row k)
+  pub has_property : (x : ObjNo) (p : Pair) (k : Slot) → slot_of w x (folded p.1) ≡ Some k → k.definer ≡ p.0 → slot_of_property w x p ≡ Some (dumped_slot k)
   has_property x p k e d =
-      ap (option_and_then (λ (j : Slot). cond (same_object j.definer p.0) (Some (slot_row j)) None)) e
-      ∙ ap (λ (b : Bool). cond b (Some (slot_row k)) None) ((same_object-Decides k.definer p.0).1 d)
+      ap (option_and_then (λ (j : Slot). cond (same_object j.definer p.0) (Some (dumped_slot j)) None)) e
+      ∙ ap (λ (b : Bool). cond b (Some (dumped_slot k)) None) ((same_object-Decides k.definer p.0).1 d)
 
   -- what a property of the name gives is the slot of the name
   only_slot : (x : ObjNo) (n : Name) (p : Pair) (k : Slot) → slot_of_pair x n p ≡ Some k → slot_of w x n ≡ Some k

@@ -10,7 +10,7 @@ use Rattle.moo_world.specs.World.{Slot}
 use Rattle.moo_load.specs.declared.taking.LastSlot.{LastSlot}
 use Rattle.moo_load.specs.Printed.{slot_values}
 use Rattle.moo_load.specs.Rows.{AreRead}
-use Rattle.moo_load.specs.RowsOf.{slot_row}
+use Rattle.moo_load.specs.RowsOf.{dumped_slot}
 use Rattle.moo_load.specs.Slots.{IsNextProperty}
 use Rattle.moo_load.proofs.One.Values.{one_slot}
 use Rattle.moo_load.proofs.Within.{slot_put}
@@ -20,11 +20,11 @@ as_slot : ObjNo → SlotRow → Slot
 as_slot definer row = record { definer = definer; owner = row.owner; bits = row.bits; state = row.state }
 
 -- the values of a slot's line tell its object, its property and its row
-told : (x definer : ObjNo) (name : Name) (row : SlotRow) (y : ObjNo) (p : Pair) (k : Slot) → slot_values x definer name row ≡ slot_values y p.0 p.1 (slot_row k) → (x ≡ y) × ((definer, name) ≡ p) × (row ≡ slot_row k)
+told : (x definer : ObjNo) (name : Name) (row : SlotRow) (y : ObjNo) (p : Pair) (k : Slot) → slot_values x definer name row ≡ slot_values y p.0 p.1 (dumped_slot k) → (x ≡ y) × ((definer, name) ≡ p) × (row ≡ dumped_slot k)
 unfolding as_slot
 told x definer name row y p k e =
-    let o = one_slot x y (definer, name) p (as_slot definer row) (as_slot p.0 (slot_row k)) refl refl e in
-    (o.0, o.1, ap slot_row o.2)
+    let o = one_slot x y (definer, name) p (as_slot definer row) (as_slot p.0 (dumped_slot k)) refl refl e in
+    (o.0, o.1, ap dumped_slot o.2)
 
 moved : (m : Maps) (last : LastSlot) (x y : ObjNo) (p q : Pair) (id : PropId) → x ≡ y → p ≡ q → IsNextProperty m last y q id → IsNextProperty m last x p id
 moved m last x y p q id e f next = subst (λ (z : ObjNo). IsNextProperty m last z p id) (sym e) (subst (λ (r : Pair). IsNextProperty m last y r id) (sym f) next)
@@ -42,7 +42,7 @@ returns-clause-put c x p k id is next =
 pub returns-in_err-slot-clause-err : goal.returns-in_err-slot-clause-err
 returns-in_err-slot-clause-err c =
     let p = err_from_is_err_and c.from_residual.result c.from_residual.ensures.1 in
-    rw p.1 (λ unreadable x q k id fits next. c.in_err-slot.ensures.err (sym p.2 ∙ unreadable) x q.0 q.1 (slot_row k) fits)
+    rw p.1 (λ unreadable x q k id fits next. c.in_err-slot.ensures.err (sym p.2 ∙ unreadable) x q.0 q.1 (dumped_slot k) fits)
 
 pub returns-in_default-clause-err : goal.returns-in_default-clause-err
 returns-in_default-clause-err c unreadable x p k id fits next is =
