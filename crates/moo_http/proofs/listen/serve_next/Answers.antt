@@ -21,14 +21,14 @@ returns-clause-turn g c known stand at =
     let Turn = λ (end : Stand). Visit g.A.Arrivals.hands_out g.A.Arrivals.takes_back g.A.Reader.Read.remaining g.A.Writer.Write.contents served.result c.args.arrivals.now stand c.close.new.self end in
     either opened.is_limited
     (λ is. ends_as g.S.Store known served.new.world Seen Turn
-        (λ end visit. inl (opened, closed, c.accept.new.self, c.in-Some.ensures, visit, c.close.ensures, (λ none. absurd (true≢false (sym is ∙ none))))) (served.ensures.visited known stand at))
+    (λ end visit. inl (opened, closed, c.accept.new.self, c.in-Some.ensures, visit, c.close.ensures, (λ none. absurd (true≢false (sym is ∙ none))))) (served.ensures.visited known stand at))
     (λ is.
-        let still = served.ensures.unlimited is in
-        let same : closed ≡ opened = rw (still.1.1.0, still.1.1.1) refl in
-        let visit : Seen stand = rw (still.0, still.1.1.0, still.1.1.1) (unvisited stand (g.A.Reader.Read.remaining opened.reader) (g.A.Reader.Read.remaining opened.reader) (g.A.Writer.Write.contents opened.writer)) in
-        subst (λ world. StandsAtEnd g.S.Store known world Turn) (sym still.1.0)
-        (stood g.S.Store known stand c.args.world.now Turn at (c.leaves.ensures known stand at)
-        (inl (opened, closed, c.accept.new.self, c.in-Some.ensures, visit, c.close.ensures, (λ none. (still.0, refl, same))))))
+    let still = served.ensures.unlimited is in
+    let same : closed ≡ opened = rw (still.1.1.0, still.1.1.1) refl in
+    let visit : Seen stand = rw (still.0, still.1.1.0, still.1.1.1) (unvisited stand (g.A.Reader.Read.remaining opened.reader) (g.A.Reader.Read.remaining opened.reader) (g.A.Writer.Write.contents opened.writer)) in
+    subst (λ world. StandsAtEnd g.S.Store known world Turn) (sym still.1.0)
+    (stood g.S.Store known stand c.args.world.now Turn at (c.leaves.ensures known stand at)
+    (inl (opened, closed, c.accept.new.self, c.in-Some.ensures, visit, c.close.ensures, (λ none. (still.0, refl, same))))))
 
 -- if no connection came the World stands as it did
 pub returns-in_default-clause-turn : goal.returns-in_default-clause-turn
