@@ -198,12 +198,12 @@ moved_fault g was new batch replies (Store error) settled works good ran =
     let failed : new.failed ≡ true = elim ran.failed [ inl e ↦ absurd cc | inr e ↦ e ] in
     moved_lost g was new batch error works good failed (no_reply_to g was new batch replies (Store error) (λ e. cc) works ran)
 moved_fault g was new batch replies (Damaged kind key) settled works good ran = elim ran.fault [
-  | inl e ↦ (let no : Damaged kind key ≡ Store e.0 = e.1 in absurd cc)
-  | inr e ↦ (elim e [ inl no ↦ absurd cc | inr no ↦ absurd cc ])
+  | inl e ↦ (let wrong : Damaged kind key ≡ Store e.0 = e.1 in absurd cc)
+  | inr e ↦ (elim e [ inl wrong ↦ absurd cc | inr wrong ↦ absurd cc ])
 ]
 moved_fault g was new batch replies NewerVersion settled works good ran = elim ran.fault [
-  | inl e ↦ (let no : NewerVersion ≡ Store e.0 = e.1 in absurd cc)
-  | inr e ↦ (elim e [ inl no ↦ absurd cc | inr no ↦ absurd cc ])
+  | inl e ↦ (let wrong : NewerVersion ≡ Store e.0 = e.1 in absurd cc)
+  | inr e ↦ (elim e [ inl wrong ↦ absurd cc | inr wrong ↦ absurd cc ])
 ]
 moved_fault g was new batch replies OutOfMemory settled works good ran = moved_not g was new settled (ran.memory refl)
 moved_fault g was new batch replies Closed settled works good ran = moved_not g was new settled ((no_reply_to g was new batch replies Closed (λ e. cc) works ran).same refl)

@@ -113,7 +113,7 @@ visit_moves false old new left rest before after (fault, it) = exchange_moves (E
 module _ {A R W : Type 0} (hands_out : A → Option (Connection R W) → A → Type 0) (takes_back : A → Connection R W → A → Type 0)
     (remaining : R → Option (List ℕ)) (contents : W → Option (List ℕ)) where
   turn_moves : (answered : Bool) (from : A) (old : Stand) (to : A) (new : Stand) → Visit hands_out takes_back remaining contents answered from old to new → Moves old new
-  turn_moves answered from old to new (inl (opened, closed, between, handed, visit, back)) =
+  turn_moves answered from old to new (inl (opened, closed, between, handed, visit, back, unlimited)) =
       visit_moves answered old new (remaining opened.reader) (remaining closed.reader) (contents opened.writer) (contents closed.writer) visit
   turn_moves answered from old to new (inr (is, same, handed)) = inl same
 

@@ -1,7 +1,6 @@
 use Rattle.std.proofs.Common.{◌≡◌, Bool, [], true, false, true≢false, inl, inr, refl, sym, subst, ◌∙◌}
 use Rattle.moo_store.specs.Stand.{Stand}
 use Rattle.moo_http.specs.Connections.{StandsAtEnd}
-use Rattle.moo_http.specs.declared.arrivals.Connection.{Connection}
 use Rattle.moo_http.specs.Turns.{Visited, Visit}
 use Rattle.moo_store.proofs.Untouched.{written_none}
 use Rattle.moo_http.proofs.Connections.{stood}
@@ -9,26 +8,24 @@ use Rattle.moo_http.proofs.Turns.{ends_as, unvisited}
 use Rattle.moo_http.proofs.listen.serve_next.Goals as goal
 
 either : {X : Type 0} (b : Bool) → (b ≡ true → X) → (b ≡ false → X) → X
-either true yes no = yes refl
-either false yes no = no refl
+either true first second = first refl
+either false first second = second refl
 
 pub returns-clause-turn : goal.returns-clause-turn
 returns-clause-turn g c known stand at =
     let served = c.serve_connection-is_answered in
     let opened = c.in-Some.connection in
-    let closed : Connection g.A.Arrivals.Reader g.A.Arrivals.Writer = record { reader = served.new.reader; writer = served.new.writer; is_limited = opened.is_limited } in
     let Seen = λ (end : Stand). Visited served.result stand end (g.A.Reader.Read.remaining opened.reader) (g.A.Reader.Read.remaining served.new.reader) (g.A.Writer.Write.contents opened.writer) (g.A.Writer.Write.contents served.new.writer) in
     let Turn = λ (end : Stand). Visit g.A.Arrivals.hands_out g.A.Arrivals.takes_back g.A.Reader.Read.remaining g.A.Writer.Write.contents served.result c.args.arrivals.now stand c.close.new.self end in
     either opened.is_limited
     (λ is. ends_as g.S.Store known served.new.world Seen Turn
-    (λ end visit. inl (opened, closed, c.accept.new.self, c.in-Some.ensures, visit, c.close.ensures, (λ none. absurd (true≢false (sym is ∙ none))))) (served.ensures.visited known stand at))
+    (λ end visit. inl (opened, record { reader = served.new.reader; writer = served.new.writer; is_limited = opened.is_limited }, c.accept.new.self, c.in-Some.ensures, visit, c.close.ensures, (λ none. absurd (true≢false (sym is ∙ none))))) (served.ensures.visited known stand at))
     (λ is.
     let still = served.ensures.unlimited is in
-    let same : closed ≡ opened = rw (still.1.1.0, still.1.1.1) refl in
     let visit : Seen stand = rw (still.0, still.1.1.0, still.1.1.1) (unvisited stand (g.A.Reader.Read.remaining opened.reader) (g.A.Reader.Read.remaining opened.reader) (g.A.Writer.Write.contents opened.writer)) in
     subst (λ world. StandsAtEnd g.S.Store known world Turn) (sym still.1.0)
     (stood g.S.Store known stand c.args.world.now Turn at (c.leaves.ensures known stand at)
-    (inl (opened, closed, c.accept.new.self, c.in-Some.ensures, visit, c.close.ensures, (λ none. (still.0, refl, same))))))
+    (inl (opened, record { reader = served.new.reader; writer = served.new.writer; is_limited = opened.is_limited }, c.accept.new.self, c.in-Some.ensures, visit, c.close.ensures, (λ none. (still.0, refl, rw (still.1.1.0, still.1.1.1) refl))))))
 
 -- if no connection came the World stands as it did
 pub returns-in_default-clause-turn : goal.returns-in_default-clause-turn
