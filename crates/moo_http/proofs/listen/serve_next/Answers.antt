@@ -22,10 +22,10 @@ returns-clause-turn g c known stand at =
     (λ end visit. inl (opened, record { reader = served.new.reader; writer = served.new.writer; is_limited = opened.is_limited }, c.accept.new.self, c.in-Some.ensures, visit, c.close.ensures, (λ none. absurd (true≢false (sym is ∙ none))))) (served.ensures.visited known stand at))
     (λ is.
     let still = served.ensures.unlimited is in
-    let visit : Seen stand = rw (still.0, still.1.1.0, still.1.1.1) (unvisited stand (g.A.Reader.Read.remaining opened.reader) (g.A.Reader.Read.remaining opened.reader) (g.A.Writer.Write.contents opened.writer)) in
-    subst (λ world. StandsAtEnd g.S.Store known world Turn) (sym still.1.0)
+    let visit : Seen stand = rw (still.0, still.2, still.3) (unvisited stand (g.A.Reader.Read.remaining opened.reader) (g.A.Reader.Read.remaining opened.reader) (g.A.Writer.Write.contents opened.writer)) in
+    subst (λ world. StandsAtEnd g.S.Store known world Turn) (sym still.1)
     (stood g.S.Store known stand c.args.world.now Turn at (c.leaves.ensures known stand at)
-    (inl (opened, record { reader = served.new.reader; writer = served.new.writer; is_limited = opened.is_limited }, c.accept.new.self, c.in-Some.ensures, visit, c.close.ensures, (λ none. (still.0, refl, rw (still.1.1.0, still.1.1.1) refl))))))
+    (inl (opened, record { reader = served.new.reader; writer = served.new.writer; is_limited = opened.is_limited }, c.accept.new.self, c.in-Some.ensures, visit, c.close.ensures, (λ none. (still.0, refl, rw (still.2, still.3) refl))))))
 
 -- if no connection came the World stands as it did
 pub returns-in_default-clause-turn : goal.returns-in_default-clause-turn
