@@ -1,6 +1,6 @@
 use Rattle.moo_commands.proofs.AgainLemmas.{takes_up, closes_to}
 use Rattle.moo_commands.proofs.again.run_close_run.Goals as goal
 
-pub returns-clause-reopened : goal.returns-clause-reopened
-returns-clause-reopened g c words next_words input host after next_input next_host next_after image next_image closed next_ends old new next_old next_new status next_status over next =
+pub returns : goal.returns
+returns g c words next_words input host after next_input next_host next_after image next_image closed next_ends old new next_old next_new status next_status over next =
     closes_to words image closed _ old new status next_image _ over (takes_up next_words next_image next_ends _ next_old next_new next_status next)
