@@ -155,3 +155,19 @@ module _ {T D : Type 0} {g : Ghosts D} where
   pub closes_to : (words : List (List ℕ)) (image : Image) (closed : Remains T D g) (given : Given) (old new : Option (List ℕ)) (status : ℕ) (next : Image) (Next : State → Type 0)
       → RunsClosed words image closed given old new status → ((t : State) → HoldsState next t → Next t) → ClosesTo words image closed given old new status next Next
   closes_to words image closed given old new status next Next it goes = closes_by words image it.0 closed given old new status next Next it.1 it.2 goes
+
+-- ---- two runs, by what each is given
+
+pub crash_run : {T D U E R H Q G : Type 0} {d : Ghosts D} {e : Ghosts E} (given : R → H → H → Given) (next_given : Q → G → G → Given)
+    (words next_words : List (List ℕ)) (input : R) (host after : H) (next_input : Q) (next_host next_after : G) (image next_image : Image) (ends : Ends T D d) (next_ends : Ends U E e)
+    (old new next_old next_new : Option (List ℕ)) (status next_status : ℕ) → RunsOver words image ends (given input host after) old new status → RunsOver next_words next_image next_ends (next_given next_input next_host next_after) next_old next_new next_status
+    → CrashesTo words image ends (given input host after) old new status next_image (λ t. TakesUp next_words t next_ends (next_given next_input next_host next_after) next_old next_new next_status)
+crash_run given next_given words next_words input host after next_input next_host next_after image next_image ends next_ends old new next_old next_new status next_status over next =
+    crashes_to words image ends (given input host after) old new status next_image _ over (takes_up next_words next_image next_ends (next_given next_input next_host next_after) next_old next_new next_status next)
+
+pub close_run : {T D U E R H Q G : Type 0} {d : Ghosts D} {e : Ghosts E} (given : R → H → H → Given) (next_given : Q → G → G → Given)
+    (words next_words : List (List ℕ)) (input : R) (host after : H) (next_input : Q) (next_host next_after : G) (image next_image : Image) (closed : Remains T D d) (next_ends : Ends U E e)
+    (old new next_old next_new : Option (List ℕ)) (status next_status : ℕ) → RunsClosed words image closed (given input host after) old new status → RunsOver next_words next_image next_ends (next_given next_input next_host next_after) next_old next_new next_status
+    → ClosesTo words image closed (given input host after) old new status next_image (λ t. TakesUp next_words t next_ends (next_given next_input next_host next_after) next_old next_new next_status)
+close_run given next_given words next_words input host after next_input next_host next_after image next_image closed next_ends old new next_old next_new status next_status over next =
+    closes_to words image closed (given input host after) old new status next_image _ over (takes_up next_words next_image next_ends (next_given next_input next_host next_after) next_old next_new next_status next)
