@@ -1,22 +1,8 @@
 -- The first key that passes, among keys that may.
-use Rattle.std.proofs.Common.{◌≡◌, ◌≢◌, Bool, true, false, ◌||◌, cond, Option, None, Some, List, [], ◌∷◌, Less, Equal, Greater, Ordering, is_some, refl, sym, ap, ◌∙◌, subst, T, unwrap_or}
-use Rattle.std.specs.Option.{option_map}
-use Rattle.std.specs.Cmp.{IsTotalOrder, tied_itself}
-use Rattle.std.specs.Ordering.{eq_by_cmp, is_lt, is_eq, match_ordering, ordering_reverse, ordering_then}
-use Rattle.std.specs.List.{filter}
+use Rattle.moo_rows.proofs.Words.{◌≡◌, ◌≢◌, Bool, true, false, ◌||◌, cond, Option, None, Some, List, [], ◌∷◌, Less, Equal, Greater, Ordering, is_some, refl, sym, ap, ◌∙◌, subst, T, unwrap_or, option_map, IsTotalOrder, tied_itself, eq_by_cmp, is_lt, is_eq, match_ordering, ordering_reverse, ordering_then, filter, FinMap, find, is_sorted, entries, entries_sorted, get-entries, get-insert, get-remove, below_all, OnOk, OnErr, CmpEqualImpliesEq, true≢false, ObjNo, lesser, IsPast, IsNext, is_past, entries_past, object_cmp, IsFirst}
 use Rattle.std.specs.FinMap as map
-use Rattle.std.specs.FinMap.{FinMap, find, is_sorted, entries, entries_sorted, get-entries, get-insert, get-remove}
-use Rattle.std.specs.FinMap.Entries.{below_all}
 use Rattle.std.specs.declared.result.Result.{Result}
 use Rattle.std.specs.declared.result.Result.TheVariants.{Ok, Err}
-use Rattle.std.specs.Prelude.{OnOk, OnErr}
-use Rattle.std.proofs.lemmas.Map.Lookups.{CmpEqualImpliesEq}
-use Rattle.std.proofs.lemmas.Bool.{true≢false}
-use Rattle.moo_value.specs.declared.value.ObjNo.{ObjNo}
-use Rattle.moo_ordered.specs.Ordered.{lesser, IsPast, IsNext}
-use Rattle.moo_rows.specs.Walk.{is_past, entries_past}
-use Rattle.moo_rows.specs.Maps.{object_cmp}
-use Rattle.moo_rows.specs.Links.{IsFirst}
 use Rattle.moo_rows.proofs.Orders.{object_total}
 use Rattle.moo_rows.proofs.Walking.{key_cmp, not_before, first_of, second_of, elsewhere, here, past_test, past_is, below, not_held, all_past, all_past_key, keeps, drops, some_none}
 

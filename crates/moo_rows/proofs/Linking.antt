@@ -1,23 +1,9 @@
 -- Which objects may have a link, after more are added and some are forgotten.
-use Rattle.std.proofs.Common.{◌≡◌, ◌≢◌, Bool, true, false, cond, ◌||◌, [], ◌∷◌, Option, None, Some, Ordering, Less, Equal, Greater, is_some, refl, sym, ap, ◌∙◌}
-use Rattle.std.specs.Cmp.{tied_itself}
-use Rattle.std.specs.Ordering.{eq_by_cmp, is_eq, int_eq}
-use Rattle.std.specs.FinMap.{FinMap, get, insert, remove}
-use Rattle.std.specs.Option.{option_map}
+use Rattle.moo_rows.proofs.Words.{◌≡◌, ◌≢◌, Bool, true, false, cond, ◌||◌, [], ◌∷◌, Option, None, Some, Ordering, Less, Equal, Greater, is_some, refl, sym, ap, ◌∙◌, tied_itself, eq_by_cmp, is_eq, int_eq, FinMap, get, insert, remove, option_map, ⊤, true≢false, Decides-int_eq, ObjNo, ObjRow, PropId, PropRow, object_exact, prop_exact, slot_exact, tie_exact, Maps, object_cmp, prop_cmp, slot_cmp, LinkSets, tie_cmp, is_kept, is_to_nothing, is_candidate, may_have, has_link, ties_of, ties_have, row_has, row_defined, is_linked, is_definer, linked_left, defined_left, IsFirst, AreCovered, AreOfDefiners}
 use Rattle.std.proofs.lemmas.Option.{none-some, same_Some}
-use Rattle.std.specs.Prelude.{⊤}
-use Rattle.std.proofs.lemmas.Bool.{true≢false}
-use Rattle.std.proofs.lemmas.Bool.Decides.{Decides-int_eq}
-use Rattle.moo_value.specs.declared.value.ObjNo.{ObjNo}
-use Rattle.moo_rows.specs.declared.row.ObjRow.{ObjRow}
 use Rattle.moo_rows.specs.declared.row.Ties.{Ties}
 use Rattle.moo_rows.specs.declared.row.Link.{Link}
 use Rattle.moo_rows.specs.declared.row.Link.TheVariants.{ChildOf, Within, Player}
-use Rattle.moo_rows.specs.declared.row.PropId.{PropId}
-use Rattle.moo_rows.specs.declared.row.PropRow.{PropRow}
-use Rattle.moo_rows.specs.Exact.{object_exact, prop_exact, slot_exact, tie_exact}
-use Rattle.moo_rows.specs.Maps.{Maps, object_cmp, prop_cmp, slot_cmp}
-use Rattle.moo_rows.specs.Links.{LinkSets, tie_cmp, is_kept, is_to_nothing, is_candidate, may_have, has_link, ties_of, ties_have, row_has, row_defined, is_linked, is_definer, linked_left, defined_left, IsFirst, AreCovered, AreOfDefiners}
 use Rattle.moo_rows.proofs.Orders.{object_total, prop_total, slot_total, tie_total}
 use Rattle.moo_rows.proofs.Firsts.{lacked-insert, lacked-remove, has-insert, first-end, first-step}
 

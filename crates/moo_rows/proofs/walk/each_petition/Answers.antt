@@ -1,5 +1,4 @@
-use Rattle.std.specs.FinMap.{entries}
-use Rattle.moo_rows.specs.Maps.{petition_cmp}
+use Rattle.moo_rows.proofs.Words.{entries, petition_cmp}
 use Rattle.moo_rows.proofs.Walking.{past_none}
 use Rattle.moo_rows.proofs.walk.each_petition.Goals as goal
 
