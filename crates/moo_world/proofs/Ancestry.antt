@@ -7,4 +7,3 @@ pub mod Redirected
 pub mod Places
 pub mod Subtrees
 pub mod Upward
-pub mod Leaves

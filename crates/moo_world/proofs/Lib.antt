@@ -1,3 +1,5 @@
+pub mod Words
+pub mod Lemmas
 pub mod Ancestry
 pub mod Inheritance
 pub mod Form

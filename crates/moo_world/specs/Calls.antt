@@ -1,8 +1,8 @@
 -- What each call on objects comes to: its checks, in their order, and then its answer and the world that it leaves. At the end, each
 -- call by its name, those on properties and on verbs too.
 -- LambdaMOO Programmer's Manual, 'Fundamental Operations on Objects', 'Object Movement' and 'Operations on Player Objects' in the
--- part on built-in functions. The order of the checks, accept lists, and E_RECMOVE for a parent that is the object itself or under
--- it are this server's own.
+-- part on built-in functions. E_RECMOVE for a parent that is the object itself or under it is LambdaMOO 1.8's. The order of the
+-- checks and accept lists are this server's own.
 use Rattle.std.specs.Prelude.{nat_le, not, ◌||◌, List, [], length, Option, None, Some, unwrap_or}
 use Rattle.std.specs.Option.{option_and_then}
 use Rattle.moo_value.specs.declared.value.ObjNo.{ObjNo}

@@ -10,44 +10,44 @@ use Rattle.moo_world.specs.Manual.{manual_slot}
 use Rattle.moo_world.specs.ObjectLists.{has_parent, children_of}
 use Rattle.moo_world.specs.Recycling.{recycled}
 
--- x under the parent q, and every object with the slots that it then has in the manual's wording
+-- the object under its new parent, and every object with the slots that it then has in the manual's wording
 abbrev pub manually_moved : World → ObjNo → ObjNo → World
-manually_moved w x q = record w { object = λ y. option_map (with_slots (manual_slot w x q y)) ((with_parent w x q).object y) }
+manually_moved world object parent = record world { object = λ other. option_map (with_slots (manual_slot world object parent other)) ((with_parent world object parent).object other) }
 
 -- if a change of parent may be made, the world that the manual's words give is the model's
 abbrev pub ManualMoveHolds : Type 0
-ManualMoveHolds = (w : World) (x q : ObjNo) → MayReparent w x q → manually_moved w x q ≡ reparented w x q
+ManualMoveHolds = (world : World) (object parent : ObjNo) → MayReparent world object parent → manually_moved world object parent ≡ reparented world object parent
 
--- objects moved to q one by one, each in the world that the move before it left
+-- objects moved to a parent one by one, each in the world that the move before it left
 abbrev pub moved_one_by_one : World → List ObjNo → ObjNo → World
-moved_one_by_one w [] q = w
-moved_one_by_one w (c ∷ l) q = moved_one_by_one (manually_moved w c q) l q
+moved_one_by_one world [] parent = world
+moved_one_by_one world (child ∷ rest) parent = moved_one_by_one (manually_moved world child parent) rest parent
 
 -- each of these moves starts on a well formed world and meets what a change of parent asks
 abbrev pub MayMoveOneByOne : World → List ObjNo → ObjNo → Type 0
-MayMoveOneByOne w [] q = ⊤
-MayMoveOneByOne w (c ∷ l) q = MayReparent w c q × MayMoveOneByOne (manually_moved w c q) l q
+MayMoveOneByOne world [] parent = ⊤
+MayMoveOneByOne world (child ∷ rest) parent = MayReparent world child parent × MayMoveOneByOne (manually_moved world child parent) rest parent
 
--- what is in x is nowhere
+-- what is in the object is nowhere
 abbrev pub emptied : ObjNo → Record → Record
-emptied x r = record r { row = record r.row { location = if same_object x r.row.location then nothing else r.row.location } }
+emptied object entry = record entry { row = record entry.row { location = if same_object object entry.row.location then nothing else entry.row.location } }
 
--- the record of x gone and its contents moved to nothing: no other parent and no slot changes
+-- the record of the object gone and its contents moved to nothing: no other parent and no slot changes
 abbrev pub taken_out : World → ObjNo → World
-taken_out w x = record w { object = λ y. if same_object x y then None else option_map (emptied x) (w.object y) }
+taken_out world object = record world { object = λ other. if same_object object other then None else option_map (emptied object) (world.object other) }
 
--- a list that has the children of x and nothing else, in any order
+-- a list that has the children of the object and nothing else, in any order
 abbrev pub AreChildren : World → ObjNo → List ObjNo → Type 0
-AreChildren w x l = (y : ObjNo) → is_among y l ≡ has_parent w x y
+AreChildren world object children = (other : ObjNo) → is_among other children ≡ has_parent world object other
 
--- the children of x may be moved to q one by one, and when x is then taken out, the world is the one that recycling x leaves
+-- the children of the object may be moved to its parent one by one, and when it is then taken out, the world is the one that recycling it leaves
 abbrev pub MoveAsRecycled : World → ObjNo → ObjNo → List ObjNo → Type 0
-MoveAsRecycled w x q children = MayMoveOneByOne w children q × (taken_out (moved_one_by_one w children q) x ≡ recycled w x)
+MoveAsRecycled world object parent children = MayMoveOneByOne world children parent × (taken_out (moved_one_by_one world children parent) object ≡ recycled world object)
 
 -- so it is in each order
 abbrev pub ChildrenMoveOneByOne : Type 0
-ChildrenMoveOneByOne = (w : World) (x q : ObjNo) (children : List ObjNo) → IsWellFormed w → parent_of w x ≡ Some q → AreChildren w x children → MoveAsRecycled w x q children
+ChildrenMoveOneByOne = (world : World) (object parent : ObjNo) (children : List ObjNo) → IsWellFormed world → parent_of world object ≡ Some parent → AreChildren world object children → MoveAsRecycled world object parent children
 
 -- and with the ascending list of children
 abbrev pub ChildrenMoveAscending : Type 0
-ChildrenMoveAscending = (w : World) (x q : ObjNo) → IsWellFormed w → parent_of w x ≡ Some q → MoveAsRecycled w x q (children_of w x)
+ChildrenMoveAscending = (world : World) (object parent : ObjNo) → IsWellFormed world → parent_of world object ≡ Some parent → MoveAsRecycled world object parent (children_of world object)

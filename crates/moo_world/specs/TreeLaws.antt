@@ -9,56 +9,56 @@ use Rattle.moo_world.specs.Rights.{accepts, is_within}
 
 -- an object has one chain at most
 abbrev pub OneChain : Type 0
-OneChain = (w : World) (x : ObjNo) (l m : List ObjNo) → IsTree w → Chain w x l → Chain w x m → l ≡ m
+OneChain = (world : World) (object : ObjNo) (first second : List ObjNo) → IsTree world → Chain world object first → Chain world object second → first ≡ second
 
 -- no object is in a chain twice
 abbrev pub NoneTwice : Type 0
-NoneTwice = (w : World) (x y : ObjNo) (front behind : List ObjNo) → IsTree w → Chain w x (front ++ y ∷ behind) → is_among y behind ≡ false
+NoneTwice = (world : World) (object other : ObjNo) (front behind : List ObjNo) → IsTree world → Chain world object (front ++ other ∷ behind) → is_among other behind ≡ false
 
 -- from any of its objects on, a chain is that object's own
 abbrev pub ChainSplits : Type 0
-ChainSplits = (w : World) (x y : ObjNo) (front behind : List ObjNo) → IsTree w → Chain w x (front ++ y ∷ behind) → Chain w y (y ∷ behind)
+ChainSplits = (world : World) (object other : ObjNo) (front behind : List ObjNo) → IsTree world → Chain world object (front ++ other ∷ behind) → Chain world other (other ∷ behind)
 
 -- from links, definitions and the slots of a world there is one rebuilt world
 abbrev pub RebuiltExists : Type 0
-RebuiltExists = (w s : World) (q : ObjNo) → IsTree w → IsTree s → SameButSlots (rebuilt w s q) s × Rebuilt w (rebuilt w s q) q
+RebuiltExists = (world changed : World) (parent : ObjNo) → IsTree world → IsTree changed → SameButSlots (rebuilt world changed parent) changed × Rebuilt world (rebuilt world changed parent) parent
 
 abbrev pub RebuiltIsOne : Type 0
-RebuiltIsOne = (w a b : World) (q : ObjNo) → IsTree w → IsTree a → SameButSlots a b → Rebuilt w a q → Rebuilt w b q → a ≡ b
+RebuiltIsOne = (world first second : World) (parent : ObjNo) → IsTree world → IsTree first → SameButSlots first second → Rebuilt world first parent → Rebuilt world second parent → first ≡ second
 
 -- ---- tests and relations
 
 abbrev pub ChainIsFound : Type 0
-ChainIsFound = (w : World) (x : ObjNo) (l : List ObjNo) → IsTree w → is_object w x ≡ true → (chain w x ≡ l) ↔ Chain w x l
+ChainIsFound = (world : World) (object : ObjNo) (list : List ObjNo) → IsTree world → is_object world object ≡ true → (chain world object ≡ list) ↔ Chain world object list
 
 abbrev pub PlacesAreFound : Type 0
-PlacesAreFound = (w : World) (x : ObjNo) (l : List ObjNo) → IsTree w → is_object w x ≡ true → (places w x ≡ l) ↔ Places w x l
+PlacesAreFound = (world : World) (object : ObjNo) (list : List ObjNo) → IsTree world → is_object world object ≡ true → (places world object ≡ list) ↔ Places world object list
 
 abbrev pub UnderIsTested : Type 0
-UnderIsTested = (w : World) (y x : ObjNo) → IsTree w → is_object w y ≡ true → Decides (is_among x (chain w y)) (IsUnder w y x)
+UnderIsTested = (world : World) (object ancestor : ObjNo) → IsTree world → is_object world object ≡ true → Decides (is_among ancestor (chain world object)) (IsUnder world object ancestor)
 
 abbrev pub OwesIsTested : Type 0
-OwesIsTested = (w : World) (x : ObjNo) (p : Pair) → IsTree w → Decides (owes w x p) (Owes w x p)
+OwesIsTested = (world : World) (object : ObjNo) (pair : Pair) → IsTree world → Decides (owes world object pair) (Owes world object pair)
 
 abbrev pub ReadsIsFound : Type 0
-ReadsIsFound = (w : World) (x : ObjNo) (n : Name) (v : Value) → IsTree w → (read_of w x n ≡ Some v) ↔ Reads w n x v
+ReadsIsFound = (world : World) (object : ObjNo) (name : Name) (value : Value) → IsTree world → (read_of world object name ≡ Some value) ↔ Reads world name object value
 
--- x is y or is in y at any depth
+-- the object is the container or is in it at any depth
 abbrev pub IsWithin : World → ObjNo → ObjNo → Type 0
-IsWithin w x y = (l : List ObjNo) × Places w x l × (is_among y l ≡ true)
+IsWithin world object container = (list : List ObjNo) × Places world object list × (is_among container list ≡ true)
 
 abbrev pub WithinIsTested : Type 0
-WithinIsTested = (w : World) (x y : ObjNo) → IsTree w → is_object w x ≡ true → Decides (is_within w x y) (IsWithin w x y)
+WithinIsTested = (world : World) (object container : ObjNo) → IsTree world → is_object world object ≡ true → Decides (is_within world object container) (IsWithin world object container)
 
 -- the accept list that counts for an object: its own, or if it holds none its parent's
-pub data HasList (w : World) : ObjNo → List ObjNo → Type 0 where
-  own : {x : ObjNo} {r : Record} {list : List ObjNo} → w.object x ≡ Some r → r.row.accept ≡ Some list → HasList w x list
-  inherited : {x : ObjNo} {r : Record} {list : List ObjNo} → w.object x ≡ Some r → r.row.accept ≡ None → HasList w r.row.parent list → HasList w x list
+pub data HasList (world : World) : ObjNo → List ObjNo → Type 0 where
+  own : {object : ObjNo} {entry : Record} {list : List ObjNo} → world.object object ≡ Some entry → entry.row.accept ≡ Some list → HasList world object list
+  inherited : {object : ObjNo} {entry : Record} {list : List ObjNo} → world.object object ≡ Some entry → entry.row.accept ≡ None → HasList world entry.row.parent list → HasList world object list
 
 -- #-1 takes in anything, and an object what is on the list that counts, or has an ancestor there
-pub data Accepts (w : World) (x thing : ObjNo) : Type 0 where
-  anything : x ≡ nothing → Accepts w x thing
-  listed : {list : List ObjNo} → HasList w x list → Any (λ a. IsUnder w thing a) list → Accepts w x thing
+pub data Accepts (world : World) (object thing : ObjNo) : Type 0 where
+  anything : object ≡ nothing → Accepts world object thing
+  listed : {list : List ObjNo} → HasList world object list → Any (λ ancestor. IsUnder world thing ancestor) list → Accepts world object thing
 
 abbrev pub AcceptsIsTested : Type 0
-AcceptsIsTested = (w : World) (x thing : ObjNo) → IsTree w → is_object w thing ≡ true → Decides (accepts w x thing) (Accepts w x thing)
+AcceptsIsTested = (world : World) (object thing : ObjNo) → IsTree world → is_object world thing ≡ true → Decides (accepts world object thing) (Accepts world object thing)

@@ -1,13 +1,5 @@
 -- The laws of the nearest common ancestor, on lists of objects.
-use Rattle.std.proofs.Common.{◌≡◌, Bool, true, false, cond, not, ◌||◌, List, [], ◌∷◌, ◌++◌, refl, sym, ◌∙◌, ap, subst, ◌⊎◌, inl, inr, Option, Some, None, append-nil}
-use Rattle.std.specs.List.{find}
-use Rattle.std.proofs.lemmas.Bool.{false≢true, or_parts, or_right, or_cases}
-use Rattle.std.proofs.lemmas.List.Elements.{filter-append}
-use Rattle.std.proofs.lemmas.Option.{none-some, same_Some}
-use Rattle.moo_value.specs.declared.value.ObjNo.{ObjNo}
-use Rattle.moo_world.specs.Objects.{nothing, same_object, is_among, same_object-Decides}
-use Rattle.moo_world.specs.World.{Climbs}
-use Rattle.moo_world.specs.Manual.{except}
+use Rattle.moo_world.proofs.Words.{◌≡◌, Bool, true, false, cond, not, ◌||◌, List, [], ◌∷◌, ◌++◌, refl, sym, ◌∙◌, ap, subst, ◌⊎◌, inl, inr, Option, Some, None, append-nil, find, false≢true, or_parts, or_right, or_cases, filter-append, none-some, same_Some, ObjNo, nothing, same_object, is_among, same_object-Decides, Climbs, except}
 use Rattle.moo_world.proofs.Ancestry.Chains.{front_of, Climbs-once}
 use Rattle.moo_world.proofs.Inheritance.Owed.{is_among-append}
 

@@ -1,14 +1,7 @@
 -- What a change of one parent does to chains.
-use Rattle.std.proofs.Common.{◌≡◌, Bool, true, false, cond, ◌||◌, List, [], ◌∷◌, ◌++◌, map, refl, sym, ◌∙◌, ap, subst, ◌⊎◌, inl, inr, Option, Some, None}
-use Rattle.std.specs.Prelude.{is_some, unwrap_or, if◌then◌else◌}
-use Rattle.std.specs.Option.{option_map}
-use Rattle.std.specs.List.{flat_map}
-use Rattle.std.proofs.lemmas.Bool.{false≢true, or_parts}
-use Rattle.moo_value.specs.declared.value.ObjNo.{ObjNo}
-use Rattle.moo_world.specs.Objects.{Name, nothing, same_object, is_among, same_object-Decides}
-use Rattle.moo_world.specs.World.{World, Record, IsTree, Climbs, Chain, is_object, parent_of, location_of, names_of, owner_of, owed_by, chain, with_parent}
+use Rattle.moo_world.proofs.Words.{◌≡◌, Bool, true, false, cond, ◌||◌, List, [], ◌∷◌, ◌++◌, map, refl, sym, ◌∙◌, ap, subst, ◌⊎◌, inl, inr, Option, Some, None, is_some, unwrap_or, if◌then◌else◌, option_map, flat_map, false≢true, or_parts, ObjNo, Name, nothing, same_object, is_among, same_object-Decides, World, Record, IsTree, Climbs, Chain, is_object, parent_of, location_of, names_of, owner_of, owed_by, chain, with_parent}
 use Rattle.moo_world.proofs.Ancestry.Chains.{front_of}
-use Rattle.moo_world.proofs.Ancestry.Trees.{chain_is, Chain-chain, chain-nothing}
+use Rattle.moo_world.proofs.Ancestry.Trees.{chain_is, Chain-chain, Chain-either}
 
 module _ (w : World) (x q : ObjNo) where
   abbrev pub moved : World
@@ -67,11 +60,7 @@ module _ (w : World) (x q : ObjNo) where
 
   module _ (t : IsTree w) (xo : is_object w x ≡ true) (qo : (is_object w q ≡ true) ⊎ (q ≡ nothing)) (outside : is_among x (chain w q) ≡ false) where
     pub Chain-new : Chain w q (chain w q)
-    Chain-new = by qo
-      where
-        by : (is_object w q ≡ true) ⊎ (q ≡ nothing) → Chain w q (chain w q)
-        by (inl h) = Chain-chain w t q h
-        by (inr h) = subst (λ k. Chain w k (chain w k)) (sym h) (subst (Chain w nothing) (sym (chain-nothing w t)) refl)
+    Chain-new = Chain-either w t q qo
 
     Climbs-x : Chain moved x (x ∷ chain w q)
     Climbs-x = (refl, q, at_itself x (w.object x) ((same_object-Decides x x).1 refl) xo, Climbs-unmoved (chain w q) q Chain-new outside)

@@ -1,16 +1,5 @@
 -- The laws of places in a world: what an object lies in, at any depth.
-use Rattle.std.proofs.Common.{◌≡◌, zero, suc, false, true, ℕ, List, [], ◌∷◌, refl, sym, ◌∙◌, ap, subst, Option, Some, None}
-use Rattle.std.specs.Prelude.{is_some}
-use Rattle.std.specs.Option.{option_map}
-use Rattle.std.proofs.lemmas.Option.{none-some, same_Some}
-use Rattle.moo_value.specs.declared.value.ObjNo.{ObjNo}
-use Rattle.moo_rows.specs.declared.row.ObjRow.{ObjRow}
-use Rattle.moo_world.specs.Objects.{nothing}
-use Rattle.moo_world.specs.World.{World, Record, IsTree, Places, is_object, location_of, climb, places, numbers_to}
-use Rattle.moo_world.specs.Rows.{LookUps, world_shown, record_of}
-use Rattle.moo_world.proofs.Ancestry.Chains.{Climbs-bound, climb_is, NumbersBelow}
-use Rattle.moo_world.proofs.Shown.Seen.{object_seen, no_object_seen}
-use Rattle.moo_world.proofs.Ancestry.Trees.{assigned, linked, no_link, nothing_is_no_object}
+use Rattle.moo_world.proofs.Lemmas.{◌≡◌, zero, suc, false, true, ℕ, List, [], ◌∷◌, refl, sym, ◌∙◌, ap, subst, Option, Some, None, is_some, option_map, none-some, same_Some, ObjNo, ObjRow, nothing, World, Record, IsTree, Places, is_object, location_of, climb, places, numbers_to, LookUps, world_shown, record_of, Climbs-bound, climb_is, NumbersBelow, object_seen, no_object_seen, assigned, linked, no_link, nothing_is_no_object}
 
 module _ (w : World) (t : IsTree w) where
   pub no_location : location_of w nothing ≡ None

@@ -1,11 +1,5 @@
 -- A list along a link, where one object's link is changed.
-use Rattle.std.proofs.Common.{◌≡◌, Bool, true, false, cond, List, [], ◌∷◌, ◌++◌, refl, sym, ◌∙◌, ap, subst, Option, Some}
-use Rattle.std.specs.Prelude.{◌||◌}
-use Rattle.std.proofs.lemmas.Bool.{false≢true, or_parts}
-use Rattle.moo_value.specs.declared.value.ObjNo.{ObjNo}
-use Rattle.moo_world.specs.Objects.{same_object, is_among, same_object-Decides}
-use Rattle.moo_world.specs.World.{Climbs}
-use Rattle.moo_world.proofs.Ancestry.Chains.{front_of}
+use Rattle.moo_world.proofs.Lemmas.{◌≡◌, Bool, true, false, cond, List, [], ◌∷◌, ◌++◌, refl, sym, ◌∙◌, ap, subst, Option, Some, ◌||◌, false≢true, or_parts, ObjNo, same_object, is_among, same_object-Decides, Climbs, front_of}
 
 module _ (link moved : ObjNo → Option ObjNo) (x q : ObjNo) (other : (y : ObjNo) → same_object x y ≡ false → moved y ≡ link y) (here : moved x ≡ Some q) (to : List ObjNo) (new : Climbs link q to) (outside : is_among x to ≡ false) where
   unmoved : (l : List ObjNo) (z : ObjNo) → Climbs link z l → is_among x l ≡ false → Climbs moved z l

@@ -1,13 +1,5 @@
 -- The ascending lists of objects, and names that don't clash.
-use Rattle.std.proofs.Common.{◌≡◌, ℕ, zero, suc, ◌<◌, Bool, true, false, cond, ◌||◌, List, [], ◌∷◌, ◌++◌, map, refl, sym, ◌∙◌, ap, subst, ◌⊎◌, inl, inr, Option, Some, None, arith, pos}
-use Rattle.std.specs.Prelude.{is_some}
-use Rattle.std.specs.List.{list_any, filter}
-use Rattle.std.proofs.lemmas.Bool.{false≢true, or_parts, or_right, or_cases, cases_eq}
-use Rattle.moo_value.specs.declared.value.ObjNo.{ObjNo}
-use Rattle.moo_world.specs.Objects.{Pair, object_at, same_object, same_pair, folded, is_among, same_object-Decides}
-use Rattle.moo_world.specs.World.{World, IsTree, is_object, chain, defined_by, owed_by, pair_named, numbers_to}
-use Rattle.moo_world.specs.Rows.{numbers_below}
-use Rattle.moo_world.specs.ObjectLists.{objects_of, subtree_of, meets}
+use Rattle.moo_world.proofs.Words.{◌≡◌, ℕ, zero, suc, ◌<◌, Bool, true, false, cond, ◌||◌, List, [], ◌∷◌, ◌++◌, map, refl, sym, ◌∙◌, ap, subst, ◌⊎◌, inl, inr, Option, Some, None, arith, pos, is_some, list_any, filter, false≢true, or_parts, or_right, or_cases, cases_eq, ObjNo, Pair, object_at, same_object, same_pair, folded, is_among, same_object-Decides, World, IsTree, is_object, chain, defined_by, owed_by, pair_named, numbers_to, numbers_below, objects_of, subtree_of, meets}
 use Rattle.moo_world.proofs.Ancestry.Trees.{assigned, chain_of_none}
 use Rattle.moo_world.proofs.Inheritance.Owed.{any-append, is_among-append}
 use Rattle.moo_world.proofs.Inheritance.Keeping.{same_pair-is}

@@ -1,13 +1,5 @@
 -- The laws of chains in a world.
-use Rattle.std.proofs.Common.{◌≡◌, ℕ, zero, suc, ◌<◌, true, false, List, [], ◌∷◌, refl, sym, ◌∙◌, ap, subst, Option, Some, None, arith, ℤ, pos, negsuc}
-use Rattle.std.specs.Prelude.{◌≤ℤ◌, is_some}
-use Rattle.std.specs.Option.{option_map}
-use Rattle.std.proofs.lemmas.Bool.{false≢true}
-use Rattle.std.proofs.lemmas.Int.{ints}
-use Rattle.std.proofs.lemmas.Option.{none-some, same_Some}
-use Rattle.moo_value.specs.declared.value.ObjNo.{ObjNo}
-use Rattle.moo_world.specs.Objects.{nothing, is_among}
-use Rattle.moo_world.specs.World.{World, Record, IsTree, Chain, IsUnder, is_object, parent_of, climb, chain, numbers_to}
+use Rattle.moo_world.proofs.Words.{◌≡◌, ℕ, zero, suc, ◌<◌, true, false, List, [], ◌∷◌, refl, sym, ◌∙◌, ap, subst, Option, Some, None, arith, ℤ, pos, negsuc, ◌≤ℤ◌, is_some, option_map, false≢true, ints, none-some, same_Some, ObjNo, nothing, is_among, World, Record, IsTree, Chain, IsUnder, is_object, parent_of, climb, chain, numbers_to, ◌⊎◌, inl, inr}
 use Rattle.moo_world.proofs.Ancestry.Chains.{Climbs-unique, Climbs-bound, climb_is, NumbersBelow}
 
 pub assigned : (z top : ℤ) → pos 0 ≤ℤ z → z ≤ℤ top → (n : ℕ) × (z ≡ pos n) × (n < numbers_to top)
@@ -49,6 +41,10 @@ module _ (w : World) (t : IsTree w) where
 
   pub chain-nothing : chain w nothing ≡ []
   chain-nothing = chain_is nothing [] refl
+
+  pub Chain-either : (q : ObjNo) → (is_object w q ≡ true) ⊎ (q ≡ nothing) → Chain w q (chain w q)
+  Chain-either q (inl h) = Chain-chain q h
+  Chain-either q (inr h) = subst (λ k. Chain w k (chain w k)) (sym h) (subst (Chain w nothing) (sym chain-nothing) refl)
 
   pub Chain-unique : (x : ObjNo) (l m : List ObjNo) → Chain w x l → Chain w x m → l ≡ m
   Chain-unique x l m p q = Climbs-unique (parent_of w) no_parent l m x p q

@@ -1,21 +1,5 @@
 -- A move of an object up its own chain: the checks let it through, and what lay between goes.
-use Rattle.std.proofs.Common.{◌≡◌, Bool, true, false, cond, ◌||◌, List, [], ◌∷◌, ◌++◌, drop, refl, sym, ◌∙◌, ap, subst, ◌⊎◌, inl, inr, Option, Some, None, append_assoc}
-use Rattle.std.specs.Prelude.{unwrap_or, is_some, if◌then◌else◌}
-use Rattle.std.specs.Option.{option_map}
-use Rattle.std.specs.List.{list_any, find, filter}
-use Rattle.std.proofs.lemmas.Bool.{false≢true, both_ways, or_parts, or_right, or_cases}
-use Rattle.moo_value.specs.declared.value.ObjNo.{ObjNo}
-use Rattle.moo_world.specs.Objects.{Name, Pair, nothing, same_object, same_pair, folded, is_among, same_object-Decides, same_pair-self}
-use Rattle.moo_world.specs.World.{World, IsWellFormed, Chain, NamesDiffer, is_object, parent_of, names_of, owner_of, slot_of, defined_by, owed_by, pair_named, chain, fresh}
-use Rattle.moo_world.specs.Laws.{MayReparent}
-use Rattle.moo_world.specs.Manual.{common, except, lost, gained, kept_from, manual_slot}
-use Rattle.moo_world.specs.ObjectLists.{objects_of, subtree_of, meets}
-use Rattle.moo_world.proofs.Ancestry.Chains.{front_of, Climbs-split, Climbs-once}
-use Rattle.moo_world.proofs.Ancestry.Trees.{chain-nothing, Chain-chain, chain_of_none, no_parent}
-use Rattle.moo_world.proofs.Inheritance.Owed.{is_among-append, is_among-right, owed_by-append, own_pair, in_owed, in_owed-append, definer_among, named_once, some_named}
-use Rattle.moo_world.proofs.Ancestry.Ancestors.{same_object-self, apart_in_chain, except_end}
-use Rattle.moo_world.proofs.Inheritance.ManualLaw.{NoClash}
-use Rattle.moo_world.proofs.Inheritance.Recycling.{own_owed}
+use Rattle.moo_world.proofs.Lemmas.{◌≡◌, Bool, true, false, cond, ◌||◌, List, [], ◌∷◌, ◌++◌, drop, refl, sym, ◌∙◌, ap, subst, ◌⊎◌, inl, inr, Option, Some, None, append_assoc, unwrap_or, is_some, if◌then◌else◌, option_map, list_any, find, filter, false≢true, both_ways, or_parts, or_right, or_cases, ObjNo, Name, Pair, nothing, same_object, same_pair, folded, is_among, same_object-Decides, same_pair-self, World, IsWellFormed, Chain, NamesDiffer, is_object, parent_of, names_of, owner_of, slot_of, defined_by, owed_by, pair_named, chain, fresh, MayReparent, common, except, lost, gained, kept_from, manual_slot, objects_of, subtree_of, meets, front_of, Climbs-split, Climbs-once, chain-nothing, Chain-chain, chain_of_none, no_parent, is_among-append, is_among-right, owed_by-append, own_pair, in_owed, in_owed-append, definer_among, named_once, some_named, same_object-self, apart_in_chain, except_end, NoClash, own_owed, Chain-either}
 
 pub filter_passes : (t : ObjNo → Bool) (l : List ObjNo) (d : ObjNo) → is_among d (filter t l) ≡ true → t d ≡ true
 filter_passes t [] d h = absurd (false≢true h)
@@ -39,11 +23,7 @@ meets-from_NoClash w x q apart = none_any (λ (p : Pair). is_some (pair_named (o
 
 module _ (w : World) (c q : ObjNo) (between : List ObjNo) (wf : IsWellFormed w) (co : is_object w c ≡ true) (qo : (is_object w q ≡ true) ⊎ (q ≡ nothing)) (split : chain w c ≡ c ∷ between ++ chain w q) where
   Chain-q : Chain w q (chain w q)
-  Chain-q = by qo
-    where
-      by : (is_object w q ≡ true) ⊎ (q ≡ nothing) → Chain w q (chain w q)
-      by (inl h) = Chain-chain w wf.tree q h
-      by (inr h) = subst (λ k. Chain w k (chain w k)) (sym h) (subst (Chain w nothing) (sym (chain-nothing w wf.tree)) refl)
+  Chain-q = Chain-either w wf.tree q qo
 
   Chain-c : Chain w c (c ∷ between ++ chain w q)
   Chain-c = subst (Chain w c) split (Chain-chain w wf.tree c co)

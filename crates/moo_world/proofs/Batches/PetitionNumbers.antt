@@ -1,20 +1,5 @@
 -- No call gives the number of a petition again.
-use Rattle.std.proofs.Common.{◌≡◌, ℕ, ◌+◌, ◌<◌, ◌≤◌, ◌⊎◌, inl, inr, Some, None, sym, ap, ◌∙◌, arith}
-use Rattle.std.specs.FinMap.{get, insert, remove}
-use Rattle.std.proofs.lemmas.Option.{none-some}
-use Rattle.moo_value.specs.declared.value.ObjNo.{ObjNo}
-use Rattle.moo_value.specs.declared.value.Value.{Value}
-use Rattle.moo_value.specs.Values.{Values}
-use Rattle.moo_rows.specs.declared.row.PetitionId.{PetitionId}
-use Rattle.moo_rows.specs.declared.row.PetitionRow.{PetitionRow}
-use Rattle.moo_rows.specs.Exact.{petition_exact}
-use Rattle.moo_rows.proofs.Orders.{petition_total}
-use Rattle.moo_world.specs.declared.call.Call.{Call}
-use Rattle.moo_world.specs.Outcomes.{Done}
-use Rattle.moo_world.specs.Requests.{State, PetitionsStay, petition_id, without, asked, request}
-use Rattle.moo_world.specs.World.{World}
-use Rattle.moo_world.proofs.Batches.Requested.{Led, of_done, request_leaves}
-use Rattle.moo_world.proofs.Shown.OneKey.{put_or_old, none_or_old}
+use Rattle.moo_world.proofs.Lemmas.{◌≡◌, ℕ, ◌+◌, ◌<◌, ◌≤◌, ◌⊎◌, inl, inr, Some, None, sym, ap, ◌∙◌, arith, get, insert, remove, none-some, ObjNo, Value, Values, PetitionId, PetitionRow, petition_exact, petition_total, Call, Done, State, PetitionsStay, petition_id, without, asked, request, World, Led, of_done, request_leaves, put_or_old, none_or_old}
 
 no_less : (n : ℕ) → n ≤ n
 no_less n = omega arith
@@ -52,7 +37,7 @@ one_gone s gone w = record {
     by id row h (inr e) = sym e ∙ h
 
 pub petitions_kept : (s next : State) (p : ObjNo) (call : Call) (v : Value) → request s p call ≡ Done v next → PetitionsStay s next
-petitions_kept s next p call v e = of_done (PetitionsStay s) (request s p call) v next (request_leaves (PetitionsStay s) s p call led) e
+petitions_kept s next p call v e = of_done (λ v. PetitionsStay s) (request s p call) v next (request_leaves (PetitionsStay s) s p call led) e
   where
     led : Led (PetitionsStay s) s p call
     led = record {
@@ -63,10 +48,10 @@ petitions_kept s next p call v e = of_done (PetitionsStay s) (request s p call) 
       declined = λ id. one_gone s id s.world;
     }
 
-less_still : (n a b : ℕ) → n < a → a ≤ b → n < b
+pub less_still : (n a b : ℕ) → n < a → a ≤ b → n < b
 less_still n a b less more = omega (arith, less, more)
 
-most_still : (a b c : ℕ) → a ≤ b → b ≤ c → a ≤ c
+pub most_still : (a b c : ℕ) → a ≤ b → b ≤ c → a ≤ c
 most_still a b c first second = omega (arith, first, second)
 
 pub petitions_joined : (a b c : State) → PetitionsStay a b → PetitionsStay b c → PetitionsStay a c

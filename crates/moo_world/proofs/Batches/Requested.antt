@@ -1,74 +1,20 @@
 -- What any call of a batch leaves, along its checks.
-use Rattle.std.proofs.Common.{◌≡◌, ℕ, ℤ, pos, negsuc, Bool, true, false, List, [], ◌∷◌, refl, sym, ap, ◌∙◌, subst, Option, Some, None, Result, Ok, Err}
-use Rattle.std.specs.Prelude.{nat_lt, ◌||◌}
-use Rattle.std.specs.Option.{option_map}
-use Rattle.std.specs.List.{list_all}
-use Rattle.std.specs.FinMap.{get}
-use Rattle.std.proofs.lemmas.Bool.{false≢true}
-use Rattle.std.proofs.lemmas.Option.{none-some, same_Some}
-use Rattle.moo_value.specs.declared.code.Code.{Code}
-use Rattle.moo_value.specs.declared.code.Code.TheVariants.{Permission}
-use Rattle.moo_value.specs.declared.value.ObjNo.{ObjNo}
-use Rattle.moo_value.specs.declared.value.Value.{Value}
-use Rattle.moo_value.specs.declared.value.Value.TheVariants.{Int, Obj, Str, Error, List as a_list}
-use Rattle.moo_value.specs.Value.{spread}
-use Rattle.moo_value.specs.Values.{Values, no_values as no_more}
-use Rattle.moo_rows.specs.declared.row.PetitionId.{PetitionId}
-use Rattle.moo_rows.specs.declared.row.PetitionRow.{PetitionRow}
-use Rattle.moo_world.specs.declared.call.Call.{Call}
-use Rattle.moo_world.specs.declared.name.PetitionCall.{PetitionCall}
+use Rattle.moo_world.proofs.Words.{◌≡◌, ℕ, ℤ, pos, negsuc, Bool, true, false, List, [], ◌∷◌, refl, sym, ap, ◌∙◌, subst, Option, Some, None, Result, Ok, Err, nat_lt, ◌||◌, option_map, list_all, get, false≢true, none-some, same_Some, Code, Permission, ObjNo, Value, Int, Obj, Str, Error, spread, Values, PetitionId, PetitionRow, Call, PetitionCall, no_values, petition_call, same_object, Outcome, Done, Failed, Full, check, given, found_or, is_named, are_few, are_shallow, State, in_world, one_list, one_integer, petition_id, petition_at, without, held_steps, last_petition, asked, are_on_world, petition_call_by, request, is_wizard, step, named_call, World, is_object}
+use Rattle.moo_value.specs.declared.value.Value.TheVariants.{List as a_list}
+use Rattle.moo_value.specs.Values.{no_values as no_more}
 use Rattle.moo_world.specs.declared.name.PetitionCall.TheVariants.{Petition as to_petition, Petitions as to_list, Grant as to_grant, Decline as to_decline}
 use Rattle.moo_world.specs.Answers.{zero}
-use Rattle.moo_world.specs.Arguments.{no_values}
-use Rattle.moo_world.specs.Names.{petition_call}
-use Rattle.moo_world.specs.Objects.{same_object}
-use Rattle.moo_world.specs.Outcomes.{Outcome, Done, Failed, Full, check, given, found_or}
-use Rattle.moo_world.specs.Petitions.{is_named, are_few, are_shallow}
-use Rattle.moo_world.specs.Requests.{State, in_world, one_list, one_integer, petition_id, petition_at, without, held_steps, last_petition, asked, are_on_world, petition_call_by, request}
-use Rattle.moo_world.specs.Rights.{is_wizard}
-use Rattle.moo_world.specs.Calls.{step, named_call}
-use Rattle.moo_world.specs.World.{World, is_object}
+use Rattle.moo_world.proofs.Form.Passing.{Holds, on_check, on_done, on_found, on_given, on_room}
 
 -- an answered call leaves a state that is so; an error leaves none
-unfoldable pub Leaves : (State → Type 0) → Outcome State → Type 0
-Leaves P (Done v next) = P next
-Leaves P (Failed code) = Unit {0}
-Leaves P Full = Unit {0}
+abbrev pub Leaves : (State → Type 0) → Outcome State → Type 0
+Leaves P outcome = Holds (λ (v : Value) (next : State). P next) outcome
 
-pub of_done : (P : State → Type 0) (o : Outcome State) (v : Value) (next : State) → Leaves P o → o ≡ Done v next → P next
-unfolding Leaves
-of_done P o v next h is = subst (Leaves P) is h
-
-module _ (P : State → Type 0) where
-  pub on_check : (b : Bool) (code : Code) (rest : Outcome State) → (b ≡ true → Leaves P rest) → Leaves P (check b (Failed code) rest)
-  unfolding Leaves
-  on_check true code rest h = h refl
-  on_check false code rest h = tt
-
-  pub on_room : (b : Bool) (rest : Outcome State) → (b ≡ true → Leaves P rest) → Leaves P (check b Full rest)
-  unfolding Leaves
-  on_room true rest h = h refl
-  on_room false rest h = tt
-
-  pub on_given : {A : Type 0} (r : Result A Code) (rest : A → Outcome State) → ((a : A) → r ≡ Ok a → Leaves P (rest a)) → Leaves P (given r rest)
-  unfolding Leaves
-  on_given (Ok a) rest h = h a refl
-  on_given (Err code) rest h = tt
-
-  pub on_found : {A : Type 0} (o : Option A) (code : Code) (rest : A → Outcome State) → ((a : A) → o ≡ Some a → Leaves P (rest a)) → Leaves P (found_or o code rest)
-  unfolding Leaves
-  on_found None code rest h = tt
-  on_found (Some a) code rest h = h a refl
-
-  on_world : (s : State) (o : Outcome World) → ((v : Value) (w : World) → o ≡ Done v w → P (record s { world = w })) → Leaves P (in_world s o)
-  unfolding Leaves
-  on_world s (Done v w) h = h v w refl
-  on_world s (Failed code) h = tt
-  on_world s Full h = tt
-
-  pub on_answer : (v : Value) (next : State) → P next → Leaves P (Done v next)
-  unfolding Leaves
-  on_answer v next h = h
+on_world : (P : State → Type 0) (s : State) (o : Outcome World) → ((v : Value) (w : World) → o ≡ Done v w → P (record s { world = w })) → Leaves P (in_world s o)
+unfolding Holds
+on_world P s (Done v w) h = h v w refl
+on_world P s (Failed code) h = tt
+on_world P s Full h = tt
 
 -- the petition that is found is there
 pub found_there : (s : State) (n : ℤ) (e : PetitionId × PetitionRow) → petition_at s n ≡ Some e → get s.petitions e.0 ≡ Some e.1
@@ -126,27 +72,27 @@ request_steps s p call on_world =
 
 pub request_leaves : (P : State → Type 0) (s : State) (p : ObjNo) (call : Call) → Led P s p call → Leaves P (request s p call)
 unfolding request
-request_leaves P s p call led = on_check P (is_object s.world p) _ _ (λ po. by po (petition_call call.name))
+request_leaves P s p call led = on_check _ (is_object s.world p) _ _ (λ po. by po (petition_call call.name))
   where
     one : (c : PetitionCall) → is_object s.world p ≡ true → Leaves P (petition_call_by s p c call.args)
     one to_petition po =
-        on_given P (one_list call.args) _ (λ calls e.
-        on_check P (list_all is_named (spread calls)) _ _ (λ named.
-        on_check P (are_few calls) _ _ (λ few.
-        on_check P (are_on_world calls) _ _ (λ world.
-        on_check P (are_shallow calls) _ _ (λ shallow.
-        on_room P (nat_lt s.next_petition last_petition) _ (λ left.
-        on_answer P _ _ (led.asked calls (given_list call.args calls e) po named few shallow left)))))))
-    one to_list po = on_given P (no_values call.args) _ (λ a e. on_answer P _ s led.same)
+        on_given _ (one_list call.args) _ (λ calls e.
+        on_check _ (list_all is_named (spread calls)) _ _ (λ named.
+        on_check _ (are_few calls) _ _ (λ few.
+        on_check _ (are_on_world calls) _ _ (λ world.
+        on_check _ (are_shallow calls) _ _ (λ shallow.
+        on_room _ (nat_lt s.next_petition last_petition) _ (λ left.
+        on_done _ _ _ (led.asked calls (given_list call.args calls e) po named few shallow left)))))))
+    one to_list po = on_given _ (no_values call.args) _ (λ a e. on_done _ _ s led.same)
     one to_grant po =
-        on_given P (one_integer call.args) _ (λ n e.
-        on_check P (is_wizard s.world p) _ _ (λ wizard.
-        on_found P (petition_at s n) _ _ (λ found f.
+        on_given _ (one_integer call.args) _ (λ n e.
+        on_check _ (is_wizard s.world p) _ _ (λ wizard.
+        on_found _ (petition_at s n) _ _ (λ found f.
         on_world P (without found.0 s) _ (λ v w done. led.granted found.0 found.1 (found_there s n found f) v w done))))
     one to_decline po =
-        on_given P (one_integer call.args) _ (λ n e.
-        on_found P (petition_at s n) _ _ (λ found f.
-        on_check P (same_object found.1.who p || is_wizard s.world p) _ _ (λ may. on_answer P _ _ (led.declined found.0))))
+        on_given _ (one_integer call.args) _ (λ n e.
+        on_found _ (petition_at s n) _ _ (λ found f.
+        on_check _ (same_object found.1.who p || is_wizard s.world p) _ _ (λ may. on_done _ _ _ (led.declined found.0))))
 
     by : is_object s.world p ≡ true → (c : Option PetitionCall) → Leaves P (elim c [ None ↦ in_world s (named_call s.world p call.name call.args) | Some c ↦ petition_call_by s p c call.args ])
     by po None = on_world P s _ (λ v w done. led.stepped v w (named_step s p call po ∙ done))

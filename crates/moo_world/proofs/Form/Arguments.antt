@@ -1,26 +1,9 @@
 -- What a call is given fits where all its arguments do, and a value changes no field but as it may.
-use Rattle.std.proofs.Common.{◌≡◌, Bool, true, false, List, [], ◌∷◌, refl, sym, ◌∙◌, ap, Option, Some, None, Result, Ok, Err, pos}
-use Rattle.std.specs.Prelude.{◌&&◌, nat_le, unwrap_or, if◌then◌else◌}
-use Rattle.std.specs.Option.{option_map}
-use Rattle.std.specs.List.{list_all}
-use Rattle.std.specs.Ordering.{int_eq}
-use Rattle.std.proofs.lemmas.Bool.{and_parts}
-use Rattle.moo_value.specs.declared.code.Code.{Code}
+use Rattle.moo_world.proofs.Words.{◌≡◌, Bool, true, false, List, [], ◌∷◌, refl, sym, ◌∙◌, ap, Option, Some, None, Result, Ok, Err, pos, ◌&&◌, nat_le, unwrap_or, if◌then◌else◌, option_map, list_all, int_eq, and_parts, Code, ObjNo, Value, Int, Obj, Str, Error, nesting, spread, Values, int, object, string, error, list, BuiltIn, Change, Info, is_integer, in_range, is_number, is_text, all_within_limits, is_within_limits, fits, beside_object, object_text_and_value, info_in, new_property, objects_among, object_and_accept, both, desc_of, verb_info_in, texts_in, new_verb, new_verb_info, Desc, is_allowed_change, Name, change_of, World}
 use Rattle.moo_value.specs.declared.code.Code.TheVariants.{«Type» as wrong_type}
-use Rattle.moo_value.specs.declared.value.ObjNo.{ObjNo}
-use Rattle.moo_value.specs.declared.value.Value.{Value}
-use Rattle.moo_value.specs.declared.value.Value.TheVariants.{Int, Obj, Str, Error, List as a_list}
-use Rattle.moo_value.specs.Value.{nesting, spread}
-use Rattle.moo_value.specs.Values.{Values, no_values as no_more, int, object, string, error, list}
-use Rattle.moo_world.specs.declared.built_in.BuiltIn.{BuiltIn}
+use Rattle.moo_value.specs.declared.value.Value.TheVariants.{List as a_list}
+use Rattle.moo_value.specs.Values.{no_values as no_more}
 use Rattle.moo_world.specs.declared.built_in.BuiltIn.TheVariants as field
-use Rattle.moo_world.specs.declared.change.Change.{Change}
-use Rattle.moo_world.specs.Arguments.{Info, is_integer, in_range, is_number, is_text, all_within_limits, is_within_limits, fits, beside_object, object_text_and_value, info_in, new_property, objects_among, object_and_accept, both, desc_of, verb_info_in, texts_in, new_verb, new_verb_info}
-use Rattle.moo_world.specs.declared.descriptor.Desc.{Desc}
-use Rattle.moo_world.specs.Fields.{is_allowed_change}
-use Rattle.moo_world.specs.Objects.{Name}
-use Rattle.moo_world.specs.PropertyCalls.{change_of}
-use Rattle.moo_world.specs.World.{World}
 
 -- what was read passes a test, where something was
 abbrev passes : {A : Type 0} → (A → Bool) → Result A Code → Bool

@@ -1,66 +1,30 @@
 -- What every call keeps, by one walk through the checks of each: the form of the world, and nobody's ownership changes by who is
 -- no wizard.
-use Rattle.std.proofs.Common.{◌≡◌, Bool, true, false, ◌||◌, List, [], ◌∷◌, ◌++◌, ◌+◌, ◌<◌, arith, refl, sym, ◌∙◌, ap, subst, ◌⊎◌, inl, inr, Option, Some, None, Result, Ok}
-use Rattle.std.specs.Prelude.{◌&&◌, not, nat_le, nat_lt, length, unwrap_or, if◌then◌else◌}
-use Rattle.std.specs.List.{list_all, remove}
-use Rattle.std.proofs.lemmas.Option.{same_Some}
-use Rattle.std.proofs.lemmas.Bool.{false≢true, both_ways, or_cases, and_parts, ltb-true}
-use Rattle.moo_value.specs.declared.code.Code.{Code}
-use Rattle.moo_value.specs.declared.code.Code.TheVariants.{Permission, PropertyNotFound}
-use Rattle.moo_value.specs.declared.value.ObjNo.{ObjNo}
-use Rattle.moo_value.specs.declared.value.Value.{Value}
-use Rattle.moo_value.specs.declared.value.Value.TheVariants.{Int, Obj, Str, Error, List as a_list}
-use Rattle.moo_value.specs.Value.{is_true}
-use Rattle.moo_rows.specs.declared.row.Bits.{Bits}
-use Rattle.moo_rows.specs.declared.row.SlotState.TheVariants.{Clear, Set as a_value}
-use Rattle.moo_rows.specs.declared.row.VerbRow.{VerbRow}
+use Rattle.moo_world.proofs.Lemmas.{◌≡◌, Bool, true, false, ◌||◌, List, [], ◌∷◌, ◌++◌, ◌+◌, ◌<◌, arith, refl, sym, ◌∙◌, ap, subst, ◌⊎◌, inl, inr, Option, Some, None, Result, Ok, ◌&&◌, not, nat_le, nat_lt, length, unwrap_or, if◌then◌else◌, list_all, same_Some, false≢true, both_ways, or_cases, and_parts, ltb-true, Code, Permission, PropertyNotFound, ObjNo, Value, Int, Obj, Str, Error, is_true, Bits, Clear, VerbRow, BuiltIn, Call, Change, Desc, CallName, Valid, Parent, Children, IsPlayer, Players, MaxObject, Get, Properties, PropertyInfo, IsClearProperty, Verbs, VerbInfo, VerbArgs, AcceptList, Create, Chparent, Recycle, Move, SetPlayerFlag, AddProperty, DeleteProperty, SetPropertyInfo, ClearProperty, AddVerb, DeleteVerb, SetVerbInfo, SetVerbArgs, SetAccept, Petition, Petitions, Grant, Decline, Info, is_number, is_text, fits, no_values, one_object, two_objects, object_and_text, object_and_value, object_text_and_value, parent_and_owner, object_and_accept, new_property, new_property_info, object_and_desc, new_verb, new_verb_info, new_verb_args, create, chparent, recycle, move, set_player_flag, set_accept, clashes, info_set, with_slot_of, next_object, owner_or_self, created, with_verbs, verb_added, CallsKeepForm, Name, nothing, same_object, folded, is_among, same_object-Decides, meets, Outcome, Done, Failed, found_or, check, KeepsOwnership, NoWizardKeepsOwnership, name_by, name_given, name_after, change_of, may_set, names_object, set_built_in, set, defines_name, may_define, add_property, delete_property, may_rename, renamed_to, set_property_info, clear_property, recycled, is_wizard, controls, may_be_parent, may_own, may_read_object, may_write_object, may_read_slot, may_write_slot, may_read_verb, may_write_verb, accepts, is_within, named_call, step, args_of, World, Slot, IsWellFormed, is_object, owner_of, slot_of, chain, has_word, is_property_name, verb_fits, state_fits, IsWellFormed-with_slot_of, same_links, object_numbered, slot_owner, on_record, on_slot, unchanged, Holds, on_check, on_field, on_failed, on_done, objects_same, NoClash-from_meets, nothing_is_no_object, of_done, on_room, on_given, on_found, both_true}
+use Rattle.std.specs.List.{remove}
+use Rattle.moo_value.specs.declared.value.Value.TheVariants.{List as a_list}
+use Rattle.moo_rows.specs.declared.row.SlotState.TheVariants.{Set as a_value}
 use Rattle.moo_rows.specs.Bits.{bits_of, verb_bits_of}
-use Rattle.moo_world.specs.declared.built_in.BuiltIn.{BuiltIn}
 use Rattle.moo_world.specs.declared.built_in.BuiltIn.TheVariants as field
-use Rattle.moo_world.specs.declared.call.Call.{Call}
-use Rattle.moo_world.specs.declared.change.Change.{Change}
 use Rattle.moo_world.specs.declared.change.Change.TheVariants as to
-use Rattle.moo_world.specs.declared.descriptor.Desc.{Desc}
-use Rattle.moo_world.specs.declared.name.CallName.{CallName}
-use Rattle.moo_world.specs.declared.name.CallName.TheVariants.{Valid, Parent, Children, IsPlayer, Players, MaxObject, Get, Properties, PropertyInfo, IsClearProperty, Verbs, VerbInfo, VerbArgs, AcceptList, Create, Chparent, Recycle, Move, SetPlayerFlag, Set, AddProperty, DeleteProperty, SetPropertyInfo, ClearProperty, AddVerb, DeleteVerb, SetVerbInfo, SetVerbArgs, SetAccept, Petition, Petitions, Grant, Decline}
-use Rattle.moo_world.specs.Arguments.{Info, is_number, is_text, fits, no_values, one_object, two_objects, object_and_text, object_and_value, object_text_and_value, parent_and_owner, object_and_accept, new_property, new_property_info, object_and_desc, new_verb, new_verb_info, new_verb_args}
+use Rattle.moo_world.specs.declared.name.CallName.TheVariants.{Set}
 use Rattle.moo_world.specs.BuiltIns.{built_in}
-use Rattle.moo_world.specs.Calls.{create, chparent, recycle, move, set_player_flag, set_accept}
-use Rattle.moo_world.specs.Changes.{clashes, info_set, with_slot_of}
-use Rattle.moo_world.specs.Creation.{next_object, owner_or_self, created}
 use Rattle.moo_world.specs.Descriptors.{found_verb}
-use Rattle.moo_world.specs.Directories.{with_verbs, verb_added}
-use Rattle.moo_world.specs.KeptForm.{CallsKeepForm}
-use Rattle.moo_world.specs.Objects.{Name, nothing, same_object, folded, is_among, same_object-Decides}
-use Rattle.moo_world.specs.ObjectLists.{meets}
-use Rattle.moo_world.specs.Outcomes.{Outcome, Done, Failed, found_or, check}
-use Rattle.moo_world.specs.Ownership.{KeepsOwnership, NoWizardKeepsOwnership, name_by, name_given, name_after}
-use Rattle.moo_world.specs.PropertyCalls.{get, change_of, may_set, names_object, set_built_in, set, defines_name, may_define, add_property, delete_property, may_rename, renamed_to, set_property_info, clear_property}
-use Rattle.moo_world.specs.Recycling.{recycled}
-use Rattle.moo_world.specs.Rights.{is_wizard, controls, may_be_parent, may_own, may_read_object, may_write_object, may_read_slot, may_write_slot, may_read_verb, may_write_verb, accepts, is_within}
-use Rattle.moo_world.specs.Calls.{named_call, step}
+use Rattle.moo_world.specs.PropertyCalls.{get}
 use Rattle.moo_world.specs.VerbCalls.{add_verb, delete_verb, set_verb_info, set_verb_args}
-use Rattle.moo_world.specs.VerbReading.{args_of}
-use Rattle.moo_world.specs.World.{World, Slot, IsWellFormed, is_object, owner_of, slot_of, chain, has_word, is_property_name, verb_fits, state_fits}
 use Rattle.moo_world.proofs.Form.Directories.{all_fit, added_fit, removed_fit, changed_fit, stays_formed}
-use Rattle.moo_world.proofs.Form.Fields.{IsWellFormed-field_changed}
+use Rattle.moo_world.proofs.Form.Fields.{IsWellFormed-field_changed, not_true}
 use Rattle.moo_world.proofs.Form.Arguments.{set_value_fits, new_value_fits, accept_list_numbered, new_verb_named, new_verb_info_named, change_allowed}
 use Rattle.moo_world.proofs.Form.Values.{set_formed, renamed_formed, clashes_same, defines_same}
 use Rattle.moo_world.proofs.Form.Quotas.{charged_formed, returned_formed}
-use Rattle.moo_world.proofs.Form.Slots.{IsWellFormed-with_slot_of, same_links}
 use Rattle.moo_world.proofs.Inheritance.Insertion.{IsWellFormed-defined}
-use Rattle.moo_world.proofs.Form.Limits.{object_numbered, slot_owner}
 use Rattle.moo_world.proofs.Ownership.Changed.{is_modest, by_field_change, by_charge, by_return, by_info, by_defining, by_renaming}
 use Rattle.moo_world.proofs.Ownership.Counted.{on_create, on_recycle}
-use Rattle.moo_world.proofs.Ownership.Kept.{on_record, on_slot, after, unchanged}
+use Rattle.moo_world.proofs.Ownership.Kept.{after}
 use Rattle.moo_world.proofs.Ownership.Rebuilt.{by_reparenting, by_recycling, by_undefining, by_creation}
-use Rattle.moo_world.proofs.Form.Passing.{Holds, of_done, on_check, on_room, on_given, on_found, on_field, on_failed, on_done}
-use Rattle.moo_world.proofs.Inheritance.Rebuilding.{objects_same}
 use Rattle.moo_world.proofs.Inheritance.Recycling.{IsWellFormed-recycled}
 use Rattle.moo_world.proofs.Inheritance.Reparenting.{IsWellFormed-reparented}
 use Rattle.moo_world.proofs.Inheritance.Shorter.{IsWellFormed-undefined}
-use Rattle.moo_world.proofs.Ancestry.Subtrees.{NoClash-from_meets}
-use Rattle.moo_world.proofs.Ancestry.Trees.{nothing_is_no_object}
 
 -- what is allowed without the wizard bit is modest
 abbrev modest_read : Result Change Code → Bool
@@ -81,14 +45,6 @@ modest_if w p x field.Wizard v none may = absurd (false≢true (sym none ∙ may
 modest_if w p x field.R v none may = refl
 modest_if w p x field.W v none may = refl
 modest_if w p x field.F v none may = refl
-
--- a test that is turned holds
-turned : (b : Bool) → not b ≡ true → b ≡ false
-turned true e = absurd (false≢true e)
-turned false e = refl
-
-both : {a b : Bool} → a ≡ true → b ≡ true → (a && b) ≡ true
-both e h = λ i. e i && h i
 
 -- what a call keeps: the form of the world, where all that it is given fits; and where the programmer is no wizard nobody's
 -- ownership changes, by the names that slots have afterwards. A further law of all calls is a further field.
@@ -147,8 +103,8 @@ module _ (w : World) (p : ObjNo) (values : List Value) (wf : IsWellFormed w) (po
       on_check _ (may_be_parent w p q) _ _ (λ parent.
       on_check _ (not (is_among x (chain w q))) _ _ (λ outside.
       on_check _ (not (meets w x q)) _ _ (λ apart.
-      let above = turned (is_among x (chain w q)) outside in
-      let free = NoClash-from_meets w wf.tree x q (turned (meets w x q) apart) in
+      let above = not_true (is_among x (chain w q)) outside in
+      let free = NoClash-from_meets w wf.tree x q (not_true (meets w x q) apart) in
       on_done _ _ _ (record {
         form = λ fit. IsWellFormed-reparented w x q wf xo (known q there) above free;
         ownership = λ none. by_reparenting w wf p x q xo (known q there) above free;
@@ -169,7 +125,7 @@ module _ (w : World) (p : ObjNo) (values : List Value) (wf : IsWellFormed w) (po
       on_check _ (is_wizard w p || accepts w destination x) _ _ (λ taken.
       on_check _ (not (is_within w destination x)) _ _ (λ outside.
       on_done _ _ _ (record {
-        form = λ fit. IsWellFormed-field_changed w x (to.Location destination) xo (both there outside) wf;
+        form = λ fit. IsWellFormed-field_changed w x (to.Location destination) xo (both_true there outside) wf;
         ownership = λ none. by_field_change w p x (to.Location destination) refl;
       }))))))
 
@@ -188,7 +144,7 @@ module _ (w : World) (p : ObjNo) (values : List Value) (wf : IsWellFormed w) (po
       on_check _ (controls w p x) _ _ (λ mine.
       on_check _ (nat_le (length (unwrap_or list [])) 1000) _ _ (λ short.
       on_done _ _ _ (record {
-        form = λ fit. IsWellFormed-field_changed w x (to.Accept list) xo (both short (numbered fit)) wf;
+        form = λ fit. IsWellFormed-field_changed w x (to.Accept list) xo (both_true short (numbered fit)) wf;
         ownership = λ none. by_field_change w p x (to.Accept list) refl;
       }))))
 
@@ -230,7 +186,7 @@ module _ (w : World) (p : ObjNo) (values : List Value) (wf : IsWellFormed w) (po
   cleared_formed : (x : ObjNo) (n : Name) (s : Slot) → slot_of w x (folded n) ≡ Some s → same_object s.definer x ≡ false → IsWellFormed (with_slot_of w x n (λ z. record z { state = Clear }))
   cleared_formed x n s e other =
       IsWellFormed-with_slot_of w x n (λ z. record z { state = Clear }) wf (λ z. refl)
-      (λ z f d. absurd (both_ways (same_object s.definer x) other ((same_object-Decides s.definer x).1 (ap (λ (k : Slot). k.definer) (same_Some s z (sym e ∙ f)) ∙ d)))) (λ z f. both (slot_owner z f) refl)
+      (λ z f d. absurd (both_ways (same_object s.definer x) other ((same_object-Decides s.definer x).1 (ap (λ (k : Slot). k.definer) (same_Some s z (sym e ∙ f)) ∙ d)))) (λ z f. both_true (slot_owner z f) refl)
 
   clear_kept : (x : ObjNo) (n : Name) → Kept (clear_property w p x n)
   clear_kept x n =
@@ -239,13 +195,13 @@ module _ (w : World) (p : ObjNo) (values : List Value) (wf : IsWellFormed w) (po
       on_check _ (may_write_slot w p s) _ _ (λ may.
       on_check _ (not (same_object s.definer x)) _ _ (λ other.
       on_done _ _ _ (record {
-        form = λ fit. cleared_formed x n s e (turned (same_object s.definer x) other);
+        form = λ fit. cleared_formed x n s e (not_true (same_object s.definer x) other);
         ownership = λ none. on_slot w p w x n (λ (z : Slot). record z { state = Clear }) (λ z f. refl) (unchanged w p);
       })))))
 
   -- a name that may be defined is a good one, and stands nowhere in the subtree
   definable : (x : ObjNo) (n : Name) → may_define w x n ≡ true → (is_property_name n ≡ true) × (clashes w x n ≡ false)
-  definable x n may = let parts = and_parts (is_property_name n) (not (clashes w x n)) may in (parts.0, turned (clashes w x n) parts.1)
+  definable x n may = let parts = and_parts (is_property_name n) (not (clashes w x n)) may in (parts.0, not_true (clashes w x n) parts.1)
 
   add_kept : (x : ObjNo) (n : Name) (v : Value) (info : Info) → (Fit → fits v ≡ true) → Kept (add_property w p x n v info)
   add_kept x n v info good =
@@ -258,7 +214,7 @@ module _ (w : World) (p : ObjNo) (values : List Value) (wf : IsWellFormed w) (po
       on_room _ (nat_lt w.next_prop 4294967295) _ (λ left.
       let s : Slot = record { definer = x; owner = info.0; bits = bits; state = a_value v } in
       on_done _ _ _ (record {
-        form = λ fit. IsWellFormed-defined w wf x n s xo (definable x n free).1 refl (λ c. absurd (cc)) (definable x n free).0 (ltb-true w.next_prop 4294967295 left) (both (object_numbered w wf info.0 there) (good fit));
+        form = λ fit. IsWellFormed-defined w wf x n s xo (definable x n free).1 refl (λ c. absurd (cc)) (definable x n free).0 (ltb-true w.next_prop 4294967295 left) (both_true (object_numbered w wf info.0 there) (good fit));
         ownership = λ none. by_defining w p wf x n xo (definable x n free).1 s;
       }))))))))
 
@@ -271,7 +227,7 @@ module _ (w : World) (p : ObjNo) (values : List Value) (wf : IsWellFormed w) (po
 
   -- another owner and other rights
   info_formed : (x : ObjNo) (n : Name) (owner : ObjNo) (bits : Bits) → is_number owner ≡ true → IsWellFormed (info_set w x n owner bits)
-  info_formed x n owner bits numbered = IsWellFormed-with_slot_of w x n (λ z. record z { owner = owner; bits = bits }) wf (λ z. refl) (λ z f d. wf.set x (folded n) z f d) (λ z f. both numbered (and_parts (is_number z.owner) (state_fits z.state) f).1)
+  info_formed x n owner bits numbered = IsWellFormed-with_slot_of w x n (λ z. record z { owner = owner; bits = bits }) wf (λ z. refl) (λ z f d. wf.set x (folded n) z f d) (λ z f. both_true numbered (and_parts (is_number z.owner) (state_fits z.state) f).1)
 
   -- and another name, where one is given
   renaming : (x : ObjNo) (n : Name) (info : Info) (bits : Bits) → is_object w x ≡ true → is_number info.0 ≡ true → (is_wizard w p ≡ false → KeepsOwnership w (info_set w x n info.0 bits) p (λ y m. m))
@@ -325,7 +281,7 @@ module _ (w : World) (p : ObjNo) (values : List Value) (wf : IsWellFormed w) (po
       on_check _ (may_write_object w p x) _ _ (λ may.
       on_check _ (may_own w p info.0) _ _ (λ mine.
       on_room _ (nat_lt w.next_verb 4294967295) _ (λ left.
-      on_done _ _ _ (added_pass x (record { names = names; owner = info.0; bits = bits; args = spec }) (λ fit. both word (both (text fit) (object_numbered w wf info.0 there))) (ltb-true w.next_verb 4294967295 left))))))))))
+      on_done _ _ _ (added_pass x (record { names = names; owner = info.0; bits = bits; args = spec }) (λ fit. both_true word (both_true (text fit) (object_numbered w wf info.0 there))) (ltb-true w.next_verb 4294967295 left))))))))))
 
   delete_verb_kept : (x : ObjNo) (desc : Desc) → Kept (delete_verb w p x desc)
   delete_verb_kept x desc =
@@ -343,7 +299,7 @@ module _ (w : World) (p : ObjNo) (values : List Value) (wf : IsWellFormed w) (po
       on_check _ (has_word names) _ _ (λ word.
       on_check _ (may_write_verb w p found.1) _ _ (λ may.
       on_check _ (may_own w p info.0) _ _ (λ mine.
-      on_done _ _ _ (verbs_pass x _ (λ fit. changed_fit (λ v. record v { owner = info.0; bits = bits; names = names }) (λ v h. both word (both (text fit) (object_numbered w wf info.0 there))) found.0)))))))))
+      on_done _ _ _ (verbs_pass x _ (λ fit. changed_fit (λ v. record v { owner = info.0; bits = bits; names = names }) (λ v h. both_true word (both_true (text fit) (object_numbered w wf info.0 there))) found.0)))))))))
 
   verb_args_kept : (x : ObjNo) (desc : Desc) (args : Name × Name × Name) → Kept (set_verb_args w p x desc args)
   verb_args_kept x desc args =

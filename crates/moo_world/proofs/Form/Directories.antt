@@ -1,15 +1,6 @@
 -- A change of one directory keeps the world well formed.
-use Rattle.std.proofs.Common.{◌≡◌, ℕ, zero, suc, ◌<◌, ◌≤◌, Bool, true, false, ◌&&◌, Option, None, Some, List, [], ◌∷◌, ◌++◌, length, refl, sym, ap, ◌∙◌, subst}
-use Rattle.std.specs.Prelude.{map, is_some, unwrap_or, if◌then◌else◌}
-use Rattle.std.specs.Option.{option_map, option_and_then}
-use Rattle.std.specs.List.{list_all, flat_map, remove}
-use Rattle.std.proofs.lemmas.Bool.{and_parts}
-use Rattle.std.proofs.lemmas.List.Folds.{list_all-append}
-use Rattle.moo_value.specs.declared.value.ObjNo.{ObjNo}
-use Rattle.moo_rows.specs.declared.row.VerbRow.{VerbRow}
-use Rattle.moo_world.specs.Objects.{same_object}
-use Rattle.moo_world.specs.World.{World, Record, IsWellFormed, KeepsLimits, Climbs, Chain, NamesDiffer, is_object, parent_of, location_of, names_of, owed_by, pair_named, slot_of, row_of, without_slots, with_slots, is_property_name, verb_fits, row_fits}
-use Rattle.moo_world.specs.Directories.{with_verbs, changed_at}
+use Rattle.moo_world.proofs.Words.{◌≡◌, ℕ, zero, suc, ◌<◌, ◌≤◌, Bool, true, false, ◌&&◌, Option, None, Some, List, [], ◌∷◌, ◌++◌, length, refl, sym, ap, ◌∙◌, subst, map, is_some, unwrap_or, if◌then◌else◌, option_map, option_and_then, list_all, flat_map, and_parts, list_all-append, ObjNo, VerbRow, same_object, World, Record, IsWellFormed, KeepsLimits, Climbs, Chain, NamesDiffer, is_object, parent_of, location_of, names_of, owed_by, pair_named, slot_of, row_of, without_slots, with_slots, is_property_name, verb_fits, row_fits, with_verbs, changed_at, both_true}
+use Rattle.std.specs.List.{remove}
 
 -- the world with the directory of x changed, and that number for the next verb
 abbrev pub with_directory : World → ObjNo → (List VerbRow → List VerbRow) → ℕ → World
@@ -20,22 +11,19 @@ with_directory w x change next = record (with_verbs w x change) { next_verb = ne
 abbrev pub all_fit : List VerbRow → Bool
 all_fit verbs = list_all verb_fits verbs
 
-both : {a b : Bool} → a ≡ true → b ≡ true → (a && b) ≡ true
-both e h = λ i. e i && h i
-
 pub added_fit : (row : VerbRow) → verb_fits row ≡ true → (verbs : List VerbRow) → all_fit verbs ≡ true → all_fit (verbs ++ row ∷ []) ≡ true
-added_fit row h verbs e = list_all-append verb_fits verbs (row ∷ []) ∙ both e (both h refl)
+added_fit row h verbs e = list_all-append verb_fits verbs (row ∷ []) ∙ both_true e (both_true h refl)
 
 pub removed_fit : (place : ℕ) (verbs : List VerbRow) → all_fit verbs ≡ true → all_fit (remove verbs place) ≡ true
 removed_fit zero [] e = refl
 removed_fit (suc place) [] e = refl
 removed_fit zero (v ∷ verbs) e = (and_parts (verb_fits v) (all_fit verbs) e).1
-removed_fit (suc place) (v ∷ verbs) e = let parts = and_parts (verb_fits v) (all_fit verbs) e in both parts.0 (removed_fit place verbs parts.1)
+removed_fit (suc place) (v ∷ verbs) e = let parts = and_parts (verb_fits v) (all_fit verbs) e in both_true parts.0 (removed_fit place verbs parts.1)
 
 pub changed_fit : (change : VerbRow → VerbRow) → ((v : VerbRow) → verb_fits v ≡ true → verb_fits (change v) ≡ true) → (place : ℕ) (verbs : List VerbRow) → all_fit verbs ≡ true → all_fit (changed_at place change verbs) ≡ true
 changed_fit change h place [] e = refl
-changed_fit change h zero (v ∷ verbs) e = let parts = and_parts (verb_fits v) (all_fit verbs) e in both (h v parts.0) parts.1
-changed_fit change h (suc place) (v ∷ verbs) e = let parts = and_parts (verb_fits v) (all_fit verbs) e in both parts.0 (changed_fit change h place verbs parts.1)
+changed_fit change h zero (v ∷ verbs) e = let parts = and_parts (verb_fits v) (all_fit verbs) e in both_true (h v parts.0) parts.1
+changed_fit change h (suc place) (v ∷ verbs) e = let parts = and_parts (verb_fits v) (all_fit verbs) e in both_true parts.0 (changed_fit change h place verbs parts.1)
 
 -- ---- the rest is as it was
 

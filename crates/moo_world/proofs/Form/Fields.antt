@@ -1,25 +1,10 @@
 -- An allowed change of one field of an object keeps the world well formed.
-use Rattle.std.proofs.Common.{◌≡◌, ◌≤◌, Bool, true, false, cond, refl, sym, ◌∙◌, ap, subst, ◌⊎◌, inl, inr, List, [], length, Option, Some, None}
-use Rattle.std.specs.Prelude.{not, ◌&&◌, ◌||◌, is_some, unwrap_or, if◌then◌else◌}
-use Rattle.std.specs.Option.{option_map}
-use Rattle.std.proofs.lemmas.Bool.{false≢true, and_parts, or_cases, leb-true}
-use Rattle.moo_value.specs.declared.value.ObjNo.{ObjNo}
-use Rattle.moo_rows.specs.declared.row.ObjRow.{ObjRow}
-use Rattle.moo_world.specs.declared.change.Change.{Change}
+use Rattle.moo_world.proofs.Lemmas.{◌≡◌, ◌≤◌, Bool, true, false, cond, refl, sym, ◌∙◌, ap, subst, ◌⊎◌, inl, inr, List, [], length, Option, Some, None, not, ◌&&◌, ◌||◌, is_some, unwrap_or, if◌then◌else◌, option_map, false≢true, and_parts, or_cases, leb-true, ObjNo, ObjRow, Change, is_number, is_text, Name, nothing, same_object, same_object-Decides, World, Record, IsTree, IsWellFormed, Places, is_object, location_of, places, accept_fits, row_fits, is_within, changed, with_row, field_changed, is_allowed_change, IsWellFormed-same_shape, both_true}
 use Rattle.moo_world.specs.declared.change.Change.TheVariants.{Owner, Location, Player, Programmer, Wizard, Readable, Writable, Fertile, Accept}
 use Rattle.moo_world.specs.declared.change.Change.TheVariants as to
-use Rattle.moo_world.specs.Arguments.{is_number, is_text}
-use Rattle.moo_world.specs.Objects.{Name, nothing, same_object, same_object-Decides}
-use Rattle.moo_world.specs.World.{World, Record, IsTree, IsWellFormed, Places, is_object, location_of, places, accept_fits, row_fits}
-use Rattle.moo_world.specs.Rights.{is_within}
-use Rattle.moo_world.specs.Fields.{changed, with_row, field_changed, is_allowed_change}
 use Rattle.moo_world.proofs.Ancestry.Places.{places_is, Places-places}
-use Rattle.moo_world.proofs.Form.Shapes.{IsWellFormed-same_shape}
 use Rattle.moo_world.proofs.Form.Rows.{same_objects, SameShape-with_row, same_places, fitting_rows}
 use Rattle.moo_world.proofs.Ancestry.Redirected.{redirected}
-
-both : {a b : Bool} → a ≡ true → b ≡ true → (a && b) ≡ true
-both e h = λ i. e i && h i
 
 -- a change that keeps an object's parent and its place
 plain : (w : World) (x : ObjNo) (change : ObjRow → ObjRow) → ((r : ObjRow) → (change r).parent ≡ r.parent) → ((r : ObjRow) → (change r).location ≡ r.location) → ((r : ObjRow) → row_fits r ≡ true → row_fits (change r) ≡ true) → IsWellFormed w → IsWellFormed (with_row w x change)
@@ -30,17 +15,17 @@ plain w x change parent location fits wf =
 -- ---- a name, an owner and an accept list
 
 named : (name : Name) (r : ObjRow) → is_text name ≡ true → row_fits r ≡ true → row_fits (changed (to.Name name) r) ≡ true
-named name r text e = both text (and_parts (is_text r.name) (is_number r.owner && accept_fits r.accept) e).1
+named name r text e = both_true text (and_parts (is_text r.name) (is_number r.owner && accept_fits r.accept) e).1
 
 owned : (owner : ObjNo) (r : ObjRow) → is_number owner ≡ true → row_fits r ≡ true → row_fits (changed (Owner owner) r) ≡ true
 owned owner r number e =
     let parts = and_parts (is_text r.name) (is_number r.owner && accept_fits r.accept) e in
-    both parts.0 (both number (and_parts (is_number r.owner) (accept_fits r.accept) parts.1).1)
+    both_true parts.0 (both_true number (and_parts (is_number r.owner) (accept_fits r.accept) parts.1).1)
 
 listed : (list : Option (List ObjNo)) (r : ObjRow) → accept_fits list ≡ true → row_fits r ≡ true → row_fits (changed (Accept list) r) ≡ true
 listed list r fits e =
     let parts = and_parts (is_text r.name) (is_number r.owner && accept_fits r.accept) e in
-    both parts.0 (both (and_parts (is_number r.owner) (accept_fits r.accept) parts.1).0 fits)
+    both_true parts.0 (both_true (and_parts (is_number r.owner) (accept_fits r.accept) parts.1).0 fits)
 
 -- ---- a place
 
@@ -78,7 +63,8 @@ module _ (w : World) (x to : ObjNo) (there : is_object w x ≡ true) (valid_to :
 
 -- ---- any field
 
-not_true : (b : Bool) → not b ≡ true → b ≡ false
+-- a test that is turned holds
+pub not_true : (b : Bool) → not b ≡ true → b ≡ false
 not_true false e = refl
 not_true true e = absurd (false≢true e)
 

@@ -1,15 +1,5 @@
 -- What the limits of a well formed world say of numbers, of an object's row and of a fresh slot.
-use Rattle.std.proofs.Common.{◌≡◌, Bool, true, false, ◌||◌, refl, sym, ◌∙◌, ap, subst, inl, inr, Option, Some, None, ℤ, pos, negsuc, FitsSigned, w32, arith}
-use Rattle.std.specs.Prelude.{◌&&◌, ◌≤ℤ◌, unwrap_or, if◌then◌else◌}
-use Rattle.std.specs.Option.{option_map}
-use Rattle.std.proofs.lemmas.Bool.{and_parts, or_cases}
-use Rattle.std.proofs.lemmas.Int.{ints}
-use Rattle.moo_value.specs.declared.value.ObjNo.{ObjNo}
-use Rattle.moo_value.specs.Text.{IsText}
-use Rattle.moo_rows.specs.declared.row.VerbRow.{VerbRow}
-use Rattle.moo_world.specs.Arguments.{is_number, is_text}
-use Rattle.moo_world.specs.Objects.{nothing, same_object, same_object-Decides}
-use Rattle.moo_world.specs.World.{World, Record, Slot, IsWellFormed, KeepsLimits, is_object, owner_of, fresh, has_word, accept_fits, row_fits, verb_fits, slot_fits, state_fits, with_slots, without_slots}
+use Rattle.moo_world.proofs.Words.{◌≡◌, Bool, true, false, ◌||◌, refl, sym, ◌∙◌, ap, subst, inl, inr, Option, Some, None, ℤ, pos, negsuc, FitsSigned, w32, arith, ◌&&◌, ◌≤ℤ◌, unwrap_or, if◌then◌else◌, option_map, and_parts, or_cases, ints, ObjNo, IsText, VerbRow, is_number, is_text, nothing, same_object, same_object-Decides, World, Record, Slot, IsWellFormed, KeepsLimits, is_object, owner_of, fresh, has_word, accept_fits, row_fits, verb_fits, slot_fits, state_fits, with_slots, without_slots, both_true}
 use Rattle.moo_world.proofs.Form.Ranges.{range_of, text_of}
 
 -- the number of an object has 32 bits
@@ -67,7 +57,4 @@ number_within x f = range_of x.0 f
 
 -- a verb whose names are a text, with an owner of 32 bits
 pub verb_within : (v : VerbRow) → has_word v.names ≡ true → IsText v.names → FitsSigned w32 v.owner.0 → verb_fits v ≡ true
-verb_within v word text number = both word (both (text_of v.names text) (range_of v.owner.0 number))
-  where
-    both : {a b : Bool} → a ≡ true → b ≡ true → (a && b) ≡ true
-    both e h = λ i. e i && h i
+verb_within v word text number = both_true word (both_true (text_of v.names text) (range_of v.owner.0 number))

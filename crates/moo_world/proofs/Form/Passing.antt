@@ -1,44 +1,37 @@
--- What holds of every world that a call leaves, along its checks.
-use Rattle.std.proofs.Common.{◌≡◌, Bool, true, false, refl, subst, Option, Some, None, Result, Ok, Err}
-use Rattle.moo_value.specs.declared.code.Code.{Code}
-use Rattle.moo_value.specs.declared.value.ObjNo.{ObjNo}
-use Rattle.moo_value.specs.declared.value.Value.{Value}
-use Rattle.moo_world.specs.declared.built_in.BuiltIn.{BuiltIn}
-use Rattle.moo_world.specs.Outcomes.{Outcome, Done, Failed, Full, check, given, with_next, found_or}
-use Rattle.moo_world.specs.PropertyCalls.{by_field}
-use Rattle.moo_world.specs.World.{World}
+-- What holds of all that a call leaves, along its checks: of every world, and of every state.
+use Rattle.moo_world.proofs.Words.{◌≡◌, Bool, true, false, refl, subst, Option, Some, None, Result, Ok, Err, Code, ObjNo, Value, BuiltIn, Outcome, Done, Failed, Full, check, given, with_next, found_or, by_field, World}
 
--- an answer and a world that is left are so; an error leaves none
-unfoldable pub Holds : (Value → World → Type 0) → Outcome World → Type 0
+-- an answer and what is left are so; an error leaves nothing
+unfoldable pub Holds : {S : Type 0} → (Value → S → Type 0) → Outcome S → Type 0
 Holds P (Done v next) = P v next
 Holds P (Failed code) = Unit {0}
 Holds P Full = Unit {0}
 
-pub of_done : (P : Value → World → Type 0) (o : Outcome World) (v : Value) (next : World) → Holds P o → o ≡ Done v next → P v next
+pub of_done : {S : Type 0} (P : Value → S → Type 0) (o : Outcome S) (v : Value) (next : S) → Holds P o → o ≡ Done v next → P v next
 unfolding Holds
 of_done P o v next h e = subst (Holds P) e h
 
-pub on_check : (P : Value → World → Type 0) (b : Bool) (code : Code) (rest : Outcome World) → (b ≡ true → Holds P rest) → Holds P (check b (Failed code) rest)
+pub on_check : {S : Type 0} (P : Value → S → Type 0) (b : Bool) (code : Code) (rest : Outcome S) → (b ≡ true → Holds P rest) → Holds P (check b (Failed code) rest)
 unfolding Holds
 on_check P true code rest h = h refl
 on_check P false code rest h = tt
 
-pub on_room : (P : Value → World → Type 0) (b : Bool) (rest : Outcome World) → (b ≡ true → Holds P rest) → Holds P (check b Full rest)
+pub on_room : {S : Type 0} (P : Value → S → Type 0) (b : Bool) (rest : Outcome S) → (b ≡ true → Holds P rest) → Holds P (check b Full rest)
 unfolding Holds
 on_room P true rest h = h refl
 on_room P false rest h = tt
 
-pub on_given : {A : Type 0} (P : Value → World → Type 0) (r : Result A Code) (rest : A → Outcome World) → ((a : A) → r ≡ Ok a → Holds P (rest a)) → Holds P (given r rest)
+pub on_given : {A S : Type 0} (P : Value → S → Type 0) (r : Result A Code) (rest : A → Outcome S) → ((a : A) → r ≡ Ok a → Holds P (rest a)) → Holds P (given r rest)
 unfolding Holds
 on_given P (Ok a) rest h = h a refl
 on_given P (Err code) rest h = tt
 
-pub on_found : {A : Type 0} (P : Value → World → Type 0) (o : Option A) (code : Code) (rest : A → Outcome World) → ((a : A) → o ≡ Some a → Holds P (rest a)) → Holds P (found_or o code rest)
+pub on_found : {A S : Type 0} (P : Value → S → Type 0) (o : Option A) (code : Code) (rest : A → Outcome S) → ((a : A) → o ≡ Some a → Holds P (rest a)) → Holds P (found_or o code rest)
 unfolding Holds
 on_found P (Some a) code rest h = h a refl
 on_found P None code rest h = tt
 
-pub on_next : (P : Value → World → Type 0) (o : Option ObjNo) (rest : ObjNo → Outcome World) → ((x : ObjNo) → o ≡ Some x → Holds P (rest x)) → Holds P (with_next o rest)
+pub on_next : {S : Type 0} (P : Value → S → Type 0) (o : Option ObjNo) (rest : ObjNo → Outcome S) → ((x : ObjNo) → o ≡ Some x → Holds P (rest x)) → Holds P (with_next o rest)
 unfolding Holds
 on_next P (Some x) rest h = h x refl
 on_next P None rest h = tt
@@ -48,10 +41,10 @@ unfolding Holds
 on_field P (Some f) field other h k = h f
 on_field P None field other h k = k
 
-pub on_done : (P : Value → World → Type 0) (v : Value) (next : World) → P v next → Holds P (Done v next)
+pub on_done : {S : Type 0} (P : Value → S → Type 0) (v : Value) (next : S) → P v next → Holds P (Done v next)
 unfolding Holds
 on_done P v next h = h
 
-pub on_failed : (P : Value → World → Type 0) (code : Code) → Holds P (Failed code)
+pub on_failed : {S : Type 0} (P : Value → S → Type 0) (code : Code) → Holds P (Failed code)
 unfolding Holds
 on_failed P code = tt

@@ -1,36 +1,8 @@
 -- Every call of a batch leaves a well formed world, and petitions as they may stand.
-use Rattle.std.proofs.Common.{◌≡◌, ℕ, ◌+◌, ◌<◌, ◌≤◌, ◌⊎◌, inl, inr, max, Bool, true, false, List, [], ◌∷◌, length, Option, Some, None, refl, sym, ap, ◌∙◌, subst, arith}
-use Rattle.std.specs.Prelude.{◌&&◌, nat_le, nat_lt, is_some, if◌then◌else◌}
-use Rattle.std.specs.Option.{option_and_then}
-use Rattle.std.specs.List.{list_all}
-use Rattle.std.specs.FinMap.{FinMap, get, insert, remove}
-use Rattle.std.proofs.lemmas.Bool.{and_parts, false≢true, le-leb, leb-true, ltb-true}
-use Rattle.std.proofs.lemmas.Option.{none-some, same_Some}
-use Rattle.moo_value.specs.declared.code.Code.TheVariants.{InvalidArgument}
-use Rattle.moo_value.specs.declared.value.ObjNo.{ObjNo}
-use Rattle.moo_value.specs.declared.value.Value.{Value}
-use Rattle.moo_value.specs.declared.value.Value.TheVariants.{Int, Obj, Str, Error, List as a_list}
-use Rattle.moo_value.specs.Value.{nesting, spread}
-use Rattle.moo_value.specs.Values.{Values, levels, no_values, int, object, string, error, list}
-use Rattle.moo_rows.specs.declared.row.PetitionId.{PetitionId}
-use Rattle.moo_rows.specs.declared.row.PetitionRow.{PetitionRow}
-use Rattle.moo_rows.specs.Exact.{petition_exact}
-use Rattle.moo_rows.specs.Maps.{petition_cmp}
-use Rattle.moo_rows.proofs.Orders.{petition_total}
-use Rattle.moo_world.specs.declared.call.Call.{Call}
-use Rattle.moo_world.specs.declared.name.CallName.{CallName}
-use Rattle.moo_world.specs.Arguments.{is_integer, in_range, is_number, is_text, all_within_limits, is_within_limits, fits}
-use Rattle.moo_world.specs.KeptForm.{arguments_fit, RequestsKeepForm}
-use Rattle.moo_world.specs.Names.{call_name_of, petition_call}
-use Rattle.moo_world.specs.Outcomes.{Outcome, Done, Failed, Full}
-use Rattle.moo_world.specs.Petitions.{PetitionsStand, petition_fits, is_named, are_few, are_shallow}
-use Rattle.moo_world.specs.Requests.{State, IsFormed, petition_id, without, call_in, held_call, held_step, held_steps, last_petition, asked, request}
-use Rattle.moo_world.specs.Calls.{step}
-use Rattle.moo_world.specs.World.{World, IsWellFormed, is_object}
-use Rattle.moo_world.proofs.Batches.Requested.{Led, of_done, request_leaves}
+use Rattle.moo_world.proofs.Lemmas.{◌≡◌, ℕ, ◌+◌, ◌<◌, ◌≤◌, ◌⊎◌, inl, inr, max, Bool, true, false, List, [], ◌∷◌, length, Option, Some, None, refl, sym, ap, ◌∙◌, subst, arith, ◌&&◌, nat_le, nat_lt, is_some, if◌then◌else◌, option_and_then, list_all, FinMap, get, insert, remove, and_parts, false≢true, le-leb, leb-true, ltb-true, none-some, same_Some, InvalidArgument, ObjNo, Value, Int, Obj, Str, Error, nesting, spread, Values, levels, int, object, string, error, list, PetitionId, PetitionRow, petition_exact, petition_cmp, petition_total, Call, CallName, is_integer, in_range, is_number, is_text, all_within_limits, is_within_limits, fits, arguments_fit, RequestsKeepForm, call_name_of, petition_call, Outcome, Done, Failed, Full, PetitionsStand, petition_fits, is_named, are_few, are_shallow, State, IsFormed, petition_id, without, call_in, held_call, held_step, held_steps, last_petition, asked, request, step, World, IsWellFormed, is_object, Led, of_done, request_leaves, object_numbered, put_or_old, none_or_old}
+use Rattle.moo_value.specs.declared.value.Value.TheVariants.{List as a_list}
+use Rattle.moo_value.specs.Values.{no_values}
 use Rattle.moo_world.proofs.Form.Calls.{calls_keep_form}
-use Rattle.moo_world.proofs.Form.Limits.{object_numbered}
-use Rattle.moo_world.proofs.Shown.OneKey.{put_or_old, none_or_old}
 
 -- ---- the values of a list that fits, one by one
 
@@ -195,7 +167,7 @@ asked_fits s p calls formed there call_name_of few shallow fit =
     both _ _ (object_numbered s.world formed.world p there) (both _ _ call_name_of (both _ _ few (both _ _ shallow within)))
 
 pub requests_keep_form : RequestsKeepForm
-requests_keep_form s next p call v formed fit e = of_done IsFormed (request s p call) v next (request_leaves IsFormed s p call led) e
+requests_keep_form s next p call v formed fit e = of_done (λ v. IsFormed) (request s p call) v next (request_leaves IsFormed s p call led) e
   where
     led : Led IsFormed s p call
     led = record {

@@ -1,25 +1,8 @@
 -- Quotas are moved within 64 bits, so that the world stays well formed.
-use Rattle.std.proofs.Common.{◌≡◌, Bool, true, false, ◌||◌, List, [], ◌∷◌, refl, sym, ◌∙◌, ap, subst, inl, inr, Option, Some, None, ℤ, pos, negsuc, FitsSigned, w64, arith}
-use Rattle.std.specs.Prelude.{◌+ℤ◌, int_lt, nat_le, unwrap_or, if◌then◌else◌}
-use Rattle.std.specs.Option.{option_map}
-use Rattle.std.proofs.lemmas.Bool.{both_ways, or_cases, and_parts}
-use Rattle.std.proofs.lemmas.Int.{ints}
-use Rattle.std.proofs.lemmas.Option.{none-some, same_Some}
-use Rattle.moo_value.specs.declared.value.ObjNo.{ObjNo}
-use Rattle.moo_value.specs.declared.value.Value.{Value}
-use Rattle.moo_value.specs.declared.value.Value.TheVariants.{Int, Obj, Str, Error, List as a_list}
-use Rattle.moo_value.specs.Value.{nesting}
-use Rattle.moo_rows.specs.declared.row.SlotState.{SlotState}
-use Rattle.moo_rows.specs.declared.row.SlotState.TheVariants.{Clear, Set}
-use Rattle.moo_world.specs.Arguments.{fits, is_integer, is_number}
-use Rattle.moo_world.specs.Creation.{next_object, owner_or_self, created}
-use Rattle.moo_world.specs.Objects.{Name, nothing, same_object, folded}
-use Rattle.moo_world.specs.Quota.{quota_name, quota_in, quota_of, quota_moved, may_afford, has_quota_left, charged, quota_returned, set_slot}
-use Rattle.moo_world.specs.World.{World, Slot, IsWellFormed, is_object, slot_of, chain, read_in, read_along, read_of, with_record, state_fits}
+use Rattle.moo_world.proofs.Lemmas.{◌≡◌, Bool, true, false, ◌||◌, List, [], ◌∷◌, refl, sym, ◌∙◌, ap, subst, inl, inr, Option, Some, None, ℤ, pos, negsuc, FitsSigned, w64, arith, ◌+ℤ◌, int_lt, nat_le, unwrap_or, if◌then◌else◌, option_map, both_ways, or_cases, and_parts, ints, none-some, same_Some, ObjNo, Value, Int, Obj, Str, Error, nesting, SlotState, Clear, Set, fits, is_integer, is_number, next_object, owner_or_self, created, Name, nothing, same_object, folded, quota_name, quota_in, quota_of, quota_moved, may_afford, has_quota_left, charged, quota_returned, set_slot, World, Slot, IsWellFormed, is_object, slot_of, chain, read_in, read_along, read_of, with_record, state_fits, known_numbered, integer_of, integer_fits}
+use Rattle.moo_value.specs.declared.value.Value.TheVariants.{List as a_list}
 use Rattle.moo_world.proofs.Form.Values.{set_formed}
-use Rattle.moo_world.proofs.Form.Limits.{known_numbered}
 use Rattle.moo_world.proofs.Ownership.Created.{formed, new_numbered, read_old}
-use Rattle.moo_world.proofs.Form.Ranges.{integer_of, integer_fits}
 
 -- ---- what is read
 

@@ -1,20 +1,8 @@
 -- The limits that the types of values keep, and the tests of them.
-use Rattle.std.proofs.Common.{◌≡◌, ◌≤◌, ◌<◌, Bool, true, false, ◌&&◌, ◌↔◌, refl, sym, ℤ, pos, negsuc, FitsSigned, w32, w64, arith}
-use Rattle.std.specs.Prelude.{ℕ, List, length, IsTrue, nat_le}
-use Rattle.std.specs.List.{list_all}
-use Rattle.std.proofs.lemmas.Bool.{false≢true, and_parts, le-leb, leb-true, lt-ltb, ltb-true}
-use Rattle.std.proofs.lemmas.Int.{ints}
-use Rattle.moo_value.specs.declared.value.Value.{Value}
-use Rattle.moo_value.specs.declared.value.Value.TheVariants.{Int, Obj, Str, Error, List as a_list}
+use Rattle.moo_world.proofs.Words.{◌≡◌, ◌≤◌, ◌<◌, Bool, true, false, ◌&&◌, ◌↔◌, refl, sym, ℤ, pos, negsuc, FitsSigned, w32, w64, arith, ℕ, List, length, IsTrue, nat_le, list_all, false≢true, and_parts, le-leb, leb-true, lt-ltb, ltb-true, ints, Value, Int, Obj, Str, Error, IsText, is_allowed, nesting, Values, int, object, string, error, list, is_integer, in_range, is_text, all_within_limits, is_within_limits, fits, TextIsTested, FitsIsTested, both_true}
+use Rattle.moo_value.specs.declared.value.Value.TheVariants.{List as a_list}
 use Rattle.moo_value.specs.Literal.{HoldInside, HoldIn, InRange, Fits}
-use Rattle.moo_value.specs.Text.{IsText, is_allowed}
-use Rattle.moo_value.specs.Value.{nesting}
-use Rattle.moo_value.specs.Values.{Values, no_values, int, object, string, error, list}
-use Rattle.moo_world.specs.Arguments.{is_integer, in_range, is_text, all_within_limits, is_within_limits, fits}
-use Rattle.moo_world.specs.KeptForm.{TextIsTested, FitsIsTested}
-
-both : {a b : Bool} → a ≡ true → b ≡ true → (a && b) ≡ true
-both e h = λ i. e i && h i
+use Rattle.moo_value.specs.Values.{no_values}
 
 pub range_of : (n : ℤ) → FitsSigned w32 n → in_range n ≡ true
 range_of (pos n) f = lt-ltb n 2147483648 (omega (arith, ints))
@@ -33,15 +21,15 @@ integer_fits (pos n) e = let h : n < 9223372036854775808 = ltb-true n 9223372036
 integer_fits (negsuc n) e = let h : n < 9223372036854775808 = ltb-true n 9223372036854775808 e in grind (arith, ints)
 
 pub text_of : (s : List ℕ) → IsText s → is_text s ≡ true
-text_of s t = both (le-leb (length s) 65535 t.short) t.allowed
+text_of s t = both_true (le-leb (length s) 65535 t.short) t.allowed
 
 inside : (vs : Values) → HoldInside InRange IsText vs → all_within_limits vs ≡ true
 inside no_values h = refl
-inside (int n vs) h = both (integer_of n h.0) (inside vs h.1)
-inside (object n vs) h = both (range_of n h.0) (inside vs h.1)
-inside (string s vs) h = both (text_of s h.0) (inside vs h.1)
+inside (int n vs) h = both_true (integer_of n h.0) (inside vs h.1)
+inside (object n vs) h = both_true (range_of n h.0) (inside vs h.1)
+inside (string s vs) h = both_true (text_of s h.0) (inside vs h.1)
 inside (error e vs) h = inside vs h
-inside (list us vs) h = both (inside us h.0) (inside vs h.1)
+inside (list us vs) h = both_true (inside us h.0) (inside vs h.1)
 
 in_value : (v : Value) → HoldIn InRange IsText v → is_within_limits v ≡ true
 in_value (Int n) h = integer_of n h
@@ -70,7 +58,7 @@ hold_in (a_list vs) e = hold_inside vs e
 
 -- what is within the limits passes the test
 pub fits_of : (v : Value) → Fits v → fits v ≡ true
-fits_of v h = both (le-leb (nesting v) 32 h.1) (in_value v h.0)
+fits_of v h = both_true (le-leb (nesting v) 32 h.1) (in_value v h.0)
 
 -- so the nesting alone decides, where the types keep the other limits
 pub fits_is : (v : Value) (b : Bool) → (IsTrue b ↔ (nesting v ≤ 32)) → (IsTrue b → Fits v) → b ≡ fits v

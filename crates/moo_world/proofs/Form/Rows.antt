@@ -1,13 +1,5 @@
 -- A change of an object's row that keeps its parent: what it keeps of a world.
-use Rattle.std.proofs.Common.{◌≡◌, Bool, true, false, refl, sym, ◌∙◌, ap, subst, List, [], Option, Some, None}
-use Rattle.std.specs.Prelude.{is_some, unwrap_or, if◌then◌else◌}
-use Rattle.std.specs.Option.{option_map, option_and_then}
-use Rattle.moo_value.specs.declared.value.ObjNo.{ObjNo}
-use Rattle.moo_rows.specs.declared.row.ObjRow.{ObjRow}
-use Rattle.moo_world.specs.Objects.{Name, same_object}
-use Rattle.moo_world.specs.World.{World, Record, Places, IsWellFormed, Climbs, is_object, row_of, row_fits}
-use Rattle.moo_world.specs.Fields.{with_row}
-use Rattle.moo_world.proofs.Form.Shapes.{SameShape, bare_rows}
+use Rattle.moo_world.proofs.Lemmas.{◌≡◌, Bool, true, false, refl, sym, ◌∙◌, ap, subst, List, [], Option, Some, None, is_some, unwrap_or, if◌then◌else◌, option_map, option_and_then, ObjNo, ObjRow, Name, same_object, World, Record, Places, IsWellFormed, Climbs, is_object, row_of, row_fits, with_row, SameShape, bare_rows}
 
 module _ (w : World) (x : ObjNo) (change : ObjRow → ObjRow) where
   abbrev v : World

@@ -1,16 +1,5 @@
 -- A run of batches leaves a well formed world and petitions of such ones.
-use Rattle.std.proofs.Common.{◌≡◌, Bool, true, false, List, [], ◌∷◌, refl}
-use Rattle.std.specs.Prelude.{nat_lt, if◌then◌else◌}
-use Rattle.std.specs.List.{list_all}
-use Rattle.std.proofs.lemmas.Bool.{and_parts}
-use Rattle.moo_value.specs.declared.value.ObjNo.{ObjNo}
-use Rattle.moo_value.specs.declared.value.Value.{Value}
-use Rattle.moo_world.specs.declared.call.Batch.{Batch}
-use Rattle.moo_world.specs.declared.call.Call.{Call}
-use Rattle.moo_world.specs.Judge.{Ran, Through, FailedAt, FullAt, NoRoom, Stale, after_one, run_calls, is_due, last_seq, verdict_of, judge, left_by}
-use Rattle.moo_world.specs.KeptForm.{arguments_fit, RunsKeepForm}
-use Rattle.moo_world.specs.Outcomes.{Outcome, Done, Failed, Full}
-use Rattle.moo_world.specs.Requests.{State, IsFormed, request}
+use Rattle.moo_world.proofs.Words.{◌≡◌, Bool, true, false, List, [], ◌∷◌, refl, nat_lt, if◌then◌else◌, list_all, and_parts, ObjNo, Value, Batch, Call, Ran, Through, FailedAt, FullAt, NoRoom, Stale, after_one, run_calls, is_due, last_seq, verdict_of, judge, left_by, arguments_fit, RunsKeepForm, Outcome, Done, Failed, Full, State, IsFormed, request}
 use Rattle.moo_world.proofs.Form.Petitions.{requests_keep_form}
 
 -- calls that were all done leave them so

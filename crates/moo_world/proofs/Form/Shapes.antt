@@ -1,10 +1,5 @@
 -- Worlds of one shape: where one is well formed, so is the other.
-use Rattle.std.proofs.Common.{◌≡◌, ◌≤◌, true, refl, sym, ◌∙◌, ap, subst, List, [], length, Option, Some, None}
-use Rattle.std.specs.Prelude.{◌<◌, ◌≤ℤ◌, pos, negsuc, map, unwrap_or}
-use Rattle.std.specs.Option.{option_map, option_and_then}
-use Rattle.std.specs.List.{list_all, flat_map}
-use Rattle.moo_value.specs.declared.value.ObjNo.{ObjNo}
-use Rattle.moo_world.specs.World.{World, Record, IsWellFormed, KeepsLimits, Climbs, Chain, Places, NamesDiffer, is_object, parent_of, names_of, owed_by, pair_named, slot_of, directory_of, row_of, without_slots, with_slots, is_property_name, verb_fits, row_fits}
+use Rattle.moo_world.proofs.Words.{◌≡◌, ◌≤◌, true, refl, sym, ◌∙◌, ap, subst, List, [], length, Option, Some, None, ◌<◌, ◌≤ℤ◌, pos, negsuc, map, unwrap_or, is_some, option_map, option_and_then, list_all, flat_map, ObjNo, ObjRow, World, Record, IsWellFormed, KeepsLimits, IsTree, Climbs, Chain, Places, NamesDiffer, is_object, parent_of, location_of, names_of, owed_by, pair_named, slot_of, directory_of, row_of, without_slots, with_slots, is_property_name, verb_fits, row_fits}
 
 -- the worlds differ in fields of rows alone, and not in parents
 pub record SameShape (w v : World) : Type 0 where
@@ -38,6 +33,50 @@ module _ (w : World) where
       by : (o : Option Record) → option_map (λ r. r.row) (option_map (with_slots (λ n. None)) o) ≡ option_map (λ r. r.row) o
       by None = refl
       by (Some r) = refl
+
+-- worlds whose objects differ in what they define and in slots alone
+module _ (w v : World) (f : ObjNo → Record → Record) (is : (y : ObjNo) → v.object y ≡ option_map (f y) (w.object y)) (rows : (y : ObjNo) (r : Record) → (f y r).row ≡ r.row) where
+  alike : {A : Type 0} (g : Record → A) → ((y : ObjNo) (r : Record) → g (f y r) ≡ g r) → (y : ObjNo) → option_map g (v.object y) ≡ option_map g (w.object y)
+  alike g e y = ap (option_map g) (is y) ∙ by (w.object y)
+    where
+      by : (o : Option Record) → option_map g (option_map (f y) o) ≡ option_map g o
+      by None = refl
+      by (Some r) = ap Some (e y r)
+
+  pub parents_alike : parent_of v ≡ parent_of w
+  parents_alike = λ i y. alike (λ r. r.row.parent) (λ y r. ap (λ (k : ObjRow). k.parent) (rows y r)) y i
+
+  locations_alike : location_of v ≡ location_of w
+  locations_alike = λ i y. alike (λ r. r.row.location) (λ y r. ap (λ (k : ObjRow). k.location) (rows y r)) y i
+
+  pub objects_alike : (y : ObjNo) → is_object v y ≡ is_object w y
+  objects_alike y = ap is_some (is y) ∙ by (w.object y)
+    where
+      by : (o : Option Record) → is_some (option_map (f y) o) ≡ is_some o
+      by None = refl
+      by (Some r) = refl
+
+  pub tree_alike : v.top ≡ w.top → IsTree w → IsTree v
+  tree_alike top tree = record {
+    numbers = λ y o. subst (λ n. (pos 0 ≤ℤ y.0) × (y.0 ≤ℤ n)) (sym top) (tree.numbers y (sym (objects_alike y) ∙ o));
+    chains = λ y o. let c = tree.chains y (sym (objects_alike y) ∙ o) in (c.0, subst (λ link. Climbs link y c.0) (sym parents_alike) c.1);
+    places = λ y o. let c = tree.places y (sym (objects_alike y) ∙ o) in (c.0, subst (λ link. Climbs link y c.0) (sym locations_alike) c.1);
+  }
+
+  pub limits_alike : v.top ≡ w.top → (0 < v.next_prop) × (v.next_prop ≤ 4294967295) → v.next_verb ≡ w.next_verb → ((y : ObjNo) (r : Record) → (f y r).verbs ≡ r.verbs)
+      → ((y : ObjNo) → list_all is_property_name (names_of v y) ≡ true) → KeepsLimits (without_slots w) → KeepsLimits (without_slots v)
+  limits_alike top props next_verb verbs names limits = record {
+    top = subst (λ n. (negsuc 0 ≤ℤ n) × (n ≤ℤ pos 2147483647)) (sym top) limits.top;
+    props = props;
+    verbs = subst (λ n. (0 < n) × (n ≤ 4294967295)) (sym next_verb) limits.verbs;
+    names = λ y. ap (λ g. list_all is_property_name (g y)) (bare_names v) ∙ names y;
+    directories = λ y. ap (λ g. list_all verb_fits (g y)) (bare_verbs v) ∙ ap (λ o. list_all verb_fits (unwrap_or o [])) (alike (λ r. r.verbs) verbs y) ∙ ap (λ g. list_all verb_fits (g y)) (sym (bare_verbs w)) ∙ limits.directories y;
+    rows = λ y. ap (λ g. unwrap_or (option_map row_fits (g y)) true) (bare_rows v) ∙ ap (λ o. unwrap_or (option_map row_fits o) true) (alike (λ r. r.row) rows y) ∙ ap (λ g. unwrap_or (option_map row_fits (g y)) true) (sym (bare_rows w)) ∙ limits.rows y;
+  }
+
+-- what an object of a well formed world defines has names that a property may have
+pub names_fit : (w : World) → KeepsLimits (without_slots w) → (y : ObjNo) → list_all is_property_name (names_of w y) ≡ true
+names_fit w limits y = ap (λ g. list_all is_property_name (g y)) (sym (bare_names w)) ∙ limits.names y
 
 module _ (w v : World) (same : SameShape w v) (wf : IsWellFormed w) (places : (x : ObjNo) → is_object v x ≡ true → (l : List ObjNo) × Places v x l) (rows : (x : ObjNo) → unwrap_or (option_map row_fits (row_of v x)) true ≡ true) where
   object_was : (x : ObjNo) → is_object v x ≡ true → is_object w x ≡ true

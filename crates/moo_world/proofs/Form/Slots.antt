@@ -1,14 +1,5 @@
 -- A changed slot keeps the world well formed.
-use Rattle.std.proofs.Common.{◌≡◌, ◌≢◌, Bool, true, false, refl, sym, ◌∙◌, ap, subst, Option, Some, None}
-use Rattle.std.specs.Prelude.{◌&&◌, ◌≤ℤ◌, if◌then◌else◌}
-use Rattle.std.specs.Option.{option_map, option_and_then}
-use Rattle.std.proofs.lemmas.Bool.{and_parts}
-use Rattle.std.proofs.lemmas.Option.{none-some, same_Some}
-use Rattle.moo_value.specs.declared.value.ObjNo.{ObjNo}
-use Rattle.moo_rows.specs.declared.row.SlotState.TheVariants.{Clear}
-use Rattle.moo_world.specs.Objects.{Name, Pair, same_object, same_text, folded, same_object-Decides, same_text-Decides}
-use Rattle.moo_world.specs.World.{World, Record, Slot, IsTree, IsWellFormed, Climbs, NamesDiffer, is_object, location_of, slot_of, pair_named, with_slots, KeepsLimits, SameButSlots, slot_fits}
-use Rattle.moo_world.specs.Changes.{with_slot_of}
+use Rattle.moo_world.proofs.Words.{◌≡◌, ◌≢◌, Bool, true, false, refl, sym, ◌∙◌, ap, subst, Option, Some, None, ◌&&◌, ◌≤ℤ◌, if◌then◌else◌, option_map, option_and_then, and_parts, none-some, same_Some, ObjNo, Clear, Name, Pair, same_object, same_text, folded, same_object-Decides, same_text-Decides, World, Record, Slot, IsTree, IsWellFormed, Climbs, NamesDiffer, is_object, location_of, slot_of, pair_named, with_slots, KeepsLimits, SameButSlots, slot_fits, with_slot_of}
 use Rattle.moo_world.proofs.Inheritance.Rebuilding.{parents_same, objects_same, owed_same, Chain-same}
 
 -- worlds that differ in slots alone are well formed alike, where the slots have the same definers and those on them are set

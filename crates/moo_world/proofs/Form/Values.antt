@@ -1,31 +1,12 @@
 -- A value that is set and a new name keep the world well formed, and worlds with other slots have names clash alike.
-use Rattle.std.proofs.Common.{◌≡◌, Bool, true, false, ◌||◌, List, [], ◌∷◌, map, refl, ◌∙◌, ap, subst, ◌⊎◌, inl, inr, None}
-use Rattle.std.specs.Prelude.{◌&&◌, is_some, if◌then◌else◌}
-use Rattle.std.specs.Option.{option_map}
-use Rattle.std.specs.List.{filter, flat_map, list_any}
+use Rattle.moo_world.proofs.Lemmas.{◌≡◌, Bool, true, false, ◌||◌, List, [], ◌∷◌, map, refl, ◌∙◌, ap, subst, ◌⊎◌, inl, inr, None, ◌&&◌, is_some, if◌then◌else◌, option_map, filter, flat_map, list_any, false≢true, or_cases, ObjNo, Value, Set, fits, clashes, renamed, with_slot_of, Name, object_at, same_object, same_text, same_pair, folded, is_among, same_text-Decides, same_pair-self, defines_name, numbers_below, World, Record, IsWellFormed, SameButSlots, is_object, is_property_name, names_of, numbers_to, pair_named, chain, IsWellFormed-with_slot_of, slot_owner, names_same, objects_same, both_true}
 use Rattle.std.proofs.Math.Bool.{or-true}
-use Rattle.std.proofs.lemmas.Bool.{false≢true, or_cases}
-use Rattle.moo_value.specs.declared.value.ObjNo.{ObjNo}
-use Rattle.moo_value.specs.declared.value.Value.{Value}
-use Rattle.moo_rows.specs.declared.row.SlotState.TheVariants.{Set}
-use Rattle.moo_world.specs.Arguments.{fits}
-use Rattle.moo_world.specs.Changes.{clashes, renamed, with_slot_of}
-use Rattle.moo_world.specs.Objects.{Name, object_at, same_object, same_text, same_pair, folded, is_among, same_text-Decides, same_pair-self}
-use Rattle.moo_world.specs.PropertyCalls.{defines_name}
-use Rattle.moo_world.specs.Rows.{numbers_below}
-use Rattle.moo_world.specs.World.{World, Record, IsWellFormed, SameButSlots, is_object, is_property_name, names_of, numbers_to, pair_named, chain}
-use Rattle.moo_world.proofs.Form.Slots.{IsWellFormed-with_slot_of}
-use Rattle.moo_world.proofs.Form.Limits.{slot_owner}
 use Rattle.moo_world.proofs.Ownership.Created.{chains_same}
-use Rattle.moo_world.proofs.Inheritance.Rebuilding.{names_same, objects_same}
 use Rattle.moo_world.proofs.Inheritance.Replacement.{IsWellFormed-renamed}
-
-both : {a b : Bool} → a ≡ true → b ≡ true → (a && b) ≡ true
-both e h = λ i. e i && h i
 
 -- a slot that is set to a value
 pub set_formed : (w : World) (x : ObjNo) (n : Name) (v : Value) → fits v ≡ true → IsWellFormed w → IsWellFormed (with_slot_of w x n (λ s. record s { state = Set v }))
-set_formed w x n v f wf = IsWellFormed-with_slot_of w x n (λ s. record s { state = Set v }) wf (λ s. refl) (λ s e d c. absurd (cc)) (λ s e. both (slot_owner s e) f)
+set_formed w x n v f wf = IsWellFormed-with_slot_of w x n (λ s. record s { state = Set v }) wf (λ s. refl) (λ s e d c. absurd (cc)) (λ s e. both_true (slot_owner s e) f)
 
 -- ---- names
 

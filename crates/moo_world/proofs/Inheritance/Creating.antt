@@ -1,20 +1,5 @@
 -- A new object keeps the world well formed.
-use Rattle.std.proofs.Common.{◌≡◌, ◌≤◌, arith, length, Bool, true, false, List, [], ◌∷◌, ◌++◌, map, refl, sym, ◌∙◌, ap, subst, ◌⊎◌, inl, inr, Option, Some, None, ℤ, pos}
-use Rattle.std.specs.Prelude.{◌&&◌, is_some, unwrap_or, ◌≤ℤ◌, ◌<ℤ◌, ◌+ℤ◌, if◌then◌else◌}
-use Rattle.std.specs.Option.{option_map, option_and_then}
-use Rattle.std.specs.List.{list_any, list_all, flat_map, IsDistinct}
-use Rattle.std.proofs.lemmas.Bool.{false≢true, both_ways}
-use Rattle.std.proofs.lemmas.Int.{ints}
-use Rattle.std.proofs.lemmas.Option.{none-some}
-use Rattle.moo_value.specs.declared.value.ObjNo.{ObjNo}
-use Rattle.moo_world.specs.Objects.{Name, Pair, nothing, same_object, same_pair, same_object-Decides}
-use Rattle.moo_world.specs.Arguments.{is_number}
-use Rattle.moo_world.specs.World.{World, Record, IsTree, IsWellFormed, Climbs, Chain, Places, NamesDiffer, is_object, chain, names_of, slot_of, defined_by, owed_by, pair_named, owes, with_slots, is_property_name, verb_fits, row_fits}
-use Rattle.moo_world.specs.Creation.{born, with_new_record, created}
-use Rattle.moo_world.proofs.Ancestry.Trees.{chain_is, Chain-chain, chain-nothing, chain_of_none, linked}
-use Rattle.moo_world.proofs.Inheritance.Owed.{named_owed}
-use Rattle.moo_world.proofs.Inheritance.Keeping.{MayBeRebuilt, IsWellFormed-rebuilt}
-use Rattle.moo_world.proofs.Inheritance.Recycling.{own_owed}
+use Rattle.moo_world.proofs.Lemmas.{◌≡◌, ◌≤◌, arith, length, Bool, true, false, List, [], ◌∷◌, ◌++◌, map, refl, sym, ◌∙◌, ap, subst, ◌⊎◌, inl, inr, Option, Some, None, ℤ, pos, ◌&&◌, is_some, unwrap_or, ◌≤ℤ◌, ◌<ℤ◌, ◌+ℤ◌, if◌then◌else◌, option_map, option_and_then, list_any, list_all, flat_map, IsDistinct, false≢true, both_ways, ints, none-some, ObjNo, Name, Pair, nothing, same_object, same_pair, same_object-Decides, is_number, World, Record, IsTree, IsWellFormed, Climbs, Chain, Places, NamesDiffer, is_object, chain, names_of, slot_of, defined_by, owed_by, pair_named, owes, with_slots, is_property_name, verb_fits, row_fits, born, with_new_record, created, chain_is, Chain-chain, chain-nothing, chain_of_none, linked, named_owed, MayBeRebuilt, IsWellFormed-rebuilt, own_owed, owed_is_object, Chain-either}
 
 module _ (w : World) (x q owner : ObjNo) (wf : IsWellFormed w) (free : is_object w x ≡ false) (next : x.0 ≡ w.top +ℤ pos 1) (room : w.top <ℤ pos 2147483647) (qo : (is_object w q ≡ true) ⊎ (q ≡ nothing)) where
   abbrev pub s : World
@@ -32,11 +17,7 @@ module _ (w : World) (x q owner : ObjNo) (wf : IsWellFormed w) (free : is_object
   Climbs-still f (y ∷ l) z p = (p.0, p.1, same_link f z p.1 p.2, Climbs-still f l p.1 p.3)
 
   Chain-q : Chain w q (chain w q)
-  Chain-q = by qo
-    where
-      by : (is_object w q ≡ true) ⊎ (q ≡ nothing) → Chain w q (chain w q)
-      by (inl h) = Chain-chain w wf.tree q h
-      by (inr h) = subst (λ k. Chain w k (chain w k)) (sym h) (subst (Chain w nothing) (sym (chain-nothing w wf.tree)) refl)
+  Chain-q = Chain-either w wf.tree q qo
 
   at_x : {A : Type 0} (f : Record → A) → option_map f (s.object x) ≡ Some (f (born q owner))
   at_x f = ap (λ b. option_map f (if b then Some (born q owner) else w.object x)) ((same_object-Decides x x).1 refl)
@@ -119,13 +100,6 @@ module _ (w : World) (x q owner : ObjNo) (wf : IsWellFormed w) (free : is_object
       let o : is_object s y ≡ true = linked (s.object y) (λ r. r.row.parent) c.1 c.2 in
       subst NamesDiffer (sym (owed_still (z ∷ l))) (subst (λ m. NamesDiffer (owed_by w m)) (chain_is s IsTree-with y (z ∷ l) c) (differ_at y o))
 
-  q_is_object : (n : Name) (p : Pair) → pair_named (owed_by w (chain w q)) n ≡ Some p → is_object w q ≡ true
-  q_is_object n p e = decide (is_object w q) refl
-    where
-      decide : (b : Bool) → is_object w q ≡ b → b ≡ true
-      decide true v = refl
-      decide false v = absurd (none-some p (sym (ap (λ l. pair_named (owed_by w l) n) (chain_of_none w q v)) ∙ e))
-
   new_slot : (y : ObjNo) (n : Name) (p : Pair) → is_object s y ≡ true → pair_named (owed_by s (chain s y)) n ≡ Some p → owes w y p ≡ false → option_map (λ k. k.definer) (slot_of w q n) ≡ Some p.0
   new_slot y n p o e h = by (which y o)
     where
@@ -135,7 +109,7 @@ module _ (w : World) (x q owner : ObjNo) (wf : IsWellFormed w) (free : is_object
       by : (y ≡ x) ⊎ (is_object w y ≡ true) → option_map (λ k. k.definer) (slot_of w q n) ≡ Some p.0
       by (inl k) =
           let there : pair_named (owed_by w (chain w q)) n ≡ Some p = sym (ap (λ m. pair_named m n) (ap (λ z. owed_by w (chain s z)) k ∙ ap (owed_by w) chain_x ∙ owed_x)) ∙ here in
-          wf.slots q (chain w q) n (q_is_object n p there) Chain-q ∙ ap (option_map (λ m. m.0)) there
+          wf.slots q (chain w q) n (owed_is_object w q n p there) Chain-q ∙ ap (option_map (λ m. m.0)) there
       by (inr k) = absurd (both_ways (owes w y p) h (named_owed w (chain w y) n p (sym (ap (λ l. pair_named (owed_by w l) n) (chain_other y k)) ∙ here)))
 
   own_slot : (y : ObjNo) (p : Pair) → is_object s y ≡ true → list_any (same_pair p) (defined_by s y) ≡ true → owes w y p ≡ true

@@ -1,22 +1,5 @@
 -- A property added to a well formed world.
-use Rattle.std.proofs.Common.{◌≡◌, ◌≢◌, ◌<◌, ◌≤◌, Bool, true, false, cond, ◌||◌, Option, None, Some, List, [], ◌∷◌, ◌++◌, map, length, refl, sym, ap, ◌∙◌, subst, ◌⊎◌, inl, inr, append_assoc, arith}
-use Rattle.std.specs.Prelude.{◌&&◌, is_some, unwrap_or, if◌then◌else◌}
-use Rattle.std.specs.Option.{option_map, option_and_then}
-use Rattle.std.specs.List.{list_any, list_all, IsDistinct, AllByRecursion}
-use Rattle.std.proofs.lemmas.Bool.{false≢true, both_ways, or_parts}
-use Rattle.std.proofs.lemmas.List.Folds.{list_all-append}
-use Rattle.std.proofs.lemmas.Option.{none-some, same_Some}
-use Rattle.moo_value.specs.declared.value.ObjNo.{ObjNo}
-use Rattle.moo_rows.specs.declared.row.SlotState.TheVariants.{Clear}
-use Rattle.moo_world.specs.Changes.{clashes, defined}
-use Rattle.moo_world.specs.ObjectLists.{subtree_of, objects_of}
-use Rattle.moo_world.specs.Objects.{Name, Pair, same_object, same_text, same_pair, folded, is_among, same_object-Decides, same_text-Decides}
-use Rattle.moo_world.specs.World.{World, Record, Slot, IsTree, IsWellFormed, Climbs, Chain, NamesDiffer, is_object, parent_of, location_of, chain, names_of, defined_by, owed_by, pair_named, slot_of, fresh, without_slots, with_slots, is_property_name, verb_fits, row_fits, slot_fits}
-use Rattle.moo_world.proofs.Ancestry.Chains.{Climbs-once}
-use Rattle.moo_world.proofs.Form.Limits.{row_fitting, row_owner, fresh_fits}
-use Rattle.moo_world.proofs.Inheritance.Owed.{named_owed, named_so, definer_among, some_named}
-use Rattle.moo_world.proofs.Ancestry.Subtrees.{among_filter, object_listed, owed_listed}
-use Rattle.moo_world.proofs.Ancestry.Trees.{chain_is, chain_of_none, no_parent}
+use Rattle.moo_world.proofs.Lemmas.{◌≡◌, ◌≢◌, ◌<◌, ◌≤◌, Bool, true, false, cond, ◌||◌, Option, None, Some, List, [], ◌∷◌, ◌++◌, map, length, refl, sym, ap, ◌∙◌, subst, ◌⊎◌, inl, inr, append_assoc, arith, ◌&&◌, is_some, unwrap_or, if◌then◌else◌, option_map, option_and_then, list_any, list_all, IsDistinct, AllByRecursion, false≢true, both_ways, or_parts, list_all-append, none-some, same_Some, ObjNo, Clear, clashes, defined, subtree_of, objects_of, Name, Pair, same_object, same_text, same_pair, folded, is_among, same_object-Decides, same_text-Decides, World, Record, Slot, IsTree, IsWellFormed, Climbs, Chain, NamesDiffer, is_object, parent_of, location_of, chain, names_of, defined_by, owed_by, pair_named, slot_of, fresh, without_slots, with_slots, is_property_name, verb_fits, row_fits, slot_fits, Climbs-once, row_fitting, row_owner, fresh_fits, named_owed, named_so, definer_among, some_named, among_filter, object_listed, owed_listed, chain_is, chain_of_none, no_parent, parents_alike, objects_alike, tree_alike, limits_alike, names_fit}
 
 -- ---- lists of pairs
 
@@ -106,6 +89,10 @@ comparable w t (z ∷ l) y d x c h k = by (same_object d z) refl (same_object x 
     by false e true f u v r = inl (ap (is_among d) (whole x f) ∙ h)
     by false e false f u v r = r u v
 
+pub some_record : (o : Option Record) → is_some o ≡ true → (r : Record) × (o ≡ Some r)
+some_record None e = absurd (false≢true e)
+some_record (Some r) e = (r, refl)
+
 module _ (w : World) (wf : IsWellFormed w) (x : ObjNo) (name : Name) (s : Slot) (xo : is_object w x ≡ true) (free : clashes w x name ≡ false) where
   abbrev pub v : World
   v = defined w x name s
@@ -156,35 +143,14 @@ module _ (w : World) (wf : IsWellFormed w) (x : ObjNo) (name : Name) (s : Slot) 
 
   -- ---- what is as it was
 
-  kept : {A : Type 0} (g : Record → A) → ((y : ObjNo) (r : Record) → g (new_record y r) ≡ g r) → (y : ObjNo) → option_map g (v.object y) ≡ option_map g (w.object y)
-  kept g e y = by (w.object y)
-    where
-      by : (o : Option Record) → option_map g (option_map (new_record y) o) ≡ option_map g o
-      by None = refl
-      by (Some r) = ap Some (e y r)
-
   parents : parent_of v ≡ parent_of w
-  parents = λ i y. kept (λ r. r.row.parent) (λ y r. refl) y i
-
-  locations : location_of v ≡ location_of w
-  locations = λ i y. kept (λ r. r.row.location) (λ y r. refl) y i
+  parents = parents_alike w v new_record (λ y. refl) (λ y r. refl)
 
   objects : (y : ObjNo) → is_object v y ≡ is_object w y
-  objects y = by (w.object y)
-    where
-      by : (o : Option Record) → is_some (option_map (new_record y) o) ≡ is_some o
-      by None = refl
-      by (Some r) = refl
+  objects = objects_alike w v new_record (λ y. refl) (λ y r. refl)
 
   back : (y : ObjNo) (l : List ObjNo) → Chain v y l → Chain w y l
   back y l c = subst (λ link. Climbs link y l) parents c
-
-  tree : IsTree v
-  tree = record {
-    numbers = λ y o. wf.tree.numbers y (sym (objects y) ∙ o);
-    chains = λ y o. let c = wf.tree.chains y (sym (objects y) ∙ o) in (c.0, subst (λ link. Climbs link y c.0) (sym parents) c.1);
-    places = λ y o. let c = wf.tree.places y (sym (objects y) ∙ o) in (c.0, subst (λ link. Climbs link y c.0) (sym locations) c.1);
-  }
 
   -- ---- what is owed
 
@@ -208,13 +174,6 @@ module _ (w : World) (wf : IsWellFormed w) (x : ObjNo) (name : Name) (s : Slot) 
       mapped : (l : List Name) → map {B = Pair} (λ n. (x, n)) (l ++ name ∷ []) ≡ map (λ n. (x, n)) l ++ (x, name) ∷ []
       mapped [] = refl
       mapped (n ∷ l) = ap (λ k. (x, n) ∷ k) (mapped l)
-
-  turned : (y z : ObjNo) → same_object y z ≡ false → same_object z y ≡ false
-  turned y z e = by (same_object z y) refl
-    where
-      by : (b : Bool) → same_object z y ≡ b → b ≡ false
-      by false f = refl
-      by true f = absurd (both_ways (same_object y z) e ((same_object-Decides y z).1 (sym ((same_object-Decides z y).0 f))))
 
   owed_beside : (l : List ObjNo) → is_among x l ≡ false → owed_by v l ≡ owed_by w l
   owed_beside [] h = refl
@@ -247,10 +206,6 @@ module _ (w : World) (wf : IsWellFormed w) (x : ObjNo) (name : Name) (s : Slot) 
   pub slot_now : (y : ObjNo) (n : Name) (r : Record) → w.object y ≡ Some r → slot_of v y n ≡ (new_record y r).slot n
   slot_now y n r e = ap (λ o. option_and_then (λ (k : Record). k.slot n) (option_map (new_record y) o)) e
 
-  some_record : (o : Option Record) → is_some o ≡ true → (r : Record) × (o ≡ Some r)
-  some_record None e = absurd (false≢true e)
-  some_record (Some r) e = (r, refl)
-
   module _ (mine : s.definer ≡ x) (set_here : s.state ≢ Clear) where
     definer_new : (y : ObjNo) (owner : ObjNo) → (if same_object x y then s else fresh owner s).definer ≡ x
     definer_new y owner = by (same_object x y)
@@ -282,86 +237,48 @@ module _ (w : World) (wf : IsWellFormed w) (x : ObjNo) (name : Name) (s : Slot) 
             ∙ inner r (same_text (folded name) n) old
             ∙ sym (ap (option_map (λ (p : Pair). p.0)) (named_after (x, name) n (owed_by w l) (owed_by v l) (inserted y l d e) (none_owed y l d e)))
 
-    set : (y : ObjNo) (n : Name) (k : Slot) → slot_of v y n ≡ Some k → k.definer ≡ y → k.state ≢ Clear
-    set y n k e d = by (w.object y) refl e
+    -- each slot was there, or is the new one, here or below
+    new_or_old : (y : ObjNo) (n : Name) (k : Slot) → slot_of v y n ≡ Some k → (slot_of w y n ≡ Some k) ⊎ ((r : Record) × (w.object y ≡ Some r) × ((if same_object x y then s else fresh r.row.owner s) ≡ k))
+    new_or_old y n k e = by (w.object y) refl e
       where
-        old : (r : Record) → w.object y ≡ Some r → r.slot n ≡ Some k → k.state ≢ Clear
-        old r g h = wf.set y n k (ap (option_and_then (λ (z : Record). z.slot n)) g ∙ h) d
+        test : (r : Record) → w.object y ≡ Some r → (a b : Bool) → (if a then (if b then Some (if same_object x y then s else fresh r.row.owner s) else r.slot n) else r.slot n) ≡ Some k
+            → (slot_of w y n ≡ Some k) ⊎ ((r : Record) × (w.object y ≡ Some r) × ((if same_object x y then s else fresh r.row.owner s) ≡ k))
+        test r g false b h = inl (ap (option_and_then (λ (z : Record). z.slot n)) g ∙ h)
+        test r g true false h = inl (ap (option_and_then (λ (z : Record). z.slot n)) g ∙ h)
+        test r g true true h = inr (r, g, same_Some _ k h)
 
-        here : (r : Record) (b : Bool) → same_object x y ≡ b → Some (if b then s else fresh r.row.owner s) ≡ Some k → k.state ≢ Clear
-        here r true g h = λ c. set_here (ap (λ (z : Slot). z.state) (same_Some s k h) ∙ c)
-        here r false g h = absurd (both_ways (same_object x y) g ((same_object-Decides x y).1 (sym mine ∙ ap (λ (z : Slot). z.definer) (same_Some (fresh r.row.owner s) k h) ∙ d)))
-
-        test : (r : Record) → w.object y ≡ Some r → (a b : Bool) → (if a then (if b then Some (if same_object x y then s else fresh r.row.owner s) else r.slot n) else r.slot n) ≡ Some k → k.state ≢ Clear
-        test r g false b h = old r g h
-        test r g true false h = old r g h
-        test r g true true h = here r (same_object x y) refl h
-
-        by : (o : Option Record) → w.object y ≡ o → option_and_then (λ (z : Record). z.slot n) (option_map (new_record y) o) ≡ Some k → k.state ≢ Clear
+        by : (o : Option Record) → w.object y ≡ o → option_and_then (λ (z : Record). z.slot n) (option_map (new_record y) o) ≡ Some k → (slot_of w y n ≡ Some k) ⊎ ((r : Record) × (w.object y ≡ Some r) × ((if same_object x y then s else fresh r.row.owner s) ≡ k))
         by None g h = absurd (none-some k h)
         by (Some r) g h = test r g (under y) (same_text (folded name) n) h
 
+    set : (y : ObjNo) (n : Name) (k : Slot) → slot_of v y n ≡ Some k → k.definer ≡ y → k.state ≢ Clear
+    set y n k e d = elim (new_or_old y n k e) [ inl h ↦ wf.set y n k h d | inr h ↦ new h.0 (same_object x y) refl h.2 ]
+      where
+        new : (r : Record) (b : Bool) → same_object x y ≡ b → (if b then s else fresh r.row.owner s) ≡ k → k.state ≢ Clear
+        new r true g h = λ c. set_here (ap (λ (z : Slot). z.state) h ∙ c)
+        new r false g h = absurd (both_ways (same_object x y) g ((same_object-Decides x y).1 (sym mine ∙ ap (λ (z : Slot). z.definer) h ∙ d)))
+
     module _ (good_name : is_property_name name ≡ true) (left : w.next_prop < 4294967295) (fits_here : slot_fits s ≡ true) where
       fit : (y : ObjNo) (n : Name) (k : Slot) → slot_of v y n ≡ Some k → slot_fits k ≡ true
-      fit y n k e = by (w.object y) refl e
+      fit y n k e = elim (new_or_old y n k e) [ inl h ↦ wf.fit y n k h | inr h ↦ new h.0 h.1 (same_object x y) h.2 ]
         where
-          old : (r : Record) → w.object y ≡ Some r → r.slot n ≡ Some k → slot_fits k ≡ true
-          old r g h = wf.fit y n k (ap (option_and_then (λ (z : Record). z.slot n)) g ∙ h)
+          new : (r : Record) → w.object y ≡ Some r → (b : Bool) → (if b then s else fresh r.row.owner s) ≡ k → slot_fits k ≡ true
+          new r g true h = ap slot_fits (sym h) ∙ fits_here
+          new r g false h = ap slot_fits (sym h) ∙ fresh_fits r.row.owner s (row_owner r (row_fitting w wf.limits y r g)) fits_here
 
-          new : (r : Record) → w.object y ≡ Some r → (b : Bool) → Some (if b then s else fresh r.row.owner s) ≡ Some k → slot_fits k ≡ true
-          new r g true h = ap slot_fits (sym (same_Some s k h)) ∙ fits_here
-          new r g false h = ap slot_fits (sym (same_Some (fresh r.row.owner s) k h)) ∙ fresh_fits r.row.owner s (row_owner r (row_fitting w wf.limits y r g)) fits_here
-
-          test : (r : Record) → w.object y ≡ Some r → (a b : Bool) → (if a then (if b then Some (if same_object x y then s else fresh r.row.owner s) else r.slot n) else r.slot n) ≡ Some k → slot_fits k ≡ true
-          test r g false b h = old r g h
-          test r g true false h = old r g h
-          test r g true true h = new r g (same_object x y) h
-
-          by : (o : Option Record) → w.object y ≡ o → option_and_then (λ (z : Record). z.slot n) (option_map (new_record y) o) ≡ Some k → slot_fits k ≡ true
-          by None g h = absurd (none-some k h)
-          by (Some r) g h = test r g (under y) (same_text (folded name) n) h
-
-      bare : (o : Option Record) (y : ObjNo) → unwrap_or (option_map (λ r. r.defines) (option_map (with_slots (λ n. None)) o)) [] ≡ unwrap_or (option_map (λ r. r.defines) o) []
-      bare None y = refl
-      bare (Some r) y = refl
-
-      all_names : (y : ObjNo) → list_all is_property_name (names_of (without_slots v) y) ≡ true
-      all_names y = ap (list_all is_property_name) (bare (v.object y) y ∙ names_now y) ∙ by (same_object x y)
+      all_names : (y : ObjNo) → list_all is_property_name (names_of v y) ≡ true
+      all_names y = ap (list_all is_property_name) (names_now y) ∙ by (same_object x y)
         where
-          old : list_all is_property_name (names_of w y) ≡ true
-          old = ap (list_all is_property_name) (sym (bare (w.object y) y)) ∙ wf.limits.names y
-
           by : (b : Bool) → list_all is_property_name (if b then names_of w y ++ name ∷ [] else names_of w y) ≡ true
-          by false = old
-          by true = list_all-append is_property_name (names_of w y) (name ∷ []) ∙ (λ i. old i && (good_name i && true))
-
-      same_verbs : (y : ObjNo) → unwrap_or (option_map (λ r. r.verbs) (option_map (with_slots (λ n. None)) (v.object y))) [] ≡ unwrap_or (option_map (λ r. r.verbs) (option_map (with_slots (λ n. None)) (w.object y))) []
-      same_verbs y = by (w.object y)
-        where
-          by : (o : Option Record) → unwrap_or (option_map (λ r. r.verbs) (option_map (with_slots (λ n. None)) (option_map (new_record y) o))) [] ≡ unwrap_or (option_map (λ r. r.verbs) (option_map (with_slots (λ n. None)) o)) []
-          by None = refl
-          by (Some r) = refl
-
-      same_rows : (y : ObjNo) → option_map (λ r. r.row) (option_map (with_slots (λ n. None)) (v.object y)) ≡ option_map (λ r. r.row) (option_map (with_slots (λ n. None)) (w.object y))
-      same_rows y = by (w.object y)
-        where
-          by : (o : Option Record) → option_map (λ r. r.row) (option_map (with_slots (λ n. None)) (option_map (new_record y) o)) ≡ option_map (λ r. r.row) (option_map (with_slots (λ n. None)) o)
-          by None = refl
-          by (Some r) = refl
+          by false = names_fit w wf.limits y
+          by true = list_all-append is_property_name (names_of w y) (name ∷ []) ∙ (λ i. names_fit w wf.limits y i && (good_name i && true))
 
       pub IsWellFormed-defined : IsWellFormed v
       IsWellFormed-defined = record {
-        tree = tree;
+        tree = tree_alike w v new_record (λ y. refl) (λ y r. refl) refl wf.tree;
         names = names;
         slots = slots;
         set = set;
         fit = fit;
-        limits = record {
-          top = wf.limits.top;
-          props = let low = wf.limits.props.0 in (omega arith, omega arith);
-          verbs = wf.limits.verbs;
-          names = all_names;
-          directories = λ y. ap (list_all verb_fits) (same_verbs y) ∙ wf.limits.directories y;
-          rows = λ y. ap (λ o. unwrap_or (option_map row_fits o) true) (same_rows y) ∙ wf.limits.rows y;
-        };
+        limits = limits_alike w v new_record (λ y. refl) (λ y r. refl) refl (let low = wf.limits.props.0 in (omega arith, omega arith)) refl (λ y r. refl) all_names wf.limits;
       }

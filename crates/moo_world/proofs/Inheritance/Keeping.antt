@@ -1,17 +1,8 @@
 -- A rebuilt world is well formed, where its links and definitions are.
-use Rattle.std.proofs.Common.{◌≡◌, ◌≢◌, Bool, true, false, cond, List, [], ◌∷◌, refl, sym, ◌∙◌, ap, subst, ◌⊎◌, inl, inr, Option, Some, None}
-use Rattle.std.specs.Prelude.{if◌then◌else◌, pos, ◌≤ℤ◌}
-use Rattle.std.specs.Option.{option_map}
-use Rattle.std.specs.List.{list_any, IsDistinct, AllByRecursion}
-use Rattle.std.proofs.lemmas.Bool.{false≢true, both_ways, or_cases, and_parts}
-use Rattle.std.proofs.lemmas.Option.{none-some, same_Some}
-use Rattle.moo_value.specs.declared.value.ObjNo.{ObjNo}
-use Rattle.moo_rows.specs.declared.row.SlotState.TheVariants.{Clear}
-use Rattle.moo_world.specs.Objects.{Name, Pair, same_object, same_text, same_pair, folded, is_among, same_object-Decides, same_text-Decides}
-use Rattle.moo_world.specs.World.{World, Record, Slot, IsTree, IsWellFormed, Climbs, Chain, NamesDiffer, is_object, location_of, owner_of, slot_of, defined_by, owed_by, pair_named, owes, chain, fresh, slot_for, rebuilt, with_slots, without_slots, KeepsLimits, SameButSlots, slot_fits}
-use Rattle.moo_world.proofs.Ancestry.Trees.{chain_is, Chain-chain, chain_of_none}
+use Rattle.moo_world.proofs.Words.{◌≡◌, ◌≢◌, Bool, true, false, cond, List, [], ◌∷◌, refl, sym, ◌∙◌, ap, subst, ◌⊎◌, inl, inr, Option, Some, None, if◌then◌else◌, pos, ◌≤ℤ◌, option_map, list_any, IsDistinct, AllByRecursion, false≢true, both_ways, or_cases, and_parts, none-some, same_Some, ObjNo, Clear, Name, Pair, same_object, same_text, same_pair, folded, is_among, same_object-Decides, same_text-Decides, World, Record, Slot, IsTree, IsWellFormed, Climbs, Chain, NamesDiffer, is_object, location_of, owner_of, slot_of, defined_by, owed_by, pair_named, owes, chain, fresh, slot_for, rebuilt, with_slots, without_slots, KeepsLimits, SameButSlots, slot_fits, nothing, ◌||◌}
+use Rattle.moo_world.proofs.Ancestry.Trees.{chain_is, Chain-chain, chain_of_none, nothing_is_no_object}
 use Rattle.moo_world.proofs.Form.Limits.{owner_numbered, fresh_fits}
-use Rattle.moo_world.proofs.Inheritance.Owed.{definer_among, named_owed, named_so}
+use Rattle.moo_world.proofs.Inheritance.Owed.{any-append, definer_among, in_owed, named_owed, named_so}
 use Rattle.moo_world.proofs.Inheritance.Rebuilding.{parents_same, objects_same, owed_same, Chain-same, SameButSlots-rebuilt, slot_of-rebuilt}
 
 pub same_pair-is : (p q : Pair) → same_pair p q ≡ true → p ≡ q
@@ -38,6 +29,22 @@ named_is (y ∷ owed) p d h = by (same_text (folded y.1) (folded p.1)) refl (or_
     by true e (inr g) r = absurd (clash owed d.0 g e)
     by false e (inl g) r = absurd (both_ways (same_text (folded y.1) (folded p.1)) e ((same_text-Decides (folded y.1) (folded p.1)).1 (ap (λ (m : Pair). folded m.1) (sym (same_pair-is p y g)))))
     by false e (inr g) r = r g
+
+-- what an object defines is owed to it
+pub own_owed : (w : World) (t : IsTree w) (y : ObjNo) (p : Pair) → is_object w y ≡ true → list_any (same_pair p) (defined_by w y) ≡ true → owes w y p ≡ true
+own_owed w t y p yo mine = first (chain w y) (Chain-chain w t y yo)
+  where
+    first : (l : List ObjNo) → Chain w y l → in_owed w p l ≡ true
+    first [] c = absurd (both_ways (is_object w nothing) (nothing_is_no_object w t) (ap (is_object w) (sym c) ∙ yo))
+    first (z ∷ l) c = any-append (same_pair p) (defined_by w z) (owed_by w l) ∙ ap (λ b. b || in_owed w p l) (subst (λ k. list_any (same_pair p) (defined_by w k) ≡ true) c.0 mine)
+
+-- what is owed something is an object
+pub owed_is_object : (w : World) (q : ObjNo) (n : Name) (p : Pair) → pair_named (owed_by w (chain w q)) n ≡ Some p → is_object w q ≡ true
+owed_is_object w q n p e = decide (is_object w q) refl
+  where
+    decide : (b : Bool) → is_object w q ≡ b → b ≡ true
+    decide true v = refl
+    decide false v = absurd (none-some p (sym (ap (λ l. pair_named (owed_by w l) n) (chain_of_none w q v)) ∙ e))
 
 fresh_definer : (owner : ObjNo) (o : Option Slot) → option_map (λ s. s.definer) (option_map (fresh owner) o) ≡ option_map (λ s. s.definer) o
 fresh_definer owner None = refl

@@ -1,14 +1,5 @@
 -- The manual's wording of a change of parent gives the rebuilt world.
-use Rattle.std.proofs.Common.{◌≡◌, Bool, true, false, cond, ◌||◌, List, [], ◌∷◌, ◌++◌, drop, refl, sym, ◌∙◌, ap, subst, ◌⊎◌, inl, inr, Option, Some, None, append_assoc}
-use Rattle.std.specs.Prelude.{unwrap_or, if◌then◌else◌}
-use Rattle.std.specs.Option.{option_map, option_or}
-use Rattle.std.specs.List.{list_any, find}
-use Rattle.std.proofs.lemmas.Bool.{false≢true, both_ways, or_parts, or_right, or_cases, false_from_ne_true}
-use Rattle.std.proofs.lemmas.Option.{none-some, same_Some}
-use Rattle.moo_value.specs.declared.value.ObjNo.{ObjNo}
-use Rattle.moo_world.specs.Objects.{Name, Pair, nothing, same_object, same_pair, folded, is_among, same_object-Decides}
-use Rattle.moo_world.specs.World.{World, Slot, IsWellFormed, Chain, NamesDiffer, is_object, parent_of, owner_of, slot_of, defined_by, owed_by, pair_named, owes, chain, fresh, slot_for, reparented, with_parent}
-use Rattle.moo_world.specs.Manual.{ancestors, common, except, lost, gained, kept_from, manual_slot}
+use Rattle.moo_world.proofs.Words.{◌≡◌, Bool, true, false, cond, ◌||◌, List, [], ◌∷◌, ◌++◌, drop, refl, sym, ◌∙◌, ap, subst, ◌⊎◌, inl, inr, Option, Some, None, append_assoc, unwrap_or, if◌then◌else◌, option_map, option_or, list_any, find, false≢true, both_ways, or_parts, or_right, or_cases, false_from_ne_true, none-some, same_Some, ObjNo, Name, Pair, nothing, same_object, same_pair, folded, is_among, same_object-Decides, World, Slot, IsWellFormed, Chain, NamesDiffer, is_object, parent_of, owner_of, slot_of, defined_by, owed_by, pair_named, owes, chain, fresh, slot_for, reparented, with_parent, ancestors, common, except, lost, gained, kept_from, manual_slot}
 use Rattle.moo_world.proofs.Ancestry.Chains.{front_of, Climbs-split, Climbs-among}
 use Rattle.moo_world.proofs.Ancestry.Trees.{chain_is, Chain-chain, chain-nothing, no_parent}
 use Rattle.moo_world.proofs.Inheritance.Owed.{is_among-append, owed_by-append, named-append, find_passes, found_among, in_owed, in_owed-append, definer_among, named_owed, named_so, named_once}

@@ -1,26 +1,7 @@
 -- The children of a recycled object, moved one by one in the manual's words, leave the world that recycling leaves.
-use Rattle.std.proofs.Common.{◌≡◌, Bool, true, false, cond, ◌||◌, List, [], ◌∷◌, ◌++◌, refl, sym, ◌∙◌, ap, subst, ◌⊎◌, inl, inr, Option, Some, None}
-use Rattle.std.specs.Prelude.{is_some, unwrap_or, if◌then◌else◌}
-use Rattle.std.specs.Option.{option_map, option_and_then}
-use Rattle.std.proofs.lemmas.Bool.{false≢true, both_ways, or_right, false_from_ne_true}
-use Rattle.std.proofs.lemmas.Option.{none-some, same_Some}
-use Rattle.moo_value.specs.declared.value.ObjNo.{ObjNo}
-use Rattle.moo_world.specs.Objects.{Name, Pair, nothing, same_object, same_object-Decides, is_among}
-use Rattle.moo_world.specs.World.{World, Record, Slot, IsTree, IsWellFormed, Chain, is_object, parent_of, slot_of, owed_by, pair_named, chain, with_slots, without_slots, with_parent, reparented, SameButSlots}
-use Rattle.moo_world.specs.Laws.{MayReparent}
-use Rattle.moo_world.specs.Manual.{kept_from, manual_slot}
-use Rattle.moo_world.specs.ObjectLists.{has_parent, children_of, objects_of}
-use Rattle.moo_world.specs.OneByOne.{manually_moved, moved_one_by_one, MayMoveOneByOne, emptied, taken_out, ChildrenMoveOneByOne, ChildrenMoveAscending}
-use Rattle.moo_world.specs.Recycling.{released, without_record, recycled}
-use Rattle.moo_world.proofs.Ancestry.Chains.{Climbs-once}
-use Rattle.moo_world.proofs.Ancestry.Trees.{Chain-chain, chain-step, linked, no_parent}
-use Rattle.moo_world.proofs.Inheritance.Owed.{definer_among, named_owed}
-use Rattle.moo_world.proofs.Ancestry.Ancestors.{same_object-self}
-use Rattle.moo_world.proofs.Inheritance.ManualLaw.{manual_law, slot_kept, slot_absent}
-use Rattle.moo_world.proofs.Inheritance.Rebuilding.{no_slot, objects_same, same_world, SameButSlots-rebuilt}
+use Rattle.moo_world.proofs.Lemmas.{◌≡◌, Bool, true, false, cond, ◌||◌, List, [], ◌∷◌, ◌++◌, refl, sym, ◌∙◌, ap, subst, ◌⊎◌, inl, inr, Option, Some, None, is_some, unwrap_or, if◌then◌else◌, option_map, option_and_then, false≢true, both_ways, or_right, false_from_ne_true, none-some, same_Some, ObjNo, Name, Pair, nothing, same_object, same_object-Decides, is_among, World, Record, Slot, IsTree, IsWellFormed, Chain, is_object, parent_of, slot_of, owed_by, pair_named, chain, with_slots, without_slots, with_parent, reparented, SameButSlots, MayReparent, kept_from, manual_slot, has_parent, children_of, objects_of, manually_moved, moved_one_by_one, MayMoveOneByOne, emptied, taken_out, ChildrenMoveOneByOne, ChildrenMoveAscending, released, without_record, recycled, Climbs-once, Chain-chain, chain-step, linked, no_parent, definer_among, named_owed, same_object-self, manual_law, slot_kept, slot_absent, no_slot, objects_same, same_world, SameButSlots-rebuilt, NoClash-from_meets, among_filter, object_listed}
 use Rattle.moo_world.proofs.Inheritance.Recycling.{stays, recycle_law}
 use Rattle.moo_world.proofs.Inheritance.Reparenting.{IsWellFormed-reparented}
-use Rattle.moo_world.proofs.Ancestry.Subtrees.{NoClash-from_meets, among_filter, object_listed}
 use Rattle.moo_world.proofs.Ancestry.Upward.{filter_passes, may_climb, climbed_slot}
 
 -- worlds that are the same but for slots, and whose objects have the same slots, are one

@@ -1,14 +1,5 @@
 -- A rebuilt world exists, and there is one only.
-use Rattle.std.proofs.Common.{◌≡◌, true, false, List, [], refl, sym, ◌∙◌, ap, subst, map, Option, Some, None}
-use Rattle.std.specs.Prelude.{is_some, unwrap_or, if◌then◌else◌}
-use Rattle.std.specs.Option.{option_map, option_and_then}
-use Rattle.std.specs.Bool.{Decides}
-use Rattle.std.specs.List.{list_any, flat_map}
-use Rattle.std.proofs.lemmas.Bool.{false≢true, both_ways, false_from_ne_true}
-use Rattle.std.proofs.lemmas.Option.{none-some, same_Some}
-use Rattle.moo_value.specs.declared.value.ObjNo.{ObjNo}
-use Rattle.moo_world.specs.Objects.{Name, Pair, nothing, same_pair}
-use Rattle.moo_world.specs.World.{World, Record, Slot, IsTree, Climbs, Chain, Owes, Rebuilt, is_object, parent_of, names_of, owner_of, slot_of, owed_by, pair_named, owes, chain, fresh, slot_for, rebuilt_slot, rebuilt, with_slots, SameButSlots}
+use Rattle.moo_world.proofs.Words.{◌≡◌, true, false, List, [], refl, sym, ◌∙◌, ap, subst, map, Option, Some, None, is_some, unwrap_or, if◌then◌else◌, option_map, option_and_then, Decides, list_any, flat_map, false≢true, both_ways, false_from_ne_true, none-some, same_Some, ObjNo, Name, Pair, nothing, same_pair, World, Record, Slot, IsTree, Climbs, Chain, Owes, Rebuilt, is_object, parent_of, names_of, owner_of, slot_of, owed_by, pair_named, owes, chain, fresh, slot_for, rebuilt_slot, rebuilt, with_slots, SameButSlots}
 use Rattle.moo_world.proofs.Ancestry.Trees.{chain_is, Chain-chain, chain_of_none}
 
 -- what is owed, as a test

@@ -1,22 +1,6 @@
 -- What the loss of one object does to chains.
-use Rattle.std.proofs.Common.{◌≡◌, ◌≤◌, arith, length, Bool, true, false, cond, ◌||◌, List, [], ◌∷◌, ◌++◌, map, refl, sym, ◌∙◌, ap, subst, ◌⊎◌, inl, inr, Option, Some, None}
-use Rattle.std.specs.Prelude.{is_some, unwrap_or, if◌then◌else◌}
-use Rattle.std.specs.Option.{option_map, option_and_then}
-use Rattle.std.specs.List.{list_any, list_all, IsDistinct, AllByRecursion}
-use Rattle.std.proofs.lemmas.Bool.{false≢true, both_ways, or_parts, or_right, or_cases, false_from_ne_true}
-use Rattle.std.proofs.lemmas.Option.{none-some, same_Some}
-use Rattle.moo_value.specs.declared.value.ObjNo.{ObjNo}
-use Rattle.moo_world.specs.Objects.{Name, Pair, nothing, same_object, same_text, same_pair, folded, is_among, same_object-Decides}
-use Rattle.moo_world.specs.World.{World, Record, IsTree, IsWellFormed, Chain, Places, NamesDiffer, is_object, parent_of, chain, names_of, owner_of, slot_of, defined_by, owed_by, pair_named, owes, fresh, slot_for, with_slots, is_property_name, verb_fits, row_fits}
-use Rattle.moo_world.specs.Manual.{kept_from}
-use Rattle.moo_world.specs.Recycling.{released, without_record, recycled}
-use Rattle.moo_world.proofs.Ancestry.Chains.{front_of, Climbs-once}
-use Rattle.moo_world.proofs.Inheritance.Owed.{any-append, all_right, own_pair, in_owed, definer_among, named_owed, named_so, some_named}
-use Rattle.moo_world.proofs.Inheritance.Rebuilding.{slot_of-rebuilt}
-use Rattle.moo_world.proofs.Inheritance.ManualLaw.{slot_kept, slot_lost, slot_absent}
-use Rattle.moo_world.proofs.Inheritance.Keeping.{MayBeRebuilt, IsWellFormed-rebuilt, named_is}
+use Rattle.moo_world.proofs.Lemmas.{◌≡◌, ◌≤◌, arith, length, Bool, true, false, cond, ◌||◌, List, [], ◌∷◌, ◌++◌, map, refl, sym, ◌∙◌, ap, subst, ◌⊎◌, inl, inr, Option, Some, None, is_some, unwrap_or, if◌then◌else◌, option_map, option_and_then, list_any, list_all, IsDistinct, AllByRecursion, false≢true, both_ways, or_parts, or_right, or_cases, false_from_ne_true, none-some, same_Some, ObjNo, Name, Pair, nothing, same_object, same_text, same_pair, folded, is_among, same_object-Decides, World, Record, IsTree, IsWellFormed, Chain, Places, NamesDiffer, is_object, parent_of, chain, names_of, owner_of, slot_of, defined_by, owed_by, pair_named, owes, fresh, slot_for, with_slots, is_property_name, verb_fits, row_fits, kept_from, released, without_record, recycled, front_of, Climbs-once, any-append, all_right, own_pair, in_owed, definer_among, named_owed, named_so, some_named, slot_of-rebuilt, slot_kept, slot_lost, slot_absent, MayBeRebuilt, IsWellFormed-rebuilt, named_is, chain_is, Chain-chain, linked, no_parent, nothing_is_no_object, own_owed}
 use Rattle.moo_world.proofs.Inheritance.Reparenting.{all_join, all_left}
-use Rattle.moo_world.proofs.Ancestry.Trees.{chain_is, Chain-chain, linked, no_parent, nothing_is_no_object}
 
 -- a list without one object
 abbrev pub left_out : ObjNo → List ObjNo → List ObjNo
@@ -200,14 +184,6 @@ module _ (w : World) (x : ObjNo) where
       by : (b : Bool) → NamesDiffer (owed_by w (left_out x l)) → NamesDiffer (owed_by w (cond b (left_out x l) (y ∷ left_out x l)))
       by true r = r
       by false r = joined (defined_by w y) d r
-
--- what an object defines is owed to it
-pub own_owed : (w : World) (t : IsTree w) (y : ObjNo) (p : Pair) → is_object w y ≡ true → list_any (same_pair p) (defined_by w y) ≡ true → owes w y p ≡ true
-own_owed w t y p yo mine = first (chain w y) (Chain-chain w t y yo)
-  where
-    first : (l : List ObjNo) → Chain w y l → in_owed w p l ≡ true
-    first [] c = absurd (both_ways (is_object w nothing) (nothing_is_no_object w t) (ap (is_object w) (sym c) ∙ yo))
-    first (z ∷ l) c = any-append (same_pair p) (defined_by w z) (owed_by w l) ∙ ap (λ b. b || in_owed w p l) (subst (λ k. list_any (same_pair p) (defined_by w k) ≡ true) c.0 mine)
 
 module _ (w : World) (x : ObjNo) (wf : IsWellFormed w) (xo : is_object w x ≡ true) where
   abbrev s : World

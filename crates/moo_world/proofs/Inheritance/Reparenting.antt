@@ -1,19 +1,6 @@
 -- A change of parent keeps the world well formed.
-use Rattle.std.proofs.Common.{◌≡◌, Bool, true, false, cond, ◌||◌, List, [], ◌∷◌, ◌++◌, map, refl, sym, ◌∙◌, ap, subst, ◌⊎◌, inl, Option, Some, None, append_assoc}
-use Rattle.std.specs.Prelude.{unwrap_or, length, ◌≤◌, if◌then◌else◌}
-use Rattle.std.specs.Option.{option_map, option_and_then, option_or}
-use Rattle.std.specs.List.{list_any, list_all, IsDistinct, AllByRecursion}
-use Rattle.std.proofs.lemmas.Bool.{both_ways, or_right}
-use Rattle.std.proofs.lemmas.Option.{none-some, same_Some}
-use Rattle.moo_value.specs.declared.value.ObjNo.{ObjNo}
-use Rattle.moo_world.specs.Objects.{Name, Pair, nothing, same_object, same_text, same_pair, folded, is_among, same_text-Decides, same_pair-self}
-use Rattle.moo_world.specs.World.{World, Record, with_slots, is_property_name, verb_fits, row_fits, IsWellFormed, Chain, NamesDiffer, is_object, parent_of, slot_of, defined_by, owed_by, pair_named, owes, chain, with_parent, reparented}
-use Rattle.moo_world.proofs.Ancestry.Chains.{front_of, Climbs-split}
-use Rattle.moo_world.proofs.Ancestry.Trees.{chain_is, Chain-chain, chain_of_none, linked, no_parent, nothing_is_no_object}
-use Rattle.moo_world.proofs.Inheritance.Owed.{any-append, owed_by-append, named-append, in_owed, in_owed-append, definer_among, named_owed}
+use Rattle.moo_world.proofs.Lemmas.{◌≡◌, Bool, true, false, cond, ◌||◌, List, [], ◌∷◌, ◌++◌, map, refl, sym, ◌∙◌, ap, subst, ◌⊎◌, inl, Option, Some, None, append_assoc, unwrap_or, length, ◌≤◌, if◌then◌else◌, option_map, option_and_then, option_or, list_any, list_all, IsDistinct, AllByRecursion, both_ways, or_right, none-some, same_Some, ObjNo, Name, Pair, nothing, same_object, same_text, same_pair, folded, is_among, same_text-Decides, same_pair-self, World, Record, with_slots, is_property_name, verb_fits, row_fits, IsWellFormed, Chain, NamesDiffer, is_object, parent_of, slot_of, defined_by, owed_by, pair_named, owes, chain, with_parent, reparented, front_of, Climbs-split, chain_is, Chain-chain, chain_of_none, linked, no_parent, nothing_is_no_object, any-append, owed_by-append, named-append, in_owed, in_owed-append, definer_among, named_owed, NoClash, under_x, MayBeRebuilt, IsWellFormed-rebuilt, own_owed, owed_is_object}
 use Rattle.moo_world.proofs.Ancestry.Moving.{names_moved, object_moved, owed_moved, Chain-new, IsTree-moved, chain_unmoved, chain_moved}
-use Rattle.moo_world.proofs.Inheritance.ManualLaw.{NoClash, under_x}
-use Rattle.moo_world.proofs.Inheritance.Keeping.{MayBeRebuilt, IsWellFormed-rebuilt}
 
 -- ---- lists of names that differ, joined
 
@@ -104,13 +91,6 @@ module _ (w : World) (x q : ObjNo) (wf : IsWellFormed w) (xo : is_object w x ≡
             let it : k ≡ p = same_Some k p (sym (ap (λ b. option_or b (pair_named (owed_by w (chain w q)) n)) g) ∙ whole) in
             absurd (both_ways (owes w y p) o (owed_before p (named_owed w (below y) n p (g ∙ ap Some it))))
 
-  q_is_object : (n : Name) (p : Pair) → pair_named (owed_by w (chain w q)) n ≡ Some p → is_object w q ≡ true
-  q_is_object n p e = decide (is_object w q) refl
-    where
-      decide : (b : Bool) → is_object w q ≡ b → b ≡ true
-      decide true v = refl
-      decide false v = absurd (none-some p (sym (ap (λ l. pair_named (owed_by w l) n) (chain_of_none w q v)) ∙ e))
-
   names_at : (y : ObjNo) → is_object w y ≡ true → NamesDiffer (owed_by w (chain s y))
   names_at y yo = by (is_among x (chain w y)) refl
     where
@@ -134,20 +114,13 @@ module _ (w : World) (x q : ObjNo) (wf : IsWellFormed w) (xo : is_object w x ≡
       by : (b : Bool) → is_among x (chain w y) ≡ b → option_map (λ k. k.definer) (slot_of w q n) ≡ Some p.0
       by true u =
           let there = new_here y yo u n p e o in
-          wf.slots q (chain w q) n (q_is_object n p there) (Chain-new w x q wf.tree xo qo outside) ∙ ap (option_map (λ k. k.0)) there
+          wf.slots q (chain w q) n (owed_is_object w q n p there) (Chain-new w x q wf.tree xo qo outside) ∙ ap (option_map (λ k. k.0)) there
       by false u =
           let old : pair_named (owed_by w (chain w y)) n ≡ Some p = sym (ap (λ k. pair_named k n) (owed_moved w x q (chain s y)) ∙ ap (λ l. pair_named (owed_by w l) n) (chain_unmoved w x q wf.tree xo qo outside y yo u)) ∙ e in
           absurd (both_ways (owes w y p) o (named_owed w (chain w y) n p old))
 
   own_slot : (y : ObjNo) (p : Pair) → is_object s y ≡ true → list_any (same_pair p) (defined_by s y) ≡ true → owes w y p ≡ true
-  own_slot y p so h =
-      let yo : is_object w y ≡ true = sym (object_moved w x q y) ∙ so in
-      let mine : list_any (same_pair p) (defined_by w y) ≡ true = subst (λ (names : ObjNo → List Name). list_any (same_pair p) (map (λ n. (y, n)) (names y)) ≡ true) (names_moved w x q) h in
-      first (chain w y) (Chain-chain w wf.tree y yo) yo mine
-    where
-      first : (l : List ObjNo) → Chain w y l → is_object w y ≡ true → list_any (same_pair p) (defined_by w y) ≡ true → in_owed w p l ≡ true
-      first [] c yo mine = absurd (both_ways (is_object w nothing) (nothing_is_no_object w wf.tree) (ap (is_object w) (sym c) ∙ yo))
-      first (z ∷ l) c yo mine = any-append (same_pair p) (defined_by w z) (owed_by w l) ∙ ap (λ b. b || in_owed w p l) (subst (λ k. list_any (same_pair p) (defined_by w k) ≡ true) c.0 mine)
+  own_slot y p so h = own_owed w wf.tree y p (sym (object_moved w x q y) ∙ so) (subst (λ (names : ObjNo → List Name). list_any (same_pair p) (map (λ n. (y, n)) (names y)) ≡ true) (names_moved w x q) h)
 
   -- what reads neither slots nor the parent is as it was
   unread : {A : Type 0} (y : ObjNo) (g : Option Record → A) → ((r : Record) → g (Some (with_slots (λ n. None) (record r { row = record r.row { parent = q } }))) ≡ g (Some (with_slots (λ n. None) r))) → (o : Option Record)

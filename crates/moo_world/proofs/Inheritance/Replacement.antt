@@ -1,20 +1,7 @@
 -- A property of a well formed world under another name.
-use Rattle.std.proofs.Common.{◌≡◌, ◌≢◌, ◌≤◌, Bool, true, false, cond, ◌||◌, Option, None, Some, List, [], ◌∷◌, ◌++◌, map, length, refl, sym, ap, ◌∙◌, subst, ◌⊎◌, inl, inr, append_assoc}
-use Rattle.std.specs.Prelude.{◌&&◌, is_some, unwrap_or, if◌then◌else◌}
-use Rattle.std.specs.Option.{option_map, option_and_then}
-use Rattle.std.specs.List.{list_any, list_all, IsDistinct, AllByRecursion}
-use Rattle.std.proofs.lemmas.Bool.{false≢true, both_ways, or_parts, or_cases, and_parts}
-use Rattle.std.proofs.lemmas.Option.{none-some}
-use Rattle.moo_value.specs.declared.value.ObjNo.{ObjNo}
-use Rattle.moo_rows.specs.declared.row.SlotState.TheVariants.{Clear}
-use Rattle.moo_world.specs.Changes.{clashes, renamed}
-use Rattle.moo_world.specs.Objects.{Name, Pair, nothing, same_object, same_text, same_pair, folded, is_among, same_object-Decides, same_text-Decides}
-use Rattle.moo_world.specs.World.{World, Record, Slot, IsTree, IsWellFormed, Climbs, Chain, NamesDiffer, is_object, parent_of, location_of, chain, names_of, defined_by, owed_by, pair_named, slot_of, without_slots, with_slots, is_property_name, verb_fits, row_fits, slot_fits}
-use Rattle.moo_world.proofs.Ancestry.Chains.{Climbs-once}
-use Rattle.moo_world.proofs.Inheritance.Owed.{none_named}
-use Rattle.moo_world.proofs.Ancestry.Trees.{chain_is, Chain-chain, no_parent, nothing_is_no_object}
+use Rattle.moo_world.proofs.Lemmas.{◌≡◌, ◌≢◌, ◌≤◌, Bool, true, false, cond, ◌||◌, Option, None, Some, List, [], ◌∷◌, ◌++◌, map, length, refl, sym, ap, ◌∙◌, subst, ◌⊎◌, inl, inr, append_assoc, ◌&&◌, is_some, unwrap_or, if◌then◌else◌, option_map, option_and_then, list_any, list_all, IsDistinct, AllByRecursion, false≢true, both_ways, or_parts, or_cases, and_parts, none-some, ObjNo, Clear, clashes, renamed, Name, Pair, nothing, same_object, same_text, same_pair, folded, is_among, same_object-Decides, same_text-Decides, World, Record, Slot, IsTree, IsWellFormed, Climbs, Chain, NamesDiffer, is_object, parent_of, location_of, chain, names_of, defined_by, owed_by, pair_named, slot_of, without_slots, with_slots, is_property_name, verb_fits, row_fits, slot_fits, Climbs-once, none_named, chain_is, Chain-chain, no_parent, nothing_is_no_object, parents_alike, objects_alike, tree_alike, limits_alike, names_fit}
 use Rattle.moo_world.proofs.Shown.PairLists.{distinct_map, pairs_left}
-use Rattle.moo_world.proofs.Inheritance.Insertion.{Inserted, still_apart, named_after, further, none_owed}
+use Rattle.moo_world.proofs.Inheritance.Insertion.{Inserted, still_apart, named_after, further, none_owed, some_record}
 
 -- ---- lists of pairs
 
@@ -160,35 +147,14 @@ module _ (w : World) (wf : IsWellFormed w) (x : ObjNo) (old new : Name) (xo : is
 
   -- ---- what is as it was
 
-  kept : {A : Type 0} (g : Record → A) → ((y : ObjNo) (r : Record) → g (new_record y r) ≡ g r) → (y : ObjNo) → option_map g (v.object y) ≡ option_map g (w.object y)
-  kept g e y = by (w.object y)
-    where
-      by : (o : Option Record) → option_map g (option_map (new_record y) o) ≡ option_map g o
-      by None = refl
-      by (Some r) = ap Some (e y r)
-
   parents : parent_of v ≡ parent_of w
-  parents = λ i y. kept (λ r. r.row.parent) (λ y r. refl) y i
-
-  locations : location_of v ≡ location_of w
-  locations = λ i y. kept (λ r. r.row.location) (λ y r. refl) y i
+  parents = parents_alike w v new_record (λ y. refl) (λ y r. refl)
 
   objects : (y : ObjNo) → is_object v y ≡ is_object w y
-  objects y = by (w.object y)
-    where
-      by : (o : Option Record) → is_some (option_map (new_record y) o) ≡ is_some o
-      by None = refl
-      by (Some r) = refl
+  objects = objects_alike w v new_record (λ y. refl) (λ y r. refl)
 
   back : (y : ObjNo) (l : List ObjNo) → Chain v y l → Chain w y l
   back y l c = subst (λ link. Climbs link y l) parents c
-
-  tree : IsTree v
-  tree = record {
-    numbers = λ y o. wf.tree.numbers y (sym (objects y) ∙ o);
-    chains = λ y o. let c = wf.tree.chains y (sym (objects y) ∙ o) in (c.0, subst (λ link. Climbs link y c.0) (sym parents) c.1);
-    places = λ y o. let c = wf.tree.places y (sym (objects y) ∙ o) in (c.0, subst (λ link. Climbs link y c.0) (sym locations) c.1);
-  }
 
   -- ---- what is owed
 
@@ -276,10 +242,6 @@ module _ (w : World) (wf : IsWellFormed w) (x : ObjNo) (old new : Name) (xo : is
   slot_now : (y : ObjNo) (n : Name) (r : Record) → w.object y ≡ Some r → slot_of v y n ≡ (new_record y r).slot n
   slot_now y n r e = ap (λ o. option_and_then (λ (k : Record). k.slot n) (option_map (new_record y) o)) e
 
-  some_record : (o : Option Record) → is_some o ≡ true → (r : Record) × (o ≡ Some r)
-  some_record None e = absurd (false≢true e)
-  some_record (Some r) e = (r, refl)
-
   abbrev moved_slot : Bool → (Name → Option Slot) → Name → Option Slot
   moved_slot b slots n = if b then (if same_text (folded new) n then slots (folded old) else (if same_text (folded old) n then None else slots n)) else slots n
 
@@ -322,51 +284,29 @@ module _ (w : World) (wf : IsWellFormed w) (x : ObjNo) (old new : Name) (xo : is
       by slots was false e = was n ∙ ap (λ k. by_whom (pair_named k n)) (sym (owed_beside l e))
       by slots was true e = under_slots y l (back y l c) e slots was n
 
-  set : (y : ObjNo) (n : Name) (k : Slot) → slot_of v y n ≡ Some k → k.definer ≡ y → k.state ≢ Clear
-  set y n k e d = by (w.object y) refl e
+  -- each slot was there, under some name
+  was_there : (y : ObjNo) (n : Name) (k : Slot) → slot_of v y n ≡ Some k → (m : Name) × (slot_of w y m ≡ Some k)
+  was_there y n k e = by (w.object y) refl e
     where
-      was : (m : Name) (r : Record) → w.object y ≡ Some r → r.slot m ≡ Some k → k.state ≢ Clear
-      was m r g h = wf.set y m k (ap (option_and_then (λ (z : Record). z.slot m)) g ∙ h) d
+      was : (m : Name) (r : Record) → w.object y ≡ Some r → r.slot m ≡ Some k → (m : Name) × (slot_of w y m ≡ Some k)
+      was m r g h = (m, ap (option_and_then (λ (z : Record). z.slot m)) g ∙ h)
 
-      test : (r : Record) → w.object y ≡ Some r → (a b c : Bool) → (if a then (if b then r.slot (folded old) else (if c then None else r.slot n)) else r.slot n) ≡ Some k → k.state ≢ Clear
+      test : (r : Record) → w.object y ≡ Some r → (a b c : Bool) → (if a then (if b then r.slot (folded old) else (if c then None else r.slot n)) else r.slot n) ≡ Some k → (m : Name) × (slot_of w y m ≡ Some k)
       test r g false b c h = was n r g h
       test r g true true c h = was (folded old) r g h
       test r g true false true h = absurd (none-some k h)
       test r g true false false h = was n r g h
 
-      by : (o : Option Record) → w.object y ≡ o → option_and_then (λ (z : Record). z.slot n) (option_map (new_record y) o) ≡ Some k → k.state ≢ Clear
-      by None g h = absurd (none-some k h)
-      by (Some r) g h = test r g (is_among x (chain w y)) (same_text (folded new) n) (same_text (folded old) n) h
-
-  fit : (y : ObjNo) (n : Name) (k : Slot) → slot_of v y n ≡ Some k → slot_fits k ≡ true
-  fit y n k e = by (w.object y) refl e
-    where
-      was : (m : Name) (r : Record) → w.object y ≡ Some r → r.slot m ≡ Some k → slot_fits k ≡ true
-      was m r g h = wf.fit y m k (ap (option_and_then (λ (z : Record). z.slot m)) g ∙ h)
-
-      test : (r : Record) → w.object y ≡ Some r → (a b c : Bool) → (if a then (if b then r.slot (folded old) else (if c then None else r.slot n)) else r.slot n) ≡ Some k → slot_fits k ≡ true
-      test r g false b c h = was n r g h
-      test r g true true c h = was (folded old) r g h
-      test r g true false true h = absurd (none-some k h)
-      test r g true false false h = was n r g h
-
-      by : (o : Option Record) → w.object y ≡ o → option_and_then (λ (z : Record). z.slot n) (option_map (new_record y) o) ≡ Some k → slot_fits k ≡ true
+      by : (o : Option Record) → w.object y ≡ o → option_and_then (λ (z : Record). z.slot n) (option_map (new_record y) o) ≡ Some k → (m : Name) × (slot_of w y m ≡ Some k)
       by None g h = absurd (none-some k h)
       by (Some r) g h = test r g (is_among x (chain w y)) (same_text (folded new) n) (same_text (folded old) n) h
 
   -- ---- limits
 
   module _ (good_name : is_property_name new ≡ true) where
-    bare : (o : Option Record) → unwrap_or (option_map (λ r. r.defines) (option_map (with_slots (λ n. None)) o)) [] ≡ unwrap_or (option_map (λ r. r.defines) o) []
-    bare None = refl
-    bare (Some r) = refl
-
-    all_names : (y : ObjNo) → list_all is_property_name (names_of (without_slots v) y) ≡ true
-    all_names y = ap (list_all is_property_name) (bare (v.object y) ∙ names_now y) ∙ by (same_object x y)
+    all_names : (y : ObjNo) → list_all is_property_name (names_of v y) ≡ true
+    all_names y = ap (list_all is_property_name) (names_now y) ∙ by (same_object x y)
       where
-        before : list_all is_property_name (names_of w y) ≡ true
-        before = ap (list_all is_property_name) (sym (bare (w.object y))) ∙ wf.limits.names y
-
         each : (l : List Name) → list_all is_property_name l ≡ true → list_all is_property_name (map (renames old new) l) ≡ true
         each [] h = h
         each (n ∷ l) h = let parts = and_parts (is_property_name n) (list_all is_property_name l) h in one (same_text (folded n) (folded old)) parts.0 (each l parts.1)
@@ -376,30 +316,15 @@ module _ (w : World) (wf : IsWellFormed w) (x : ObjNo) (old new : Name) (xo : is
             one false k r = λ i. k i && r i
 
         by : (b : Bool) → list_all is_property_name (if b then map (renames old new) (names_of w y) else names_of w y) ≡ true
-        by false = before
-        by true = each (names_of w y) before
-
-    -- what reads neither slots nor names is as it was
-    unread : {A : Type 0} (g : Option Record → A) → ((r : Record) (y : ObjNo) → g (Some (with_slots (λ n. None) (new_record y r))) ≡ g (Some (with_slots (λ n. None) r))) → (y : ObjNo) → g (option_map (with_slots (λ n. None)) (v.object y)) ≡ g (option_map (with_slots (λ n. None)) (w.object y))
-    unread g e y = by (w.object y)
-      where
-        by : (o : Option Record) → g (option_map (with_slots (λ n. None)) (option_map (new_record y) o)) ≡ g (option_map (with_slots (λ n. None)) o)
-        by None = refl
-        by (Some r) = e r y
+        by false = names_fit w wf.limits y
+        by true = each (names_of w y) (names_fit w wf.limits y)
 
     pub IsWellFormed-renamed : IsWellFormed v
     IsWellFormed-renamed = record {
-      tree = tree;
+      tree = tree_alike w v new_record (λ y. refl) (λ y r. refl) refl wf.tree;
       names = names;
       slots = slots;
-      set = set;
-      fit = fit;
-      limits = record {
-        top = wf.limits.top;
-        props = wf.limits.props;
-        verbs = wf.limits.verbs;
-        names = all_names;
-        directories = λ y. unread (λ o. list_all verb_fits (unwrap_or (option_map (λ r. r.verbs) o) [])) (λ r y. refl) y ∙ wf.limits.directories y;
-        rows = λ y. unread (λ o. unwrap_or (option_map row_fits (option_map (λ r. r.row) o)) true) (λ r y. refl) y ∙ wf.limits.rows y;
-      };
+      set = λ y n k e. let s = was_there y n k e in wf.set y s.0 k s.1;
+      fit = λ y n k e. let s = was_there y n k e in wf.fit y s.0 k s.1;
+      limits = limits_alike w v new_record (λ y. refl) (λ y r. refl) refl wf.limits.props refl (λ y r. refl) all_names wf.limits;
     }

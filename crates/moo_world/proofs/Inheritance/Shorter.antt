@@ -1,19 +1,5 @@
 -- A property taken from a well formed world.
-use Rattle.std.proofs.Common.{◌≡◌, ◌≤◌, Bool, true, false, cond, ◌||◌, Option, None, Some, List, [], ◌∷◌, ◌++◌, map, length, refl, sym, ap, ◌∙◌, subst}
-use Rattle.std.specs.Prelude.{◌&&◌, not, is_some, unwrap_or, if◌then◌else◌}
-use Rattle.std.specs.Option.{option_map, option_and_then}
-use Rattle.std.specs.List.{filter, list_any, list_all, IsDistinct, AllByRecursion}
-use Rattle.std.proofs.lemmas.Bool.{both_ways, or_right, and_parts}
-use Rattle.std.proofs.lemmas.Option.{none-some, same_Some}
-use Rattle.moo_value.specs.declared.value.ObjNo.{ObjNo}
-use Rattle.moo_world.specs.Changes.{undefined}
-use Rattle.moo_world.specs.Objects.{Name, Pair, nothing, same_object, same_text, same_pair, folded, same_object-Decides, same_text-Decides}
-use Rattle.moo_world.specs.World.{World, Record, Slot, IsTree, IsWellFormed, Climbs, Chain, NamesDiffer, is_object, parent_of, location_of, chain, climb, numbers_to, names_of, defined_by, owed_by, owes, owner_of, pair_named, slot_of, slot_for, fresh, with_record, with_slots, without_slots, is_property_name, verb_fits, row_fits}
-use Rattle.moo_world.proofs.Inheritance.Keeping.{MayBeRebuilt, IsWellFormed-rebuilt}
-use Rattle.moo_world.proofs.Inheritance.Owed.{named_owed, named_so, none_named}
-use Rattle.moo_world.proofs.Inheritance.Rebuilding.{slot_of-rebuilt}
-use Rattle.moo_world.proofs.Inheritance.Recycling.{own_owed}
-use Rattle.moo_world.proofs.Ancestry.Trees.{Chain-chain}
+use Rattle.moo_world.proofs.Lemmas.{◌≡◌, ◌≤◌, Bool, true, false, cond, ◌||◌, Option, None, Some, List, [], ◌∷◌, ◌++◌, map, length, refl, sym, ap, ◌∙◌, subst, ◌&&◌, not, is_some, unwrap_or, if◌then◌else◌, option_map, option_and_then, filter, list_any, list_all, IsDistinct, AllByRecursion, both_ways, or_right, and_parts, none-some, same_Some, ObjNo, undefined, Name, Pair, nothing, same_object, same_text, same_pair, folded, same_object-Decides, same_text-Decides, World, Record, Slot, IsTree, IsWellFormed, Climbs, Chain, NamesDiffer, is_object, parent_of, location_of, chain, climb, numbers_to, names_of, defined_by, owed_by, owes, owner_of, pair_named, slot_of, slot_for, fresh, with_record, with_slots, without_slots, is_property_name, verb_fits, row_fits, MayBeRebuilt, IsWellFormed-rebuilt, named_owed, named_so, none_named, slot_of-rebuilt, Chain-chain, parents_alike, objects_alike, tree_alike, limits_alike, names_fit, own_owed}
 
 -- ---- lists
 
@@ -86,40 +72,29 @@ module _ (w : World) (wf : IsWellFormed w) (x : ObjNo) (name : Name) where
   abbrev pub stays : Pair → Bool
   stays p = not (same_object p.0 x && same_text (folded p.1) (folded name))
 
-  abbrev less : ObjNo → Record → Record
-  less y r = if same_object x y then record r { defines = filter (λ m. not (same_text (folded m) (folded name))) r.defines } else r
+  -- the names but that one
+  abbrev fewer : List Name → List Name
+  fewer names = filter (λ m. not (same_text (folded m) (folded name))) names
 
-  kept : {A : Type 0} (g : Record → A) → ((r : Record) → g (record r { defines = filter (λ m. not (same_text (folded m) (folded name))) r.defines }) ≡ g r) → (y : ObjNo) → option_map g (s.object y) ≡ option_map g (w.object y)
-  kept g e y = by (same_object x y) (w.object y)
+  abbrev less : ObjNo → Record → Record
+  less y r = if same_object x y then record r { defines = fewer r.defines } else r
+
+  kept : {A : Type 0} (g : Record → A) → ((r : Record) → g (record r { defines = fewer r.defines }) ≡ g r) → (y : ObjNo) (r : Record) → g (less y r) ≡ g r
+  kept g e y r = by (same_object x y)
     where
-      by : (b : Bool) (o : Option Record) → option_map g (option_map (λ r. if b then record r { defines = filter (λ m. not (same_text (folded m) (folded name))) r.defines } else r) o) ≡ option_map g o
-      by b None = refl
-      by true (Some r) = ap Some (e r)
-      by false (Some r) = refl
+      by : (b : Bool) → g (if b then record r { defines = fewer r.defines } else r) ≡ g r
+      by true = e r
+      by false = refl
 
   parents : parent_of s ≡ parent_of w
-  parents = λ i y. kept (λ r. r.row.parent) (λ r. refl) y i
-
-  locations : location_of s ≡ location_of w
-  locations = λ i y. kept (λ r. r.row.location) (λ r. refl) y i
+  parents = parents_alike w s less (λ y. refl) (kept (λ r. r.row) (λ r. refl))
 
   pub objects : (y : ObjNo) → is_object s y ≡ is_object w y
-  objects y = by (w.object y)
-    where
-      by : (o : Option Record) → is_some (option_map (less y) o) ≡ is_some o
-      by None = refl
-      by (Some r) = refl
+  objects = objects_alike w s less (λ y. refl) (kept (λ r. r.row) (λ r. refl))
 
   same_chain : (y : ObjNo) → chain s y ≡ chain w y
   unfolding chain
   same_chain y = λ i. climb (numbers_to w.top) (parents i) y
-
-  tree : IsTree s
-  tree = record {
-    numbers = λ y o. wf.tree.numbers y (sym (objects y) ∙ o);
-    chains = λ y o. let c = wf.tree.chains y (sym (objects y) ∙ o) in (c.0, subst (λ link. Climbs link y c.0) (sym parents) c.1);
-    places = λ y o. let c = wf.tree.places y (sym (objects y) ∙ o) in (c.0, subst (λ link. Climbs link y c.0) (sym locations) c.1);
-  }
 
   names_now : (y : ObjNo) → names_of s y ≡ (if same_object x y then filter (λ m. not (same_text (folded m) (folded name))) (names_of w y) else names_of w y)
   names_now y = by (same_object x y) (w.object y)
@@ -166,44 +141,28 @@ module _ (w : World) (wf : IsWellFormed w) (x : ObjNo) (name : Name) where
   was_owed : (y : ObjNo) (n : Name) (p : Pair) → pair_named (owed_by s (chain s y)) n ≡ Some p → owes w y p ≡ true
   was_owed y n p e = any_of_filter (same_pair p) stays (owed_by w (chain w y)) (ap (list_any (same_pair p)) (sym (ap (owed_by s) (same_chain y) ∙ owed_now (chain w y))) ∙ named_owed s (chain s y) n p e)
 
-  read : {A : Type 0} (g : Option Record → A) → ((r : Record) → g (Some (with_slots (λ n. None) (record r { defines = filter (λ m. not (same_text (folded m) (folded name))) r.defines }))) ≡ g (Some (with_slots (λ n. None) r))) → (y : ObjNo) → g (option_map (with_slots (λ n. None)) (s.object y)) ≡ g (option_map (with_slots (λ n. None)) (w.object y))
-  read g e y = by (same_object x y) (w.object y)
+  all_names : (y : ObjNo) → list_all is_property_name (names_of s y) ≡ true
+  all_names y = ap (list_all is_property_name) (names_now y) ∙ by (same_object x y)
     where
-      by : (b : Bool) (o : Option Record) → g (option_map (with_slots (λ n. None)) (option_map (λ r. if b then record r { defines = filter (λ m. not (same_text (folded m) (folded name))) r.defines } else r) o)) ≡ g (option_map (with_slots (λ n. None)) o)
-      by b None = refl
-      by true (Some r) = e r
-      by false (Some r) = refl
-
-  all_names : (y : ObjNo) → list_all is_property_name (names_of (without_slots s) y) ≡ true
-  all_names y = by (same_object x y) (w.object y) (wf.limits.names y)
-    where
-      fewer : (l : List Name) → list_all is_property_name l ≡ true → list_all is_property_name (filter (λ m. not (same_text (folded m) (folded name))) l) ≡ true
-      fewer [] h = h
-      fewer (n ∷ l) h = one (not (same_text (folded n) (folded name))) (and_parts (is_property_name n) (list_all is_property_name l) h) (fewer l)
+      each : (l : List Name) → list_all is_property_name l ≡ true → list_all is_property_name (fewer l) ≡ true
+      each [] h = h
+      each (n ∷ l) h = one (not (same_text (folded n) (folded name))) (and_parts (is_property_name n) (list_all is_property_name l) h) (each l)
         where
-          one : (c : Bool) → (is_property_name n ≡ true) × (list_all is_property_name l ≡ true) → (list_all is_property_name l ≡ true → list_all is_property_name (filter (λ m. not (same_text (folded m) (folded name))) l) ≡ true) → list_all is_property_name (cond c (n ∷ filter (λ m. not (same_text (folded m) (folded name))) l) (filter (λ m. not (same_text (folded m) (folded name))) l)) ≡ true
+          one : (c : Bool) → (is_property_name n ≡ true) × (list_all is_property_name l ≡ true) → (list_all is_property_name l ≡ true → list_all is_property_name (fewer l) ≡ true) → list_all is_property_name (cond c (n ∷ fewer l) (fewer l)) ≡ true
           one true k r = λ i. k.0 i && r k.1 i
           one false k r = r k.1
 
-      by : (b : Bool) (o : Option Record) → list_all is_property_name (unwrap_or (option_map (λ r. r.defines) (option_map (with_slots (λ n. None)) o)) []) ≡ true → list_all is_property_name (unwrap_or (option_map (λ r. r.defines) (option_map (with_slots (λ n. None)) (option_map (λ r. if b then record r { defines = filter (λ m. not (same_text (folded m) (folded name))) r.defines } else r) o))) []) ≡ true
-      by b None h = h
-      by true (Some r) h = fewer r.defines h
-      by false (Some r) h = h
+      by : (b : Bool) → list_all is_property_name (if b then fewer (names_of w y) else names_of w y) ≡ true
+      by true = each (names_of w y) (names_fit w wf.limits y)
+      by false = names_fit w wf.limits y
 
   may : MayBeRebuilt w s nothing
   may = record {
-    tree = tree;
+    tree = tree_alike w s less (λ y. refl) (kept (λ r. r.row) (λ r. refl)) refl wf.tree;
     names = λ y l c. subst NamesDiffer (sym (owed_now l)) (fewer_differ stays (owed_by w l) (wf.names y l (back y l c)));
     new = λ y n p o e h. absurd (both_ways (owes w y p) h (was_owed y n p e));
     own = λ y p o h. own_owed w wf.tree y p (sym (objects y) ∙ o) (any_of_filter (same_pair p) stays (defined_by w y) (ap (list_any (same_pair p)) (sym (defined_now y)) ∙ h));
-    limits = record {
-      top = wf.limits.top;
-      props = wf.limits.props;
-      verbs = wf.limits.verbs;
-      names = all_names;
-      directories = λ y. read (λ o. list_all verb_fits (unwrap_or (option_map (λ r. r.verbs) o) [])) (λ r. refl) y ∙ wf.limits.directories y;
-      rows = λ y. read (λ o. unwrap_or (option_map row_fits (option_map (λ r. r.row) o)) true) (λ r. refl) y ∙ wf.limits.rows y;
-    };
+    limits = limits_alike w s less (λ y. refl) (kept (λ r. r.row) (λ r. refl)) refl wf.limits.props refl (kept (λ r. r.verbs) (λ r. refl)) all_names wf.limits;
   }
 
   pub IsWellFormed-undefined : IsWellFormed (undefined w x name)

@@ -1,27 +1,9 @@
 -- Nobody's ownership changes by a field, a quota, or a property that is added or has another name.
-use Rattle.std.proofs.Common.{◌≡◌, Bool, true, false, List, [], ◌∷◌, ◌++◌, map, refl, sym, ◌∙◌, ap, Option, Some, None, ℤ, pos, negsuc}
-use Rattle.std.specs.Prelude.{◌+ℤ◌, ◌&&◌, if◌then◌else◌}
-use Rattle.std.specs.Option.{option_map, option_and_then}
-use Rattle.std.proofs.lemmas.Bool.{false≢true}
-use Rattle.std.proofs.lemmas.Option.{none-some, same_Some}
-use Rattle.moo_value.specs.declared.value.ObjNo.{ObjNo}
-use Rattle.moo_value.specs.declared.value.Value.TheVariants.{Int}
-use Rattle.moo_rows.specs.declared.row.Bits.{Bits}
-use Rattle.moo_rows.specs.declared.row.SlotState.{SlotState}
-use Rattle.moo_rows.specs.declared.row.SlotState.TheVariants.{Set}
-use Rattle.moo_world.specs.declared.change.Change.{Change}
+use Rattle.moo_world.proofs.Lemmas.{◌≡◌, Bool, true, false, List, [], ◌∷◌, ◌++◌, map, refl, sym, ◌∙◌, ap, Option, Some, None, ℤ, pos, negsuc, ◌+ℤ◌, ◌&&◌, if◌then◌else◌, option_map, option_and_then, false≢true, none-some, same_Some, ObjNo, Int, Bits, SlotState, Set, Change, clashes, defined, renamed, info_set, changed, field_changed, Name, Pair, nothing, same_object, same_text, folded, is_among, same_text-Decides, KeepsOwnership, name_changed, quota_name, quota_of, quota_moved, set_slot, charged, quota_returned, World, Record, Slot, IsWellFormed, is_object, chain, slot_of, fresh, with_record, same_links, rank, face, faced, on_record, on_slot, unchanged, slotted, Chain-chain}
 use Rattle.moo_world.specs.declared.change.Change.TheVariants as to
-use Rattle.moo_world.specs.Changes.{clashes, defined, renamed, info_set}
-use Rattle.moo_world.specs.Fields.{changed, field_changed}
-use Rattle.moo_world.specs.Objects.{Name, Pair, nothing, same_object, same_text, folded, is_among, same_text-Decides}
-use Rattle.moo_world.specs.Ownership.{KeepsOwnership, name_changed}
-use Rattle.moo_world.specs.Quota.{quota_name, quota_of, quota_moved, set_slot, charged, quota_returned}
-use Rattle.moo_world.specs.World.{World, Record, Slot, IsWellFormed, is_object, chain, slot_of, fresh, with_record}
-use Rattle.moo_world.proofs.Form.Slots.{same_links}
 use Rattle.moo_world.proofs.Inheritance.Insertion.{none_owed}
 use Rattle.moo_world.proofs.Ownership.Created.{chains_same}
-use Rattle.moo_world.proofs.Ownership.Kept.{rank, face, faced, after, on_record, on_slot, unchanged, slotted}
-use Rattle.moo_world.proofs.Ancestry.Trees.{Chain-chain}
+use Rattle.moo_world.proofs.Ownership.Kept.{after}
 
 -- no field that says who owns or may what is changed
 abbrev pub is_modest : Change → Bool

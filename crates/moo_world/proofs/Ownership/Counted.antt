@@ -1,23 +1,7 @@
 -- What quotas count.
-use Rattle.std.proofs.Common.{◌≡◌, true, false, ◌||◌, refl, sym, ◌∙◌, ap, subst, inl, inr, Some, ℤ, pos, negsuc}
-use Rattle.std.specs.Prelude.{◌+ℤ◌, int_lt, unwrap_or, if◌then◌else◌}
-use Rattle.std.specs.Option.{option_map}
-use Rattle.std.proofs.lemmas.Bool.{both_ways, or_cases, or_right, and_parts}
-use Rattle.moo_value.specs.declared.value.ObjNo.{ObjNo}
-use Rattle.moo_value.specs.declared.value.Value.{Value}
-use Rattle.moo_value.specs.declared.value.Value.TheVariants.{Obj}
+use Rattle.moo_world.proofs.Lemmas.{◌≡◌, true, false, ◌||◌, refl, sym, ◌∙◌, ap, subst, inl, inr, Some, ℤ, pos, negsuc, ◌+ℤ◌, int_lt, unwrap_or, if◌then◌else◌, option_map, both_ways, or_cases, or_right, and_parts, ObjNo, Value, Obj, create, recycle, next_object, owner_or_self, created, nothing, same_object, CreateTakesOne, RecycleGivesOne, quota_name, quota_in, quota_of, quota_moved, quota_returned, charged, may_afford, recycled, may_be_parent, is_fertile, controls, may_own, World, IsWellFormed, is_object, owner_of, known_numbered, Holds, on_check, on_next, on_done, of_done}
 use Rattle.moo_world.specs.Answers.{zero}
-use Rattle.moo_world.specs.Calls.{create, recycle}
-use Rattle.moo_world.specs.Creation.{next_object, owner_or_self, created}
-use Rattle.moo_world.specs.Objects.{nothing, same_object}
-use Rattle.moo_world.specs.Ownership.{CreateTakesOne, RecycleGivesOne}
-use Rattle.moo_world.specs.Quota.{quota_name, quota_in, quota_of, quota_moved, quota_returned, charged, may_afford}
-use Rattle.moo_world.specs.Recycling.{recycled}
-use Rattle.moo_world.specs.Rights.{may_be_parent, is_fertile, controls, may_own}
-use Rattle.moo_world.specs.World.{World, IsWellFormed, is_object, owner_of}
-use Rattle.moo_world.proofs.Form.Limits.{known_numbered}
 use Rattle.moo_world.proofs.Ownership.Created.{free, formed, objects_now, owner_new, owner_old, read_old}
-use Rattle.moo_world.proofs.Form.Passing.{Holds, of_done, on_check, on_next, on_done}
 use Rattle.moo_world.proofs.Ownership.Quotas.{quota_read, objects_stay, owners_stay}
 use Rattle.moo_world.proofs.Inheritance.Recycling.{IsWellFormed-recycled}
 

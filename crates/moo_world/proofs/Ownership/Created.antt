@@ -1,20 +1,6 @@
 -- What stays of a world, and what is new, when an object is made.
-use Rattle.std.proofs.Common.{◌≡◌, Bool, true, false, ◌||◌, List, [], ◌∷◌, refl, sym, ◌∙◌, ap, ◌⊎◌, inl, inr, Option, Some, None, ℤ, pos, negsuc, FitsSigned, w32, arith}
-use Rattle.std.specs.Prelude.{◌+ℤ◌, ◌<ℤ◌, ◌≤ℤ◌, int_lt, is_some, unwrap_or, if◌then◌else◌}
-use Rattle.std.specs.Option.{option_map}
-use Rattle.std.proofs.lemmas.Bool.{or_cases}
-use Rattle.std.proofs.lemmas.Int.{ints}
-use Rattle.std.proofs.lemmas.Option.{none-some, same_Some}
-use Rattle.moo_value.specs.declared.value.ObjNo.{ObjNo}
-use Rattle.moo_world.specs.Arguments.{is_number}
-use Rattle.moo_world.specs.Creation.{born, next_object, with_new_record, created}
-use Rattle.moo_world.specs.Objects.{Name, Pair, nothing, same_object, same_object-Decides}
-use Rattle.moo_world.specs.World.{World, Record, Slot, IsWellFormed, SameButSlots, Chain, is_object, owner_of, chain, climb, numbers_to, slot_of, owed_by, pair_named, slot_for, fresh, read_in, read_along, read_of}
+use Rattle.moo_world.proofs.Lemmas.{◌≡◌, Bool, true, false, ◌||◌, List, [], ◌∷◌, refl, sym, ◌∙◌, ap, ◌⊎◌, inl, inr, Option, Some, None, ℤ, pos, negsuc, FitsSigned, w32, arith, ◌+ℤ◌, ◌<ℤ◌, ◌≤ℤ◌, int_lt, is_some, unwrap_or, if◌then◌else◌, option_map, or_cases, ints, none-some, same_Some, ObjNo, is_number, born, next_object, with_new_record, created, Name, Pair, nothing, same_object, same_object-Decides, World, Record, Slot, IsWellFormed, SameButSlots, Chain, is_object, owner_of, chain, climb, numbers_to, slot_of, owed_by, pair_named, slot_for, fresh, read_in, read_along, read_of, named_owed, range_of, SameButSlots-rebuilt, objects_same, owners_same, parents_same, slot_of-rebuilt, Chain-chain, linked}
 use Rattle.moo_world.proofs.Inheritance.Creating.{IsWellFormed-created, chain_other, owed_still}
-use Rattle.moo_world.proofs.Inheritance.Owed.{named_owed}
-use Rattle.moo_world.proofs.Form.Ranges.{range_of}
-use Rattle.moo_world.proofs.Inheritance.Rebuilding.{SameButSlots-rebuilt, objects_same, owners_same, parents_same, slot_of-rebuilt}
-use Rattle.moo_world.proofs.Ancestry.Trees.{Chain-chain, linked}
 
 -- worlds that differ in slots alone have the same chains
 pub chains_same : (a b : World) → SameButSlots a b → (y : ObjNo) → chain a y ≡ chain b y

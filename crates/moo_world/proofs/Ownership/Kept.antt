@@ -1,15 +1,5 @@
 -- What a change of the world has to keep for nobody's ownership to change.
-use Rattle.std.proofs.Common.{◌≡◌, Bool, true, false, refl, sym, ◌∙◌, ap, Option, Some, None}
-use Rattle.std.specs.Prelude.{is_some, unwrap_or, if◌then◌else◌}
-use Rattle.std.specs.Option.{option_map, option_and_then}
-use Rattle.std.proofs.lemmas.Bool.{both_ways}
-use Rattle.std.proofs.lemmas.Option.{none-some, same_Some}
-use Rattle.moo_value.specs.declared.value.ObjNo.{ObjNo}
-use Rattle.moo_rows.specs.declared.row.ObjRow.{ObjRow}
-use Rattle.moo_world.specs.Objects.{Name, nothing, same_object, same_text, folded, same_object-Decides, same_text-Decides}
-use Rattle.moo_world.specs.Changes.{with_slot_of}
-use Rattle.moo_world.specs.Ownership.{SameRights, KeepsOwnership}
-use Rattle.moo_world.specs.World.{World, Record, Slot, is_object, slot_of, with_record, with_slots, rebuilt_slot, rebuilt}
+use Rattle.moo_world.proofs.Words.{◌≡◌, Bool, true, false, refl, sym, ◌∙◌, ap, Option, Some, None, is_some, unwrap_or, if◌then◌else◌, option_map, option_and_then, both_ways, none-some, same_Some, ObjNo, ObjRow, Name, nothing, same_object, same_text, folded, same_object-Decides, same_text-Decides, with_slot_of, SameRights, KeepsOwnership, World, Record, Slot, is_object, slot_of, with_record, with_slots, rebuilt_slot, rebuilt}
 
 -- whose an object is and what its bits let it do
 abbrev pub rank : Record → ObjNo × Bool × Bool × Bool

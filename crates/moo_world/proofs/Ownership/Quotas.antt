@@ -1,16 +1,5 @@
 -- What a quota reads as after it is moved, and what stays.
-use Rattle.std.proofs.Common.{◌≡◌, Bool, true, false, refl, sym, ◌∙◌, ap, Option, Some, None, ℤ}
-use Rattle.std.specs.Prelude.{◌+ℤ◌, is_some, unwrap_or, if◌then◌else◌}
-use Rattle.std.specs.Option.{option_map, option_and_then}
-use Rattle.std.proofs.lemmas.Option.{none-some}
-use Rattle.moo_value.specs.declared.value.ObjNo.{ObjNo}
-use Rattle.moo_value.specs.declared.value.Value.TheVariants.{Int}
-use Rattle.moo_rows.specs.declared.row.SlotState.{SlotState}
-use Rattle.moo_rows.specs.declared.row.SlotState.TheVariants.{Set}
-use Rattle.moo_world.specs.Objects.{nothing, same_object, same_object-Decides, same_text-Decides}
-use Rattle.moo_world.specs.Quota.{quota_name, quota_in, quota_of, quota_moved, set_slot}
-use Rattle.moo_world.specs.World.{World, Record, Slot, IsTree, is_object, owner_of, parent_of, chain, climb, numbers_to, read_in, read_along, read_of, slot_of, with_record}
-use Rattle.moo_world.proofs.Ancestry.Trees.{chain-step, chain_of_none}
+use Rattle.moo_world.proofs.Lemmas.{◌≡◌, Bool, true, false, refl, sym, ◌∙◌, ap, Option, Some, None, ℤ, ◌+ℤ◌, is_some, unwrap_or, if◌then◌else◌, option_map, option_and_then, none-some, ObjNo, Int, SlotState, Set, nothing, same_object, same_object-Decides, same_text-Decides, quota_name, quota_in, quota_of, quota_moved, set_slot, World, Record, Slot, IsTree, is_object, owner_of, parent_of, chain, climb, numbers_to, read_in, read_along, read_of, slot_of, with_record, chain-step, chain_of_none}
 
 module _ (w : World) (o : ObjNo) (state : SlotState) where
   abbrev v : World

@@ -1,29 +1,9 @@
 -- Nobody's ownership changes where slots are rebuilt, and by a new object, the loss of one, or a change of parent.
-use Rattle.std.proofs.Common.{◌≡◌, Bool, true, false, ◌||◌, [], ◌∷◌, map, refl, sym, ◌∙◌, ap, ◌⊎◌, inl, inr, Option, Some, None}
-use Rattle.std.specs.Prelude.{◌&&◌, not, is_some, unwrap_or, if◌then◌else◌}
-use Rattle.std.specs.Option.{option_map}
-use Rattle.std.specs.List.{filter, list_any}
-use Rattle.std.proofs.lemmas.Bool.{false≢true, both_ways, or_cases}
-use Rattle.std.proofs.lemmas.Option.{none-some, same_Some}
-use Rattle.moo_value.specs.declared.value.ObjNo.{ObjNo}
-use Rattle.moo_world.specs.Changes.{undefined}
-use Rattle.moo_world.specs.Creation.{born, next_object, with_new_record, created}
-use Rattle.moo_world.specs.Manual.{kept_from}
-use Rattle.moo_world.specs.Objects.{Name, Pair, nothing, same_object, same_text, same_pair, folded, is_among}
-use Rattle.moo_world.specs.Ownership.{KeepsOwnership}
-use Rattle.moo_world.specs.Recycling.{released, without_record, recycled}
-use Rattle.moo_world.specs.World.{World, Record, Slot, IsWellFormed, is_object, parent_of, owner_of, chain, slot_of, defined_by, owed_by, owes, pair_named, slot_for, fresh, rebuilt, with_parent, reparented}
-use Rattle.moo_world.proofs.Inheritance.Keeping.{MayBeRebuilt}
-use Rattle.moo_world.proofs.Inheritance.ManualLaw.{NoClash}
-use Rattle.moo_world.proofs.Inheritance.Owed.{definer_among, named_owed}
+use Rattle.moo_world.proofs.Lemmas.{◌≡◌, Bool, true, false, ◌||◌, [], ◌∷◌, map, refl, sym, ◌∙◌, ap, ◌⊎◌, inl, inr, Option, Some, None, ◌&&◌, not, is_some, unwrap_or, if◌then◌else◌, option_map, filter, list_any, false≢true, both_ways, or_cases, none-some, same_Some, ObjNo, undefined, born, next_object, with_new_record, created, kept_from, Name, Pair, nothing, same_object, same_text, same_pair, folded, is_among, KeepsOwnership, released, without_record, recycled, World, Record, Slot, IsWellFormed, is_object, parent_of, owner_of, chain, slot_of, defined_by, owed_by, owes, pair_named, slot_for, fresh, rebuilt, with_parent, reparented, MayBeRebuilt, NoClash, definer_among, named_owed, rank, ranked, from_slots, rights_from, same_owner, slotted, ranked_rebuilt, SameButSlots-rebuilt, objects_same, slot_of-rebuilt, owed_listed, Chain-chain}
 use Rattle.moo_world.proofs.Ownership.Created.{record_old, slot_old, objects_now}
-use Rattle.moo_world.proofs.Ownership.Kept.{rank, ranked, from_slots, rights_from, same_owner, slotted, ranked_rebuilt}
-use Rattle.moo_world.proofs.Inheritance.Rebuilding.{SameButSlots-rebuilt, objects_same, slot_of-rebuilt}
 use Rattle.moo_world.proofs.Inheritance.Recycling.{recycle_law}
 use Rattle.moo_world.proofs.Inheritance.Reparenting.{MayBeRebuilt-moved}
 use Rattle.moo_world.proofs.Inheritance.Shorter.{s as less, kept_slot, undefined_law}
-use Rattle.moo_world.proofs.Ancestry.Subtrees.{owed_listed}
-use Rattle.moo_world.proofs.Ancestry.Trees.{Chain-chain}
 
 -- what defines is an object
 definer_exists : (w : World) (d : ObjNo) (p : Pair) → list_any (same_pair p) (defined_by w d) ≡ true → is_object w d ≡ true

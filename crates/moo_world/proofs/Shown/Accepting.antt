@@ -1,18 +1,5 @@
 -- What an object takes in: the relation and the test agree.
-use Rattle.std.proofs.Common.{◌≡◌, Bool, true, false, List, [], ◌∷◌, refl, sym, ◌∙◌, ap, subst, Option, Some, None}
-use Rattle.std.specs.Prelude.{◌||◌, unwrap_or}
-use Rattle.std.specs.Option.{option_map, option_and_then, option_or}
-use Rattle.std.specs.List.{list_any, Any}
-use Rattle.std.proofs.lemmas.Bool.{false≢true}
-use Rattle.std.proofs.lemmas.List.Folds.{Any-from_list_any, list_any-from_Any}
-use Rattle.std.proofs.lemmas.Option.{none-some, same_Some}
-use Rattle.moo_value.specs.declared.value.ObjNo.{ObjNo}
-use Rattle.moo_rows.specs.declared.row.ObjRow.{ObjRow}
-use Rattle.moo_world.specs.Objects.{nothing, same_object, is_among, same_object-Decides}
-use Rattle.moo_world.specs.World.{World, Record, IsTree, Chain, IsUnder, is_object, row_of, chain}
-use Rattle.moo_world.specs.Rights.{accept_along, accepts}
-use Rattle.moo_world.specs.TreeLaws.{HasList, own, inherited, Accepts, anything, listed, AcceptsIsTested}
-use Rattle.moo_world.proofs.Ancestry.Trees.{Chain-chain, chain-step, chain_of_none, under_from_among, among_from_under}
+use Rattle.moo_world.proofs.Lemmas.{◌≡◌, Bool, true, false, List, [], ◌∷◌, refl, sym, ◌∙◌, ap, subst, Option, Some, None, ◌||◌, unwrap_or, option_map, option_and_then, option_or, list_any, Any, false≢true, Any-from_list_any, list_any-from_Any, none-some, same_Some, ObjNo, ObjRow, nothing, same_object, is_among, same_object-Decides, World, Record, IsTree, Chain, IsUnder, is_object, row_of, chain, accept_along, accepts, HasList, own, inherited, Accepts, anything, listed, AcceptsIsTested, Chain-chain, chain-step, chain_of_none, under_from_among, among_from_under}
 
 some_parent : (o : Option Record) (next : ObjNo) → option_map (λ r. r.row.parent) o ≡ Some next → (r : Record) × (o ≡ Some r) × (r.row.parent ≡ next)
 some_parent None next e = absurd (none-some next e)
@@ -37,8 +24,8 @@ module _ (w : World) where
 
   module _ (t : IsTree w) where
     along_list : (x : ObjNo) (list : List ObjNo) → HasList w x list → accept_along w (chain w x) ≡ Some list
-    along_list x list (own {r = r} g k) = ap (accept_along w) (chain-step w t x r g) ∙ ap (λ a. option_or a (accept_along w (chain w r.row.parent))) (accept_at x r g ∙ k)
-    along_list x list (inherited {r = r} g k h) =
+    along_list x list (own {entry = r} g k) = ap (accept_along w) (chain-step w t x r g) ∙ ap (λ a. option_or a (accept_along w (chain w r.row.parent))) (accept_at x r g ∙ k)
+    along_list x list (inherited {entry = r} g k h) =
         ap (accept_along w) (chain-step w t x r g) ∙ ap (λ a. option_or a (accept_along w (chain w r.row.parent))) (accept_at x r g ∙ k) ∙ along_list r.row.parent list h
 
     list_of_chain : (x : ObjNo) (list : List ObjNo) → accept_along w (chain w x) ≡ Some list → HasList w x list

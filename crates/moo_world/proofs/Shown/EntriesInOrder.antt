@@ -1,11 +1,6 @@
 -- Lists of entries in the order of their keys.
-use Rattle.std.proofs.Common.{◌≡◌, Bool, true, false, cond, T, ◌&&◌, None, Some, List, [], ◌∷◌, ◌++◌, map, Ordering, Less, refl, sym, ap, ◌∙◌, subst}
-use Rattle.std.specs.Cmp.{IsTotalOrder, tied_itself}
-use Rattle.std.specs.Ordering.{is_eq, is_lt, ordering_reverse}
-use Rattle.std.specs.List.{filter, AllByRecursion}
-use Rattle.std.specs.FinMap.{find, is_sorted}
-use Rattle.std.specs.FinMap.Entries.{below_all}
-use Rattle.moo_rows.proofs.Walking.{first_of, second_of, less_of, elsewhere, here}
+use Rattle.moo_world.proofs.Words.{◌≡◌, Bool, true, false, cond, T, ◌&&◌, None, Some, List, [], ◌∷◌, ◌++◌, map, Ordering, Less, refl, sym, ap, ◌∙◌, subst, IsTotalOrder, tied_itself, is_eq, is_lt, ordering_reverse, filter, AllByRecursion, is_sorted, below_all, first_of, second_of, less_of, elsewhere, here}
+use Rattle.std.specs.FinMap.{find}
 
 both_of : (a b : Bool) → T a → T b → T (a && b)
 both_of true b p q = q

@@ -1,15 +1,6 @@
 -- What stands in a list made of the entries of a finite map.
-use Rattle.std.proofs.Common.{◌≡◌, Bool, true, false, cond, T, ◌||◌, None, Some, List, [], ◌∷◌, map, Ordering, Less, refl, sym, ap, ◌∙◌}
-use Rattle.std.specs.Prelude.{unwrap_or}
-use Rattle.std.specs.Option.{option_map}
-use Rattle.std.specs.Cmp.{IsTotalOrder, tied_itself}
-use Rattle.std.specs.Ordering.{eq_by_cmp, is_eq, ordering_reverse}
-use Rattle.std.specs.List.{filter, list_any, AllByRecursion}
-use Rattle.std.specs.FinMap.{find, is_sorted}
-use Rattle.std.specs.FinMap.Entries.{below_all}
-use Rattle.std.proofs.lemmas.Map.Lookups.{CmpEqualImpliesEq}
-use Rattle.moo_rows.proofs.Walking.{first_of, second_of, less_of, elsewhere, here, not_held}
-use Rattle.moo_world.proofs.Shown.MapLaws.{key-Decides}
+use Rattle.moo_world.proofs.Lemmas.{◌≡◌, Bool, true, false, cond, T, ◌||◌, None, Some, List, [], ◌∷◌, map, Ordering, Less, refl, sym, ap, ◌∙◌, unwrap_or, option_map, IsTotalOrder, tied_itself, eq_by_cmp, is_eq, ordering_reverse, filter, list_any, AllByRecursion, is_sorted, below_all, CmpEqualImpliesEq, first_of, second_of, less_of, elsewhere, here, not_held, key-Decides}
+use Rattle.std.specs.FinMap.{find}
 
 module _ {K X : Type 0} (cmp : K → K → Ordering) (total : IsTotalOrder cmp) (exact : CmpEqualImpliesEq cmp) where
   module _ {B : Type 0} (k : K) (test : K × X → Bool) (made : K × X → B) (is_it : B → Bool) (same : (e : K × X) → is_it (made e) ≡ eq_by_cmp cmp k e.0) where
@@ -31,17 +22,6 @@ module _ {K X : Type 0} (cmp : K → K → Ordering) (total : IsTotalOrder cmp) 
             ih ∙ ap (λ o. unwrap_or (option_map (λ v. test (k, v)) o) false) none ∙ sym (ap (λ j. test (j, e.1)) key ∙ g)
         by false h true g ih = ap (λ v. v || rest) (same e ∙ h) ∙ ih
         by false h false g ih = ih
-
-  -- each entry is what its key holds
-  pub own_entries : (es : List (K × X)) → T (is_sorted cmp es) → AllByRecursion (λ e. find cmp e.0 es ≡ Some e.1) es
-  own_entries [] s = tt
-  own_entries (e ∷ es) s = (here cmp e.0 e es (ap is_eq (tied_itself total e.0)), weaker es (first_of _ _ s) (own_entries es (second_of _ _ s)))
-    where
-      weaker : (l : List (K × X)) → T (below_all cmp e.0 l) → AllByRecursion (λ k. find cmp k.0 es ≡ Some k.1) l → AllByRecursion (λ k. find cmp k.0 (e ∷ es) ≡ Some k.1) l
-      weaker [] b h = tt
-      weaker (k ∷ l) b h =
-          let less : cmp e.0 k.0 ≡ Less = less_of _ (first_of _ _ b) in
-          (elsewhere cmp k.0 e es (ap is_eq (total.antisymm k.0 e.0 ∙ ap ordering_reverse less)) ∙ h.0, weaker l (second_of _ _ b) h.1)
 
 -- what holds of each holds of what is made of those that pass
 pub all_made : {A B : Type 0} (P : A → Type 0) (Q : B → Type 0) (test : A → Bool) (made : A → B) → ((a : A) → P a → test a ≡ true → Q (made a)) → (l : List A) → AllByRecursion P l → AllByRecursion Q (map made (filter test l))

@@ -1,21 +1,5 @@
 -- What a put or a removal in the maps does to the world that they show.
-use Rattle.std.proofs.Common.{◌≡◌, ℕ, Bool, true, false, cond, refl, sym, ◌∙◌, ap, subst, Some, None, Ordering, eqb}
-use Rattle.std.specs.Prelude.{◌&&◌}
-use Rattle.std.specs.Bool.{Decides}
-use Rattle.std.specs.Cmp.{IsTotalOrder, Equal-is, tied_itself}
-use Rattle.std.specs.Ordering.{eq_by_cmp, is_eq}
-use Rattle.std.specs.FinMap.{get, insert, remove, get-insert, get-remove}
-use Rattle.std.proofs.lemmas.Map.Lookups.{CmpEqualImpliesEq}
-use Rattle.std.proofs.lemmas.Bool.{and_parts, eqb-true, eq-eqb}
-use Rattle.moo_value.specs.declared.value.ObjNo.{ObjNo}
-use Rattle.moo_rows.specs.declared.row.ObjRow.{ObjRow}
-use Rattle.moo_rows.specs.declared.row.SlotRow.{SlotRow}
-use Rattle.moo_rows.specs.declared.row.PropId.{PropId}
-use Rattle.moo_rows.specs.Maps.{Maps, object_cmp, slot_cmp}
-use Rattle.moo_rows.specs.Exact.{object_exact, slot_exact}
-use Rattle.moo_rows.proofs.Orders.{object_total, slot_total}
-use Rattle.moo_world.specs.Objects.{same_object, same_object-Decides}
-use Rattle.moo_world.specs.Rows.{look_ups, prop_id, with_object_row, with_slot_row, less_slot}
+use Rattle.moo_world.proofs.Words.{◌≡◌, ℕ, Bool, true, false, cond, refl, sym, ◌∙◌, ap, subst, Some, None, Ordering, eqb, ◌&&◌, Decides, IsTotalOrder, Equal-is, tied_itself, eq_by_cmp, is_eq, get, insert, remove, get-insert, get-remove, CmpEqualImpliesEq, and_parts, eqb-true, eq-eqb, ObjNo, ObjRow, SlotRow, PropId, Maps, object_cmp, slot_cmp, object_exact, slot_exact, object_total, slot_total, same_object, same_object-Decides, look_ups, prop_id, with_object_row, with_slot_row, less_slot}
 
 -- two tests of one thing answer alike
 pub decided_alike : (a b : Bool) (P : Type 0) → Decides a P → Decides b P → a ≡ b
@@ -46,5 +30,3 @@ look_ups-put_object t x row = λ i. record (look_ups t) { object = λ y. (get-in
 pub look_ups-put_slot : (t : Maps) (x : ObjNo) (id : PropId) (row : SlotRow) → look_ups (record t { slots = insert t.slots (x, id) row }) ≡ with_slot_row (look_ups t) x id.0 row
 look_ups-put_slot t x id row = λ i. record (look_ups t) { slot = λ y j. (get-insert slot_total t.slots (x, id) row (y, prop_id j) ∙ ap (λ b. cond b (Some row) (get t.slots (y, prop_id j))) (slot_key x y id.0 j)) i }
 
-pub look_ups-remove_slot : (t : Maps) (x : ObjNo) (id : PropId) → look_ups (record t { slots = remove t.slots (x, id) }) ≡ less_slot (look_ups t) x id.0
-look_ups-remove_slot t x id = λ i. record (look_ups t) { slot = λ y j. (get-remove slot_total t.slots (x, id) (y, prop_id j) ∙ ap (λ b. cond b None (get t.slots (y, prop_id j))) (slot_key x y id.0 j)) i }

@@ -1,12 +1,5 @@
 -- Lists made from the numbers below a bound.
-use Rattle.std.proofs.Common.{◌≡◌, ℕ, zero, suc, ◌<◌, Bool, true, false, ◌||◌, Option, None, Some, List, [], ◌∷◌, ◌++◌, refl, sym, ap, ◌∙◌, subst, ◌⊎◌, inl, inr, arith}
-use Rattle.std.specs.Prelude.{slice_get}
-use Rattle.std.specs.List.{filter_map, cons_option, list_any, IsDistinct, AllByRecursion}
-use Rattle.std.proofs.lemmas.Bool.{false≢true, both_ways, or_right, cases_eq}
-use Rattle.std.proofs.lemmas.List.Elements.{filter_map-append}
-use Rattle.std.proofs.lemmas.Option.{none-some, same_Some}
-use Rattle.moo_world.specs.Rows.{numbers_below}
-use Rattle.moo_world.proofs.Inheritance.Owed.{any-append}
+use Rattle.moo_world.proofs.Lemmas.{◌≡◌, ℕ, zero, suc, ◌<◌, Bool, true, false, ◌||◌, Option, None, Some, List, [], ◌∷◌, ◌++◌, refl, sym, ap, ◌∙◌, subst, ◌⊎◌, inl, inr, arith, slice_get, filter_map, cons_option, list_any, IsDistinct, AllByRecursion, false≢true, both_ways, or_right, cases_eq, filter_map-append, none-some, same_Some, numbers_below, any-append}
 
 first_append : {X : Type 0} (l m : List X) (v : X) → slice_get (l ++ m) 0 ≡ Some v → (slice_get l 0 ≡ Some v) ⊎ (slice_get m 0 ≡ Some v)
 first_append [] m v e = inr e

@@ -1,31 +1,9 @@
 -- Numbers that stay, over one call and over many.
-use Rattle.std.proofs.Common.{◌≡◌, ℕ, ◌+◌, ◌<◌, ◌≤◌, ◌⊎◌, inl, inr, Bool, true, false, cond, Option, Some, None, Ordering, List, [], ◌∷◌, refl, sym, ap, ◌∙◌, subst, arith}
-use Rattle.std.specs.Prelude.{is_some, if◌then◌else◌}
-use Rattle.std.specs.Cmp.{IsTotalOrder}
-use Rattle.std.specs.Ordering.{eq_by_cmp}
-use Rattle.std.specs.FinMap.{FinMap, get, insert, remove, get-insert, get-remove}
-use Rattle.std.proofs.lemmas.Map.Lookups.{CmpEqualImpliesEq}
-use Rattle.std.proofs.lemmas.Bool.{false≢true}
-use Rattle.std.proofs.lemmas.Option.{none-some, same_Some}
-use Rattle.moo_value.specs.declared.value.ObjNo.{ObjNo}
-use Rattle.moo_value.specs.declared.value.Value.{Value}
-use Rattle.moo_value.specs.Value.{spread}
-use Rattle.moo_rows.specs.declared.row.PropId.{PropId}
-use Rattle.moo_rows.specs.declared.row.PropRow.{PropRow}
+use Rattle.moo_world.proofs.Lemmas.{◌≡◌, ℕ, ◌+◌, ◌<◌, ◌≤◌, ◌⊎◌, inl, inr, Bool, true, false, cond, Option, Some, None, Ordering, List, [], ◌∷◌, refl, sym, ap, ◌∙◌, subst, arith, is_some, if◌then◌else◌, IsTotalOrder, eq_by_cmp, FinMap, get, insert, remove, get-insert, get-remove, CmpEqualImpliesEq, false≢true, none-some, same_Some, ObjNo, Value, spread, PropId, PropRow, VerbRow, prop_exact, verb_exact, Maps, prop_cmp, verb_cmp, prop_total, verb_total, Call, is_grant, same_object, PetitionsStay, state_of, prop_id, verb_id, world_of, put_or_old, none_or_old}
 use Rattle.moo_rows.specs.declared.row.VerbId.{VerbId}
-use Rattle.moo_rows.specs.declared.row.VerbRow.{VerbRow}
-use Rattle.moo_rows.specs.Exact.{prop_exact, verb_exact}
-use Rattle.moo_rows.specs.Maps.{Maps, prop_cmp, verb_cmp}
-use Rattle.moo_rows.proofs.Orders.{prop_total, verb_total}
-use Rattle.moo_world.specs.declared.call.Call.{Call}
 use Rattle.moo_world.specs.Between.{CallsLead, HeldCallsLead, CallKeepsNumbers, BatchesKeepNumbers}
-use Rattle.moo_world.specs.Names.{is_grant}
 use Rattle.moo_world.specs.Numbers.{KeepsProps, props_stay, prop_added, prop_renamed, prop_removed, props_dropped, KeepsVerbs, verbs_stay, verb_added, verb_changed, verb_removed, verbs_dropped, KeepsNumbers, IsSameButSlots, NumbersStay, not_of}
-use Rattle.moo_world.specs.Objects.{same_object}
-use Rattle.moo_world.specs.Requests.{PetitionsStay, state_of}
-use Rattle.moo_world.specs.Rows.{prop_id, verb_id, world_of}
-use Rattle.moo_world.proofs.Batches.PetitionNumbers.{petitions_same, petitions_joined, petitions_kept}
-use Rattle.moo_world.proofs.Shown.OneKey.{put_or_old, none_or_old}
+use Rattle.moo_world.proofs.Batches.PetitionNumbers.{less_still, most_still, petitions_same, petitions_joined, petitions_kept}
 
 -- ---- one call
 
@@ -37,9 +15,6 @@ one_higher old new e = omega (arith, e)
 
 pub numbers_same : (old new : Maps) → new.props ≡ old.props → new.verbs ≡ old.verbs → new.head.next_prop ≡ old.head.next_prop → new.head.next_verb ≡ old.head.next_verb → KeepsNumbers old new
 numbers_same old new props verbs p v = record { props = props_stay props; verbs = verbs_stay verbs; next_prop = omega (arith, p); next_verb = omega (arith, v) }
-
-pub slots_joined : (old mid new : Maps) → IsSameButSlots old mid → IsSameButSlots mid new → IsSameButSlots old new
-slots_joined old mid new e f = f ∙ ap (λ (m : Maps). record m { slots = new.slots }) e
 
 -- where before or after it slots alone change, the numbers are kept as well
 pub then_slots : (old mid new : Maps) → KeepsNumbers old mid → IsSameButSlots mid new → KeepsNumbers old new
@@ -119,12 +94,6 @@ numbers_stay old new k = record {
   next_prop = k.next_prop;
   next_verb = k.next_verb;
 }
-
-less_still : (n a b : ℕ) → n < a → a ≤ b → n < b
-less_still n a b less more = omega (arith, less, more)
-
-most_still : (a b c : ℕ) → a ≤ b → b ≤ c → a ≤ c
-most_still a b c first second = omega (arith, first, second)
 
 pub stay_joined : (a b c : Maps) → NumbersStay a b → NumbersStay b c → NumbersStay a c
 stay_joined a b c s t = record {

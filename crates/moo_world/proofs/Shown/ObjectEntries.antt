@@ -1,28 +1,7 @@
 -- The ascending lists of objects of the world that maps show are lists of the maps' entries.
-use Rattle.std.proofs.Common.{◌≡◌, ℕ, zero, suc, ◌<◌, ◌≤◌, Bool, true, false, cond, ◌||◌, T, Option, None, Some, List, [], ◌∷◌, ◌++◌, map, Less, refl, sym, ap, ◌∙◌, subst, arith, pos, append-nil}
-use Rattle.std.specs.Prelude.{is_some}
-use Rattle.std.specs.Option.{option_map}
-use Rattle.std.specs.Cmp.{int_cmp_is}
-use Rattle.std.specs.List.{filter, filter_map, cons_option, AllByRecursion}
-use Rattle.std.specs.FinMap.{get, get-entries, find, is_sorted, entries, entries_sorted}
-use Rattle.std.specs.FinMap.Entries.{same_entries, find-append}
-use Rattle.std.proofs.lemmas.Int.{ints}
-use Rattle.std.proofs.lemmas.List.Elements.{filter_map-append}
-use Rattle.moo_value.specs.declared.value.ObjNo.{ObjNo}
-use Rattle.moo_rows.specs.declared.row.ObjRow.{ObjRow}
-use Rattle.moo_rows.specs.Maps.{Maps, object_cmp}
-use Rattle.moo_rows.specs.Exact.{object_exact}
-use Rattle.moo_rows.proofs.Orders.{object_total}
-use Rattle.moo_world.specs.Objects.{object_at, same_object, is_among, same_object-Decides, same_object-eq}
-use Rattle.moo_world.specs.World.{IsTree, is_object, row_passes, numbers_to}
-use Rattle.moo_world.specs.Rows.{numbers_below, look_ups, world_of}
-use Rattle.moo_world.specs.ObjectLists.{objects_of}
+use Rattle.moo_world.proofs.Lemmas.{◌≡◌, ℕ, zero, suc, ◌<◌, ◌≤◌, Bool, true, false, cond, ◌||◌, T, Option, None, Some, List, [], ◌∷◌, ◌++◌, map, Less, refl, sym, ap, ◌∙◌, subst, arith, pos, append-nil, is_some, option_map, int_cmp_is, filter, filter_map, cons_option, AllByRecursion, get, get-entries, is_sorted, entries, entries_sorted, same_entries, find-append, ints, filter_map-append, ObjNo, ObjRow, Maps, object_cmp, object_exact, object_total, object_at, same_object, is_among, same_object-Decides, same_object-eq, IsTree, is_object, row_passes, numbers_to, numbers_below, look_ups, world_of, objects_of, object_key, is_among-append, is_object_seen, passes_seen, numbered, assigned}
+use Rattle.std.specs.FinMap.{find}
 use Rattle.moo_world.proofs.Shown.EntriesInOrder.{all_then, sorted_then, past_each, own_entries, filter_map-read, filter_alike, all_weaker}
-use Rattle.moo_world.proofs.Shown.MapLaws.{object_key}
-use Rattle.moo_world.proofs.Inheritance.Owed.{is_among-append}
-use Rattle.moo_world.proofs.Shown.Seen.{is_object_seen, passes_seen}
-use Rattle.moo_world.proofs.Ancestry.Subtrees.{numbered}
-use Rattle.moo_world.proofs.Ancestry.Trees.{assigned}
 
 pub same_object-symm : (x y : ObjNo) → same_object x y ≡ same_object y x
 unfolding same_object

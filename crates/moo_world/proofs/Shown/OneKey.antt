@@ -1,9 +1,5 @@
 -- What one put and one removal do to a key.
-use Rattle.std.proofs.Common.{◌≡◌, ◌⊎◌, inl, inr, Bool, true, false, cond, Some, None, Ordering, refl, ap, ◌∙◌}
-use Rattle.std.specs.Cmp.{IsTotalOrder}
-use Rattle.std.specs.Ordering.{eq_by_cmp}
-use Rattle.std.specs.FinMap.{FinMap, get, insert, remove, get-insert, get-remove}
-use Rattle.std.proofs.lemmas.Map.Lookups.{CmpEqualImpliesEq}
+use Rattle.moo_world.proofs.Words.{◌≡◌, ◌⊎◌, inl, inr, Bool, true, false, cond, Some, None, Ordering, refl, ap, ◌∙◌, IsTotalOrder, eq_by_cmp, FinMap, get, insert, remove, get-insert, get-remove, CmpEqualImpliesEq}
 use Rattle.moo_world.proofs.Shown.MapLaws.{key-Decides}
 
 module _ {K X : Type 0} {cmp : K → K → Ordering} (total : IsTotalOrder cmp) (exact : CmpEqualImpliesEq cmp) (m : FinMap cmp X) (k key : K) where

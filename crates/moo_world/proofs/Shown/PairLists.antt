@@ -1,10 +1,5 @@
 -- Lists of properties, and of other things.
-use Rattle.std.proofs.Common.{◌≡◌, Bool, true, false, ◌||◌, Option, None, Some, List, [], ◌∷◌, ◌++◌, map, refl, ap}
-use Rattle.std.specs.Prelude.{is_some}
-use Rattle.std.specs.List.{list_any, IsDistinct, AllByRecursion}
-use Rattle.std.proofs.lemmas.Bool.{false≢true}
-use Rattle.moo_world.specs.Objects.{Pair, same_text, folded}
-use Rattle.moo_world.specs.World.{NamesDiffer}
+use Rattle.moo_world.proofs.Words.{◌≡◌, Bool, true, false, ◌||◌, Option, None, Some, List, [], ◌∷◌, ◌++◌, map, refl, ap, is_some, list_any, IsDistinct, AllByRecursion, false≢true, Pair, same_text, folded, NamesDiffer}
 
 pub some_of : {A : Type 0} (o : Option A) → is_some o ≡ true → (a : A) × (o ≡ Some a)
 some_of None e = absurd (false≢true e)

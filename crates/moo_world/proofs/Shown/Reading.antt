@@ -1,14 +1,6 @@
 -- What is read: the relation and the list agree.
-use Rattle.std.proofs.Common.{◌≡◌, List, [], ◌∷◌, refl, sym, ◌∙◌, ap, Option, Some, None}
-use Rattle.std.specs.Option.{option_map, option_and_then}
-use Rattle.std.proofs.lemmas.Option.{none-some, same_Some}
-use Rattle.moo_value.specs.declared.value.ObjNo.{ObjNo}
-use Rattle.moo_value.specs.declared.value.Value.{Value}
-use Rattle.moo_rows.specs.declared.row.SlotState.{SlotState}
-use Rattle.moo_rows.specs.declared.row.SlotState.TheVariants.{Clear, Set}
-use Rattle.moo_world.specs.Objects.{Name}
-use Rattle.moo_world.specs.World.{World, Record, Slot, IsTree, Chain, Reads, here, above, slot_of, read_in, read_along, read_of}
-use Rattle.moo_world.proofs.Ancestry.Trees.{chain-step}
+use Rattle.moo_world.proofs.Lemmas.{◌≡◌, List, [], ◌∷◌, refl, sym, ◌∙◌, ap, Option, Some, None, option_map, option_and_then, none-some, same_Some, ObjNo, Value, SlotState, Clear, Set, Name, World, Record, Slot, IsTree, Chain, Reads, above, slot_of, read_in, read_along, read_of, chain-step}
+use Rattle.moo_world.specs.World.{here}
 
 -- what is read along a chain is what the relation says
 pub Reads-from_along : (w : World) (n : Name) (l : List ObjNo) (x : ObjNo) (v : Value) → Chain w x l → read_along w n l ≡ Some v → Reads w n x v
@@ -37,10 +29,10 @@ read_step w t n x k e =
     (o.0, o.1, ap (read_along w n) (chain-step w t x o.0 o.1) ∙ ap (λ m. read_in m (read_of w o.0.row.parent n)) e)
 
 pub along_from_Reads : (w : World) (t : IsTree w) (n : Name) (x : ObjNo) (v : Value) → Reads w n x v → read_of w x n ≡ Some v
-along_from_Reads w t n x v (here {s = k} e f) =
+along_from_Reads w t n x v (here {slot = k} e f) =
     let r = read_step w t n x k e in
     r.2 ∙ ap (λ z. elim z [ Clear ↦ read_of w r.0.row.parent n | Set u ↦ Some u ]) f
-along_from_Reads w t n x v (above {parent = q} {s = k} e f g b) =
+along_from_Reads w t n x v (above {parent = q} {slot = k} e f g b) =
     let r = read_step w t n x k e in
     let same : r.0.row.parent ≡ q = same_Some r.0.row.parent q (sym (ap (option_map (λ m. m.row.parent)) r.1) ∙ g) in
     r.2 ∙ ap (λ z. elim z [ Clear ↦ read_of w r.0.row.parent n | Set u ↦ Some u ]) f ∙ ap (λ z. read_of w z n) same ∙ along_from_Reads w t n q v b

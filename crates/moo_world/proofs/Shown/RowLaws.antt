@@ -1,18 +1,5 @@
 -- What rows say of the world that they show, and what one more row says.
-use Rattle.std.proofs.Common.{◌≡◌, ◌≢◌, ℕ, zero, suc, ◌<◌, ◌+◌, Bool, true, false, eqb, [], ◌∷◌, ◌++◌, refl, sym, ◌∙◌, ap, subst, ◌⊎◌, inl, inr, Option, Some, None, arith, append-nil, add-one}
-use Rattle.std.specs.Prelude.{◌&&◌, is_some, unwrap_or, slice_get, if◌then◌else◌}
-use Rattle.std.specs.Option.{option_map, option_and_then}
-use Rattle.std.specs.List.{filter_map, cons_option}
-use Rattle.std.proofs.lemmas.Bool.{and_parts, eqb-true, cases_eq, eq-eqb, ne_eqb}
-use Rattle.std.proofs.lemmas.List.Elements.{filter_map-append}
-use Rattle.std.proofs.lemmas.Option.{none-some, same_Some}
-use Rattle.moo_value.specs.declared.value.ObjNo.{ObjNo}
-use Rattle.moo_rows.specs.declared.row.ObjRow.{ObjRow}
-use Rattle.moo_rows.specs.declared.row.PropRow.{PropRow}
-use Rattle.moo_rows.specs.declared.row.SlotRow.{SlotRow}
-use Rattle.moo_world.specs.Objects.{Name, same_object, same_text, folded, same_object-Decides, same_text-Decides}
-use Rattle.moo_world.specs.World.{Record, slot_of, names_of, with_record}
-use Rattle.moo_world.specs.Rows.{LookUps, AreSound, with_object_row, with_slot_row, numbers_below, name_on, slot_on, slot_seen, record_of, world_shown}
+use Rattle.moo_world.proofs.Words.{◌≡◌, ◌≢◌, ℕ, zero, suc, ◌<◌, ◌+◌, Bool, true, false, eqb, [], ◌∷◌, ◌++◌, refl, sym, ◌∙◌, ap, subst, ◌⊎◌, inl, inr, Option, Some, None, arith, append-nil, add-one, ◌&&◌, is_some, unwrap_or, slice_get, if◌then◌else◌, option_map, option_and_then, filter_map, cons_option, and_parts, eqb-true, cases_eq, eq-eqb, ne_eqb, filter_map-append, none-some, same_Some, ObjNo, ObjRow, PropRow, SlotRow, Name, same_object, same_text, folded, same_object-Decides, same_text-Decides, Record, slot_of, names_of, with_record, LookUps, AreSound, with_object_row, with_slot_row, numbers_below, name_on, slot_on, slot_seen, record_of, world_shown}
 
 module _ {X : Type 0} (h : ℕ → Option X) where
   none_below : (n : ℕ) → ((j : ℕ) → j < n → h j ≡ None) → filter_map h (numbers_below n) ≡ []

@@ -1,11 +1,5 @@
 -- What the rows' look-ups say of the world that they show.
-use Rattle.std.proofs.Common.{◌≡◌, Bool, false, [], ◌∷◌, refl, sym, ap, Option, Some, None}
-use Rattle.std.specs.Prelude.{is_some, unwrap_or}
-use Rattle.std.specs.Option.{option_map}
-use Rattle.moo_value.specs.declared.value.ObjNo.{ObjNo}
-use Rattle.moo_rows.specs.declared.row.ObjRow.{ObjRow}
-use Rattle.moo_world.specs.World.{Record, IsTree, is_object, row_passes, chain}
-use Rattle.moo_world.specs.Rows.{LookUps, world_shown, record_of}
+use Rattle.moo_world.proofs.Words.{◌≡◌, Bool, false, [], ◌∷◌, refl, sym, ap, Option, Some, None, is_some, unwrap_or, option_map, ObjNo, ObjRow, Record, IsTree, is_object, row_passes, chain, LookUps, world_shown, record_of}
 use Rattle.moo_world.proofs.Ancestry.Trees.{chain-step, chain_of_none}
 
 pub object_seen : (m : LookUps) (x : ObjNo) (row : ObjRow) → m.object x ≡ Some row → (world_shown m).object x ≡ Some (record_of m x row)

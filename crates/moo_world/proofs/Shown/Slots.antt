@@ -1,16 +1,5 @@
 -- The slots of the world that rows show, one by one.
-use Rattle.std.proofs.Common.{◌≡◌, ℕ, ◌<◌, Bool, true, false, Option, None, Some, refl, sym, ap, ◌∙◌}
-use Rattle.std.specs.Prelude.{slice_get, if◌then◌else◌}
-use Rattle.std.specs.Option.{option_map, option_and_then}
-use Rattle.std.specs.List.{filter_map}
-use Rattle.std.proofs.lemmas.Option.{none-some, same_Some}
-use Rattle.moo_value.specs.declared.value.ObjNo.{ObjNo}
-use Rattle.moo_rows.specs.declared.row.ObjRow.{ObjRow}
-use Rattle.moo_rows.specs.declared.row.PropRow.{PropRow}
-use Rattle.moo_rows.specs.declared.row.SlotRow.{SlotRow}
-use Rattle.moo_world.specs.Objects.{Name, same_text, folded, same_text-Decides}
-use Rattle.moo_world.specs.World.{Slot, slot_of}
-use Rattle.moo_world.specs.Rows.{LookUps, numbers_below, slot_on, slot_seen, record_of, world_shown}
+use Rattle.moo_world.proofs.Words.{◌≡◌, ℕ, ◌<◌, Bool, true, false, Option, None, Some, refl, sym, ap, ◌∙◌, slice_get, if◌then◌else◌, option_map, option_and_then, filter_map, none-some, same_Some, ObjNo, ObjRow, PropRow, SlotRow, Name, same_text, folded, same_text-Decides, Slot, slot_of, LookUps, numbers_below, slot_on, slot_seen, record_of, world_shown}
 use Rattle.moo_world.proofs.Shown.Numbered.{first_from, none_from}
 
 -- the property under a number, of this folded name, with its slot on y

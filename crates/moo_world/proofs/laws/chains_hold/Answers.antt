@@ -1,8 +1,4 @@
-use Rattle.std.proofs.Common.{[], ◌∷◌, subst}
-use Rattle.moo_world.specs.World.{Chain, parent_of}
-use Rattle.moo_world.specs.TreeLaws.{OneChain, NoneTwice, ChainSplits}
-use Rattle.moo_world.proofs.Ancestry.Chains.{Climbs-once}
-use Rattle.moo_world.proofs.Ancestry.Trees.{Chain-unique, no_parent}
+use Rattle.moo_world.proofs.Lemmas.{[], ◌∷◌, subst, Chain, parent_of, OneChain, NoneTwice, ChainSplits, Climbs-once, Chain-unique, no_parent}
 use Rattle.moo_world.proofs.laws.chains_hold.Goals as goal
 
 splits : ChainSplits
@@ -15,11 +11,5 @@ twice w x y front behind t p = Climbs-once (parent_of w) (no_parent w t) behind 
 one : OneChain
 one w x l m t p q = Chain-unique w t x l m p q
 
-pub returns-clause-one : goal.returns-clause-one
-returns-clause-one c = one
-
-pub returns-clause-once : goal.returns-clause-once
-returns-clause-once c = twice
-
-pub returns-clause-splits : goal.returns-clause-splits
-returns-clause-splits c = splits
+pub returns : goal.returns
+returns c = record { one = one; once = twice; splits = splits }

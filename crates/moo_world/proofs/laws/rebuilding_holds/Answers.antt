@@ -8,8 +8,5 @@ exists w s q tw ts = (SameButSlots-rebuilt w s q, Rebuilt-rebuilt w s q tw ts)
 one : RebuiltIsOne
 one w a b q tw ta same ra rb = Rebuilt-unique w a b q tw ta same ra rb
 
-pub returns-clause-exists : goal.returns-clause-exists
-returns-clause-exists c = exists
-
-pub returns-clause-one : goal.returns-clause-one
-returns-clause-one c = one
+pub returns : goal.returns
+returns c = record { exists = exists; one = one }

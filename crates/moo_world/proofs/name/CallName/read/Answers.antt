@@ -1,5 +1,4 @@
-use Rattle.moo_world.specs.Objects.{folded}
-use Rattle.moo_world.specs.Names.{spelled_is}
+use Rattle.moo_world.proofs.Words.{folded, spelled_is}
 use Rattle.moo_world.proofs.name.CallName.read.Goals as goal
 
 pub returns-clause-one : goal.returns-clause-one
