@@ -1,5 +1,5 @@
 -- Rights of one number are one.
-use Rattle.moo_rows.proofs.Words.{◌≡◌, ℕ, ℤ, pos, negsuc, Bool, true, false, refl, sym, ap, ◌∙◌, nat_le, ◌==◌, ◌||◌}
+use Rattle.moo_rows.proofs.Words.{◌≡◌, ℤ, pos, negsuc, Bool, true, false, refl, sym, ap, ◌∙◌, nat_le, ◌==◌, ◌||◌}
 use Rattle.moo_rows.specs.Bits.{bits_number}
 use Rattle.moo_rows.specs.declared.row.Bits.{Bits}
 

@@ -1,5 +1,5 @@
 -- What a change of one parent does to chains.
-use Rattle.moo_world.proofs.Words.{◌≡◌, Bool, true, false, cond, ◌||◌, List, [], ◌∷◌, ◌++◌, map, refl, sym, ◌∙◌, ap, subst, ◌⊎◌, inl, inr, Option, Some, None, is_some, unwrap_or, if◌then◌else◌, option_map, flat_map, false≢true, or_parts, ObjNo, Name, nothing, same_object, is_among, same_object-Decides, World, Record, IsTree, Climbs, Chain, is_object, parent_of, location_of, names_of, owner_of, owed_by, chain, with_parent}
+use Rattle.moo_world.proofs.Words.{◌≡◌, Bool, true, false, cond, ◌||◌, List, [], ◌∷◌, ◌++◌, map, refl, sym, ◌∙◌, ap, subst, ◌⊎◌, Option, Some, None, is_some, unwrap_or, if◌then◌else◌, option_map, flat_map, false≢true, or_parts, ObjNo, Name, nothing, same_object, is_among, same_object-Decides, World, Record, IsTree, Climbs, Chain, is_object, parent_of, location_of, names_of, owner_of, owed_by, chain, with_parent}
 use Rattle.moo_world.proofs.Ancestry.Chains.{front_of}
 use Rattle.moo_world.proofs.Ancestry.Trees.{chain_is, Chain-chain, Chain-either}
 

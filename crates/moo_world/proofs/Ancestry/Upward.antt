@@ -1,5 +1,5 @@
 -- A move of an object up its own chain: the checks let it through, and what lay between goes.
-use Rattle.moo_world.proofs.Lemmas.{◌≡◌, Bool, true, false, cond, ◌||◌, List, [], ◌∷◌, ◌++◌, drop, refl, sym, ◌∙◌, ap, subst, ◌⊎◌, inl, inr, Option, Some, None, append_assoc, unwrap_or, is_some, if◌then◌else◌, option_map, list_any, find, filter, false≢true, both_ways, or_parts, or_right, or_cases, ObjNo, Name, Pair, nothing, same_object, same_pair, folded, is_among, same_object-Decides, same_pair-self, World, IsWellFormed, Chain, NamesDiffer, is_object, parent_of, names_of, owner_of, slot_of, defined_by, owed_by, pair_named, chain, fresh, MayReparent, common, except, lost, gained, kept_from, manual_slot, objects_of, subtree_of, meets, front_of, Climbs-split, Climbs-once, chain-nothing, Chain-chain, chain_of_none, no_parent, is_among-append, is_among-right, owed_by-append, own_pair, in_owed, in_owed-append, definer_among, named_once, some_named, same_object-self, apart_in_chain, except_end, NoClash, own_owed, Chain-either}
+use Rattle.moo_world.proofs.Lemmas.{◌≡◌, Bool, true, false, cond, ◌||◌, List, [], ◌∷◌, ◌++◌, drop, refl, sym, ◌∙◌, ap, subst, ◌⊎◌, inl, inr, Option, Some, None, append_assoc, unwrap_or, is_some, if◌then◌else◌, option_map, list_any, find, filter, false≢true, both_ways, or_parts, or_right, or_cases, ObjNo, Name, Pair, nothing, same_object, same_pair, folded, is_among, same_object-Decides, same_pair-self, World, IsWellFormed, Chain, NamesDiffer, is_object, parent_of, names_of, owner_of, slot_of, defined_by, owed_by, pair_named, chain, fresh, MayReparent, common, except, lost, gained, kept_from, manual_slot, objects_of, subtree_of, meets, front_of, Climbs-split, Climbs-once, Chain-chain, chain_of_none, no_parent, is_among-append, is_among-right, owed_by-append, own_pair, in_owed, in_owed-append, definer_among, named_once, some_named, same_object-self, apart_in_chain, except_end, NoClash, own_owed, Chain-either}
 
 pub filter_passes : (t : ObjNo → Bool) (l : List ObjNo) (d : ObjNo) → is_among d (filter t l) ≡ true → t d ≡ true
 filter_passes t [] d h = absurd (false≢true h)

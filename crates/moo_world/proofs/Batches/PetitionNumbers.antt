@@ -1,5 +1,5 @@
 -- No call gives the number of a petition again.
-use Rattle.moo_world.proofs.Lemmas.{◌≡◌, ℕ, ◌+◌, ◌<◌, ◌≤◌, ◌⊎◌, inl, inr, Some, None, sym, ap, ◌∙◌, arith, get, insert, remove, none-some, ObjNo, Value, Values, PetitionId, PetitionRow, petition_exact, petition_total, Call, Done, State, PetitionsStay, petition_id, without, asked, request, World, Led, of_done, request_leaves, put_or_old, none_or_old}
+use Rattle.moo_world.proofs.Lemmas.{◌≡◌, ℕ, ◌+◌, ◌<◌, ◌≤◌, ◌⊎◌, inl, inr, Some, None, sym, ap, ◌∙◌, arith, get, remove, none-some, ObjNo, Value, Values, PetitionId, PetitionRow, petition_exact, petition_total, Call, Done, State, PetitionsStay, petition_id, without, asked, request, World, Led, of_done, request_leaves, put_or_old, none_or_old}
 
 no_less : (n : ℕ) → n ≤ n
 no_less n = omega arith

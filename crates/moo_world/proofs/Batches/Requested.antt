@@ -1,9 +1,8 @@
 -- What any call of a batch leaves, along its checks.
-use Rattle.moo_world.proofs.Words.{◌≡◌, ℕ, ℤ, pos, negsuc, Bool, true, false, List, [], ◌∷◌, refl, sym, ap, ◌∙◌, subst, Option, Some, None, Result, Ok, Err, nat_lt, ◌||◌, option_map, list_all, get, false≢true, none-some, same_Some, Code, Permission, ObjNo, Value, Int, Obj, Str, Error, spread, Values, PetitionId, PetitionRow, Call, PetitionCall, no_values, petition_call, same_object, Outcome, Done, Failed, Full, check, given, found_or, is_named, are_few, are_shallow, State, in_world, one_list, one_integer, petition_id, petition_at, without, held_steps, last_petition, asked, are_on_world, petition_call_by, request, is_wizard, step, named_call, World, is_object}
+use Rattle.moo_world.proofs.Words.{◌≡◌, ℤ, pos, negsuc, Bool, true, false, List, [], ◌∷◌, refl, ap, ◌∙◌, subst, Option, Some, None, Result, Ok, Err, nat_lt, ◌||◌, option_map, list_all, get, false≢true, none-some, same_Some, Code, Permission, ObjNo, Value, Int, Obj, Str, Error, spread, Values, PetitionId, PetitionRow, Call, PetitionCall, no_values, petition_call, same_object, Outcome, Done, Failed, Full, check, is_named, are_few, are_shallow, State, in_world, one_list, one_integer, petition_id, petition_at, without, held_steps, last_petition, asked, are_on_world, petition_call_by, request, is_wizard, step, named_call, World, is_object}
 use Rattle.moo_value.specs.declared.value.Value.TheVariants.{List as a_list}
 use Rattle.moo_value.specs.Values.{no_values as no_more}
 use Rattle.moo_world.specs.declared.name.PetitionCall.TheVariants.{Petition as to_petition, Petitions as to_list, Grant as to_grant, Decline as to_decline}
-use Rattle.moo_world.specs.Answers.{zero}
 use Rattle.moo_world.proofs.Form.Passing.{Holds, on_check, on_done, on_found, on_given, on_room}
 
 -- an answered call leaves a state that is so; an error leaves none

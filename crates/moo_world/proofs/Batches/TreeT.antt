@@ -87,7 +87,7 @@ answers (Stale k) = None
 batches_on_the_tree :
     -- numbers rise
     (answers (judge (record { world = T; petitions = empty; next_petition = 1; seq = 1 }) (record { programmer = no 3; at = None; calls = call Create (Obj (no 1) ∷ []) ∷ call MaxObject [] ∷ call Create (Obj (no 1) ∷ []) ∷ [] }))
-      ≡ Some (Obj (no 8) ∷ Obj (no 8) ∷ Obj (no 9) ∷ []))
+    ≡ Some (Obj (no 8) ∷ Obj (no 8) ∷ Obj (no 9) ∷ []))
     -- refused second
     × (judge (record { world = T; petitions = empty; next_petition = 1; seq = 1 }) (record { programmer = no 3; at = None; calls = call Create (Obj (no 1) ∷ []) ∷ call Create (Obj (no 99) ∷ []) ∷ [] }) ≡ Refused 2 Permission)
 unfolding world_shown chain same_object same_text same_pair folded rebuilt step request judge

@@ -91,8 +91,8 @@ places_worked = (refl, refl, refl)
 values_worked :
     -- a clear value is read through a set one
     (answers (run_calls T (no 3) (
-      call Get (o 6 ∷ text (codes "a") ∷ []) ∷ call Set (o 5 ∷ text (codes "a") ∷ i 11 ∷ []) ∷ call Get (o 6 ∷ text (codes "A") ∷ [])
-      ∷ call ClearProperty (o 5 ∷ text (codes "a") ∷ []) ∷ call Get (o 6 ∷ text (codes "a") ∷ []) ∷ [])) ≡ Some (i 10 ∷ zero ∷ i 11 ∷ zero ∷ i 10 ∷ []))
+    call Get (o 6 ∷ text (codes "a") ∷ []) ∷ call Set (o 5 ∷ text (codes "a") ∷ i 11 ∷ []) ∷ call Get (o 6 ∷ text (codes "A") ∷ [])
+    ∷ call ClearProperty (o 5 ∷ text (codes "a") ∷ []) ∷ call Get (o 6 ∷ text (codes "a") ∷ []) ∷ [])) ≡ Some (i 10 ∷ zero ∷ i 11 ∷ zero ∷ i 10 ∷ []))
     -- definer stays set
     × (run_calls T (no 3) (call ClearProperty (o 4 ∷ text (codes "a") ∷ []) ∷ []) ≡ FailedAt 1 InvalidArgument)
 unfolding world_shown chain same_object same_text same_pair folded rebuilt step request
@@ -107,8 +107,8 @@ names_worked :
     × (run_calls T (no 3) (call AddProperty (o 6 ∷ text (codes "C") ∷ i 1 ∷ list_of (o 3 ∷ text [] ∷ []) ∷ []) ∷ call Chparent (o 5 ∷ o 7 ∷ []) ∷ []) ≡ FailedAt 2 InvalidArgument)
     -- renamed for all
     × (answers (run_calls T (no 3) (
-      call SetPropertyInfo (o 4 ∷ text (codes "a") ∷ list_of (o 3 ∷ text (codes "r") ∷ text (codes "aa") ∷ []) ∷ []) ∷ call Get (o 6 ∷ text (codes "AA") ∷ [])
-      ∷ call DeleteProperty (o 4 ∷ text (codes "aa") ∷ []) ∷ call Properties (o 4 ∷ []) ∷ [])) ≡ Some (zero ∷ i 10 ∷ zero ∷ text_list [] ∷ []))
+    call SetPropertyInfo (o 4 ∷ text (codes "a") ∷ list_of (o 3 ∷ text (codes "r") ∷ text (codes "aa") ∷ []) ∷ []) ∷ call Get (o 6 ∷ text (codes "AA") ∷ [])
+    ∷ call DeleteProperty (o 4 ∷ text (codes "aa") ∷ []) ∷ call Properties (o 4 ∷ []) ∷ [])) ≡ Some (zero ∷ i 10 ∷ zero ∷ text_list [] ∷ []))
     -- inherited isnt deleted
     × (run_calls T (no 3) (call DeleteProperty (o 5 ∷ text (codes "a") ∷ []) ∷ []) ≡ FailedAt 1 PropertyNotFound)
 unfolding world_shown chain same_object same_text same_pair folded rebuilt step request
@@ -131,17 +131,17 @@ quotas_worked :
     × (answers (then_as_4 (with_quota (call Set (o 4 ∷ text (codes "ownership_quota") ∷ i 1 ∷ []) ∷ [])) (call Create (o 1 ∷ []) ∷ call Recycle (o 5 ∷ []) ∷ call Create (o 1 ∷ []) ∷ [])) ≡ Some (o 5 ∷ zero ∷ o 6 ∷ []))
     -- a quota at the greatest integer stays, and none is asked where the owner is the new object itself
     × (answers (with_quota (
-      call Create (o 1 ∷ o 4 ∷ []) ∷ call Set (o 4 ∷ text (codes "ownership_quota") ∷ i 9223372036854775807 ∷ []) ∷ call Recycle (o 5 ∷ []) ∷ call Get (o 4 ∷ text (codes "ownership_quota") ∷ []) ∷ call Create (o 1 ∷ Obj nothing ∷ []) ∷ call Get (o 4 ∷ text (codes "ownership_quota") ∷ []) ∷ []))
-      ≡ Some (zero ∷ o 4 ∷ o 5 ∷ zero ∷ zero ∷ i 9223372036854775807 ∷ o 6 ∷ i 9223372036854775807 ∷ []))
+    call Create (o 1 ∷ o 4 ∷ []) ∷ call Set (o 4 ∷ text (codes "ownership_quota") ∷ i 9223372036854775807 ∷ []) ∷ call Recycle (o 5 ∷ []) ∷ call Get (o 4 ∷ text (codes "ownership_quota") ∷ []) ∷ call Create (o 1 ∷ Obj nothing ∷ []) ∷ call Get (o 4 ∷ text (codes "ownership_quota") ∷ []) ∷ []))
+    ≡ Some (zero ∷ o 4 ∷ o 5 ∷ zero ∷ zero ∷ i 9223372036854775807 ∷ o 6 ∷ i 9223372036854775807 ∷ []))
     -- one at the greatest number of 32 bits does not
     × (answers (with_quota (
-      call Create (o 1 ∷ o 4 ∷ []) ∷ call Set (o 4 ∷ text (codes "ownership_quota") ∷ i 2147483647 ∷ []) ∷ call Recycle (o 5 ∷ []) ∷ call Get (o 4 ∷ text (codes "ownership_quota") ∷ []) ∷ call Create (o 1 ∷ Obj nothing ∷ []) ∷ call Get (o 4 ∷ text (codes "ownership_quota") ∷ []) ∷ []))
-      ≡ Some (zero ∷ o 4 ∷ o 5 ∷ zero ∷ zero ∷ i 2147483648 ∷ o 6 ∷ i 2147483648 ∷ []))
+    call Create (o 1 ∷ o 4 ∷ []) ∷ call Set (o 4 ∷ text (codes "ownership_quota") ∷ i 2147483647 ∷ []) ∷ call Recycle (o 5 ∷ []) ∷ call Get (o 4 ∷ text (codes "ownership_quota") ∷ []) ∷ call Create (o 1 ∷ Obj nothing ∷ []) ∷ call Get (o 4 ∷ text (codes "ownership_quota") ∷ []) ∷ []))
+    ≡ Some (zero ∷ o 4 ∷ o 5 ∷ zero ∷ zero ∷ i 2147483648 ∷ o 6 ∷ i 2147483648 ∷ []))
     -- the owner's quota is read when the object is gone: #5 was under it
     × (answers (run_calls opening (no 3) (
-      call AddProperty (o 1 ∷ text (codes "ownership_quota") ∷ i 5 ∷ list_of (o 3 ∷ text [] ∷ []) ∷ []) ∷ call Create (o 1 ∷ Obj nothing ∷ []) ∷ call Set (o 4 ∷ text (codes "ownership_quota") ∷ i 9 ∷ []) ∷ call Create (o 4 ∷ Obj nothing ∷ [])
-      ∷ call Set (o 4 ∷ text (codes "owner") ∷ o 5 ∷ []) ∷ call Recycle (o 4 ∷ []) ∷ call Get (o 5 ∷ text (codes "ownership_quota") ∷ []) ∷ []))
-      ≡ Some (zero ∷ o 4 ∷ zero ∷ o 5 ∷ zero ∷ zero ∷ i 6 ∷ []))
+    call AddProperty (o 1 ∷ text (codes "ownership_quota") ∷ i 5 ∷ list_of (o 3 ∷ text [] ∷ []) ∷ []) ∷ call Create (o 1 ∷ Obj nothing ∷ []) ∷ call Set (o 4 ∷ text (codes "ownership_quota") ∷ i 9 ∷ []) ∷ call Create (o 4 ∷ Obj nothing ∷ [])
+    ∷ call Set (o 4 ∷ text (codes "owner") ∷ o 5 ∷ []) ∷ call Recycle (o 4 ∷ []) ∷ call Get (o 5 ∷ text (codes "ownership_quota") ∷ []) ∷ []))
+    ≡ Some (zero ∷ o 4 ∷ zero ∷ o 5 ∷ zero ∷ zero ∷ i 6 ∷ []))
 unfolding world_shown chain same_object same_text same_pair folded rebuilt step request places
 quotas_worked = (refl, refl, refl, refl, refl)
 
@@ -190,12 +190,12 @@ with_verb calls = run_calls opening (no 3) (
 verbs_worked :
     -- args by word
     (answers (with_verb (call SetVerbArgs (o 4 ∷ i 1 ∷ list_of (text (codes "any") ∷ text (codes "from") ∷ text (codes "this") ∷ []) ∷ []) ∷ call VerbArgs (o 4 ∷ text (codes "take") ∷ []) ∷ []))
-      ≡ Some (o 4 ∷ zero ∷ zero ∷ list_of (text (codes "any") ∷ text (codes "out of/from inside/from") ∷ text (codes "this") ∷ []) ∷ []))
+    ≡ Some (o 4 ∷ zero ∷ zero ∷ list_of (text (codes "any") ∷ text (codes "out of/from inside/from") ∷ text (codes "this") ∷ []) ∷ []))
     -- no such verb
     × (with_verb (call DeleteVerb (o 4 ∷ i 1 ∷ []) ∷ call VerbInfo (o 4 ∷ i 1 ∷ []) ∷ []) ≡ FailedAt 4 VerbNotFound)
     -- a verb found by a word gets other names, and is found by these
     × (answers (with_verb (
-      call SetVerbInfo (o 4 ∷ text (codes "get") ∷ list_of (o 3 ∷ text (codes "r") ∷ text (codes "foo*bar drop") ∷ []) ∷ []) ∷ call Verbs (o 4 ∷ []) ∷ call VerbInfo (o 4 ∷ text (codes "foob") ∷ []) ∷ call DeleteVerb (o 4 ∷ i 1 ∷ []) ∷ call Verbs (o 4 ∷ []) ∷ []))
-      ≡ Some (o 4 ∷ zero ∷ zero ∷ list_of (text (codes "foo*bar drop") ∷ []) ∷ list_of (o 3 ∷ text (codes "r") ∷ text (codes "foo*bar drop") ∷ []) ∷ zero ∷ list_of [] ∷ []))
+    call SetVerbInfo (o 4 ∷ text (codes "get") ∷ list_of (o 3 ∷ text (codes "r") ∷ text (codes "foo*bar drop") ∷ []) ∷ []) ∷ call Verbs (o 4 ∷ []) ∷ call VerbInfo (o 4 ∷ text (codes "foob") ∷ []) ∷ call DeleteVerb (o 4 ∷ i 1 ∷ []) ∷ call Verbs (o 4 ∷ []) ∷ []))
+    ≡ Some (o 4 ∷ zero ∷ zero ∷ list_of (text (codes "foo*bar drop") ∷ []) ∷ list_of (o 3 ∷ text (codes "r") ∷ text (codes "foo*bar drop") ∷ []) ∷ zero ∷ list_of [] ∷ []))
 unfolding world_shown chain same_object same_text same_pair folded rebuilt step request places
 verbs_worked = (refl, refl, refl)

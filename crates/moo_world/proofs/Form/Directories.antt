@@ -1,5 +1,5 @@
 -- A change of one directory keeps the world well formed.
-use Rattle.moo_world.proofs.Words.{◌≡◌, ℕ, zero, suc, ◌<◌, ◌≤◌, Bool, true, false, ◌&&◌, Option, None, Some, List, [], ◌∷◌, ◌++◌, length, refl, sym, ap, ◌∙◌, subst, map, is_some, unwrap_or, if◌then◌else◌, option_map, option_and_then, list_all, flat_map, and_parts, list_all-append, ObjNo, VerbRow, same_object, World, Record, IsWellFormed, KeepsLimits, Climbs, Chain, NamesDiffer, is_object, parent_of, location_of, names_of, owed_by, pair_named, slot_of, row_of, without_slots, with_slots, is_property_name, verb_fits, row_fits, with_verbs, changed_at, both_true}
+use Rattle.moo_world.proofs.Words.{◌≡◌, ℕ, zero, suc, ◌<◌, ◌≤◌, Bool, true, false, Option, None, Some, List, [], ◌∷◌, ◌++◌, refl, sym, ap, ◌∙◌, subst, map, is_some, unwrap_or, if◌then◌else◌, option_map, option_and_then, list_all, flat_map, and_parts, list_all-append, ObjNo, VerbRow, same_object, World, Record, IsWellFormed, KeepsLimits, Climbs, Chain, NamesDiffer, is_object, parent_of, location_of, names_of, owed_by, pair_named, slot_of, row_of, without_slots, with_slots, is_property_name, verb_fits, row_fits, with_verbs, changed_at, both_true}
 use Rattle.std.specs.List.{remove}
 
 -- the world with the directory of x changed, and that number for the next verb

@@ -1,5 +1,5 @@
 -- An allowed change of one field of an object keeps the world well formed.
-use Rattle.moo_world.proofs.Lemmas.{◌≡◌, ◌≤◌, Bool, true, false, cond, refl, sym, ◌∙◌, ap, subst, ◌⊎◌, inl, inr, List, [], length, Option, Some, None, not, ◌&&◌, ◌||◌, is_some, unwrap_or, if◌then◌else◌, option_map, false≢true, and_parts, or_cases, leb-true, ObjNo, ObjRow, Change, is_number, is_text, Name, nothing, same_object, same_object-Decides, World, Record, IsTree, IsWellFormed, Places, is_object, location_of, places, accept_fits, row_fits, is_within, changed, with_row, field_changed, is_allowed_change, IsWellFormed-same_shape, both_true}
+use Rattle.moo_world.proofs.Lemmas.{◌≡◌, Bool, true, false, cond, refl, sym, ◌∙◌, ap, subst, ◌⊎◌, inl, inr, List, [], Option, Some, None, not, ◌&&◌, ◌||◌, is_some, if◌then◌else◌, option_map, false≢true, and_parts, or_cases, ObjNo, ObjRow, Change, is_number, is_text, Name, nothing, same_object, same_object-Decides, World, Record, IsTree, IsWellFormed, Places, is_object, location_of, places, accept_fits, row_fits, is_within, changed, with_row, field_changed, is_allowed_change, IsWellFormed-same_shape, both_true}
 use Rattle.moo_world.specs.declared.change.Change.TheVariants.{Owner, Location, Player, Programmer, Wizard, Readable, Writable, Fertile, Accept}
 use Rattle.moo_world.specs.declared.change.Change.TheVariants as to
 use Rattle.moo_world.proofs.Ancestry.Places.{places_is, Places-places}

@@ -1,5 +1,5 @@
 -- Worlds of one shape: where one is well formed, so is the other.
-use Rattle.moo_world.proofs.Words.{◌≡◌, ◌≤◌, true, refl, sym, ◌∙◌, ap, subst, List, [], length, Option, Some, None, ◌<◌, ◌≤ℤ◌, pos, negsuc, map, unwrap_or, is_some, option_map, option_and_then, list_all, flat_map, ObjNo, ObjRow, World, Record, IsWellFormed, KeepsLimits, IsTree, Climbs, Chain, Places, NamesDiffer, is_object, parent_of, location_of, names_of, owed_by, pair_named, slot_of, directory_of, row_of, without_slots, with_slots, is_property_name, verb_fits, row_fits}
+use Rattle.moo_world.proofs.Words.{◌≡◌, ◌≤◌, true, refl, sym, ◌∙◌, ap, subst, List, [], Option, Some, None, ◌<◌, ◌≤ℤ◌, pos, negsuc, map, unwrap_or, is_some, option_map, list_all, flat_map, ObjNo, ObjRow, World, Record, IsWellFormed, KeepsLimits, IsTree, Climbs, Chain, Places, NamesDiffer, is_object, parent_of, location_of, names_of, owed_by, pair_named, slot_of, directory_of, row_of, without_slots, with_slots, is_property_name, verb_fits, row_fits}
 
 -- the worlds differ in fields of rows alone, and not in parents
 pub record SameShape (w v : World) : Type 0 where

@@ -1,5 +1,5 @@
 -- A value that is set and a new name keep the world well formed, and worlds with other slots have names clash alike.
-use Rattle.moo_world.proofs.Lemmas.{◌≡◌, Bool, true, false, ◌||◌, List, [], ◌∷◌, map, refl, ◌∙◌, ap, subst, ◌⊎◌, inl, inr, None, ◌&&◌, is_some, if◌then◌else◌, option_map, filter, flat_map, list_any, false≢true, or_cases, ObjNo, Value, Set, fits, clashes, renamed, with_slot_of, Name, object_at, same_object, same_text, same_pair, folded, is_among, same_text-Decides, same_pair-self, defines_name, numbers_below, World, Record, IsWellFormed, SameButSlots, is_object, is_property_name, names_of, numbers_to, pair_named, chain, IsWellFormed-with_slot_of, slot_owner, names_same, objects_same, both_true}
+use Rattle.moo_world.proofs.Lemmas.{◌≡◌, true, false, ◌||◌, List, [], ◌∷◌, map, refl, ◌∙◌, ap, subst, ◌⊎◌, inl, inr, None, is_some, if◌then◌else◌, option_map, filter, flat_map, list_any, false≢true, or_cases, ObjNo, Value, Set, fits, clashes, renamed, with_slot_of, Name, object_at, same_object, same_text, same_pair, folded, is_among, same_text-Decides, same_pair-self, defines_name, numbers_below, World, Record, IsWellFormed, SameButSlots, is_object, is_property_name, names_of, numbers_to, pair_named, chain, IsWellFormed-with_slot_of, slot_owner, names_same, objects_same, both_true}
 use Rattle.std.proofs.Math.Bool.{or-true}
 use Rattle.moo_world.proofs.Ownership.Created.{chains_same}
 use Rattle.moo_world.proofs.Inheritance.Replacement.{IsWellFormed-renamed}

@@ -1,5 +1,5 @@
 -- A new object keeps the world well formed.
-use Rattle.moo_world.proofs.Lemmas.{◌≡◌, ◌≤◌, arith, length, Bool, true, false, List, [], ◌∷◌, ◌++◌, map, refl, sym, ◌∙◌, ap, subst, ◌⊎◌, inl, inr, Option, Some, None, ℤ, pos, ◌&&◌, is_some, unwrap_or, ◌≤ℤ◌, ◌<ℤ◌, ◌+ℤ◌, if◌then◌else◌, option_map, option_and_then, list_any, list_all, flat_map, IsDistinct, false≢true, both_ways, ints, none-some, ObjNo, Name, Pair, nothing, same_object, same_pair, same_object-Decides, is_number, World, Record, IsTree, IsWellFormed, Climbs, Chain, Places, NamesDiffer, is_object, chain, names_of, slot_of, defined_by, owed_by, pair_named, owes, with_slots, is_property_name, verb_fits, row_fits, born, with_new_record, created, chain_is, Chain-chain, chain-nothing, chain_of_none, linked, named_owed, MayBeRebuilt, IsWellFormed-rebuilt, own_owed, owed_is_object, Chain-either}
+use Rattle.moo_world.proofs.Lemmas.{◌≡◌, arith, Bool, true, false, List, [], ◌∷◌, ◌++◌, map, refl, sym, ◌∙◌, ap, subst, ◌⊎◌, inl, inr, Option, Some, None, ℤ, pos, ◌&&◌, is_some, unwrap_or, ◌≤ℤ◌, ◌<ℤ◌, ◌+ℤ◌, if◌then◌else◌, option_map, list_any, list_all, flat_map, IsDistinct, false≢true, both_ways, ints, ObjNo, Name, Pair, nothing, same_object, same_pair, same_object-Decides, is_number, World, Record, IsTree, IsWellFormed, Climbs, Chain, Places, NamesDiffer, is_object, chain, names_of, slot_of, defined_by, owed_by, pair_named, owes, with_slots, is_property_name, verb_fits, row_fits, born, with_new_record, created, chain_is, Chain-chain, linked, named_owed, MayBeRebuilt, IsWellFormed-rebuilt, own_owed, owed_is_object, Chain-either}
 
 module _ (w : World) (x q owner : ObjNo) (wf : IsWellFormed w) (free : is_object w x ≡ false) (next : x.0 ≡ w.top +ℤ pos 1) (room : w.top <ℤ pos 2147483647) (qo : (is_object w q ≡ true) ⊎ (q ≡ nothing)) where
   abbrev pub s : World

@@ -1,5 +1,5 @@
 -- A property added to a well formed world.
-use Rattle.moo_world.proofs.Lemmas.{◌≡◌, ◌≢◌, ◌<◌, ◌≤◌, Bool, true, false, cond, ◌||◌, Option, None, Some, List, [], ◌∷◌, ◌++◌, map, length, refl, sym, ap, ◌∙◌, subst, ◌⊎◌, inl, inr, append_assoc, arith, ◌&&◌, is_some, unwrap_or, if◌then◌else◌, option_map, option_and_then, list_any, list_all, IsDistinct, AllByRecursion, false≢true, both_ways, or_parts, list_all-append, none-some, same_Some, ObjNo, Clear, clashes, defined, subtree_of, objects_of, Name, Pair, same_object, same_text, same_pair, folded, is_among, same_object-Decides, same_text-Decides, World, Record, Slot, IsTree, IsWellFormed, Climbs, Chain, NamesDiffer, is_object, parent_of, location_of, chain, names_of, defined_by, owed_by, pair_named, slot_of, fresh, without_slots, with_slots, is_property_name, verb_fits, row_fits, slot_fits, Climbs-once, row_fitting, row_owner, fresh_fits, named_owed, named_so, definer_among, some_named, among_filter, object_listed, owed_listed, chain_is, chain_of_none, no_parent, parents_alike, objects_alike, tree_alike, limits_alike, names_fit}
+use Rattle.moo_world.proofs.Lemmas.{◌≡◌, ◌≢◌, ◌<◌, Bool, true, false, cond, ◌||◌, Option, None, Some, List, [], ◌∷◌, ◌++◌, map, refl, sym, ap, ◌∙◌, subst, ◌⊎◌, inl, inr, append_assoc, arith, ◌&&◌, is_some, unwrap_or, if◌then◌else◌, option_map, option_and_then, list_any, list_all, IsDistinct, AllByRecursion, false≢true, both_ways, or_parts, list_all-append, none-some, same_Some, ObjNo, Clear, clashes, defined, subtree_of, objects_of, Name, Pair, same_object, same_text, same_pair, folded, is_among, same_object-Decides, same_text-Decides, World, Record, Slot, IsTree, IsWellFormed, Climbs, Chain, NamesDiffer, is_object, parent_of, chain, names_of, defined_by, owed_by, pair_named, slot_of, fresh, is_property_name, slot_fits, Climbs-once, row_fitting, row_owner, fresh_fits, named_owed, named_so, definer_among, some_named, among_filter, object_listed, owed_listed, chain_is, chain_of_none, no_parent, parents_alike, objects_alike, tree_alike, limits_alike, names_fit}
 
 -- ---- lists of pairs
 

@@ -1,5 +1,5 @@
 -- A property taken from a well formed world.
-use Rattle.moo_world.proofs.Lemmas.{◌≡◌, ◌≤◌, Bool, true, false, cond, ◌||◌, Option, None, Some, List, [], ◌∷◌, ◌++◌, map, length, refl, sym, ap, ◌∙◌, subst, ◌&&◌, not, is_some, unwrap_or, if◌then◌else◌, option_map, option_and_then, filter, list_any, list_all, IsDistinct, AllByRecursion, both_ways, or_right, and_parts, none-some, same_Some, ObjNo, undefined, Name, Pair, nothing, same_object, same_text, same_pair, folded, same_object-Decides, same_text-Decides, World, Record, Slot, IsTree, IsWellFormed, Climbs, Chain, NamesDiffer, is_object, parent_of, location_of, chain, climb, numbers_to, names_of, defined_by, owed_by, owes, owner_of, pair_named, slot_of, slot_for, fresh, with_record, with_slots, without_slots, is_property_name, verb_fits, row_fits, MayBeRebuilt, IsWellFormed-rebuilt, named_owed, named_so, none_named, slot_of-rebuilt, Chain-chain, parents_alike, objects_alike, tree_alike, limits_alike, names_fit, own_owed}
+use Rattle.moo_world.proofs.Lemmas.{◌≡◌, Bool, true, false, cond, ◌||◌, Option, None, Some, List, [], ◌∷◌, ◌++◌, map, refl, sym, ap, ◌∙◌, subst, ◌&&◌, not, unwrap_or, if◌then◌else◌, option_map, filter, list_any, list_all, IsDistinct, AllByRecursion, both_ways, or_right, and_parts, none-some, same_Some, ObjNo, undefined, Name, Pair, nothing, same_object, same_text, same_pair, folded, same_object-Decides, same_text-Decides, World, Record, Slot, IsWellFormed, Climbs, Chain, NamesDiffer, is_object, parent_of, chain, climb, numbers_to, names_of, defined_by, owed_by, owes, owner_of, pair_named, slot_of, slot_for, fresh, with_record, is_property_name, MayBeRebuilt, IsWellFormed-rebuilt, named_owed, named_so, none_named, slot_of-rebuilt, Chain-chain, parents_alike, objects_alike, tree_alike, limits_alike, names_fit, own_owed}
 
 -- ---- lists
 

@@ -1,6 +1,7 @@
 -- What stands in a list made of the entries of a finite map.
-use Rattle.moo_world.proofs.Lemmas.{◌≡◌, Bool, true, false, cond, T, ◌||◌, None, Some, List, [], ◌∷◌, map, Ordering, Less, refl, sym, ap, ◌∙◌, unwrap_or, option_map, IsTotalOrder, tied_itself, eq_by_cmp, is_eq, ordering_reverse, filter, list_any, AllByRecursion, is_sorted, below_all, CmpEqualImpliesEq, first_of, second_of, less_of, elsewhere, here, not_held, key-Decides}
+use Rattle.moo_world.proofs.Lemmas.{◌≡◌, Bool, true, false, cond, T, ◌||◌, None, Some, List, [], ◌∷◌, map, Ordering, refl, sym, ap, ◌∙◌, unwrap_or, option_map, IsTotalOrder, eq_by_cmp, filter, list_any, AllByRecursion, is_sorted, CmpEqualImpliesEq, first_of, second_of, not_held, key-Decides}
 use Rattle.std.specs.FinMap.{find}
+use Rattle.moo_world.proofs.Shown.EntriesInOrder.{own_entries as each_held}
 
 module _ {K X : Type 0} (cmp : K → K → Ordering) (total : IsTotalOrder cmp) (exact : CmpEqualImpliesEq cmp) where
   module _ {B : Type 0} (k : K) (test : K × X → Bool) (made : K × X → B) (is_it : B → Bool) (same : (e : K × X) → is_it (made e) ≡ eq_by_cmp cmp k e.0) where
@@ -22,6 +23,10 @@ module _ {K X : Type 0} (cmp : K → K → Ordering) (total : IsTotalOrder cmp) 
             ih ∙ ap (λ o. unwrap_or (option_map (λ v. test (k, v)) o) false) none ∙ sym (ap (λ j. test (j, e.1)) key ∙ g)
         by false h true g ih = ap (λ v. v || rest) (same e ∙ h) ∙ ih
         by false h false g ih = ih
+
+  -- each entry is what its key holds
+  pub own_entries : (es : List (K × X)) → T (is_sorted cmp es) → AllByRecursion (λ e. find cmp e.0 es ≡ Some e.1) es
+  own_entries es sorted = each_held cmp total es sorted
 
 -- what holds of each holds of what is made of those that pass
 pub all_made : {A B : Type 0} (P : A → Type 0) (Q : B → Type 0) (test : A → Bool) (made : A → B) → ((a : A) → P a → test a ≡ true → Q (made a)) → (l : List A) → AllByRecursion P l → AllByRecursion Q (map made (filter test l))

@@ -1,5 +1,5 @@
 -- What a put or a removal in the maps does to the world that they show.
-use Rattle.moo_world.proofs.Words.{◌≡◌, ℕ, Bool, true, false, cond, refl, sym, ◌∙◌, ap, subst, Some, None, Ordering, eqb, ◌&&◌, Decides, IsTotalOrder, Equal-is, tied_itself, eq_by_cmp, is_eq, get, insert, remove, get-insert, get-remove, CmpEqualImpliesEq, and_parts, eqb-true, eq-eqb, ObjNo, ObjRow, SlotRow, PropId, Maps, object_cmp, slot_cmp, object_exact, slot_exact, object_total, slot_total, same_object, same_object-Decides, look_ups, prop_id, with_object_row, with_slot_row, less_slot}
+use Rattle.moo_world.proofs.Words.{◌≡◌, ℕ, Bool, true, false, cond, refl, sym, ◌∙◌, ap, subst, Some, Ordering, eqb, ◌&&◌, Decides, IsTotalOrder, Equal-is, tied_itself, eq_by_cmp, is_eq, get, insert, get-insert, CmpEqualImpliesEq, and_parts, eqb-true, eq-eqb, ObjNo, ObjRow, SlotRow, PropId, Maps, object_cmp, slot_cmp, object_exact, slot_exact, object_total, slot_total, same_object, same_object-Decides, look_ups, prop_id, with_object_row, with_slot_row}
 
 -- two tests of one thing answer alike
 pub decided_alike : (a b : Bool) (P : Type 0) → Decides a P → Decides b P → a ≡ b
@@ -29,4 +29,3 @@ look_ups-put_object t x row = λ i. record (look_ups t) { object = λ y. (get-in
 
 pub look_ups-put_slot : (t : Maps) (x : ObjNo) (id : PropId) (row : SlotRow) → look_ups (record t { slots = insert t.slots (x, id) row }) ≡ with_slot_row (look_ups t) x id.0 row
 look_ups-put_slot t x id row = λ i. record (look_ups t) { slot = λ y j. (get-insert slot_total t.slots (x, id) row (y, prop_id j) ∙ ap (λ b. cond b (Some row) (get t.slots (y, prop_id j))) (slot_key x y id.0 j)) i }
-

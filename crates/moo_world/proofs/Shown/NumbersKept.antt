@@ -1,5 +1,5 @@
 -- Numbers that stay, over one call and over many.
-use Rattle.moo_world.proofs.Lemmas.{◌≡◌, ℕ, ◌+◌, ◌<◌, ◌≤◌, ◌⊎◌, inl, inr, Bool, true, false, cond, Option, Some, None, Ordering, List, [], ◌∷◌, refl, sym, ap, ◌∙◌, subst, arith, is_some, if◌then◌else◌, IsTotalOrder, eq_by_cmp, FinMap, get, insert, remove, get-insert, get-remove, CmpEqualImpliesEq, false≢true, none-some, same_Some, ObjNo, Value, spread, PropId, PropRow, VerbRow, prop_exact, verb_exact, Maps, prop_cmp, verb_cmp, prop_total, verb_total, Call, is_grant, same_object, PetitionsStay, state_of, prop_id, verb_id, world_of, put_or_old, none_or_old}
+use Rattle.moo_world.proofs.Lemmas.{◌≡◌, ℕ, ◌+◌, ◌<◌, ◌≤◌, ◌⊎◌, inl, inr, Bool, true, false, Option, Some, None, List, [], ◌∷◌, refl, sym, ap, ◌∙◌, subst, arith, is_some, if◌then◌else◌, FinMap, get, insert, remove, false≢true, none-some, same_Some, ObjNo, Value, spread, PropId, PropRow, VerbRow, prop_exact, verb_exact, Maps, prop_cmp, verb_cmp, prop_total, verb_total, Call, is_grant, same_object, PetitionsStay, state_of, prop_id, verb_id, world_of, put_or_old, none_or_old}
 use Rattle.moo_rows.specs.declared.row.VerbId.{VerbId}
 use Rattle.moo_world.specs.Between.{CallsLead, HeldCallsLead, CallKeepsNumbers, BatchesKeepNumbers}
 use Rattle.moo_world.specs.Numbers.{KeepsProps, props_stay, prop_added, prop_renamed, prop_removed, props_dropped, KeepsVerbs, verbs_stay, verb_added, verb_changed, verb_removed, verbs_dropped, KeepsNumbers, IsSameButSlots, NumbersStay, not_of}

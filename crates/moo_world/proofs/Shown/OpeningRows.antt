@@ -1,5 +1,5 @@
 -- The opening rows are sound, and their world is well formed.
-use Rattle.moo_world.proofs.Words.{◌≡◌, ◌≢◌, ℕ, ◌≤◌, pos, Bool, true, false, cond, List, [], ◌∷◌, ◌++◌, map, length, Option, Some, None, is_some, Less, Equal, Greater, Ordering, refl, sym, ap, ◌∙◌, subst, arith, ◌≤ℤ◌, unwrap_or, option_map, option_and_then, list_all, IsDistinct, eq_by_cmp, is_eq, get, get-insert, get-empty, empty, ObjNo, ObjRow, object_cmp, prop_cmp, slot_cmp, verb_cmp, petition_cmp, object_exact, object_total, Name, Pair, nothing, World, Record, Slot, IsTree, IsWellFormed, KeepsLimits, Chain, Places, is_object, slot_of, names_of, owed_by, pair_named, is_property_name, verb_fits, row_fits, without_slots, with_slots, NamesDiffer, PetitionsStand, IsGood, LookUps, AreSound, world_shown, look_ups, prop_id, verb_id, record_of}
+use Rattle.moo_world.proofs.Words.{◌≡◌, ◌≢◌, ℕ, pos, Bool, true, false, cond, List, [], ◌∷◌, ◌++◌, map, Option, Some, None, is_some, Less, Equal, Greater, Ordering, refl, sym, ap, ◌∙◌, subst, arith, ◌≤ℤ◌, unwrap_or, option_map, option_and_then, list_all, IsDistinct, eq_by_cmp, is_eq, get, get-insert, get-empty, empty, ObjNo, ObjRow, object_cmp, prop_cmp, slot_cmp, verb_cmp, petition_cmp, object_exact, object_total, Name, Pair, nothing, World, Record, Slot, IsTree, IsWellFormed, KeepsLimits, Chain, Places, is_object, slot_of, names_of, owed_by, pair_named, is_property_name, verb_fits, row_fits, without_slots, with_slots, NamesDiffer, PetitionsStand, IsGood, LookUps, AreSound, world_shown, look_ups, prop_id, verb_id, record_of}
 use Rattle.moo_rows.specs.Opening.{opening_maps, system_object, root_class, first_room, wizard}
 
 abbrev no : ℕ → ObjNo
