@@ -1,13 +1,5 @@
 -- One step up, by the row.
-use Rattle.std.proofs.Common.{◌≡◌, suc, true, ◌∷◌, length, Some, sym, ap, ◌∙◌}
-use Rattle.std.specs.Ordering.{int_eq}
-use Rattle.moo_value.specs.declared.value.ObjNo.{ObjNo}
-use Rattle.moo_rows.specs.declared.row.ObjRow.{ObjRow}
-use Rattle.moo_world.specs.Objects.{is_among, same_object-eq}
-use Rattle.moo_world.specs.Rows.{LookUps, world_shown}
-use Rattle.moo_world.specs.World.{World, IsTree, chain}
-use Rattle.moo_world.proofs.Ancestry.Chains.{is_among_here}
-use Rattle.moo_world.proofs.Shown.Seen.{chain_of_row}
+use Rattle.moo_tree.proofs.Words.{◌≡◌, suc, true, ◌∷◌, length, Some, sym, ap, ◌∙◌, int_eq, ObjNo, ObjRow, is_among, same_object-eq, LookUps, world_shown, World, IsTree, chain, is_among_here, chain_of_row}
 
 module _ (m : LookUps) (t : IsTree (world_shown m)) (x : ObjNo) (row : ObjRow) (there : Some row ≡ m.object x) where
   abbrev w : World

@@ -1,23 +1,9 @@
 -- What is found under an object, as lists in the order of their keys.
-use Rattle.std.proofs.Common.{◌≡◌, Bool, true, false, cond, T, ◌&&◌, Option, None, Some, List, [], ◌∷◌, map, Ordering, Less, refl, sym, ap, ◌∙◌, subst}
-use Rattle.std.specs.Option.{option_map}
-use Rattle.std.specs.List.{filter, AllByRecursion}
+use Rattle.moo_tree.proofs.Words.{◌≡◌, Bool, true, false, cond, T, ◌&&◌, Option, None, Some, List, [], ◌∷◌, map, Ordering, Less, refl, sym, ap, ◌∙◌, subst, option_map, filter, AllByRecursion, is_lt, eq_by_cmp, BTreeMap, IsOrdered, keys, get, get-entries, get-from_entries, is_sorted, entries, entries_sorted, ObjNo, object_exact, Maps, object_cmp, contents, object_total, is_among, subtree_of, world_of, IsTree, chain, IsFound, owner_if_under, owners_under}
 use Rattle.std.specs.List.Sorted.{IsStrictlySortedBy}
-use Rattle.std.specs.Ordering.{is_lt, eq_by_cmp}
-use Rattle.std.specs.BTreeMap.{BTreeMap, IsOrdered, keys}
-use Rattle.std.specs.FinMap.{get, get-entries, get-from_entries, find, is_sorted, entries, entries_sorted}
+use Rattle.std.specs.FinMap.{find}
 use Rattle.std.specs.FinMap.Entries.{below_all, find-where_key, is_sorted-where_key, same_entries}
-use Rattle.moo_value.specs.declared.value.ObjNo.{ObjNo}
-use Rattle.moo_rows.specs.Exact.{object_exact}
-use Rattle.moo_rows.specs.Maps.{Maps, object_cmp}
-use Rattle.moo_ordered.specs.Ordered.{contents}
-use Rattle.moo_rows.proofs.Orders.{object_total}
 use Rattle.moo_rows.proofs.Walking.{first_of, second_of}
-use Rattle.moo_world.specs.Objects.{is_among}
-use Rattle.moo_world.specs.ObjectLists.{subtree_of}
-use Rattle.moo_world.specs.Rows.{world_of}
-use Rattle.moo_world.specs.World.{IsTree, chain}
-use Rattle.moo_tree.specs.Under.{IsFound, owner_if_under, owners_under}
 use Rattle.moo_tree.proofs.Listing.{subtree_listed}
 
 both_of : (a b : Bool) → T a → T b → T (a && b)

@@ -1,3 +1,4 @@
+pub mod Words
 pub mod Climbing
 pub mod Sharing
 pub mod Listing

@@ -1,25 +1,10 @@
 -- What is read off the objects' rows, as lists of the world.
-use Rattle.std.proofs.Common.{◌≡◌, Bool, true, List, [], ◌∷◌, map, Some, Less, refl, sym, ap, ◌∙◌, arith, pos, negsuc}
-use Rattle.std.specs.Prelude.{◌≤ℤ◌, is_some}
-use Rattle.std.specs.Cmp.{int_cmp_is}
-use Rattle.std.specs.FinMap.{entries, entries_sorted, find, get-entries}
-use Rattle.std.specs.List.{filter, AllByRecursion}
-use Rattle.std.specs.Ordering.{is_lt}
+use Rattle.moo_tree.proofs.Words.{◌≡◌, Bool, true, List, [], ◌∷◌, map, Some, Less, refl, sym, ap, ◌∙◌, arith, pos, negsuc, ◌≤ℤ◌, is_some, int_cmp_is, entries, entries_sorted, get-entries, filter, AllByRecursion, is_lt, ObjNo, ChildOf, Within, Player, ObjRow, has_link, linked_left, ties_of, Maps, object_cmp, object_total, children_of, contents_of, objects_of, players_of, subtree_of, nothing, same_object, is_among, same_object-eq, look_ups, world_of, IsTree, is_object, row_passes, chain, is_object_seen}
+use Rattle.std.specs.FinMap.{find}
 use Rattle.std.proofs.lemmas.Int.{ints}
-use Rattle.moo_value.specs.declared.value.ObjNo.{ObjNo}
 use Rattle.moo_rows.specs.declared.row.Link.{Link}
-use Rattle.moo_rows.specs.declared.row.Link.TheVariants.{ChildOf, Within, Player}
-use Rattle.moo_rows.specs.declared.row.ObjRow.{ObjRow}
-use Rattle.moo_rows.specs.Links.{has_link, linked_left, ties_of}
-use Rattle.moo_rows.specs.Maps.{Maps, object_cmp}
-use Rattle.moo_rows.proofs.Orders.{object_total}
-use Rattle.moo_world.specs.ObjectLists.{children_of, contents_of, objects_of, players_of, subtree_of}
-use Rattle.moo_world.specs.Objects.{nothing, same_object, is_among, same_object-eq}
-use Rattle.moo_world.specs.Rows.{look_ups, world_of}
-use Rattle.moo_world.specs.World.{IsTree, is_object, row_passes, chain}
 use Rattle.moo_world.proofs.Shown.EntriesInOrder.{all_weaker, filter_alike, own_entries}
 use Rattle.moo_world.proofs.Shown.ObjectEntries.{objects_passing, rows_passing}
-use Rattle.moo_world.proofs.Shown.Seen.{is_object_seen}
 
 all_pass : {A : Type 0} (l : List A) → filter (λ a. true) l ≡ l
 all_pass [] = refl

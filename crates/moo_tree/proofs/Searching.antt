@@ -1,28 +1,10 @@
 -- A search for the objects under one, as far as it has come.
-use Rattle.std.proofs.Common.{◌≡◌, ℕ, zero, suc, ◌-◌, ◌<◌, ◌≤◌, ◌≢◌, Bool, true, false, cond, ◌||◌, Option, None, Some, List, [], ◌∷◌, ◌++◌, length, drop, Ordering, Less, Equal, Greater, refl, sym, ap, ◌∙◌, subst, arith, ◌⊎◌, inl, inr}
-use Rattle.std.specs.Prelude.{is_some, if◌then◌else◌, slice_index_or, ◌+◌}
-use Rattle.std.specs.Option.{option_map}
-use Rattle.std.specs.Ordering.{eq_by_cmp, is_eq}
-use Rattle.std.specs.Cmp.{tied_itself}
-use Rattle.std.specs.FinMap.{FinMap, get, insert, get-insert}
-use Rattle.std.proofs.lemmas.Bool.{true≢false, or_right, or_cases}
+use Rattle.moo_tree.proofs.Words.{◌≡◌, ℕ, zero, suc, ◌-◌, ◌<◌, ◌≤◌, ◌≢◌, Bool, true, false, cond, ◌||◌, Option, None, Some, List, [], ◌∷◌, ◌++◌, length, drop, Ordering, Less, Equal, Greater, refl, sym, ap, ◌∙◌, subst, arith, ◌⊎◌, inl, inr, is_some, if◌then◌else◌, slice_index_or, ◌+◌, option_map, eq_by_cmp, is_eq, tied_itself, FinMap, get, insert, get-insert, true≢false, or_right, or_cases, ObjNo, ObjRow, object_exact, Maps, object_cmp, object_total, same_object, is_among, same_object-Decides, children_of, objects_of, has_parent, look_ups, world_of, World, IsTree, is_object, parent_of, chain, climb, numbers_to, chain_of_none, chain_of_row, chain_of_no_row, is_object_seen, passes_seen, none_passes, IsFound}
 use Rattle.std.proofs.lemmas.Option.{none-some}
-use Rattle.moo_value.specs.declared.value.ObjNo.{ObjNo}
-use Rattle.moo_rows.specs.declared.row.ObjRow.{ObjRow}
-use Rattle.moo_rows.specs.Exact.{object_exact}
-use Rattle.moo_rows.specs.Maps.{Maps, object_cmp}
-use Rattle.moo_rows.proofs.Orders.{object_total}
-use Rattle.moo_world.specs.Objects.{same_object, is_among, same_object-Decides}
-use Rattle.moo_world.specs.ObjectLists.{children_of, objects_of, has_parent}
-use Rattle.moo_world.specs.Rows.{look_ups, world_of}
-use Rattle.moo_world.specs.World.{World, IsTree, is_object, parent_of, chain, climb, numbers_to}
-use Rattle.moo_world.proofs.Ancestry.Trees.{chain_of_none}
-use Rattle.moo_world.proofs.Shown.Seen.{chain_of_row, chain_of_no_row, is_object_seen, passes_seen, none_passes}
 use Rattle.moo_world.proofs.Inheritance.Owed.{is_among-append}
 use Rattle.moo_world.proofs.Ancestry.Subtrees.{among_filter, object_listed}
 use Rattle.moo_world.proofs.Ancestry.Upward.{filter_passes}
 use Rattle.moo_tree.proofs.Sharing.{among_drop}
-use Rattle.moo_tree.specs.Under.{IsFound}
 
 either : (a b : Bool) → (a ≡ true) ⊎ (b ≡ true) → (a || b) ≡ true
 either true b h = refl

@@ -1,16 +1,6 @@
 -- The nearest ancestor that two objects share.
-use Rattle.std.proofs.Common.{◌≡◌, ℕ, zero, suc, ◌-◌, ◌≤◌, ◌<◌, Bool, true, false, cond, List, [], ◌∷◌, ◌++◌, length, drop, Some, None, refl, sym, ap, subst, ◌∙◌, ◌⊎◌, inl, inr, arith}
-use Rattle.std.specs.Prelude.{unwrap_or}
-use Rattle.std.specs.List.{find}
-use Rattle.std.specs.Ordering.{int_eq}
-use Rattle.std.proofs.lemmas.Bool.{both_ways, or_right, cases_lt}
+use Rattle.moo_tree.proofs.Words.{◌≡◌, ℕ, zero, suc, ◌-◌, ◌≤◌, ◌<◌, Bool, true, false, cond, List, [], ◌∷◌, ◌++◌, length, drop, Some, None, refl, sym, ap, subst, ◌∙◌, ◌⊎◌, inl, inr, arith, unwrap_or, find, int_eq, both_ways, or_right, cases_lt, ObjNo, ancestors, common, nothing, same_object, is_among, same_object-eq, same_object-Decides, World, IsTree, Chain, is_object, parent_of, chain, front_of, Climbs-unique, Climbs-among, Climbs-split, no_parent, Chain-chain, chain_of_none}
 use Rattle.std.proofs.lemmas.List.{length-append, length-drop, drop_at}
-use Rattle.moo_value.specs.declared.value.ObjNo.{ObjNo}
-use Rattle.moo_world.specs.Manual.{ancestors, common}
-use Rattle.moo_world.specs.Objects.{nothing, same_object, is_among, same_object-eq, same_object-Decides}
-use Rattle.moo_world.specs.World.{World, IsTree, Chain, is_object, parent_of, chain}
-use Rattle.moo_world.proofs.Ancestry.Chains.{front_of, Climbs-unique, Climbs-among, Climbs-split}
-use Rattle.moo_world.proofs.Ancestry.Trees.{no_parent, Chain-chain, chain_of_none}
 
 -- ---- lists
 

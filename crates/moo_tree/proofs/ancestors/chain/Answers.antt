@@ -1,8 +1,4 @@
-use Rattle.std.proofs.Common.{◌≡◌, ◌∷◌, [], length, sym, ap, ◌∙◌, append_assoc, append-nil, arith}
-use Rattle.moo_world.specs.Rows.{world_of}
-use Rattle.moo_world.specs.World.{chain}
-use Rattle.moo_world.proofs.Shown.Seen.{chain_of_row, chain_of_no_row}
-use Rattle.moo_world.specs.Rows.{look_ups}
+use Rattle.moo_tree.proofs.Words.{◌≡◌, ◌∷◌, [], length, sym, ap, ◌∙◌, append_assoc, append-nil, arith, world_of, chain, chain_of_row, chain_of_no_row, look_ups}
 use Rattle.moo_tree.proofs.ancestors.chain.Goals as goal
 
 pub loop-row-smaller : goal.loop-row-smaller

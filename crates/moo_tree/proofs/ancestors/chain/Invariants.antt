@@ -1,6 +1,4 @@
-use Rattle.std.proofs.Common.{◌≡◌, ◌++◌, length}
-use Rattle.moo_world.specs.Rows.{world_of}
-use Rattle.moo_world.specs.World.{chain}
+use Rattle.moo_tree.proofs.Words.{◌≡◌, ◌++◌, length, world_of, chain}
 use Rattle.moo_tree.proofs.ancestors.chain.Given as goal
 
 -- what was found, and then the chain from here, is the chain of x

@@ -1,11 +1,4 @@
-use Rattle.std.proofs.Common.{◌≡◌, ◌-◌, true, [], ◌∷◌, drop, length, sym, ap, ◌∙◌, subst, arith}
-use Rattle.std.specs.Prelude.{unwrap_or, is_some}
-use Rattle.std.specs.List.{find}
-use Rattle.moo_world.specs.Manual.{ancestors}
-use Rattle.moo_world.specs.Objects.{nothing, is_among, same_object-eq, same_object-Decides}
-use Rattle.moo_world.specs.Rows.{look_ups, world_of}
-use Rattle.moo_world.specs.World.{is_object, chain}
-use Rattle.moo_world.proofs.Shown.Seen.{chain_of_row, chain_of_no_row, is_object_seen}
+use Rattle.moo_tree.proofs.Words.{◌≡◌, ◌-◌, true, [], ◌∷◌, drop, length, sym, ap, ◌∙◌, subst, arith, unwrap_or, is_some, find, ancestors, nothing, is_among, same_object-eq, same_object-Decides, look_ups, world_of, is_object, chain, chain_of_row, chain_of_no_row, is_object_seen}
 use Rattle.moo_tree.proofs.Climbing.{one_shorter, is_here}
 use Rattle.moo_tree.proofs.Sharing.{common_of_none, cut_alike, cut_within, tail_within, among_drop, find_here, find_later, found_no_deeper, apart}
 use Rattle.moo_tree.proofs.ancestors.common.Goals as goal

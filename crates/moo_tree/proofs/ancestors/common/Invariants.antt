@@ -1,9 +1,4 @@
-use Rattle.std.proofs.Common.{◌≡◌, ◌-◌, drop, length}
-use Rattle.std.specs.List.{find}
-use Rattle.moo_world.specs.Manual.{ancestors}
-use Rattle.moo_world.specs.Objects.{is_among}
-use Rattle.moo_world.specs.Rows.{world_of}
-use Rattle.moo_world.specs.World.{chain}
+use Rattle.moo_tree.proofs.Words.{◌≡◌, ◌-◌, drop, length, find, ancestors, is_among, world_of, chain}
 use Rattle.moo_tree.proofs.ancestors.common.Given as goal
 
 -- the two stand as deep, one of them among the ancestors of x, and what is found from the other is what is found from new

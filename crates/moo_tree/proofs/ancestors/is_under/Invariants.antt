@@ -1,7 +1,4 @@
-use Rattle.std.proofs.Common.{◌≡◌, length}
-use Rattle.moo_world.specs.Objects.{is_among}
-use Rattle.moo_world.specs.Rows.{world_of}
-use Rattle.moo_world.specs.World.{chain}
+use Rattle.moo_tree.proofs.Words.{◌≡◌, length, is_among, world_of, chain}
 use Rattle.moo_tree.proofs.ancestors.is_under.Given as goal
 
 -- the ancestor stands in the chain from here just where it stands in that of x

@@ -1,7 +1,4 @@
-use Rattle.std.proofs.Common.{◌≡◌, [], drop, length, sym, ap, ◌∙◌, arith}
-use Rattle.moo_world.specs.Rows.{look_ups, world_of}
-use Rattle.moo_world.specs.World.{chain}
-use Rattle.moo_world.proofs.Shown.Seen.{chain_of_row, chain_of_no_row}
+use Rattle.moo_tree.proofs.Words.{◌≡◌, [], drop, length, sym, ap, ◌∙◌, arith, look_ups, world_of, chain, chain_of_row, chain_of_no_row}
 use Rattle.moo_tree.proofs.Climbing.{one_shorter}
 use Rattle.moo_tree.proofs.Sharing.{drop_none}
 use Rattle.moo_tree.proofs.ancestors.up_along.Goals as goal

@@ -1,6 +1,4 @@
-use Rattle.std.proofs.Common.{◌≡◌, drop, length}
-use Rattle.moo_world.specs.Rows.{world_of}
-use Rattle.moo_world.specs.World.{chain}
+use Rattle.moo_tree.proofs.Words.{◌≡◌, drop, length, world_of, chain}
 use Rattle.moo_tree.proofs.ancestors.up_along.Given as goal
 
 -- what is still to be climbed from here is what was to be climbed from x

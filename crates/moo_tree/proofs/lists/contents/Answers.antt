@@ -1,8 +1,4 @@
-use Rattle.std.proofs.Common.{◌≡◌, IfOk, subst, rules}
-use Rattle.std.proofs.lemmas.Iterator.{items_from_collect, YieldsList-from_map}
-use Rattle.std.proofs.lemmas.Iterator.Consumers.{YieldsList-from_first, YieldsList-at}
-use Rattle.moo_rows.specs.Links.{linked_left}
-use Rattle.moo_rows.specs.declared.row.Link.TheVariants.{Within}
+use Rattle.moo_tree.proofs.Words.{◌≡◌, IfOk, subst, rules, items_from_collect, YieldsList-from_map, YieldsList-from_first, YieldsList-at, linked_left, Within}
 use Rattle.moo_tree.proofs.Listing.{contents_listed}
 use Rattle.moo_tree.proofs.lists.contents.Goals as goal
 

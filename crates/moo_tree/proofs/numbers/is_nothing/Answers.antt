@@ -1,6 +1,4 @@
-use Rattle.std.proofs.Common.{◌∙◌, ap}
-use Rattle.std.specs.Ordering.{int_eq}
-use Rattle.moo_world.specs.Objects.{nothing, same_object-eq}
+use Rattle.moo_tree.proofs.Words.{◌∙◌, ap, int_eq, nothing, same_object-eq}
 use Rattle.moo_tree.proofs.numbers.is_nothing.Goals as goal
 
 pub returns : goal.returns

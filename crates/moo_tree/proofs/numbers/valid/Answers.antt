@@ -1,8 +1,4 @@
-use Rattle.std.proofs.Common.{◌≡◌, Option, Some, None, refl, sym, ap, ◌∙◌}
-use Rattle.std.specs.Prelude.{is_some}
-use Rattle.std.specs.Option.{option_map}
-use Rattle.moo_world.specs.Rows.{look_ups}
-use Rattle.moo_world.proofs.Shown.Seen.{is_object_seen}
+use Rattle.moo_tree.proofs.Words.{◌≡◌, Option, Some, None, refl, sym, ap, ◌∙◌, is_some, option_map, look_ups, is_object_seen}
 use Rattle.moo_tree.proofs.numbers.valid.Goals as goal
 
 is_some_map : {A B : Type 0} (f : A → B) (o : Option A) → is_some o ≡ is_some (option_map f o)

@@ -1,8 +1,5 @@
-use Rattle.std.proofs.Common.{◌≡◌, length, sym, ap, ◌∙◌, true, false, arith}
-use Rattle.moo_world.specs.Objects.{is_among, same_object, same_object-eq}
-use Rattle.moo_world.proofs.Ancestry.Chains.{is_among_here, is_among_later}
+use Rattle.moo_tree.proofs.Words.{◌≡◌, length, sym, ap, ◌∙◌, true, false, arith, is_among, same_object, same_object-eq, is_among_here, is_among_later, look_ups}
 use Rattle.moo_world.proofs.Ancestry.Places.{places_of_row, places_of_no_row}
-use Rattle.moo_world.specs.Rows.{look_ups}
 use Rattle.moo_tree.proofs.places.inside.Goals as goal
 
 pub returns-then-eq : goal.returns-then-eq

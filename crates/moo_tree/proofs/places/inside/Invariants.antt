@@ -1,7 +1,4 @@
-use Rattle.std.proofs.Common.{◌≡◌, length}
-use Rattle.moo_world.specs.Objects.{is_among}
-use Rattle.moo_world.specs.Rows.{world_of}
-use Rattle.moo_world.specs.World.{places}
+use Rattle.moo_tree.proofs.Words.{◌≡◌, length, is_among, world_of, places}
 use Rattle.moo_tree.proofs.places.inside.Given as goal
 
 -- y stands among the places from here just where it stands among those of x

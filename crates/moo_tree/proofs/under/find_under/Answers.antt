@@ -1,11 +1,4 @@
-use Rattle.std.proofs.Common.{◌≡◌, ◌≢◌, suc, ◌+◌, ◌<◌, ◌≤◌, [], ◌∷◌, ◌++◌, length, drop, sym, ap, ◌∙◌, subst, rules, slice_index_or}
-use Rattle.std.specs.FinMap.{get, insert, get-empty, from_entries}
-use Rattle.moo_rows.specs.Maps.{object_cmp}
-use Rattle.moo_ordered.specs.Ordered.{contents}
-use Rattle.moo_world.specs.Objects.{is_among}
-use Rattle.moo_world.specs.ObjectLists.{children_of}
-use Rattle.moo_world.specs.Rows.{world_of}
-use Rattle.moo_world.specs.World.{chain}
+use Rattle.moo_tree.proofs.Words.{◌≡◌, ◌≢◌, suc, ◌+◌, ◌<◌, ◌≤◌, [], ◌∷◌, ◌++◌, length, drop, sym, ap, ◌∙◌, subst, rules, slice_index_or, get, insert, get-empty, from_entries, object_cmp, contents, is_among, children_of, world_of, chain}
 use Rattle.moo_tree.proofs.Searching.{Search, AreAt, begun, nothing_under, step, ended, is_there, rank-smaller, deeper, rest_of, at_end, in_list, alone, a_row, among-first, no_items}
 use Rattle.moo_tree.proofs.under.find_under.Goals as goal
 

@@ -1,7 +1,4 @@
-use Rattle.std.proofs.Common.{ℕ, suc, ◌++◌, drop}
-use Rattle.moo_rows.specs.Maps.{object_cmp}
-use Rattle.moo_ordered.specs.Ordered.{contents}
-use Rattle.moo_world.specs.Rows.{world_of}
+use Rattle.moo_tree.proofs.Words.{ℕ, suc, ◌++◌, drop, object_cmp, contents, world_of}
 use Rattle.moo_tree.proofs.Searching.{Search, AreAt, rank}
 use Rattle.moo_tree.proofs.under.find_under.Given as goal
 

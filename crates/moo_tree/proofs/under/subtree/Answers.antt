@@ -1,7 +1,4 @@
-use Rattle.std.proofs.Common.{◌≡◌, IfOk, subst}
-use Rattle.std.proofs.lemmas.Iterator.{items_from_collect}
-use Rattle.std.proofs.lemmas.Iterator.Consumers.{YieldsList-from_rest}
-use Rattle.std.specs.BTreeMap.{keys}
+use Rattle.moo_tree.proofs.Words.{◌≡◌, IfOk, subst, items_from_collect, YieldsList-from_rest, keys}
 use Rattle.moo_tree.proofs.Found.{subtree_found}
 use Rattle.moo_tree.proofs.under.subtree.Goals as goal
 

@@ -1,8 +1,4 @@
-use Rattle.std.proofs.Common.{sym, ap, ◌∙◌}
-use Rattle.std.specs.Prelude.{is_some}
-use Rattle.std.proofs.lemmas.Bool.{true≢false}
-use Rattle.moo_world.specs.Rows.{look_ups}
-use Rattle.moo_world.proofs.Shown.Seen.{is_object_seen}
+use Rattle.moo_tree.proofs.Words.{sym, ap, ◌∙◌, is_some, true≢false, look_ups, is_object_seen}
 use Rattle.moo_tree.proofs.under.visit.Goals as goal
 
 pub unreachable-requires : goal.unreachable-requires
