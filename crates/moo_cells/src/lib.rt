@@ -18,6 +18,7 @@ mod prop;
 mod rows;
 mod showing;
 mod slot;
+mod spent;
 mod table_row;
 mod tables;
 mod verb;

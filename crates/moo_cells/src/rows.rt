@@ -25,8 +25,8 @@ fn under(alloc: Global, head: Head) -> Flat
     rows
 }
 
-/// The rows that the tables show, within their limits; whether they are those of a world isn't tested. The cells of a row are let
-/// go once it is read.
+/// The rows that the tables show, within their limits; whether they are those of a world isn't tested. The cells of the rows are
+/// let go soon after they are read.
 ///
 /// Errors: `Damaged` with `BadHead` or `BadCell`, the first of the two that is met, and its least key; `NewerVersion`;
 /// `OutOfMemory`.

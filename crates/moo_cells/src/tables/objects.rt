@@ -11,6 +11,7 @@ ghost use Rattle.moo_cells.specs.declared.fault.RowFault.TheVariants.{Unreadable
 use crate::cell::int_in;
 use crate::fault::{CellFault, RowFault};
 use crate::object::read_object;
+use crate::spent::Spent;
 use crate::table_row::TableRow;
 use moo_damage::{Key, Kind};
 use moo_flat::Flat;
@@ -41,7 +42,8 @@ fn take_object(alloc: Global, cells: &Row, rows: &mut Flat) -> Result<(), RowFau
     Ok(())
 }
 
-/// Puts what each row of the table shows, in rows that have none of the table yet. The cells of a row are let go once it is read.
+/// Puts what each row of the table shows, in rows that have none of the table yet. The cells of the rows are let
+/// go soon after they are read.
 pub(crate) fn read_objects(alloc: Global, cells: Vec<Row>, rows: &mut Flat) -> Result<(), CellFault>
     requires listed { AreKeyed cells.items }
     requires none { rows.old.maps.objects ≡ empty }
@@ -49,6 +51,7 @@ pub(crate) fn read_objects(alloc: Global, cells: Vec<Row>, rows: &mut Flat) -> R
     ensures kept { OnOk result (rows.new.maps ≡ record rows.old.maps { objects = rows.new.maps.objects }) }
     ensures fault { IfErr result (SaysUnread has_rowid ReadsObject IsLess object_key cells.items) }
 {
+    let mut spent = Spent::new(alloc);
     for row in cells {
         match take_object(alloc, &row, rows) {
             Ok(()) => {}
@@ -57,6 +60,7 @@ pub(crate) fn read_objects(alloc: Global, cells: Vec<Row>, rows: &mut Flat) -> R
             }
             Err(RowFault::OutOfMemory) => return Err(CellFault::OutOfMemory),
         }
+        spent.add(row)?;
     }
     Ok(())
 }

@@ -11,6 +11,7 @@ ghost use Rattle.moo_cells.specs.declared.fault.RowFault.TheVariants.{Unreadable
 use crate::cell::int_in;
 use crate::fault::{CellFault, RowFault};
 use crate::petition::read_petition;
+use crate::spent::Spent;
 use crate::table_row::TableRow;
 use moo_damage::{Key, Kind};
 use moo_flat::Flat;
@@ -44,7 +45,8 @@ fn take_petition(alloc: Global, cells: &Row, rows: &mut Flat) -> Result<(), RowF
     Ok(())
 }
 
-/// Puts what each row of the table shows, in rows that have none of the table yet. The cells of a row are let go once it is read.
+/// Puts what each row of the table shows, in rows that have none of the table yet. The cells of the rows are let
+/// go soon after they are read.
 pub(crate) fn read_petitions(
     alloc: Global,
     cells: Vec<Row>,
@@ -56,6 +58,7 @@ pub(crate) fn read_petitions(
     ensures kept { OnOk result (rows.new.maps ≡ record rows.old.maps { petitions = rows.new.maps.petitions }) }
     ensures fault { IfErr result (SaysUnread has_rowid ReadsPetition IsLess petition_key cells.items) }
 {
+    let mut spent = Spent::new(alloc);
     for row in cells {
         match take_petition(alloc, &row, rows) {
             Ok(()) => {}
@@ -64,6 +67,7 @@ pub(crate) fn read_petitions(
             }
             Err(RowFault::OutOfMemory) => return Err(CellFault::OutOfMemory),
         }
+        spent.add(row)?;
     }
     Ok(())
 }

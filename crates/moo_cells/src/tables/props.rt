@@ -11,6 +11,7 @@ ghost use Rattle.moo_cells.specs.declared.fault.RowFault.TheVariants.{Unreadable
 use crate::cell::int_in;
 use crate::fault::{CellFault, RowFault};
 use crate::prop::read_prop;
+use crate::spent::Spent;
 use crate::table_row::TableRow;
 use moo_damage::{Key, Kind};
 use moo_flat::Flat;
@@ -40,7 +41,8 @@ fn take_prop(alloc: Global, cells: &Row, rows: &mut Flat) -> Result<(), RowFault
     Ok(())
 }
 
-/// Puts what each row of the table shows, in rows that have none of the table yet. The cells of a row are let go once it is read.
+/// Puts what each row of the table shows, in rows that have none of the table yet. The cells of the rows are let
+/// go soon after they are read.
 pub(crate) fn read_props(alloc: Global, cells: Vec<Row>, rows: &mut Flat) -> Result<(), CellFault>
     requires listed { AreKeyed cells.items }
     requires none { rows.old.maps.props ≡ empty }
@@ -48,6 +50,7 @@ pub(crate) fn read_props(alloc: Global, cells: Vec<Row>, rows: &mut Flat) -> Res
     ensures kept { OnOk result (rows.new.maps ≡ record rows.old.maps { props = rows.new.maps.props }) }
     ensures fault { IfErr result (SaysUnread has_rowid ReadsProp IsLess prop_key cells.items) }
 {
+    let mut spent = Spent::new(alloc);
     for row in cells {
         match take_prop(alloc, &row, rows) {
             Ok(()) => {}
@@ -56,6 +59,7 @@ pub(crate) fn read_props(alloc: Global, cells: Vec<Row>, rows: &mut Flat) -> Res
             }
             Err(RowFault::OutOfMemory) => return Err(CellFault::OutOfMemory),
         }
+        spent.add(row)?;
     }
     Ok(())
 }

@@ -10,6 +10,7 @@ ghost use Rattle.moo_cells.specs.declared.fault.RowFault.TheVariants.{Unreadable
 use crate::cell::int_in;
 use crate::fault::{CellFault, RowFault};
 use crate::slot::read_slot;
+use crate::spent::Spent;
 use crate::table_row::TableRow;
 use moo_damage::{Key, Kind};
 use moo_flat::Flat;
@@ -44,7 +45,8 @@ fn take_slot(alloc: Global, version: Version, cells: &Row, rows: &mut Flat) -> R
     Ok(())
 }
 
-/// Puts what each row of the table shows, in rows that have none of the table yet. The cells of a row are let go once it is read.
+/// Puts what each row of the table shows, in rows that have none of the table yet. The cells of the rows are let
+/// go soon after they are read.
 pub(crate) fn read_slots(
     alloc: Global,
     version: Version,
@@ -57,6 +59,7 @@ pub(crate) fn read_slots(
     ensures kept { OnOk result (rows.new.maps ≡ record rows.old.maps { slots = rows.new.maps.slots }) }
     ensures fault { IfErr result (SaysUnread has_key_pair (ReadsSlot version) IsPairLess slot_key cells.items) }
 {
+    let mut spent = Spent::new(alloc);
     for row in cells {
         match take_slot(alloc, version, &row, rows) {
             Ok(()) => {}
@@ -68,6 +71,7 @@ pub(crate) fn read_slots(
             }
             Err(RowFault::OutOfMemory) => return Err(CellFault::OutOfMemory),
         }
+        spent.add(row)?;
     }
     Ok(())
 }

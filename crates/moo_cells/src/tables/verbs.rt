@@ -9,6 +9,7 @@ ghost use Rattle.moo_cells.specs.declared.fault.RowFault.TheVariants.{Unreadable
 
 use crate::cell::int_in;
 use crate::fault::{CellFault, RowFault};
+use crate::spent::Spent;
 use crate::table_row::TableRow;
 use crate::verb::read_verb;
 use moo_damage::{Key, Kind};
@@ -44,7 +45,8 @@ fn take_verb(alloc: Global, cells: &Row, rows: &mut Flat) -> Result<(), RowFault
     Ok(())
 }
 
-/// Puts what each row of the table shows, in rows that have none of the table yet. The cells of a row are let go once it is read.
+/// Puts what each row of the table shows, in rows that have none of the table yet. The cells of the rows are let
+/// go soon after they are read.
 pub(crate) fn read_verbs(alloc: Global, cells: Vec<Row>, rows: &mut Flat) -> Result<(), CellFault>
     requires listed { ArePaired cells.items }
     requires none { rows.old.maps.verbs ≡ empty }
@@ -52,6 +54,7 @@ pub(crate) fn read_verbs(alloc: Global, cells: Vec<Row>, rows: &mut Flat) -> Res
     ensures kept { OnOk result (rows.new.maps ≡ record rows.old.maps { verbs = rows.new.maps.verbs }) }
     ensures fault { IfErr result (SaysUnread has_key_pair ReadsVerb IsPairLess verb_key cells.items) }
 {
+    let mut spent = Spent::new(alloc);
     for row in cells {
         match take_verb(alloc, &row, rows) {
             Ok(()) => {}
@@ -63,6 +66,7 @@ pub(crate) fn read_verbs(alloc: Global, cells: Vec<Row>, rows: &mut Flat) -> Res
             }
             Err(RowFault::OutOfMemory) => return Err(CellFault::OutOfMemory),
         }
+        spent.add(row)?;
     }
     Ok(())
 }
