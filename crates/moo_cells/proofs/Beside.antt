@@ -1,17 +1,7 @@
 -- Rows that show the entries of a map, one for one, hold it.
-use Rattle.std.proofs.Common.{◌≡◌, ℕ, ◌<◌, ◌+◌, suc, length, List, [], ◌∷◌, Bool, true, false, cond, find, drop, get_or, add-one, Some, refl, sym, ap, subst, ◌∙◌, true≢false}
-use Rattle.std.specs.List.{AllByRecursion}
-use Rattle.std.specs.Ordering.{is_eq, eq_by_cmp}
-use Rattle.std.specs.Cmp.{IsTotalOrder, tied_itself}
-use Rattle.std.specs.declared.cmp.Ordering.{Ordering}
-use Rattle.std.specs.FinMap.{FinMap, entries, get-entries, IsAntisymmetric}
+use Rattle.moo_cells.proofs.Words.{◌≡◌, ℕ, ◌<◌, ◌+◌, suc, length, List, [], ◌∷◌, Bool, true, false, cond, find, drop, get_or, add-one, Some, refl, sym, ap, subst, ◌∙◌, true≢false, AllByRecursion, is_eq, eq_by_cmp, IsTotalOrder, tied_itself, Ordering, FinMap, entries, get-entries, IsAntisymmetric, Row, ShowEach, HoldsTable, IsRead, ShowsOrNone}
 use Rattle.std.specs.FinMap.Entries.{find as entry_at}
 use Rattle.std.proofs.Math.Seq.{drop-cons}
-use Rattle.sqlite.specs.Order.{Row}
-use Rattle.moo_cells.specs.Each.{ShowEach}
-use Rattle.moo_cells.specs.Holding.{HoldsTable}
-use Rattle.moo_cells.specs.Reading.{IsRead}
-use Rattle.moo_cells.specs.Shows.{ShowsOrNone}
 use Rattle.moo_cells.proofs.Table.{Bears, tied}
 
 -- what is left shows what is left, so that all shows all

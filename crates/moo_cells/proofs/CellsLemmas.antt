@@ -1,26 +1,8 @@
 -- Damage of tables, and damage of the rows that they show.
-use Rattle.std.proofs.Common.{◌≡◌, ◌⊎◌, inl, inr, ◌<◌, pos, negsuc, Option, Some, None, refl, sym, subst, ◌∙◌, arith}
-use Rattle.std.specs.FinMap.{get}
-use Rattle.sqlite.specs.Order.{Row}
-use Rattle.moo_rows.specs.Maps.{Maps}
-use Rattle.moo_world.specs.Rows.{IsGood}
-use Rattle.moo_tables.specs.Tables.{Tables}
-use Rattle.moo_tables.specs.Cells.{head_cells}
-use Rattle.moo_tables.specs.Version.{version_number}
-use Rattle.moo_damage.specs.declared.kind.Kind.{Kind}
-use Rattle.moo_damage.specs.declared.kind.Kind.TheVariants.{BadHead, BadCell, PastHead, NoParent, ParentLoop, NoPlace, PlaceLoop, NoDefiner, DoubleName, StrangeSlot, MissingSlot, ClearDefiner, StrangeVerb, Mismatch}
-use Rattle.moo_damage.specs.declared.kind.Key.{Key}
-use Rattle.moo_damage.specs.declared.kind.Key.TheVariants.{Head, Object, Prop, Slot, Verb, Petition}
-use Rattle.moo_damage.specs.Kinds.{place, NoneBefore, IsLeast, IsFirstInRows, InRows}
-use Rattle.moo_damage.specs.Limits.{AreWithin}
+use Rattle.moo_cells.proofs.Words.{◌≡◌, ◌⊎◌, inl, inr, ◌<◌, pos, negsuc, Option, Some, None, refl, sym, subst, ◌∙◌, arith, get, Row, Maps, IsGood, Tables, head_cells, version_number, Kind, BadHead, BadCell, PastHead, NoParent, ParentLoop, NoPlace, PlaceLoop, NoDefiner, DoubleName, StrangeSlot, MissingSlot, ClearDefiner, StrangeVerb, Mismatch, Key, Object, Prop, Slot, Verb, Petition, place, NoneBefore, IsLeast, IsFirstInRows, InRows, AreWithin, HeadIs, ReadsHead, IsRead, ObjectFits, PropFits, SlotFits, VerbFits, PetitionFits, ShowsOrNone, ShowsObject, ShowsProp, ShowsSlot, ShowsVerb, ShowsPetition, ShowsRows, IsNewer, IsBadHead, IsBadCell, IsMet, Damage, SaysOfCells, CellFault, Damaged, NewerVersion, OutOfMemory}
+use Rattle.moo_damage.specs.declared.kind.Key.TheVariants.{Head}
 use Rattle.moo_damage.proofs.Clean.{clean}
 use Rattle.moo_damage.proofs.Told.{none_told}
-use Rattle.moo_cells.specs.Head.{HeadIs, ReadsHead}
-use Rattle.moo_cells.specs.Reading.{IsRead, ObjectFits, PropFits, SlotFits, VerbFits, PetitionFits}
-use Rattle.moo_cells.specs.Shows.{ShowsOrNone, ShowsObject, ShowsProp, ShowsSlot, ShowsVerb, ShowsPetition, ShowsRows}
-use Rattle.moo_cells.specs.Damage.{IsNewer, IsBadHead, IsBadCell, IsMet, Damage, SaysOfCells}
-use Rattle.moo_cells.specs.declared.fault.CellFault.{CellFault}
-use Rattle.moo_cells.specs.declared.fault.CellFault.TheVariants.{Damaged, NewerVersion, OutOfMemory}
 use Rattle.moo_cells.proofs.GoodRows.{head_limits, object_fits, prop_fits, slot_fits_here, verb_fits_here, counter_fits, petition_fits_here, good_within}
 use Rattle.moo_cells.proofs.HeadLemmas.{head_known, head_not_newer}
 use Rattle.moo_cells.proofs.OneRows.{one_rows}

@@ -1,7 +1,5 @@
 -- A row of so many columns is the list of them.
-use Rattle.std.proofs.Common.{◌≡◌, ℕ, zero, suc, [], ◌∷◌, length, ap, refl, sym, ◌∙◌, arith}
-use Rattle.sqlite.specs.declared.types.Value.{Value}
-use Rattle.sqlite.specs.Order.{Row, column}
+use Rattle.moo_cells.proofs.Words.{◌≡◌, ℕ, zero, suc, [], ◌∷◌, length, ap, refl, sym, ◌∙◌, arith, Value, Row, column}
 
 -- so many columns, from one on
 abbrev pub columns_from : ℕ → ℕ → Row → Row

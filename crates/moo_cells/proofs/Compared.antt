@@ -1,24 +1,8 @@
 -- Tables beside rows that were known before.
-use Rattle.std.proofs.Common.{find, Option, None, Some}
-use Rattle.std.specs.Prelude.{IfSome}
-use Rattle.std.specs.FinMap.{entries}
-use Rattle.sqlite.specs.Order.{Row}
-use Rattle.sqlite.specs.Tree.{has_rowid}
-use Rattle.moo_rows.specs.Maps.{Maps}
-use Rattle.moo_rows.specs.Exact.{object_exact, prop_exact, slot_exact, verb_exact, petition_exact}
-use Rattle.moo_rows.proofs.Orders.{object_total, prop_total, slot_total, verb_total, petition_total}
-use Rattle.moo_world.specs.Rows.{IsGood}
+use Rattle.moo_cells.proofs.Words.{find, Option, None, Some, IfSome, entries, Row, has_rowid, Maps, object_exact, prop_exact, slot_exact, verb_exact, petition_exact, object_total, prop_total, slot_total, verb_total, petition_total, IsGood, tables_of, Tables, version_number, Key, ShowEach, HeadIs, ReadsHead, ReadsCounter, ReadsObject, ReadsProp, ReadsSlot, ReadsVerb, ReadsPetition, ShowsRows}
 use Rattle.moo_tables.specs.declared.reading.CellLists.{CellLists}
-use Rattle.moo_tables.specs.Listing.{tables_of}
-use Rattle.moo_tables.specs.Tables.{Tables}
-use Rattle.moo_tables.specs.Version.{version_number}
-use Rattle.moo_damage.specs.declared.kind.Key.{Key}
 use Rattle.moo_damage.specs.Differences.{IsFirstDifference}
 use Rattle.moo_cells.specs.Compared.{IsMismatch}
-use Rattle.moo_cells.specs.Each.{ShowEach}
-use Rattle.moo_cells.specs.Head.{HeadIs, ReadsHead, ReadsCounter}
-use Rattle.moo_cells.specs.Reading.{ReadsObject, ReadsProp, ReadsSlot, ReadsVerb, ReadsPetition}
-use Rattle.moo_cells.specs.Shows.{ShowsRows}
 use Rattle.moo_cells.proofs.Beside.{each_held}
 use Rattle.moo_cells.proofs.Keys.{objects_bear, props_bear, slots_bear, verbs_bear, petitions_bear}
 use Rattle.moo_cells.proofs.RowsLemmas.{rows_shown}

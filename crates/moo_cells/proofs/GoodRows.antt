@@ -1,16 +1,9 @@
 -- Sound rows of a well formed world are within the limits.
-use Rattle.std.proofs.Common.{◌≡◌, ℕ, zero, suc, ◌<◌, ◌≤◌, ℤ, pos, negsuc, Bool, true, List, [], ◌∷◌, Option, Some, None, refl, sym, ap, subst, ◌∙◌, arith}
-use Rattle.std.specs.Prelude.{◌≤ℤ◌, is_some, unwrap_or, if◌then◌else◌}
-use Rattle.std.specs.Option.{option_map, option_and_then}
-use Rattle.std.specs.List.{filter_map, list_all, cons_option}
+use Rattle.moo_cells.proofs.Words.{◌≡◌, ℕ, zero, suc, ◌<◌, ◌≤◌, ℤ, pos, negsuc, Bool, true, List, [], ◌∷◌, Option, Some, None, refl, sym, ap, subst, ◌∙◌, arith, ◌≤ℤ◌, is_some, unwrap_or, if◌then◌else◌, option_map, option_and_then, filter_map, list_all, cons_option, get, and_parts, and_from, lt-ltb, ints, ObjNo, Maps, in_range, is_number, IsGood, look_ups, world_of, world_shown, record_of, numbers_below, name_on, slot_seen, Record, KeepsLimits, Climbs, is_object, row_fits, is_property_name, state_fits, verb_fits, without_slots, AreWithin, HeadFits, IsCounter, ObjectFits, PropFits, SlotFits, VerbFits, PetitionFits}
 use borrow.Author.Count.{below_more}
 use Rattle.std.proofs.lemmas.Option.{same_Some}
-use Rattle.std.specs.FinMap.{get}
-use Rattle.std.proofs.lemmas.Bool.{and_parts, and_from, lt-ltb}
-use Rattle.std.proofs.lemmas.Int.{ints}
 use Rattle.std.proofs.lemmas.List.Elements.{filter_map-append}
 use Rattle.std.proofs.lemmas.List.Folds.{list_all-append}
-use Rattle.moo_value.specs.declared.value.ObjNo.{ObjNo}
 use Rattle.moo_rows.specs.declared.row.ObjRow.{ObjRow}
 use Rattle.moo_rows.specs.declared.row.PetitionId.{PetitionId}
 use Rattle.moo_rows.specs.declared.row.PetitionRow.{PetitionRow}
@@ -19,11 +12,7 @@ use Rattle.moo_rows.specs.declared.row.PropRow.{PropRow}
 use Rattle.moo_rows.specs.declared.row.SlotRow.{SlotRow}
 use Rattle.moo_rows.specs.declared.row.VerbId.{VerbId}
 use Rattle.moo_rows.specs.declared.row.VerbRow.{VerbRow}
-use Rattle.moo_rows.specs.Maps.{Maps}
-use Rattle.moo_world.specs.Arguments.{in_range, is_number}
 use Rattle.moo_world.specs.Objects.{same_object, same_object-Decides}
-use Rattle.moo_world.specs.Rows.{IsGood, look_ups, world_of, world_shown, record_of, numbers_below, name_on, slot_seen}
-use Rattle.moo_world.specs.World.{Record, KeepsLimits, Climbs, is_object, row_fits, is_property_name, state_fits, verb_fits, without_slots}
 use Rattle.moo_world.proofs.Shown.PairLists.{some_of}
 use Rattle.moo_world.proofs.Shown.Seen.{is_object_seen}
 use Rattle.moo_props.proofs.Walked.{slot_here}
@@ -31,10 +20,7 @@ use Rattle.moo_props.specs.Names.{name_of}
 use Rattle.moo_damage.specs.declared.trees.Link.{Link}
 use Rattle.moo_damage.specs.declared.trees.Link.TheVariants.{Parent, Place}
 use Rattle.moo_damage.specs.Damage.{next_of, link_of, HasEnd}
-use Rattle.moo_damage.specs.Limits.{AreWithin}
 use Rattle.moo_damage.proofs.Clean.{clean}
-use Rattle.moo_cells.specs.Head.{HeadFits, IsCounter}
-use Rattle.moo_cells.specs.Reading.{ObjectFits, PropFits, SlotFits, VerbFits, PetitionFits}
 
 none_some : {A : Type 0} (x : A) → None ≡ Some x → ⊥
 none_some x e = cc

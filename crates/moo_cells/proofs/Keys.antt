@@ -1,20 +1,7 @@
 -- How the rows of each table bear their keys.
-use Rattle.std.proofs.Common.{◌≡◌, inl, inr, ℕ, ℤ, pos, negsuc, ◌<ℤ◌, true, refl, sym, ap, ◌∙◌, arith}
-use Rattle.std.specs.Ordering.{is_eq, int_cmp, ordering_then}
-use Rattle.std.specs.Cmp.{int_ranked, tied_itself, alike_right}
-use Rattle.std.specs.declared.cmp.Ordering.{Ordering}
-use Rattle.std.specs.declared.cmp.Ordering.TheVariants.{Less, Equal, Greater}
-use Rattle.std.proofs.lemmas.Bool.{and_parts, and_from}
-use Rattle.std.proofs.lemmas.Int.{ints}
-use Rattle.sqlite.specs.declared.types.Value.{Value}
+use Rattle.moo_cells.proofs.Words.{◌≡◌, inl, inr, ℕ, ℤ, pos, negsuc, ◌<ℤ◌, true, refl, sym, ap, ◌∙◌, arith, is_eq, int_cmp, ordering_then, int_ranked, tied_itself, alike_right, Ordering, Less, Equal, Greater, and_parts, and_from, ints, Value, Row, column, value_cmp, rowid, has_rowid, Version, has_key_pair, IsRowBelow, ReadsObject, ReadsProp, ReadsSlot, ReadsVerb, ReadsPetition, object_number, prop_number, slot_number, verb_number, petition_number, IsLess, IsPairLess}
 use Rattle.sqlite.specs.declared.types.Value.TheVariants.{Int}
-use Rattle.sqlite.specs.Order.{Row, column, value_cmp}
-use Rattle.sqlite.specs.Tree.{rowid, has_rowid}
 use Rattle.sqlite_value.proofs.OrderLemmas.{value_cmp_total, value_cmp-Int}
-use Rattle.moo_tables.specs.declared.version.Version.{Version}
-use Rattle.moo_tables.specs.Listing.{has_key_pair, IsRowBelow}
-use Rattle.moo_cells.specs.Reading.{ReadsObject, ReadsProp, ReadsSlot, ReadsVerb, ReadsPetition}
-use Rattle.moo_cells.specs.Holding.{object_number, prop_number, slot_number, verb_number, petition_number, IsLess, IsPairLess}
 use Rattle.moo_cells.proofs.Table.{Bears, tied}
 
 -- a value that ties with a number orders as it does

@@ -1,15 +1,10 @@
 -- The cells of an object, column by column.
-use Rattle.std.proofs.Common.{◌≡◌, ℕ, true, List, [], ◌∷◌, Option, length, ap, sym, subst, ◌∙◌}
-use Rattle.std.proofs.lemmas.Bool.{and_parts}
+use Rattle.moo_cells.proofs.Words.{◌≡◌, ℕ, true, List, [], ◌∷◌, Option, length, ap, sym, subst, ◌∙◌, and_parts, Row, column, ObjNo, row_fits, IsRead, ReadsObject}
 use Rattle.sqlite.specs.declared.types.Value.TheVariants.{Int as Number, Text}
-use Rattle.sqlite.specs.Order.{Row, column}
-use Rattle.moo_value.specs.declared.value.ObjNo.{ObjNo}
 use Rattle.moo_rows.specs.declared.row.ObjRow.{ObjRow}
-use Rattle.moo_world.specs.World.{row_fits}
 use Rattle.moo_cells.specs.declared.object.Flags.{Flags}
 use Rattle.moo_cells.specs.Object.{HasFlags, ShowsAccept, ShowsObject}
 use Rattle.moo_tables.specs.Object.{object_row_cells}
-use Rattle.moo_cells.specs.Reading.{IsRead, ReadsObject}
 use Rattle.moo_cells.proofs.Columns.{all_columns}
 use Rattle.moo_cells.proofs.OneCells.{flag_inj, accept_one, text_at}
 use Rattle.moo_cells.proofs.Texts.{int_inj}

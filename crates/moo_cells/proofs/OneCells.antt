@@ -1,19 +1,13 @@
 -- A cell shows one thing within the limits at most.
-use Rattle.std.proofs.Common.{◌≡◌, ℕ, pos, List, [], ◌∷◌, map, find, Bool, true, false, Option, Some, None, Result, Ok, Err, refl, sym, ap, subst, ◌∙◌}
+use Rattle.moo_cells.proofs.Words.{◌≡◌, ℕ, pos, List, [], ◌∷◌, map, find, Bool, true, false, Option, Some, None, Result, Ok, Err, refl, sym, ap, subst, ◌∙◌, Value, Row, column, ObjNo, Spells, Fits, spread, one_spelled, whole, accept_fits, state_fits, fits_tested, Version, First, Second, flag_cell, object_list, ShowsAccept, ShowsBits, ShowsSlotState}
 use Rattle.std.specs.Str.{bytes_eq}
-use Rattle.sqlite.specs.declared.types.Value.{Value}
 use Rattle.sqlite.specs.declared.types.Value.TheVariants.{Null, Int as Number, Real, Text, Blob}
-use Rattle.sqlite.specs.Order.{Row, column}
-use Rattle.moo_value.specs.declared.value.ObjNo.{ObjNo}
 use Rattle.moo_value.specs.declared.value.Value.{Value as MooValue}
 use Rattle.moo_value.specs.declared.value.Value.TheVariants.{Obj, List as a_list}
-use Rattle.moo_value.specs.Literal.{Spells, Fits}
 use Rattle.moo_value.specs.Reading.{literal_at}
 use Rattle.moo_value.specs.declared.fault.LiteralFault.{LiteralFault}
 use Rattle.moo_value.specs.declared.fault.LiteralFault.TheVariants.{NotALiteral}
 use Rattle.moo_value.proofs.Literals.{front_again}
-use Rattle.moo_value.specs.Value.{spread}
-use Rattle.moo_value.proofs.Printed.{one_spelled, whole}
 use Rattle.moo_rows.specs.declared.row.SlotState.{SlotState}
 use Rattle.moo_rows.specs.declared.row.SlotState.TheVariants.{Clear, Set}
 use Rattle.moo_rows.specs.declared.row.Place.{Place}
@@ -25,13 +19,6 @@ use Rattle.moo_rows.specs.Bits.{bits_of}
 use Rattle.moo_rows.specs.declared.row.Bits.{Bits}
 use Rattle.moo_rows.proofs.BitsNumber.{bits_number-injective}
 use Rattle.moo_world.specs.Prepositions.{all_sets, prep_text, place_text}
-use Rattle.moo_world.specs.World.{accept_fits, state_fits}
-use Rattle.moo_world.proofs.Form.Ranges.{fits_tested}
-use Rattle.moo_tables.specs.declared.version.Version.{Version}
-use Rattle.moo_tables.specs.declared.version.Version.TheVariants.{First, Second}
-use Rattle.moo_tables.specs.Cells.{flag_cell}
-use Rattle.moo_world.specs.Answers.{object_list}
-use Rattle.moo_cells.specs.Shows.{ShowsAccept, ShowsBits, ShowsSlotState}
 use Rattle.moo_cells.proofs.Texts.{int_inj, text_inj, fits_list, spread_objects}
 
 pub one_some : {A : Type 0} (x y : A) → Some x ≡ Some y → x ≡ y

@@ -1,13 +1,6 @@
 -- Tables show one lot of rows within the limits at most.
-use Rattle.std.proofs.Common.{◌≡◌, ℕ, ℤ, pos, true, Option, Some, None, refl, sym, ap, subst, ◌∙◌}
-use Rattle.std.specs.FinMap.{same_map}
-use Rattle.std.proofs.lemmas.Bool.{and_parts}
-use Rattle.sqlite.specs.Order.{Row, column}
-use Rattle.moo_value.specs.declared.value.ObjNo.{ObjNo}
+use Rattle.moo_cells.proofs.Words.{◌≡◌, ℕ, ℤ, pos, true, Option, Some, None, refl, sym, ap, subst, ◌∙◌, same_map, and_parts, Row, column, ObjNo, Spells, one_spelled, Head, Maps, object_exact, prop_exact, slot_exact, verb_exact, petition_exact, object_total, prop_total, slot_total, verb_total, petition_total, is_number, petition_fits, row_fits, state_fits, Version, First, Second, Tables, head_cells, petition_head_cells, AreWithin, calls_fit, ShowsOrNone, ShowsBits, ShowsSlotState, ShowsObject, ShowsProp, ShowsSlot, ShowsVerb, ShowsPetition, ShowsCounter, ShowsRows}
 use Rattle.moo_value.specs.declared.value.Value.TheVariants.{List as a_list}
-use Rattle.moo_value.specs.Literal.{Spells}
-use Rattle.moo_value.proofs.Printed.{one_spelled}
-use Rattle.moo_rows.specs.declared.row.Head.{Head}
 use Rattle.moo_rows.specs.declared.row.PetitionId.{PetitionId}
 use Rattle.moo_rows.specs.declared.row.PetitionRow.{PetitionRow}
 use Rattle.moo_rows.specs.declared.row.PropId.{PropId}
@@ -16,19 +9,6 @@ use Rattle.moo_rows.specs.declared.row.SlotRow.{SlotRow}
 use Rattle.moo_rows.specs.declared.row.VerbId.{VerbId}
 use Rattle.moo_rows.specs.declared.row.VerbRow.{VerbRow}
 use Rattle.moo_rows.specs.Bits.{verb_bits_of}
-use Rattle.moo_rows.specs.Maps.{Maps}
-use Rattle.moo_rows.specs.Exact.{object_exact, prop_exact, slot_exact, verb_exact, petition_exact}
-use Rattle.moo_rows.proofs.Orders.{object_total, prop_total, slot_total, verb_total, petition_total}
-use Rattle.moo_world.specs.Arguments.{is_number}
-use Rattle.moo_world.specs.Petitions.{petition_fits}
-use Rattle.moo_world.specs.World.{row_fits, state_fits}
-use Rattle.moo_tables.specs.declared.version.Version.{Version}
-use Rattle.moo_tables.specs.declared.version.Version.TheVariants.{First, Second}
-use Rattle.moo_tables.specs.Tables.{Tables}
-use Rattle.moo_tables.specs.Cells.{head_cells, petition_head_cells}
-use Rattle.moo_damage.specs.Limits.{AreWithin}
-use Rattle.moo_cells.specs.Reading.{calls_fit}
-use Rattle.moo_cells.specs.Shows.{ShowsOrNone, ShowsBits, ShowsSlotState, ShowsObject, ShowsProp, ShowsSlot, ShowsVerb, ShowsPetition, ShowsCounter, ShowsRows}
 use Rattle.moo_cells.proofs.Texts.{int_inj, values_in, calls_within}
 use Rattle.moo_cells.proofs.Keys.{pos_inj}
 use Rattle.moo_cells.proofs.OneCells.{one_some, text_at, place_inj, prep_inj, bits_one, state_one}

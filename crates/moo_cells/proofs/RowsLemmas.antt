@@ -1,29 +1,8 @@
 -- The rows of all tables.
-use Rattle.std.proofs.Common.{◌≡◌, ◌⊎◌, inl, inr, ℕ, ℤ, pos, negsuc, ◌<◌, find, Option, Some, None, refl, sym, ap, subst, ◌∙◌, arith}
-use Rattle.std.specs.FinMap.{get}
-use Rattle.std.specs.List.{AllByRecursion}
-use Rattle.sqlite.specs.Order.{Row}
-use Rattle.sqlite.specs.Tree.{has_rowid}
+use Rattle.moo_cells.proofs.Words.{◌≡◌, ◌⊎◌, inl, inr, ℕ, ℤ, pos, negsuc, ◌<◌, find, Option, Some, None, refl, sym, ap, subst, ◌∙◌, arith, get, AllByRecursion, Row, has_rowid, Maps, and_from, Tables, tables_of, has_key_pair, version_number, Kind, BadHead, BadCell, PastHead, NoParent, ParentLoop, NoPlace, PlaceLoop, NoDefiner, DoubleName, StrangeSlot, MissingSlot, ClearDefiner, StrangeVerb, Mismatch, Key, Object, Prop, Slot, Verb, Petition, place, IsBelow, NoneBefore, AreWithin, HeadIs, ReadsHead, HasHead, ReadsCounter, HasCounter, SaysOfHead, IsRead, ReadsObject, ReadsProp, ReadsSlot, ReadsVerb, ReadsPetition, ShowsOrNone, ShowsObject, ShowsProp, ShowsSlot, ShowsVerb, ShowsPetition, ShowsRows, HoldsTable, SaysUnread, object_number, prop_number, slot_number, verb_number, petition_number, object_key, prop_key, slot_key, verb_key, petition_key, IsLess, IsPairLess, IsNewer, IsBadCell, IsMet, SaysOfCells, CellFault, Damaged, NewerVersion, OutOfMemory}
 use Rattle.moo_rows.specs.declared.row.Head.{Head as HeadRow}
-use Rattle.moo_rows.specs.Maps.{Maps}
-use Rattle.std.proofs.lemmas.Bool.{and_from}
 use Rattle.moo_tables.specs.declared.reading.CellLists.{CellLists}
-use Rattle.moo_tables.specs.Tables.{Tables}
-use Rattle.moo_tables.specs.Listing.{tables_of, has_key_pair}
-use Rattle.moo_tables.specs.Version.{version_number}
-use Rattle.moo_damage.specs.declared.kind.Kind.{Kind}
-use Rattle.moo_damage.specs.declared.kind.Kind.TheVariants.{BadHead, BadCell, PastHead, NoParent, ParentLoop, NoPlace, PlaceLoop, NoDefiner, DoubleName, StrangeSlot, MissingSlot, ClearDefiner, StrangeVerb, Mismatch}
-use Rattle.moo_damage.specs.declared.kind.Key.{Key}
-use Rattle.moo_damage.specs.declared.kind.Key.TheVariants.{Head, Object, Prop, Slot, Verb, Petition}
-use Rattle.moo_damage.specs.Kinds.{place, IsBelow, NoneBefore}
-use Rattle.moo_damage.specs.Limits.{AreWithin}
-use Rattle.moo_cells.specs.Head.{HeadIs, ReadsHead, HasHead, ReadsCounter, HasCounter, SaysOfHead}
-use Rattle.moo_cells.specs.Reading.{IsRead, ReadsObject, ReadsProp, ReadsSlot, ReadsVerb, ReadsPetition}
-use Rattle.moo_cells.specs.Shows.{ShowsOrNone, ShowsObject, ShowsProp, ShowsSlot, ShowsVerb, ShowsPetition, ShowsRows}
-use Rattle.moo_cells.specs.Holding.{HoldsTable, SaysUnread, object_number, prop_number, slot_number, verb_number, petition_number, object_key, prop_key, slot_key, verb_key, petition_key, IsLess, IsPairLess}
-use Rattle.moo_cells.specs.Damage.{IsNewer, IsBadCell, IsMet, SaysOfCells}
-use Rattle.moo_cells.specs.declared.fault.CellFault.{CellFault}
-use Rattle.moo_cells.specs.declared.fault.CellFault.TheVariants.{Damaged, NewerVersion, OutOfMemory}
+use Rattle.moo_damage.specs.declared.kind.Key.TheVariants.{Head}
 use Rattle.moo_cells.proofs.Keys.{objects_bear, props_bear, slots_bear, verbs_bear, petitions_bear}
 use Rattle.moo_cells.proofs.HeadLemmas.{head_known, head_not_newer}
 use Rattle.moo_cells.proofs.Table.{none_unread, no_other}

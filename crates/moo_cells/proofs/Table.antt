@@ -1,21 +1,10 @@
 -- A table read row by row, whatever its keys are.
-use Rattle.std.proofs.Common.{◌≡◌, inl, inr, length, List, [], ◌∷◌, ◌++◌, Bool, true, false, cond, find, append_assoc, append-nil, arith, Option, None, Some, refl, sym, ap, subst, ◌∙◌, true≢false}
-use Rattle.std.specs.List.{AllByRecursion}
-use Rattle.std.specs.Option.{option_or}
-use Rattle.std.specs.Ordering.{is_eq, eq_by_cmp}
-use Rattle.std.specs.Cmp.{IsTotalOrder, tied_itself}
-use Rattle.std.specs.declared.cmp.Ordering.{Ordering}
-use Rattle.std.specs.declared.cmp.Ordering.TheVariants.{Less, Equal, Greater}
-use Rattle.std.specs.FinMap.{FinMap, empty, get, insert, get-empty, get-insert, IsAntisymmetric}
+use Rattle.moo_cells.proofs.Words.{◌≡◌, inl, inr, length, List, [], ◌∷◌, ◌++◌, Bool, true, false, cond, find, append_assoc, append-nil, arith, Option, None, Some, refl, sym, ap, subst, ◌∙◌, true≢false, AllByRecursion, option_or, is_eq, eq_by_cmp, IsTotalOrder, tied_itself, Ordering, Less, Equal, Greater, FinMap, empty, get, insert, get-empty, get-insert, IsAntisymmetric, Row, IsRead, ShowsOrNone, HoldsTable, TakesRow}
 use Rattle.std.proofs.lemmas.List.Folds.{find-append}
-use Rattle.sqlite.specs.Order.{Row}
 use Rattle.sqlite_rules.specs.Lists.{Has}
 use Rattle.sqlite_rules.proofs.ListLemmas.{all_has, has_found}
 use Rattle.sqlite_trees.specs.Tree.{IsAscending}
-use Rattle.moo_cells.specs.Reading.{IsRead}
-use Rattle.moo_cells.specs.Shows.{ShowsOrNone}
 use Rattle.moo_cells.specs.Unread.{IsUnread, FirstUnread}
-use Rattle.moo_cells.specs.Holding.{HoldsTable, TakesRow}
 
 -- how rows in ascending order bear the keys of a table
 pub record Bears {J K X : Type 0} (has : J → Row → Bool) (number : K → J) (reads : K → Row → X → Type 0) (up : Row → Row → Type 0) (below : J → J → Type 0) : Type 0 where

@@ -1,35 +1,20 @@
 -- Texts in cells.
-use Rattle.std.proofs.Common.{◌≡◌, ◌≢◌, ℕ, zero, suc, ℤ, List, [], ◌∷◌, ◌≤◌, ◌<◌, length, map, get_or, take, Bool, true, false, true≢false, Some, Result, Ok, Err, refl, sym, ap, subst, ◌∙◌, arith}
-use Rattle.std.specs.Prelude.{if◌then◌else◌, ◌==◌, ◌&&◌, nat_le}
+use Rattle.moo_cells.proofs.Words.{◌≡◌, ◌≢◌, ℕ, zero, suc, ℤ, List, [], ◌∷◌, ◌≤◌, ◌<◌, length, map, get_or, take, Bool, true, false, true≢false, Some, Result, Ok, Err, refl, sym, ap, subst, ◌∙◌, arith, if◌then◌else◌, ◌==◌, ◌&&◌, nat_le, list_all, and_parts, and_from, le-leb, leb-true, Value, ObjNo, Spells, Fits, HoldInside, InRange, gather, nesting, spread, one_spelled, is_text, is_number, all_within_limits, is_named, are_few, are_shallow, has_word, state_fits, accept_fits, text_tested, fits_tested, fits_of, range_of, fits_signed, calls_fit, object_list, ShowsSlotState}
 use Rattle.std.specs.Result.{is_err}
-use Rattle.std.specs.List.{list_all}
-use Rattle.std.proofs.lemmas.Bool.{and_parts, and_from, le-leb, leb-true}
 use Rattle.std.proofs.lemmas.List.{take_all}
-use Rattle.sqlite.specs.declared.types.Value.{Value}
 use Rattle.sqlite.specs.declared.types.Value.TheVariants.{Null, Int, Real, Text, Blob}
 use Rattle.moo_value.specs.Text.{IsText, AllAllowed}
 use Rattle.moo_value.specs.TextFaults.{IsTextFault}
 use Rattle.moo_value.specs.declared.fault.LiteralFault.{LiteralFault}
 use Rattle.moo_value.specs.declared.fault.LiteralFault.TheVariants.{NotALiteral, OutOfRange, BadByte, TooDeep, TooLong, OutOfMemory}
-use Rattle.moo_value.specs.declared.value.ObjNo.{ObjNo}
 use Rattle.moo_value.specs.declared.value.Value.{Value as MooValue}
 use Rattle.moo_value.specs.declared.value.Value.TheVariants.{Obj, List as a_list}
-use Rattle.moo_value.specs.Literal.{Spells, Fits, HoldInside, InRange}
 use Rattle.moo_value.specs.Reading.{Fails}
-use Rattle.moo_value.specs.Value.{gather, nesting, spread}
 use Rattle.moo_value.specs.Values.{Values, no_values, levels}
-use Rattle.moo_value.proofs.Printed.{one_spelled}
 use Rattle.moo_rows.specs.declared.row.SlotState.{SlotState}
 use Rattle.moo_rows.specs.declared.row.SlotState.TheVariants.{Clear, Set}
-use Rattle.moo_world.specs.Arguments.{is_text, is_number, all_within_limits}
-use Rattle.moo_world.specs.Petitions.{is_named, are_few, are_shallow}
-use Rattle.moo_world.specs.World.{has_word, state_fits, accept_fits}
-use Rattle.moo_world.proofs.Form.Ranges.{text_tested, fits_tested, fits_of, range_of, fits_signed}
 use Rattle.moo_verbs.specs.declared.fault.VerbFault.{VerbFault}
 use Rattle.moo_verbs.specs.declared.fault.VerbFault.TheVariants.{BadNames}
-use Rattle.moo_cells.specs.Reading.{calls_fit}
-use Rattle.moo_world.specs.Answers.{object_list}
-use Rattle.moo_cells.specs.Shows.{ShowsSlotState}
 
 abbrev text_in : Value → List ℕ
 text_in Null = []

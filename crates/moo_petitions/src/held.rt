@@ -34,8 +34,9 @@ fn name_of(name: &[u8]) -> Option<CallName>
     }
 }
 
-/// The call that is held: its name, and what it is given. None if it names no call, or one of petitions.
-pub(crate) fn held_call(held: &Value) -> Option<(CallName, &[Value])>
+/// The call that a petition holds: its name, and what it is given. None if it isn't a list that begins with the name of a call on the
+/// world. What it is given may still be too deep for a call.
+pub fn held_call(held: &Value) -> Option<(CallName, &[Value])>
     ensures some { IfSome result (λ call. held_call held.now ≡ Some (record { name = call.0; args = call.1.now })) }
     ensures none { IfNone result (held_call held.now ≡ None) }
 {

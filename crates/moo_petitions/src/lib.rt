@@ -10,4 +10,5 @@ mod listing;
 mod looking;
 mod stepping;
 
+pub use held::held_call;
 pub use stepping::step;

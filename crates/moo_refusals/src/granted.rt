@@ -10,10 +10,10 @@ use crate::holding::petition_at;
 use crate::shown::shown_call;
 use moo_call_parts::Fault;
 use moo_draft::Draft;
-use moo_petitions::step;
+use moo_petitions::{held_call, step};
 use moo_rows::Rows;
 use moo_value::{Code, ObjNo, Value, fits};
-use moo_world::{Args, Call, CallName};
+use moo_world::{Args, Call};
 use std::alloc::{AllocError, Global};
 
 /// Whether a call may be given the value: lists nest at most 32 deep in it.
@@ -41,20 +41,14 @@ fn args_of(alloc: Global, values: &[Value]) -> Result<Option<Args>, AllocError> 
     Ok(None)
 }
 
-/// The call that a petition holds. None if it names no call on the world.
-fn held_call(alloc: Global, held: &Value) -> Result<Option<Call>, AllocError> {
-    let Value::List(values) = held else {
+/// The call that a petition holds, with its arguments. None if it names no call on the world, or lists nest too deep.
+fn call_in(alloc: Global, held: &Value) -> Result<Option<Call>, AllocError> {
+    let Some((name, values)) = held_call(held) else {
         return Ok(None);
     };
-    let [Value::Str(name), rest @ ..] = values.items() else {
-        return Ok(None);
-    };
-    match CallName::read(name.bytes()) {
-        Some(name) if name.petition_call().is_none() => match args_of(alloc, rest)? {
-            Some(args) => Ok(Some(Call { name, args })),
-            None => Ok(None),
-        },
-        _ => Ok(None),
+    match args_of(alloc, values)? {
+        Some(args) => Ok(Some(Call { name, args })),
+        None => Ok(None),
     }
 }
 
@@ -69,7 +63,7 @@ fn held_calls<R: Rows>(
     };
     let mut calls = Vec::new(alloc);
     for held in petition.calls.items() {
-        match held_call(alloc, held)? {
+        match call_in(alloc, held)? {
             Some(call) => calls.push(call)?,
             None => return Ok(Some(calls)),
         }

@@ -1,27 +1,9 @@
 -- From what was read of a connection to the World over it.
-use Rattle.std.proofs.Common.{◌≡◌, ◌⊎◌, inl, inr, Result, Ok, Err, IfOk, IfErr, IsTrue, false, sym, ap, subst, subst₂, ◌∙◌, true}
-use Rattle.sqlite.specs.Tree.{Trees}
+use Rattle.moo_store.proofs.Words.{◌≡◌, ◌⊎◌, inl, inr, Result, Ok, Err, IfOk, IfErr, IsTrue, false, sym, ap, subst, subst₂, ◌∙◌, true, Trees, Ghosts, Held, state, Maps, IsGood, State, state_of, Version, First, Tables, schema_of, Rests, RestsAt, HasTables, ReadsTables, FailsToRead, stays, clean_before, ShowsRows, KeepsState, KeepsRows, ShowsState, Says, IsOfStore, Adopts, TakesOver, StoreFault, Store, Damaged, NewerVersion, OutOfMemory, Closed, World, store_of, StandsFor, Left}
 use Rattle.sqlite.specs.Effect.{Database as Content}
 use Rattle.sqlite.proofs.StateLemmas.{survives_then}
 use Rattle.sqlite.specs.State.{State as Database, HasCleanDisk, IsUnchanged, IsRolledBack, Survives}
-use Rattle.sqlite.specs.Store.{Ghosts}
-use Rattle.sqlite.specs.Held.{Held, state}
-use Rattle.moo_rows.specs.Maps.{Maps}
-use Rattle.moo_world.specs.Rows.{IsGood}
-use Rattle.moo_world.specs.Judge.{State, state_of}
-use Rattle.moo_tables.specs.declared.version.Version.{Version}
-use Rattle.moo_tables.specs.declared.version.Version.TheVariants.{First}
-use Rattle.moo_tables.specs.Tables.{Tables, schema_of}
-use Rattle.moo_tables.specs.Inside.{Rests, RestsAt, HasTables, ReadsTables, FailsToRead}
-use Rattle.moo_tables.proofs.InsideLemmas.{stays, clean_before}
 use Rattle.moo_tables.proofs.ReadLemmas.{rests_on}
-use Rattle.moo_cells.specs.Shows.{ShowsRows}
-use Rattle.moo_store.specs.States.{KeepsState, KeepsRows, ShowsState}
-use Rattle.moo_store.specs.Opening.{Says, IsOfStore, Adopts, TakesOver}
-use Rattle.moo_store.specs.declared.fault.StoreFault.{StoreFault}
-use Rattle.moo_store.specs.declared.fault.StoreFault.TheVariants.{Store, Damaged, NewerVersion, OutOfMemory, Closed}
-use Rattle.moo_store.specs.Kept.{World}
-use Rattle.moo_store.specs.World.{store_of, StandsFor, Left}
 use Rattle.moo_store.proofs.Versions.{version_is}
 
 pub on_each_ok : {A E : Type 0} (P Q : A → Type 0) (r : Result A E) → ((a : A) → P a → Q a) → IfOk r P → IfOk r Q

@@ -1,11 +1,7 @@
 -- The rows of a map, each as a change from none.
-use Rattle.std.proofs.Common.{◌≡◌, ◌≢◌, cond, T, ◌&&◌, List, [], ◌∷◌, ◌++◌, Option, None, Some, Ordering, refl, sym, ap, ◌∙◌, subst, true, false}
+use Rattle.moo_store.proofs.Words.{◌≡◌, ◌≢◌, cond, T, ◌&&◌, List, [], ◌∷◌, ◌++◌, Option, None, Some, Ordering, refl, sym, ap, ◌∙◌, subst, true, false, eq_by_cmp, is_lt, FinMap, find, get, is_sorted, entries, entries_sorted, get-entries, IsChanges, as_changes, all_of, PrintEach}
 use Rattle.std.specs.Option.{option_map}
-use Rattle.std.specs.Ordering.{eq_by_cmp, is_lt}
-use Rattle.std.specs.FinMap.{FinMap, find, get, is_sorted, entries, entries_sorted, get-entries}
 use Rattle.std.specs.FinMap.Entries.{below_all}
-use Rattle.moo_draft.specs.Changes.{IsChanges}
-use Rattle.moo_store.specs.Printed.{as_changes, all_of, PrintEach}
 use Rattle.moo_store.proofs.Written.{one_more}
 
 module _ {K X : Type 0} (cmp : K → K → Ordering) where

@@ -1,23 +1,8 @@
 -- What the asking of a text answers.
-use Rattle.std.proofs.Common.{◌≡◌, inl, inr, ℕ, List, Option, Result, Ok, Err, refl, ap, subst, sym, Bool}
-use Rattle.std.specs.Prelude.{◌⊎◌, IsTrue, IfOk}
+use Rattle.moo_store.proofs.Words.{◌≡◌, inl, inr, ℕ, List, Option, Result, Ok, Err, refl, ap, subst, sym, Bool, ◌⊎◌, IsTrue, IfOk, Ghosts, Batch, State, judge, TextFault, Answer, Reply, answer_of, IsRun, StandsFor, StandsAt, Stand, Works, Failed, StoreFailed, AsksBatch, World, answer_to, Completes, Halts, StoreFault, Closed}
 use Rattle.std.specs.Result.{IsOkAnd}
-use Rattle.sqlite.specs.Store.{Ghosts}
-use Rattle.moo_world.specs.declared.call.Batch.{Batch}
-use Rattle.moo_world.specs.Judge.{State, judge}
-use Rattle.moo_text.specs.declared.fault.TextFault.{TextFault}
-use Rattle.moo_text.specs.declared.reply.Answer.{Answer}
 use Rattle.moo_text.specs.declared.reply.Answer.TheVariants as answer
-use Rattle.moo_text.specs.declared.reply.Reply.{Reply}
 use Rattle.moo_text.specs.declared.reply.Reply.TheVariants.{NoMemory}
-use Rattle.moo_store.specs.Answered.{answer_of, IsRun}
-use Rattle.moo_store.specs.World.{StandsFor, StandsAt}
-use Rattle.moo_store.specs.Stand.{Stand, Works, Failed, StoreFailed, AsksBatch}
-use Rattle.moo_store.specs.Kept.{World}
-use Rattle.moo_store.specs.Text.{answer_to}
-use Rattle.moo_store.specs.Turns.{Completes, Halts}
-use Rattle.moo_store.specs.declared.fault.StoreFault.{StoreFault}
-use Rattle.moo_store.specs.declared.fault.StoreFault.TheVariants.{Closed}
 use Rattle.moo_store.proofs.Following.{completes-follows, halts-follows}
 
 -- ---- one batch

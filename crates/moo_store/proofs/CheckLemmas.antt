@@ -1,33 +1,15 @@
 -- From what a check read to the World that it leaves.
-use Rattle.std.proofs.Common.{◌≡◌, inl, ◌≤◌, ◌≤ℤ◌, ℕ, ℤ, pos, negsuc, suc, zero, [], ◌∷◌, length, map, Bool, true, false, Result, Ok, Err, refl, sym, ap, subst, ◌∙◌, arith, length-append}
-use Rattle.std.proofs.lemmas.List.{length-map}
+use Rattle.moo_store.proofs.Words.{◌≡◌, inl, ◌≤◌, ◌≤ℤ◌, ℕ, ℤ, pos, negsuc, suc, zero, [], ◌∷◌, length, map, Bool, true, false, Result, Ok, Err, refl, sym, ap, subst, ◌∙◌, arith, length-append, length-map, IfErr, MatchResult, entries, HasCleanDisk, Ghosts, Held, state, Maps, IsGood, world_of, numbers_below, State, Tables, Rests, ShowsRows, KeepsRows, World, store_of, StandsFor, Says, IsOfStore, StoreFault, Store, Damaged, NewerVersion, OutOfMemory, Closed}
 use Rattle.std.proofs.lemmas.List.Sums.{count_by-le-length, length-filter}
 use Rattle.std.proofs.lemmas.Int.{ints}
-use Rattle.std.specs.Prelude.{IfErr, MatchResult}
-use Rattle.std.specs.FinMap.{entries}
-use Rattle.sqlite.specs.State.{HasCleanDisk}
-use Rattle.sqlite.specs.Store.{Ghosts}
-use Rattle.sqlite.specs.Held.{Held, state}
-use Rattle.moo_rows.specs.Maps.{Maps}
 use Rattle.moo_world.specs.Objects.{object_at}
 use Rattle.moo_world.specs.ObjectLists.{objects_of}
-use Rattle.moo_world.specs.Rows.{IsGood, world_of, numbers_below}
 use Rattle.moo_world.specs.World.{is_object, numbers_to}
-use Rattle.moo_world.specs.Judge.{State}
 use Rattle.moo_world.proofs.Shown.ObjectEntries.{objects_listed}
-use Rattle.moo_tables.specs.Tables.{Tables}
-use Rattle.moo_tables.specs.Inside.{Rests}
 use Rattle.moo_damage.specs.declared.kind.Key.{Key}
 use Rattle.moo_damage.specs.declared.kind.Key.TheVariants.{Head, Object, Prop, Slot, Verb, Petition}
 use Rattle.moo_damage.specs.Differences.{AgreeAt}
-use Rattle.moo_cells.specs.Shows.{ShowsRows}
-use Rattle.moo_store.specs.States.{KeepsRows}
-use Rattle.moo_store.specs.Kept.{World}
-use Rattle.moo_store.specs.World.{store_of, StandsFor}
 use Rattle.moo_store.specs.Checked.{FailsWorld, SaysInCheck}
-use Rattle.moo_store.specs.Opening.{Says, IsOfStore}
-use Rattle.moo_store.specs.declared.fault.StoreFault.{StoreFault}
-use Rattle.moo_store.specs.declared.fault.StoreFault.TheVariants.{Store, Damaged, NewerVersion, OutOfMemory, Closed}
 
 pub agrees_itself : (m : Maps) (key : Key) → AgreeAt m m key
 agrees_itself m Head = refl

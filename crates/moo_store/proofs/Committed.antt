@@ -1,20 +1,8 @@
 -- Tables of some rows, changed, are those of the next ones.
-use Rattle.std.proofs.Common.{◌≡◌, ◌⊎◌, inl, inr, Bool, true, false, Some, Result, Ok, Err, OnOk, refl, subst, arith}
+use Rattle.moo_store.proofs.Words.{◌≡◌, ◌⊎◌, inl, inr, Bool, true, false, Some, Result, Ok, Err, OnOk, refl, subst, arith, Trees, Maps, Tables, tables_with, Rests, Leaves, IsCurrent, no_tables, CellChanges, clean_before, AreChanges, ShowsRows, Prints, KeepsRows, LeavesRows, KeepsCells}
 use Rattle.sqlite.specs.State.{State as Database, HasCleanDisk, Survives}
-use Rattle.sqlite.specs.Tree.{Trees}
 use Rattle.sqlite_trees.specs.View.{doubt}
-use Rattle.moo_rows.specs.Maps.{Maps}
-use Rattle.moo_tables.specs.Tables.{Tables}
-use Rattle.moo_tables.specs.Cells.{tables_with}
-use Rattle.moo_tables.specs.Inside.{Rests, Leaves, IsCurrent, no_tables}
-use Rattle.moo_tables.specs.declared.cells.CellChanges.{CellChanges}
-use Rattle.moo_tables.proofs.InsideLemmas.{clean_before}
 use Rattle.moo_draft.specs.declared.changes.Changes.{Changes}
-use Rattle.moo_draft.specs.Changes.{AreChanges}
-use Rattle.moo_cells.specs.Shows.{ShowsRows}
-use Rattle.moo_store.specs.Printed.{Prints}
-use Rattle.moo_store.specs.States.{KeepsRows, LeavesRows}
-use Rattle.moo_store.specs.Untouched.{KeepsCells}
 use Rattle.moo_store.proofs.Shown.{shows-written, keeps-written}
 use Rattle.moo_store.proofs.Versions.{one_tables}
 

@@ -1,16 +1,7 @@
 -- What a crash leaves of a connection, at rest and in a call.
-use Rattle.std.proofs.Common.{◌≡◌, ◌⊎◌, inl, inr, Bool, IsTrue, refl}
-use Rattle.sqlite.specs.Tree.{Trees}
-use Rattle.sqlite.specs.Store.{Ghosts}
+use Rattle.moo_store.proofs.Words.{◌≡◌, ◌⊎◌, inl, inr, Bool, IsTrue, refl, Trees, Ghosts, clean_before, Maps, IsGood, State, state_of, KeepsRows, LeavesRows, KeepsState, LeavesState, World, Stand, Works, Failed, StoreFailed, store_of, Left, CrashLeaves, StandsAt}
 use Rattle.sqlite.specs.State.{State as Database, HasCleanDisk, Survives}
-use Rattle.moo_tables.proofs.InsideLemmas.{left_by, clean_before}
-use Rattle.moo_rows.specs.Maps.{Maps}
-use Rattle.moo_world.specs.Rows.{IsGood}
-use Rattle.moo_world.specs.Judge.{State, state_of}
-use Rattle.moo_store.specs.States.{KeepsRows, LeavesRows, KeepsState, LeavesState}
-use Rattle.moo_store.specs.Kept.{World}
-use Rattle.moo_store.specs.Stand.{Stand, Works, Failed, StoreFailed}
-use Rattle.moo_store.specs.World.{store_of, Left, CrashLeaves, StandsAt}
+use Rattle.moo_tables.proofs.InsideLemmas.{left_by}
 
 -- the law of a store that is open: a crash leaves the last commit
 abbrev pub IsSettled : Database → Type 0

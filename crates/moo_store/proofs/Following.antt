@@ -1,12 +1,6 @@
 -- What answers the items of a text, seen as something else.
-use Rattle.std.proofs.Common.{ℕ, List, [], ◌∷◌, Option, refl, sym, subst}
-use Rattle.moo_world.specs.declared.call.Batch.{Batch}
-use Rattle.moo_text.specs.Items.{items}
-use Rattle.moo_text.specs.declared.next.Next.{Next}
+use Rattle.moo_store.proofs.Words.{ℕ, List, [], ◌∷◌, Option, refl, sym, subst, Batch, items, Next, Answer, TextFault, Turn, Turns, Completes, Halts}
 use Rattle.moo_text.specs.declared.next.Next.TheVariants.{Batch as Whole, Malformed, Truncated, End}
-use Rattle.moo_text.specs.declared.reply.Answer.{Answer}
-use Rattle.moo_text.specs.declared.fault.TextFault.{TextFault}
-use Rattle.moo_store.specs.Turns.{Turn, Turns, Completes, Halts}
 
 -- Where the one stands as the other before a step, it does so behind it.
 module _ {A B : Type 0} (P : A → Batch → Answer → A → Type 0) (Q : B → Batch → Answer → B → Type 0) (As : A → B → Type 0)

@@ -1,23 +1,14 @@
 -- How far the answering of a text has come, whatever answers its batches.
-use Rattle.std.proofs.Common.{◌≡◌, ◌≢◌, ◌<◌, inl, inr, ℕ, ◌+◌, ◌≤◌, Bool, true, false, cond, length, List, [], ◌∷◌, ◌++◌, take, append_assoc, Option, Some, None, Result, Ok, Err, IfOk, zero-add, refl, sym, ap, subst, ◌∙◌, arith}
-use Rattle.std.specs.Prelude.{◌⊎◌, IfErr}
+use Rattle.moo_store.proofs.Words.{◌≡◌, ◌≢◌, ◌<◌, inl, inr, ℕ, ◌+◌, ◌≤◌, Bool, true, false, cond, length, List, [], ◌∷◌, ◌++◌, take, append_assoc, Option, Some, None, Result, Ok, Err, IfOk, zero-add, refl, sym, ap, subst, ◌∙◌, arith, ◌⊎◌, IfErr, append-nil, Batch, items, Side, untouched, IsOver, Next, Answer, TextFault, answers_text, is_batch, is_lost_answer, Turn, Turns, GivesFrontOrAll, Completes, Halts}
 use Rattle.std.specs.List.{count_by}
 use Rattle.std.specs.Io.KnownBytes.{Appends, Consumes, IsAtEnd}
-use Rattle.std.proofs.lemmas.List.{append-nil}
 use Rattle.std.proofs.lemmas.List.Sums.{sum_by-append}
 use Rattle.std.proofs.lemmas.Grind.{flat_map-append}
-use Rattle.moo_world.specs.declared.call.Batch.{Batch}
-use Rattle.moo_text.specs.Items.{items}
 use Rattle.moo_text.specs.Replies.{answer_text}
-use Rattle.moo_text.specs.Side.{Side, untouched, IsOver}
 use Rattle.moo_text.specs.Given.{ReaderGives, Explains, BreaksOff, ReadsNext, ReadsItems}
-use Rattle.moo_text.specs.declared.next.Next.{Next}
 use Rattle.moo_text.specs.declared.next.Next.TheVariants.{End}
-use Rattle.moo_text.specs.declared.reply.Answer.{Answer}
-use Rattle.moo_text.specs.declared.fault.TextFault.{TextFault}
 use Rattle.moo_text.specs.declared.fault.TextFault.TheVariants.{Read, Write, OutOfMemory, Long}
 use Rattle.moo_text.proofs.Joining.{items_none, items_then, items_end, whole_items, all_given, items_stop}
-use Rattle.moo_store.specs.Turns.{answers_text, is_batch, is_lost_answer, Turn, Turns, GivesFrontOrAll, Completes, Halts}
 use Rattle.moo_store.proofs.Writing.{Appends-then, Appends-nothing}
 
 -- one turn more

@@ -1,25 +1,10 @@
 -- From what a crash left to the World that is found.
-use Rattle.std.proofs.Common.{◌≡◌, ◌≤◌, ℕ, List, [], ◌∷◌, ◌++◌, take, drop, length, refl, sym, ap, subst, ◌∙◌, true}
+use Rattle.moo_store.proofs.Words.{◌≡◌, ◌≤◌, ℕ, List, [], ◌∷◌, ◌++◌, take, drop, length, refl, sym, ap, subst, ◌∙◌, true, Ghosts, Trees, Batch, State, state_of, judge, left_by, after, Reply, MayOpenAs, Rests, Leaves, Maps, IsGood, Tables, ShowsRows, BatchesLead, LeavesLed, ShowsState, LeavesRows, LeavesState, acknowledged, World, StandsFor}
 use Rattle.sqlite.specs.State.{State as Database, Opens}
 use Rattle.sqlite.specs.Effect.{IsDatabase}
-use Rattle.sqlite.specs.Store.{Ghosts}
-use Rattle.sqlite.specs.Tree.{Trees}
-use Rattle.moo_world.specs.declared.call.Batch.{Batch}
-use Rattle.moo_world.specs.Judge.{State, state_of, judge, left_by, after}
-use Rattle.moo_text.specs.declared.reply.Reply.{Reply}
-use Rattle.moo_tables.specs.Inside.{MayOpenAs, Rests, Leaves}
 use Rattle.moo_tables.proofs.ReopenLemmas.{opened}
-use Rattle.moo_rows.specs.Maps.{Maps}
-use Rattle.moo_world.specs.Rows.{IsGood}
-use Rattle.moo_tables.specs.Tables.{Tables}
-use Rattle.moo_cells.specs.Shows.{ShowsRows}
 use Rattle.moo_cells.proofs.CellsLemmas.{one_good}
 use Rattle.moo_cells.proofs.GoodRows.{good_within}
-use Rattle.moo_store.specs.Led.{BatchesLead, LeavesLed}
-use Rattle.moo_store.specs.States.{ShowsState, LeavesRows, LeavesState}
-use Rattle.moo_store.specs.Answered.{acknowledged}
-use Rattle.moo_store.specs.Kept.{World}
-use Rattle.moo_store.specs.World.{StandsFor}
 use Rattle.moo_store.specs.Reopened.{HoldsAcknowledged, AreLedTo, kept_of, RunsInParts, IsKeptOf}
 use Rattle.moo_store.proofs.Numbered.{led_state}
 
@@ -63,14 +48,6 @@ pub rows_found : {T : Type 0} (g : Ghosts T) (again : Database) (world : World T
 rows_found g again world rows opens sound it good shown =
     let found = shown it.tables (opened again it.tables opens sound it.leaves) in
     one_good it.tables rows world.rows.maps it.shows (good_within rows good) found.0 found.1
-
--- so are they whatever shows what the crash left
-pub led_found : (store : Database) (rows found : Maps) (batches : List Batch) (replies : List Reply) (trees : Trees) → LeavesLed store rows (acknowledged batches replies) (drop (length replies) batches) → store.may_leave trees
-    → ((tables : Tables) → Leaves trees tables → ShowsRows tables found) → IsGood found → AreLedTo rows found batches replies
-led_found store rows found batches replies trees led lies shown good =
-    let it = led trees lies in
-    let same = one_good it.5.tables it.2 found it.5.shows (good_within it.2 it.3) (shown it.5.tables it.5.leaves) good in
-    record { more = it.0; at_most_one = it.1; led = subst (BatchesLead (kept_of batches replies it.0) rows) same it.4 }
 
 pub led_to : {T : Type 0} (g : Ghosts T) (crashed again : Database) (world : World T) (rows : Maps) (batches : List Batch) (replies : List Reply) → LeavesLed crashed rows (acknowledged batches replies) (drop (length replies) batches) → MayOpenAs crashed again
     → ((tables : Tables) → Rests again tables → ShowsRows tables world.rows.maps × IsGood world.rows.maps) → AreLedTo rows world.rows.maps batches replies

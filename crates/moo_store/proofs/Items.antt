@@ -1,26 +1,6 @@
 -- What a run over a text leaves of a World.
-use Rattle.std.proofs.Common.{◌≡◌, ℕ, Bool, true, false, IsTrue, List, [], ◌∷◌, ◌++◌, append_assoc, Option, Result, Ok, Err, sym, ap, subst, ◌∙◌}
-use Rattle.std.proofs.lemmas.List.{append-nil}
-use Rattle.sqlite.specs.State.{HasCleanDisk}
-use Rattle.sqlite.specs.Store.{Ghosts}
-use Rattle.moo_world.specs.declared.call.Batch.{Batch}
-use Rattle.moo_text.specs.Items.{items}
-use Rattle.moo_text.specs.declared.next.Next.{Next}
+use Rattle.moo_store.proofs.Words.{◌≡◌, ℕ, Bool, true, false, IsTrue, List, [], ◌∷◌, ◌++◌, append_assoc, Option, Result, Ok, Err, sym, ap, subst, ◌∙◌, append-nil, HasCleanDisk, Ghosts, Batch, items, Next, Answer, Reply, TextFault, IsGood, Tables, Rests, store_of, ShowsItsRows, StandsAt, Stand, Works, Failed, StoreFailed, RunsBatch, World, StoreFault, Store, Damaged, NewerVersion, OutOfMemory, Closed, RunsAndAnswers, answer_to, accepted_at, accepted, faulted_at, faulted, KeepsRest, KeepsLed, Applies, StopsRun, StandsOver, taken_of, lost_of, IsMovedBy, Turn, Turns, Completes, Halts}
 use Rattle.moo_text.specs.declared.next.Next.TheVariants.{Batch as Whole, Malformed, Truncated, End}
-use Rattle.moo_text.specs.declared.reply.Answer.{Answer}
-use Rattle.moo_text.specs.declared.reply.Reply.{Reply}
-use Rattle.moo_text.specs.declared.fault.TextFault.{TextFault}
-use Rattle.moo_world.specs.Rows.{IsGood}
-use Rattle.moo_tables.specs.Tables.{Tables}
-use Rattle.moo_tables.specs.Inside.{Rests}
-use Rattle.moo_store.specs.World.{store_of, ShowsItsRows, StandsAt}
-use Rattle.moo_store.specs.Stand.{Stand, Works, Failed, StoreFailed, RunsBatch}
-use Rattle.moo_store.specs.Kept.{World}
-use Rattle.moo_store.specs.declared.fault.StoreFault.{StoreFault}
-use Rattle.moo_store.specs.declared.fault.StoreFault.TheVariants.{Store, Damaged, NewerVersion, OutOfMemory, Closed}
-use Rattle.moo_store.specs.Text.{RunsAndAnswers, answer_to, accepted_at, accepted, faulted_at, faulted, KeepsRest, KeepsLed, Applies, StopsRun}
-use Rattle.moo_store.specs.Untouched.{StandsOver, taken_of, lost_of, IsMovedBy}
-use Rattle.moo_store.specs.Turns.{Turn, Turns, Completes, Halts}
 use Rattle.moo_store.proofs.Crashes.{IsSettled, crash_leaves}
 use Rattle.moo_store.proofs.Following.{completes-follows, halts-follows}
 use Rattle.moo_store.proofs.Running.{FailsAtStore, fails_of}

@@ -1,24 +1,8 @@
 -- Where a World stands behind one batch.
-use Rattle.std.proofs.Common.{◌≡◌, ◌⊎◌, inl, inr, Bool, true, false, Result, Ok, Err, OnOk, OnErr, IfOk, IfErr, refl, sym, ap, subst, ◌∙◌}
-use Rattle.std.specs.Prelude.{List, IsTrue}
-use Rattle.sqlite.specs.State.{HasCleanDisk}
-use Rattle.sqlite.specs.Store.{Ghosts}
-use Rattle.sqlite.specs.Tree.{Trees}
+use Rattle.moo_store.proofs.Words.{◌≡◌, ◌⊎◌, inl, inr, Bool, true, false, Result, Ok, Err, OnOk, OnErr, IfOk, IfErr, refl, sym, ap, subst, ◌∙◌, List, IsTrue, HasCleanDisk, Ghosts, Trees, Value, Batch, State, Verdict, Accepted, judge, left_by, state_of, Reply, reply_of, IsRun, World, Stand, Works, Failed, StoreFailed, VerdictLeaves, ReachesStore, RunsBatch, LeavesState, StandsBehind, answer_to, store_of, IsAt, StandsAt, StoreFault, Store, Damaged, NewerVersion, OutOfMemory, Closed}
 use Rattle.sqlite.specs.declared.error.Error.{Error}
-use Rattle.moo_value.specs.declared.value.Value.{Value}
-use Rattle.moo_world.specs.declared.call.Batch.{Batch}
-use Rattle.moo_world.specs.Judge.{State, Verdict, Accepted, judge, left_by, state_of}
 use Rattle.moo_text.specs.declared.reply.Answer.TheVariants as answer
-use Rattle.moo_text.specs.declared.reply.Reply.{Reply}
 use Rattle.moo_text.specs.declared.reply.Reply.TheVariants as reply
-use Rattle.moo_store.specs.Answered.{reply_of, IsRun}
-use Rattle.moo_store.specs.Kept.{World}
-use Rattle.moo_store.specs.Stand.{Stand, Works, Failed, StoreFailed, VerdictLeaves, ReachesStore, RunsBatch}
-use Rattle.moo_store.specs.States.{LeavesState}
-use Rattle.moo_store.specs.Text.{StandsBehind, answer_to}
-use Rattle.moo_store.specs.World.{store_of, IsAt, StandsAt}
-use Rattle.moo_store.specs.declared.fault.StoreFault.{StoreFault}
-use Rattle.moo_store.specs.declared.fault.StoreFault.TheVariants.{Store, Damaged, NewerVersion, OutOfMemory, Closed}
 
 not_both : {X : Type 0} (b : Bool) → b ≡ false → b ≡ true → X
 not_both b p q = let no : true ≡ false = sym q ∙ p in absurd cc

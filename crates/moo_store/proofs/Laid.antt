@@ -1,39 +1,26 @@
 -- A row that is printed over the cells of another shows itself, and keeps the columns that stay.
-use Rattle.std.proofs.Common.{◌≡◌, ℕ, pos, List, [], ◌∷◌, Option, Some, None, Vec, refl, sym, ap, ◌∙◌, subst, subst₂}
+use Rattle.moo_store.proofs.Words.{◌≡◌, ℕ, pos, List, [], ◌∷◌, Option, Some, None, Vec, refl, sym, ap, ◌∙◌, subst, subst₂, Row, column, ObjNo, Head, ObjRow, PropId, SlotRow, PetitionRow, SlotCells, Second, head_cells, object_cells, prop_cells, slot_cells, verb_cells, petition_cells, ShowsAccept, ShowsSlotState, ShowsObject, ShowsProp, ShowsSlot, ShowsVerb, ShowsPetition, ShowsOrNone, IfBoth, HeadColumns, ObjectColumns, PropColumns, SlotColumns, VerbColumns, PetitionColumns, PrintsOver, PrintsObject, PrintsProp, PrintsSlot, PrintsVerb, PrintsPetition}
 use Rattle.std.specs.Option.{option_map}
 use Rattle.std.specs.declared.alloc.Global.{Global}
-use Rattle.sqlite.specs.Order.{Row, column}
 use Rattle.sqlite.specs.declared.types.Value.{Value as Cell}
 use Rattle.sqlite.specs.declared.types.Value.TheVariants.{Int as Number, Text}
-use Rattle.moo_value.specs.declared.value.ObjNo.{ObjNo}
 use Rattle.moo_value.specs.declared.value.Value.TheVariants.{List as a_list}
 use Rattle.moo_value.specs.Literal.{Spells}
-use Rattle.moo_rows.specs.declared.row.Head.{Head}
-use Rattle.moo_rows.specs.declared.row.ObjRow.{ObjRow}
-use Rattle.moo_rows.specs.declared.row.PropId.{PropId}
 use Rattle.moo_rows.specs.declared.row.PropRow.{PropRow}
-use Rattle.moo_rows.specs.declared.row.SlotRow.{SlotRow}
 use Rattle.moo_rows.specs.declared.row.VerbId.{VerbId}
 use Rattle.moo_rows.specs.declared.row.VerbRow.{VerbRow}
 use Rattle.moo_rows.specs.declared.row.PetitionId.{PetitionId}
-use Rattle.moo_rows.specs.declared.row.PetitionRow.{PetitionRow}
 use Rattle.moo_rows.specs.Bits.{bits_number, verb_bits_of}
 use Rattle.moo_world.specs.Prepositions.{prep_text, place_text}
 use Rattle.moo_tables.specs.declared.object.ObjectCells.{ObjectCells}
 use Rattle.moo_tables.specs.declared.prop.PropCells.{PropCells}
-use Rattle.moo_tables.specs.declared.slot.SlotCells.{SlotCells}
 use Rattle.moo_tables.specs.declared.verb.VerbCells.{VerbCells}
 use Rattle.moo_tables.specs.declared.petition.PetitionCells.{PetitionCells}
-use Rattle.moo_tables.specs.declared.version.Version.TheVariants.{Second}
 use Rattle.moo_tables.specs.Columns.{cells_over, flag_cell}
-use Rattle.moo_tables.specs.Cells.{head_cells, object_cells, prop_cells, slot_cells, verb_cells, petition_cells}
 use Rattle.moo_tables.specs.Object.{object_row}
 use Rattle.moo_tables.specs.Slot.{slot_row}
 use Rattle.moo_tables.specs.Verb.{verb_row}
 use Rattle.moo_tables.specs.Petition.{petition_row}
-use Rattle.moo_cells.specs.Shows.{ShowsAccept, ShowsSlotState, ShowsObject, ShowsProp, ShowsSlot, ShowsVerb, ShowsPetition, ShowsOrNone}
-use Rattle.moo_store.specs.Columns.{IfBoth, HeadColumns, ObjectColumns, PropColumns, SlotColumns, VerbColumns, PetitionColumns}
-use Rattle.moo_store.specs.Printed.{PrintsOver, PrintsObject, PrintsProp, PrintsSlot, PrintsVerb, PrintsPetition}
 
 -- ---- a table with one column of which a value has several spellings
 

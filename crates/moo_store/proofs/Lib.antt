@@ -1,3 +1,4 @@
+pub mod Words
 pub mod Versions
 pub mod Written
 pub mod Laid

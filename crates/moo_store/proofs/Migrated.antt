@@ -1,22 +1,8 @@
 -- Tables of the first version that are taken over keep their rows.
-use Rattle.std.proofs.Common.{◌≡◌, ℤ, List, Option, None, refl, sym, ap, ◌∙◌, subst}
+use Rattle.moo_store.proofs.Words.{◌≡◌, ℤ, List, Option, None, refl, sym, ap, ◌∙◌, subst, ObjNo, Head, PropId, Maps, SlotCells, First, Tables, tables_in, first_schema, migrated, Rests, Leaves, Holds, HasTables, ShowsRows, PrintEach, PrintsSlot, all_of, KeepsRows, TakesOver, clean_before}
 use Rattle.sqlite.specs.Effect.{Database as Content}
 use Rattle.sqlite.specs.State.{State as Database, HasCleanDisk, Survives}
-use Rattle.moo_value.specs.declared.value.ObjNo.{ObjNo}
-use Rattle.moo_rows.specs.declared.row.Head.{Head}
-use Rattle.moo_rows.specs.declared.row.PropId.{PropId}
-use Rattle.moo_rows.specs.Maps.{Maps}
-use Rattle.moo_tables.specs.declared.slot.SlotCells.{SlotCells}
-use Rattle.moo_tables.specs.declared.version.Version.TheVariants.{First}
-use Rattle.moo_tables.specs.Tables.{Tables, tables_in, first_schema}
-use Rattle.moo_tables.specs.Cells.{migrated}
-use Rattle.moo_tables.specs.Inside.{Rests, Leaves, Holds, HasTables}
-use Rattle.moo_cells.specs.Shows.{ShowsRows}
-use Rattle.moo_store.specs.Printed.{PrintEach, PrintsSlot, all_of}
-use Rattle.moo_store.specs.States.{KeepsRows}
-use Rattle.moo_store.specs.Opening.{TakesOver}
 use Rattle.moo_store.proofs.Shown.{shows-migrated}
-use Rattle.moo_tables.proofs.InsideLemmas.{clean_before}
 use Rattle.moo_store.proofs.AdoptLemmas.{survives_more}
 use Rattle.moo_store.proofs.Versions.{version_is}
 

@@ -1,16 +1,9 @@
 -- The numbers of properties, verbs and petitions over accepted batches.
-use Rattle.std.proofs.Common.{◌≡◌, List, [], ◌∷◌, ◌++◌, sym, ap, ◌∙◌, subst}
-use Rattle.moo_rows.specs.Maps.{Maps}
-use Rattle.moo_tables.specs.Tables.{Tables}
-use Rattle.moo_world.specs.declared.call.Batch.{Batch}
+use Rattle.moo_store.proofs.Words.{◌≡◌, List, [], ◌∷◌, ◌++◌, sym, ap, ◌∙◌, subst, Maps, Tables, Batch, after, IsGood, world_of, BatchesLead, Writes}
 use Rattle.moo_world.specs.Numbers.{NumbersStay}
-use Rattle.moo_world.specs.Judge.{after}
 use Rattle.moo_world.specs.Requests.{PetitionsStay, state_of}
-use Rattle.moo_world.specs.Rows.{IsGood, world_of}
 use Rattle.moo_world.proofs.Batches.PetitionNumbers.{petitions_same, petitions_joined}
 use Rattle.moo_world.proofs.Shown.NumbersKept.{stay_itself, stay_joined, batches_keep_numbers}
-use Rattle.moo_store.specs.Led.{BatchesLead}
-use Rattle.moo_store.specs.Untouched.{Writes}
 
 pub led_stay : (rows : Maps) (batches : List Batch) (end : Maps) → BatchesLead batches rows end → NumbersStay rows end
 led_stay rows [] end led = subst (NumbersStay rows) (sym led) (stay_itself rows)

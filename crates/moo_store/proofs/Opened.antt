@@ -1,25 +1,9 @@
 -- The tables of a whole world.
-use Rattle.std.proofs.Common.{◌≡◌, Option, None, Ordering, refl, sym, subst}
-use Rattle.std.specs.FinMap.{FinMap, empty, get, get-empty}
+use Rattle.moo_store.proofs.Words.{◌≡◌, Option, None, Ordering, refl, sym, subst, FinMap, empty, get, get-empty, Maps, no_maps, object_cmp, prop_cmp, slot_cmp, verb_cmp, petition_cmp, ObjRow, SlotRow, PetitionRow, IsGood, state_of, Second, no_schema, tables_with, Rests, Leaves, HasNoTables, no_tables, CellChanges, IsChanges, AreChanges, ShowsObject, ShowsProp, ShowsSlot, ShowsVerb, ShowsPetition, ShowsOrNone, ShowsMaps, ShowsRows, Prints, all_of, all_changes, KeepsRows, LeavesState}
 use Rattle.sqlite.specs.State.{State as Database, Survives}
-use Rattle.moo_rows.specs.Maps.{Maps, no_maps, object_cmp, prop_cmp, slot_cmp, verb_cmp, petition_cmp}
-use Rattle.moo_rows.specs.declared.row.ObjRow.{ObjRow}
 use Rattle.moo_rows.specs.declared.row.PropRow.{PropRow}
-use Rattle.moo_rows.specs.declared.row.SlotRow.{SlotRow}
 use Rattle.moo_rows.specs.declared.row.VerbRow.{VerbRow}
-use Rattle.moo_rows.specs.declared.row.PetitionRow.{PetitionRow}
-use Rattle.moo_world.specs.Rows.{IsGood}
-use Rattle.moo_world.specs.Judge.{state_of}
-use Rattle.moo_tables.specs.declared.version.Version.TheVariants.{Second}
-use Rattle.moo_tables.specs.Tables.{no_schema}
-use Rattle.moo_tables.specs.Cells.{tables_with}
-use Rattle.moo_tables.specs.Inside.{Rests, Leaves, HasNoTables, no_tables}
-use Rattle.moo_tables.specs.declared.cells.CellChanges.{CellChanges}
 use Rattle.sqlite.specs.Effect.{Database as Content}
-use Rattle.moo_draft.specs.Changes.{IsChanges, AreChanges}
-use Rattle.moo_cells.specs.Shows.{ShowsObject, ShowsProp, ShowsSlot, ShowsVerb, ShowsPetition, ShowsOrNone, ShowsMaps, ShowsRows}
-use Rattle.moo_store.specs.Printed.{Prints, all_of, all_changes}
-use Rattle.moo_store.specs.States.{KeepsRows, LeavesState}
 use Rattle.moo_store.proofs.AllRows.{all_changed}
 use Rattle.moo_store.proofs.Committed.{survives-map}
 use Rattle.moo_store.proofs.Shown.{shows-written}

@@ -1,30 +1,12 @@
 -- One batch, and then a list of them.
-use Rattle.std.proofs.Common.{◌≡◌, inl, inr, ℕ, zero, suc, ◌+◌, ◌≤◌, ◌<◌, Bool, List, [], ◌∷◌, ◌++◌, take, drop, length, get_or, append_assoc, length-append, Result, Ok, Err, OnOk, OnErr, IfErr, true, false, refl, sym, ap, subst, ◌∙◌, arith}
-use Rattle.std.specs.Prelude.{is_err, ⊤, IsTrue, map}
+use Rattle.moo_store.proofs.Words.{◌≡◌, inl, inr, ℕ, zero, suc, ◌+◌, ◌≤◌, ◌<◌, Bool, List, [], ◌∷◌, ◌++◌, take, drop, length, get_or, append_assoc, length-append, Result, Ok, Err, OnOk, OnErr, IfErr, true, false, refl, sym, ap, subst, ◌∙◌, arith, is_err, ⊤, IsTrue, map, append-nil, take_more, HasCleanDisk, Ghosts, Batch, Reply, Value, nat_lt, if◌then◌else◌, State, Ran, Through, FailedAt, FullAt, Verdict, Accepted, Refused, NoRoom, Stale, is_due, last_seq, run_calls, verdict_of, judge, left_by, after, LeavesState, reply_of, state_behind, IsRun, AnsweredOne, Answered, acknowledged, added, Stand, Works, Failed, StoreFailed, state_at, VerdictLeaves, RunsBatch, Turns, StandsBehind, RunsAll, answer_to, store_of, IsAt, StandsAt, Left, LeftOrNext, MatchStore, World, StoreFault, Store, Damaged, NewerVersion, OutOfMemory, Closed}
 use Rattle.moo_store.proofs.Crashes.{IsSettled, left_at_rest}
-use Rattle.std.proofs.lemmas.List.{append-nil, take_more}
 use Rattle.std.proofs.Math.Seq.{drop-append_seam, drop-cons}
-use Rattle.sqlite.specs.State.{HasCleanDisk}
-use Rattle.sqlite.specs.Store.{Ghosts}
 use Rattle.sqlite.specs.declared.error.Error.{Error}
-use Rattle.moo_world.specs.declared.call.Batch.{Batch}
-use Rattle.moo_text.specs.declared.reply.Reply.{Reply}
 use Rattle.moo_text.specs.declared.reply.Reply.TheVariants as reply
-use Rattle.moo_value.specs.declared.value.Value.{Value}
-use Rattle.std.specs.Prelude.{nat_lt, if◌then◌else◌}
 use borrow.Author.Tests.{ltb-true}
-use Rattle.moo_world.specs.Judge.{State, Ran, Through, FailedAt, FullAt, Verdict, Accepted, Refused, NoRoom, Stale, is_due, last_seq, run_calls, verdict_of, judge, left_by, after}
-use Rattle.moo_store.specs.States.{LeavesState}
-use Rattle.moo_store.specs.Answered.{reply_of, state_behind, IsRun, AnsweredOne, Answered, acknowledged, added}
 use Rattle.moo_text.specs.declared.next.Next.TheVariants.{Batch as Whole}
 use Rattle.moo_text.specs.declared.reply.Answer.TheVariants as answer
-use Rattle.moo_store.specs.Stand.{Stand, Works, Failed, StoreFailed, state_at, VerdictLeaves, RunsBatch}
-use Rattle.moo_store.specs.Turns.{Turns}
-use Rattle.moo_store.specs.Text.{StandsBehind, RunsAll, answer_to}
-use Rattle.moo_store.specs.World.{store_of, IsAt, StandsAt, Left, LeftOrNext, MatchStore}
-use Rattle.moo_store.specs.Kept.{World}
-use Rattle.moo_store.specs.declared.fault.StoreFault.{StoreFault}
-use Rattle.moo_store.specs.declared.fault.StoreFault.TheVariants.{Store, Damaged, NewerVersion, OutOfMemory, Closed}
 
 pub when_ok : {T E P : Type 0} (r : Result T E) → false ≡ is_err r → OnOk r P → P
 when_ok (Ok x) e p = p

@@ -1,34 +1,14 @@
 -- The tables, after changes are written, show the new rows; and so do tables of the first version that are taken over.
-use Rattle.std.proofs.Common.{◌≡◌, ◌≢◌, ◌==◌, ℕ, ℤ, pos, negsuc, Bool, true, false, cond, List, Option, None, Some, refl, sym, ap, ◌∙◌, subst, subst₂}
-use Rattle.std.specs.Prelude.{◌&&◌}
+use Rattle.moo_store.proofs.Words.{◌≡◌, ◌≢◌, ◌==◌, ℕ, ℤ, pos, negsuc, Bool, true, false, cond, List, Option, None, Some, refl, sym, ap, ◌∙◌, subst, subst₂, ◌&&◌, eq_by_cmp, get, Row, ObjNo, Head, PropId, Maps, object_cmp, prop_cmp, slot_cmp, verb_cmp, petition_cmp, Version, First, Second, Tables, same_number, same_numbers, numbered_with, head_cells, object_cells, prop_cells, slot_cells, verb_cells, petition_cells, petition_head_cells, counter_with, tables_with, migrated, IsCurrent, CellChanges, SlotCells, AreChanges, ShowsObject, ShowsProp, ShowsSlot, ShowsVerb, ShowsPetition, ShowsOrNone, ShowsCounter, ShowsMaps, ShowsRows, IfBoth, HeadColumns, ObjectColumns, PropColumns, SlotColumns, VerbColumns, PetitionColumns, PrintEach, PrintsObject, PrintsProp, PrintsSlot, PrintsVerb, PrintsPetition, Prints, new_number, all_of, KeepsCells}
 use Rattle.std.specs.Bool.{Decides}
-use Rattle.std.specs.Ordering.{eq_by_cmp}
 use Rattle.std.proofs.lemmas.Bool.{and_parts}
 use Rattle.std.proofs.lemmas.Bool.Decides.{Decides-int_eq, Decides-eqb}
-use Rattle.std.specs.FinMap.{get}
-use Rattle.sqlite.specs.Order.{Row}
-use Rattle.moo_value.specs.declared.value.ObjNo.{ObjNo}
-use Rattle.moo_rows.specs.declared.row.Head.{Head}
-use Rattle.moo_rows.specs.declared.row.PropId.{PropId}
 use Rattle.moo_rows.specs.declared.row.VerbId.{VerbId}
 use Rattle.moo_rows.specs.declared.row.PetitionId.{PetitionId}
-use Rattle.moo_rows.specs.Maps.{Maps, object_cmp, prop_cmp, slot_cmp, verb_cmp, petition_cmp}
 use Rattle.moo_rows.specs.Exact.{object_exact, prop_exact, slot_exact, verb_exact, petition_exact}
 use Rattle.moo_rows.proofs.Orders.{prop_total, slot_total, verb_total, petition_total}
 use Rattle.moo_world.proofs.Shown.MapLaws.{decided_alike, key-Decides}
-use Rattle.moo_tables.specs.declared.version.Version.{Version}
-use Rattle.moo_tables.specs.declared.version.Version.TheVariants.{First, Second}
-use Rattle.moo_tables.specs.Tables.{Tables, same_number, same_numbers, numbered_with}
-use Rattle.moo_tables.specs.Cells.{head_cells, object_cells, prop_cells, slot_cells, verb_cells, petition_cells, petition_head_cells, counter_with, tables_with, migrated}
-use Rattle.moo_tables.specs.Inside.{IsCurrent}
-use Rattle.moo_tables.specs.declared.cells.CellChanges.{CellChanges}
-use Rattle.moo_tables.specs.declared.slot.SlotCells.{SlotCells}
 use Rattle.moo_draft.specs.declared.changes.Changes.{Changes}
-use Rattle.moo_draft.specs.Changes.{AreChanges}
-use Rattle.moo_cells.specs.Shows.{ShowsObject, ShowsProp, ShowsSlot, ShowsVerb, ShowsPetition, ShowsOrNone, ShowsCounter, ShowsMaps, ShowsRows}
-use Rattle.moo_store.specs.Columns.{IfBoth, HeadColumns, ObjectColumns, PropColumns, SlotColumns, VerbColumns, PetitionColumns}
-use Rattle.moo_store.specs.Printed.{PrintEach, PrintsObject, PrintsProp, PrintsSlot, PrintsVerb, PrintsPetition, Prints, new_number, all_of}
-use Rattle.moo_store.specs.Untouched.{KeepsCells}
 use Rattle.moo_store.proofs.AllRows.{all_changed}
 use Rattle.moo_store.proofs.Laid.{lays_object, lays_prop, lays_slot, lays_verb, lays_petition, head_columns, object_stays, prop_stays, slot_stays, verb_stays, petition_stays}
 use Rattle.moo_store.proofs.Written.{written, stays, elsewhere}

@@ -1,17 +1,9 @@
 -- Where runs of batches leave a World.
-use Rattle.std.proofs.Common.{◌≡◌, inl, inr, true, false, List, [], ◌∷◌, refl, sym, ap, subst, ◌∙◌}
+use Rattle.moo_store.proofs.Words.{◌≡◌, inl, inr, true, false, List, [], ◌∷◌, refl, sym, ap, subst, ◌∙◌, Batch, judge, after, Next, Answer, reply_of, answer_of, state_behind, Stand, Works, Failed, StoreFailed, state_at, RunsBatch, AsksBatch, Turn, Turns, accepted_at, accepted, is_plain, replies, answers_asked, batches_of}
 use Rattle.std.specs.List.{AllByRecursion}
-use Rattle.moo_world.specs.declared.call.Batch.{Batch}
-use Rattle.moo_world.specs.Judge.{judge, after}
-use Rattle.moo_text.specs.declared.next.Next.{Next}
 use Rattle.moo_text.specs.declared.next.Next.TheVariants.{Batch as Whole, Malformed, Truncated, End}
-use Rattle.moo_text.specs.declared.reply.Answer.{Answer}
 use Rattle.moo_text.specs.declared.reply.Answer.TheVariants as answer
 use Rattle.moo_text.specs.declared.reply.Reply.TheVariants.{NoMemory}
-use Rattle.moo_store.specs.Answered.{reply_of, answer_of, state_behind}
-use Rattle.moo_store.specs.Stand.{Stand, Works, Failed, StoreFailed, state_at, RunsBatch, AsksBatch}
-use Rattle.moo_store.specs.Turns.{Turn, Turns}
-use Rattle.moo_store.specs.Text.{accepted_at, accepted, is_plain, replies, answers_asked, batches_of}
 use Rattle.moo_store.proofs.Running.{answered_after, leaves_at, replied_one}
 use Rattle.moo_store.proofs.WholeRuns.{after-append}
 

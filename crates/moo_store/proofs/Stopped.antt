@@ -1,11 +1,7 @@
 -- Why the store stopped a World, after batches that it kept.
-use Rattle.std.proofs.Common.{◌≡◌, Bool, true, false, Err, Result, IsTrue, refl, sym, ◌∙◌, arith}
+use Rattle.moo_store.proofs.Words.{◌≡◌, Bool, true, false, Err, Result, IsTrue, refl, sym, ◌∙◌, arith, Reply, KeepsFaults, IsStopped, StoreFault, Store, Closed}
 use Rattle.sqlite.specs.State.{State as Database}
 use Rattle.moo_tables.proofs.CauseLemmas.{stops_since}
-use Rattle.moo_text.specs.declared.reply.Reply.{Reply}
-use Rattle.moo_store.specs.Stopped.{KeepsFaults, IsStopped}
-use Rattle.moo_store.specs.declared.fault.StoreFault.{StoreFault}
-use Rattle.moo_store.specs.declared.fault.StoreFault.TheVariants.{Store, Closed}
 
 pub faults_same : (s : Database) → KeepsFaults s s
 faults_same s = record { faults = omega arith; steps = refl }

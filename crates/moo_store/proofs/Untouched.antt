@@ -1,35 +1,14 @@
 -- What the accepted batches of a run leave of the tables, one after another.
-use Rattle.std.proofs.Common.{◌≡◌, ◌⊎◌, inl, inr, ℕ, zero, suc, ◌<◌, ◌≤◌, Bool, List, [], ◌∷◌, ◌++◌, append_assoc, take, drop, length, get_or, Result, Ok, Err, OnOk, OnErr, IfOk, IfErr, IsTrue, true, false, refl, sym, ap, subst, ◌∙◌, arith}
-use Rattle.std.proofs.lemmas.List.{append-nil}
+use Rattle.moo_store.proofs.Words.{◌≡◌, ◌⊎◌, inl, inr, ℕ, zero, suc, ◌<◌, ◌≤◌, Bool, List, [], ◌∷◌, ◌++◌, append_assoc, take, drop, length, get_or, Result, Ok, Err, OnOk, OnErr, IfOk, IfErr, IsTrue, true, false, refl, sym, ap, subst, ◌∙◌, arith, append-nil, ⊤, Ghosts, Trees, Maps, Tables, Rests, IsCurrent, Batch, Reply, Value, IsGood, State, Accepted, state_of, judge, left_by, acknowledged, added, ShowsRows, store_of, ShowsItsRows, IsAt, StandsFor, MatchStore, KeepsRows, LeavesRows, BatchesLead, LeavesLed, World, KeepsCells, Writes, StandsOver, HasWritten, WritesOne, IsKnown, taken_of, lost_of, IsMovedBy, StoreFault, Store, Damaged, NewerVersion, OutOfMemory, Closed}
 use Rattle.std.proofs.Math.Seq.{drop-append_seam}
-use Rattle.std.specs.Prelude.{⊤}
 use Rattle.sqlite.specs.State.{State as Database, HasCleanDisk}
-use Rattle.sqlite.specs.Store.{Ghosts}
-use Rattle.sqlite.specs.Tree.{Trees}
-use Rattle.moo_rows.specs.Maps.{Maps}
-use Rattle.moo_tables.specs.Tables.{Tables}
-use Rattle.moo_tables.specs.Inside.{Rests, IsCurrent}
 use Rattle.moo_tables.proofs.InsideLemmas.{left_by as tables_left}
-use Rattle.moo_world.specs.declared.call.Batch.{Batch}
-use Rattle.moo_text.specs.declared.reply.Reply.{Reply}
 use Rattle.moo_text.specs.declared.reply.Reply.TheVariants as reply
-use Rattle.moo_value.specs.declared.value.Value.{Value}
-use Rattle.moo_world.specs.Rows.{IsGood}
 use Rattle.moo_world.specs.Between.{BatchLeads}
-use Rattle.moo_world.specs.Judge.{State, Accepted, state_of, judge, left_by}
-use Rattle.moo_store.specs.Answered.{acknowledged, added}
-use Rattle.moo_cells.specs.Shows.{ShowsRows}
-use Rattle.moo_store.specs.World.{store_of, ShowsItsRows, IsAt, StandsFor, MatchStore}
-use Rattle.moo_store.specs.States.{KeepsRows, LeavesRows}
-use Rattle.moo_store.specs.Led.{BatchesLead, LeavesLed}
 use Rattle.moo_store.proofs.Crashes.{IsSettled, rows_at_rest}
-use Rattle.moo_store.specs.Kept.{World}
-use Rattle.moo_store.specs.Untouched.{KeepsCells, Writes, StandsOver, HasWritten, WritesOne, IsKnown, taken_of, lost_of, IsMovedBy}
 use Rattle.moo_store.proofs.Committed.{shown_by, current_by}
 use Rattle.moo_store.proofs.Numbered.{led-append, led_good, writes_led}
 use Rattle.moo_store.proofs.Running.{Progress, FailsAtStore}
-use Rattle.moo_store.specs.declared.fault.StoreFault.{StoreFault}
-use Rattle.moo_store.specs.declared.fault.StoreFault.TheVariants.{Store, Damaged, NewerVersion, OutOfMemory, Closed}
 
 -- tables that rest in the store of a World that is at a state
 pub is_over : {S : Type 0} (g : Ghosts S) (known : Bool) (world : World S) (s : State) (tables : Tables) → IsTrue known → IsAt g known world s → HasCleanDisk (store_of g world) → Rests (store_of g world) tables → StandsOver g world tables

@@ -1,11 +1,7 @@
 -- The version of tables that rest in a store.
-use Rattle.std.proofs.Common.{◌≡◌, length, refl, sym, ap, ◌∙◌, arith}
+use Rattle.moo_store.proofs.Words.{◌≡◌, length, refl, sym, ap, ◌∙◌, arith, Version, First, Second, Tables, schema_of, tables_in, Rests, HasTables}
 use Rattle.sqlite.specs.Schema.{Schema}
 use Rattle.sqlite.specs.State.{State as Database}
-use Rattle.moo_tables.specs.declared.version.Version.{Version}
-use Rattle.moo_tables.specs.declared.version.Version.TheVariants.{First, Second}
-use Rattle.moo_tables.specs.Tables.{Tables, schema_of, tables_in}
-use Rattle.moo_tables.specs.Inside.{Rests, HasTables}
 
 apart : {X : Type 0} → schema_of First ≡ schema_of Second → X
 apart same = let odd : 5 ≡ 8 = ap (λ (schema : Schema). length schema.tables) same in absurd (omega (arith, odd))

@@ -1,8 +1,5 @@
 -- What holds of runs as wholes.
-use Rattle.std.proofs.Common.{◌≡◌, List, [], ◌∷◌, ◌++◌, refl}
-use Rattle.moo_world.specs.declared.call.Batch.{Batch}
-use Rattle.moo_world.specs.Judge.{State, after}
-use Rattle.moo_store.specs.Answered.{state_behind}
+use Rattle.moo_store.proofs.Words.{◌≡◌, List, [], ◌∷◌, ◌++◌, refl, Batch, State, after, state_behind}
 
 pub after-append : (s : State) (xs ys : List Batch) → after s (xs ++ ys) ≡ after (after s xs) ys
 after-append s [] ys = refl

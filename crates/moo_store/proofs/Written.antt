@@ -1,16 +1,7 @@
 -- What is printed from exact changes, written over tables that show the old rows, shows the new ones.
-use Rattle.std.proofs.Common.{◌≡◌, Bool, true, false, cond, T, ◌&&◌, Option, None, Some, List, [], ◌∷◌, ◌++◌, fold, Less, Equal, Greater, Ordering, refl, sym, ap, ◌∙◌, subst}
-use Rattle.std.specs.Ordering.{eq_by_cmp, is_lt, is_eq}
-use Rattle.std.specs.FinMap.{find, is_sorted}
+use Rattle.moo_store.proofs.Words.{◌≡◌, Bool, true, false, cond, T, ◌&&◌, Option, None, Some, List, [], ◌∷◌, ◌++◌, fold, Less, Equal, Greater, Ordering, refl, sym, ap, ◌∙◌, subst, eq_by_cmp, is_lt, is_eq, find, is_sorted, Row, with_cells, cells_after, IsChanges, ShowsOrNone, IfBoth, PrintEach}
 use Rattle.std.specs.FinMap.Entries.{below_all}
 use Rattle.std.proofs.lemmas.Map.Lookups.{CmpEqualImpliesEq}
-use Rattle.sqlite.specs.Order.{Row}
-use Rattle.moo_tables.specs.Tables.{with_cells}
-use Rattle.moo_tables.specs.Cells.{cells_after}
-use Rattle.moo_draft.specs.Changes.{IsChanges}
-use Rattle.moo_cells.specs.Shows.{ShowsOrNone}
-use Rattle.moo_store.specs.Columns.{IfBoth}
-use Rattle.moo_store.specs.Printed.{PrintEach}
 
 equal_of : (o : Ordering) → is_eq o ≡ true → o ≡ Equal
 equal_of Less p = cc

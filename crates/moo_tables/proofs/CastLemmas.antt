@@ -1,13 +1,8 @@
 -- Cells of the kinds of their columns are stored as they are.
-use Rattle.std.proofs.Common.{◌≡◌, Bool, true, false, ◌&&◌, List, [], ◌∷◌, refl, ap, ◌∙◌}
-use Rattle.std.proofs.lemmas.Bool.{and_parts}
-use Rattle.sqlite.specs.declared.types.Value.{Value}
+use Rattle.moo_tables.proofs.Words.{◌≡◌, Bool, true, false, ◌&&◌, List, [], ◌∷◌, refl, ap, ◌∙◌, and_parts, Value, Row, cast, cast_all, Column}
 use Rattle.sqlite.specs.declared.types.Value.TheVariants as value
-use Rattle.sqlite.specs.Order.{Row}
-use Rattle.sqlite.specs.Cast.{cast, cast_all}
 use Rattle.sqlite.specs.Kind.{Kind}
 use Rattle.sqlite.specs.Kind.TheVariants.{Integer, Real, Text, Blob, Any}
-use Rattle.sqlite_schema.specs.declared.schema.Column.{Column}
 use Rattle.moo_tables.proofs.StepLemmas.{cast_null, cast_int}
 
 -- a whole number or nothing in a column of numbers, a text in a column of texts

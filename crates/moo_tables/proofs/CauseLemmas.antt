@@ -1,14 +1,7 @@
 -- Why one of several calls failed, one after another.
-use Rattle.std.proofs.Common.{◌≡◌, inl, inr, ◌≤◌, Ok, Err, Result, IsTrue, IsSome, true≢false, sym, subst, ◌∙◌, arith}
-use Rattle.std.specs.Prelude.{⊤}
-use Rattle.sqlite.specs.declared.error.Error.{Error}
-use Rattle.sqlite.specs.Tree.{Trees}
-use Rattle.sqlite.specs.State.{State, HasCleanDisk, HasCause, Survives}
+use Rattle.moo_tables.proofs.Words.{◌≡◌, inl, inr, ◌≤◌, Ok, Err, Result, IsTrue, IsSome, true≢false, sym, subst, ◌∙◌, arith, ⊤, Error, Trees, State, HasCleanDisk, HasCause, Survives, Tables, Sees, Changes, StaysInside, StopsChange, HasCauseIn}
 use Rattle.sqlite_trees.specs.declared.error.StoreError.{StoreError}
 use Rattle.sqlite_trees.specs.declared.error.StoreError.TheVariants.{OutOfMemory, Io, Corrupt, Full, Broken, Unstorable}
-use Rattle.moo_tables.specs.Tables.{Tables}
-use Rattle.moo_tables.specs.Inside.{Sees, Changes, StaysInside}
-use Rattle.moo_tables.specs.Cause.{StopsChange, HasCauseIn}
 use Rattle.moo_tables.proofs.InsideLemmas.{clean_before, stays, stays_then}
 
 cause_from : (old mid new : State) (cause : StoreError) → old.faults ≤ mid.faults → IsTrue mid.is_open → HasCause mid new ⊤ cause → HasCause old new ⊤ cause

@@ -1,42 +1,7 @@
 -- What the statement on petition_head does.
-use Rattle.std.proofs.Common.{◌≡◌, ◌⊎◌, inl, inr, ℕ, ℤ, pos, List, [], ◌∷◌, ◌++◌, drop, codes, option_map, length, Some, None, Bool, true, false, ◌&&◌, Result, Ok, Err, OnOk, IsTrue, refl, arith, ap, subst, ◌∙◌}
-use Rattle.std.specs.List.{list_all}
-use Rattle.std.proofs.lemmas.Bool.{and_parts}
-use Rattle.sqlite.specs.declared.types.Value.TheVariants.{Int}
-use Rattle.sqlite.specs.declared.error.Error.{Error}
-use Rattle.sqlite.specs.Order.{Row, column}
-use Rattle.sqlite.specs.Edit.{with_rowid}
-use Rattle.sqlite.specs.Cast.{cast_row}
-use Rattle.sqlite.specs.Rowids.TheVariants.{Chosen}
-use Rattle.sqlite.specs.Tree.{Trees, rowid, has_rowid, put_row}
-use Rattle.sqlite.specs.Term.{holds}
-use Rattle.sqlite.specs.Rows.{shown, Updates}
-use Rattle.sqlite.specs.Does.{Does}
-use Rattle.sqlite.specs.Command.TheVariants.{InsertOr}
-use Rattle.sqlite.specs.Source.TheVariants.{Values}
+use Rattle.moo_tables.proofs.Words.{◌≡◌, ◌⊎◌, inl, inr, ℕ, ℤ, pos, List, [], ◌∷◌, ◌++◌, drop, codes, option_map, length, Some, None, Bool, true, false, ◌&&◌, Result, Ok, Err, OnOk, IsTrue, refl, arith, ap, subst, ◌∙◌, list_all, and_parts, Int, Error, Row, column, with_rowid, cast_row, Chosen, Trees, rowid, has_rowid, put_row, holds, shown, Updates, Does, InsertOr, Values, Abort, Column, Enforced, IsDatabase, IsSound, has_computed, differ, Program, Datatype, NotNull, Has, all_has, is_int, understood, everything, State, Executes, mode_of, statement_of, runs_as, AreConflicts, conflicts, petition_head_cells, with_counter, Tables, second_schema, petition_head_table, cells_at, petition_head_places, numbered_in, numbered_with, same_number, put_counter_text, AreKeyed, Sees, Changes, RanStatement, KeepsSlot, HasCauseIn}
 use Rattle.sqlite_schema.specs.declared.command.Command.{Command}
-use Rattle.sqlite_schema.specs.declared.command.Conflict.TheVariants.{Abort}
-use Rattle.sqlite_schema.specs.declared.schema.Column.{Column}
-use Rattle.sqlite_schema.specs.declared.schema.Keys.TheVariants.{Enforced}
-use Rattle.sqlite.specs.Effect.{IsDatabase}
-use Rattle.sqlite_catalog.specs.Listing.{IsSound}
-use Rattle.sqlite_schema.specs.Rules.{has_computed, differ}
-use Rattle.sqlite_schema.specs.declared.program.Program.{Program}
-use Rattle.sqlite_schema.specs.declared.schema.Constraint.TheVariants.{Datatype, NotNull}
-use Rattle.sqlite_rules.specs.Lists.{Has}
-use Rattle.sqlite_rules.proofs.ListLemmas.{all_has}
-use Rattle.sqlite_trees.specs.View.{is_int}
-use Rattle.sqlite.specs.Listing.{understood}
-use Rattle.sqlite_tied.specs.Compute.{everything}
-use Rattle.sqlite.specs.State.{State, Executes, mode_of}
-use Rattle.sqlite.proofs.Callers.{statement_of, runs_as}
-use Rattle.sqlite_rules.specs.Keys.{AreConflicts, conflicts}
-use Rattle.moo_tables.specs.Cells.{petition_head_cells, with_counter}
-use Rattle.moo_tables.specs.Tables.{Tables, second_schema, petition_head_table, cells_at, petition_head_places, numbered_in, numbered_with, same_number}
-use Rattle.moo_tables.specs.Texts.{put_counter_text}
-use Rattle.moo_tables.specs.Inside.{AreKeyed, Sees, Changes, RanStatement, KeepsSlot}
 use Rattle.moo_tables.proofs.TextLemmas.{put_counter_is, put_counter_plain, number_terms, number_overwrite, counter_filter, writes_where}
-use Rattle.moo_tables.specs.Cause.{HasCauseIn}
 use Rattle.moo_tables.proofs.RefusalLemmas.{IsAllowed, Upserting, each, halted, concluded, clear_one, update_stops, upsert_stops}
 use Rattle.moo_tables.proofs.StoppedLemmas.{Ran, IsOne, at_schema, stops}
 use Rattle.moo_tables.proofs.StopNumberLemmas as stop

@@ -1,14 +1,5 @@
 -- What the statements do that make the second layout of the first.
-use Rattle.std.proofs.Common.{◌≡◌, ℕ, List, [], ◌∷◌, Ok, Err, Result, OnOk, refl, sym, ap, subst, ◌∙◌}
-use Rattle.sqlite.specs.Schema.{Schema}
-use Rattle.sqlite.specs.Effect.{Database}
-use Rattle.sqlite.specs.declared.error.Error.{Error}
-use Rattle.sqlite.specs.State.{State, HasCleanDisk}
-use Rattle.moo_tables.specs.declared.version.Version.TheVariants.{First}
-use Rattle.moo_tables.specs.Tables.{Tables, schema_of, first_schema, slot2_schema, petition_schema, second_schema, slot2_table, petition_table, petition_head_table, numbered_in, paired_in, head_places, object_places, prop_places, slot_places, verb_places, petition_places, petition_head_places}
-use Rattle.moo_tables.specs.Cells.{with_counter}
-use Rattle.moo_tables.specs.Inside.{AreKeyed, Holds, Sees, StaysInside, Changes, RanStatement, IsGrown, grown, no_tables, no_first_tables, KeepsSlot}
-use Rattle.moo_tables.specs.Texts.{create_text}
+use Rattle.moo_tables.proofs.Words.{◌≡◌, ℕ, List, [], ◌∷◌, Ok, Err, Result, OnOk, refl, sym, ap, subst, ◌∙◌, Schema, Database, Error, State, HasCleanDisk, First, Tables, schema_of, first_schema, slot2_schema, petition_schema, second_schema, slot2_table, petition_table, petition_head_table, numbered_in, paired_in, head_places, object_places, prop_places, slot_places, verb_places, petition_places, petition_head_places, with_counter, AreKeyed, Holds, Sees, StaysInside, Changes, RanStatement, IsGrown, grown, no_tables, no_first_tables, KeepsSlot, create_text}
 use Rattle.moo_tables.proofs.TextLemmas.{create_slot2_is, create_petition_is, create_petition_head_is}
 use Rattle.moo_tables.proofs.CreateLemmas.{runs_making}
 use Rattle.moo_tables.proofs.InsideLemmas.{of_version, clean_before}

@@ -1,25 +1,5 @@
 -- What an update does by a number that leaves one cell of a row as it is, whichever the table is.
-use Rattle.std.proofs.Common.{◌≡◌, ◌+◌, ℕ, ℤ, List, [], ◌∷◌, map, drop, option_map, slice_get, Option, Some, None, true, ◌⊎◌, inl, inr, Result, Ok, Err, OnOk, IfOk, IsTrue, refl, sym, ap, subst, ◌∙◌, arith}
-use Rattle.std.specs.List.{list_all}
-use Rattle.std.specs.List.Sorted.{IsPermutation}
-use Rattle.sqlite.specs.declared.types.Value.{Value}
-use Rattle.sqlite.specs.declared.types.Value.TheVariants.{Null, Int, Text}
-use Rattle.sqlite.specs.declared.error.Error.{Error}
-use Rattle.sqlite.specs.Order.{Row, column}
-use Rattle.sqlite.specs.Term.{holds, eval_all}
-use Rattle.sqlite.specs.Cast.{cast_all, cast_row}
-use Rattle.sqlite.specs.Table.{Table}
-use Rattle.sqlite.specs.Tree.{Trees, rowid, has_rowid, put_row}
-use Rattle.sqlite.specs.Program.{overlay}
-use Rattle.sqlite.specs.Listing.{understood}
-use Rattle.sqlite.specs.State.{State, Executes}
-use Rattle.sqlite.proofs.Callers.{statement_of, runs_as}
-use Rattle.sqlite_rules.specs.Lists.{Has}
-use Rattle.sqlite_schema.specs.declared.schema.Column.{Column}
-use Rattle.moo_tables.specs.Tables.{Tables, second_schema, numbered, number_places, cells_at, numbered_in, numbered_with, same_number}
-use Rattle.moo_tables.specs.Texts.{keep_text}
-use Rattle.moo_tables.specs.Inside.{AreKeyed, Sees, Changes, RanStatement, KeepsSlot}
-use Rattle.moo_tables.specs.Over.{WritesOver}
+use Rattle.moo_tables.proofs.Words.{◌≡◌, ◌+◌, ℕ, ℤ, List, [], ◌∷◌, map, drop, option_map, slice_get, Option, Some, None, true, ◌⊎◌, inl, inr, Result, Ok, Err, OnOk, IfOk, IsTrue, refl, sym, ap, subst, ◌∙◌, arith, list_all, IsPermutation, Value, Null, Int, Text, Error, Row, column, holds, eval_all, cast_all, cast_row, Table, Trees, rowid, has_rowid, put_row, overlay, understood, State, Executes, statement_of, runs_as, Has, Column, Tables, second_schema, numbered, number_places, cells_at, numbered_in, numbered_with, same_number, keep_text, AreKeyed, Sees, Changes, RanStatement, KeepsSlot, WritesOver}
 use Rattle.moo_tables.proofs.TextLemmas.{KeepsByNumber, number_keep, writes_where, by_number}
 use Rattle.moo_tables.proofs.CastLemmas.{fit, kept_all}
 use Rattle.moo_tables.proofs.StepLemmas.{cast_int, updates}

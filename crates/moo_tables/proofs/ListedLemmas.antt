@@ -1,26 +1,7 @@
 -- Keys that rise from row to row are in order.
-use Rattle.std.proofs.Common.{◌≡◌, ◌↔◌, ℕ, ℤ, ◌+◌, ◌<◌, ◌≤◌, suc, drop, length, get_or, List, [], ◌∷◌, Option, Some, None, Bool, true, false, ◌&&◌, IsTrue, refl, sym, ap, ◌∙◌, arith, true≢false}
-use Rattle.std.specs.List.{AllByRecursion}
-use Rattle.std.specs.Cmp.{IsTotalOrder}
-use Rattle.std.specs.Ordering.{is_lt, int_cmp}
-use Rattle.std.specs.declared.cmp.Ordering.{Ordering}
-use Rattle.std.specs.declared.cmp.Ordering.TheVariants.{Less, Equal, Greater}
+use Rattle.moo_tables.proofs.Words.{◌≡◌, ◌↔◌, ℕ, ℤ, ◌+◌, ◌<◌, ◌≤◌, suc, drop, length, get_or, List, [], ◌∷◌, Option, Some, None, Bool, true, false, ◌&&◌, IsTrue, refl, sym, ap, ◌∙◌, arith, true≢false, AllByRecursion, IsTotalOrder, is_lt, int_cmp, Ordering, Less, Equal, Greater, drop_all, and_parts, and_from, on_total, then_total, Value, Int, Row, column, value_cmp, IsAscending, is_int, value_cmp_total, value_cmp-Int, all_weaker, Tables, AreKeyed, ListsTables, ArePaired, AreListed, tables_of, pair_cmp, is_above, has_two_numbers}
 use Rattle.std.proofs.Math.Seq.{drop-cons}
-use Rattle.std.proofs.lemmas.List.{drop_all}
-use Rattle.std.proofs.lemmas.Bool.{and_parts, and_from}
-use Rattle.std.proofs.lemmas.Cmp.{on_total, then_total}
-use Rattle.sqlite.specs.declared.types.Value.{Value}
-use Rattle.sqlite.specs.declared.types.Value.TheVariants.{Int}
-use Rattle.sqlite.specs.Order.{Row, column, value_cmp}
-use Rattle.sqlite_trees.specs.Tree.{IsAscending}
-use Rattle.sqlite_trees.specs.View.{is_int}
-use Rattle.sqlite_value.proofs.OrderLemmas.{value_cmp_total, value_cmp-Int}
-use Rattle.sqlite_keyed.proofs.ListLemmas.{all_weaker}
 use Rattle.moo_tables.specs.declared.reading.CellLists.{CellLists}
-use Rattle.moo_tables.specs.Tables.{Tables}
-use Rattle.moo_tables.specs.Inside.{AreKeyed}
-use Rattle.moo_tables.specs.Listing.{ListsTables, ArePaired, AreListed, tables_of}
-use Rattle.moo_tables.specs.Rising.{pair_cmp, is_above, has_two_numbers}
 
 less_of : (o : Ordering) → is_lt o ≡ true → o ≡ Less
 less_of Less h = refl

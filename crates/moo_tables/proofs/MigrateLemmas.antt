@@ -1,21 +1,6 @@
 -- What the migration does.
-use Rattle.std.proofs.Common.{◌≡◌, ℕ, List, [], ◌∷◌, filter, not, true, false, Option, Ok, Err, Result, OnOk, IsTrue, refl, sym, subst, ◌∙◌}
-use Rattle.sqlite.specs.declared.types.Value.TheVariants.{Null}
-use Rattle.sqlite.specs.declared.error.Error.{Error}
-use Rattle.sqlite.specs.Order.{Row}
-use Rattle.sqlite.specs.Term.{col}
-use Rattle.sqlite.specs.Program.{overlay}
-use Rattle.sqlite.specs.Listing.{understood}
-use Rattle.sqlite.specs.State.{State, HasCleanDisk, Shows, KeepsCounts}
-use Rattle.sqlite.proofs.Callers.{statement_of, runs_as}
-use Rattle.moo_value.specs.declared.value.ObjNo.{ObjNo}
+use Rattle.moo_tables.proofs.Words.{◌≡◌, ℕ, List, [], ◌∷◌, filter, not, true, false, Option, Ok, Err, Result, OnOk, IsTrue, refl, sym, subst, ◌∙◌, Null, Error, Row, col, overlay, understood, State, HasCleanDisk, Shows, KeepsCounts, statement_of, runs_as, ObjNo, PropId, SlotCells, First, Tables, second_schema, slot_tree, with_each, with_head_cells, with_slot_cells, migrated, AreKeyed, Holds, Sees, Rests, HasTables, StaysInside, Changes, RanStatement, HasNoSlot}
 use Rattle.moo_rows.specs.declared.row.Head.{Head}
-use Rattle.moo_rows.specs.declared.row.PropId.{PropId}
-use Rattle.moo_tables.specs.declared.slot.SlotCells.{SlotCells}
-use Rattle.moo_tables.specs.declared.version.Version.TheVariants.{First}
-use Rattle.moo_tables.specs.Tables.{Tables, second_schema, slot_tree}
-use Rattle.moo_tables.specs.Cells.{with_each, with_head_cells, with_slot_cells, migrated}
-use Rattle.moo_tables.specs.Inside.{AreKeyed, Holds, Sees, Rests, HasTables, StaysInside, Changes, RanStatement, HasNoSlot}
 use Rattle.moo_tables.proofs.TextLemmas.{empty_slots_text, empty_slots_is, empty_slots_plain, rowids_where}
 use Rattle.moo_tables.proofs.InsideLemmas.{clean_before, commits}
 use Rattle.moo_tables.proofs.ChangeLemmas.{slots_in_turn}

@@ -1,37 +1,6 @@
 -- The rows of one tree, after an upsert: the row stands in place of the one that has its key, or is put where none has it.
-use Rattle.std.proofs.Common.{◌≡◌, ◌≢◌, ℕ, ℤ, List, [], ◌∷◌, ◌++◌, filter, map, drop, Some, Bool, true, false, ◌&&◌, not, IsTrue, true≢false, refl, sym, ap, subst, ◌∙◌, inl, inr, arith}
-use Rattle.std.specs.List.{list_all}
-use Rattle.std.specs.Ordering.{is_eq}
-use Rattle.std.specs.declared.cmp.Ordering.TheVariants.{Less, Equal}
-use Rattle.std.specs.List.Sorted.{IsPermutation}
-use Rattle.std.proofs.lemmas.List.Sorted.{length_permutation}
-use Rattle.std.proofs.lemmas.Bool.{not-true, and_parts}
-use Rattle.std.proofs.lemmas.Cmp.{tied_itself, tied_back}
-use Rattle.sqlite.specs.Order.{Row, column, value_cmp}
-use Rattle.sqlite.specs.declared.types.Value.TheVariants.{Null, Int}
-use Rattle.sqlite.specs.Ops.{binary, is_true}
-use Rattle.sqlite.specs.Term.{Term, holds, eval_all}
-use Rattle.sqlite.specs.Collation.TheVariants.{Binary}
-use Rattle.sqlite_sql.specs.declared.ops.BinaryOp.TheVariants.{Compare}
-use Rattle.sqlite_sql.specs.declared.ops.CompareOp.TheVariants.{Eq}
-use Rattle.sqlite.specs.Tree.{Trees, rowid, has_rowid, put_row, IsTable}
-use Rattle.sqlite.specs.Rows.{shown}
-use Rattle.sqlite.specs.Program.{overlay}
-use Rattle.sqlite_schema.specs.declared.program.Program.{Program}
-use Rattle.sqlite_rules.specs.Edit.{IsNoIndex}
-use Rattle.sqlite.specs.Edit.{id_in, without_all, put_all, numbered, next_rowid}
-use Rattle.sqlite.specs.Cast.{cast_row}
-use Rattle.sqlite.specs.Rowids.TheVariants.{Given}
-use Rattle.sqlite.specs.Table.{Table}
-use Rattle.sqlite.proofs.Callers.{one_permutation}
-use Rattle.sqlite_rules.specs.Calls.{ids_of}
-use Rattle.sqlite_rules.specs.Keys.{AreConflicts, conflicts}
-use Rattle.sqlite_trees.specs.View.{is_int}
-use Rattle.sqlite_rules.specs.Lists.{Has}
-use Rattle.sqlite_rules.proofs.ListLemmas.{all_has, has_filtered}
-use Rattle.sqlite_value.proofs.OrderLemmas.{value_cmp_total}
-use Rattle.moo_tables.specs.Tables.{second_schema, has_pair}
-use Rattle.moo_tables.specs.Inside.{AreKeyed}
+use Rattle.moo_tables.proofs.Words.{◌≡◌, ◌≢◌, ℕ, ℤ, List, [], ◌∷◌, ◌++◌, filter, map, drop, Some, Bool, true, false, ◌&&◌, not, IsTrue, true≢false, refl, sym, ap, subst, ◌∙◌, inl, inr, arith, list_all, is_eq, Less, Equal, IsPermutation, length_permutation, not-true, and_parts, tied_itself, tied_back, Row, column, value_cmp, Null, Int, binary, is_true, Term, holds, eval_all, Binary, Compare, Eq, Trees, rowid, has_rowid, put_row, IsTable, shown, overlay, Program, IsNoIndex, id_in, without_all, put_all, next_rowid, cast_row, Given, Table, one_permutation, ids_of, AreConflicts, conflicts, is_int, Has, all_has, has_filtered, value_cmp_total, second_schema, has_pair, AreKeyed}
+use Rattle.sqlite.specs.Edit.{numbered}
 use Rattle.moo_tables.proofs.TextLemmas.{by_given, writes_where, written_over}
 use Rattle.moo_tables.proofs.QueryLemmas.{chosen, shows_all}
 use Rattle.moo_tables.proofs.KeyLemmas.{is_false, both_ways, filter_same, tied_as_equal, one_row, int_value, removed, ties_one}

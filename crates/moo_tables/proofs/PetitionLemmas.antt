@@ -1,24 +1,8 @@
 -- What the statements on petitions do.
-use Rattle.std.proofs.Common.{ℕ, ℤ, pos, List, [], ◌∷◌, Option, Some, None, Result, OnOk, IfOk, Vec, ◌≡◌, refl, sym, ap, subst, arith}
-use Rattle.std.specs.declared.alloc.Global.{Global}
-use Rattle.sqlite.specs.declared.types.Value.{Value}
-use Rattle.sqlite.specs.declared.types.Value.TheVariants.{Null, Int, Text}
-use Rattle.sqlite.specs.declared.error.Error.{Error}
-use Rattle.sqlite.specs.Order.{Row}
-use Rattle.sqlite.specs.State.{State}
-use Rattle.sqlite.specs.Listing.{understood}
-use Rattle.sqlite_tied.specs.Compute.{everything}
+use Rattle.moo_tables.proofs.Words.{ℕ, ℤ, pos, List, [], ◌∷◌, Option, Some, None, Result, OnOk, IfOk, Vec, ◌≡◌, refl, sym, ap, subst, arith, Global, Value, Null, Int, Text, Error, Row, State, understood, everything, cells_over, all_but, petition_row, with_petition_cells, Tables, petition_table, numbered_with, numbered_over, update_petition_text, keep_petition_text, put_petition_text, remove_petition_text, Changes, RanStatement, WritesOver, HasCauseIn}
 use Rattle.moo_rows.specs.declared.row.PetitionId.{PetitionId}
 use Rattle.moo_tables.specs.declared.petition.PetitionCells.{PetitionCells}
-use Rattle.moo_tables.specs.Columns.{cells_over, all_but}
-use Rattle.moo_tables.specs.Petition.{petition_row}
-use Rattle.moo_tables.specs.Cells.{with_petition_cells}
-use Rattle.moo_tables.specs.Tables.{Tables, petition_table, numbered_with, numbered_over}
-use Rattle.moo_tables.specs.Texts.{update_petition_text, keep_petition_text, put_petition_text, remove_petition_text}
-use Rattle.moo_tables.specs.Inside.{Changes, RanStatement}
-use Rattle.moo_tables.specs.Over.{WritesOver}
 use Rattle.moo_tables.proofs.TextLemmas.{petition_writes, petition_keeps}
-use Rattle.moo_tables.specs.Cause.{HasCauseIn}
 use Rattle.moo_tables.proofs.RefusalLemmas.{each}
 use Rattle.moo_tables.proofs.StoppedLemmas.{Ran}
 use Rattle.moo_tables.proofs.StopNumberLemmas as stop

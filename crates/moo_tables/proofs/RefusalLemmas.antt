@@ -1,44 +1,13 @@
 -- Why SQL refuses a write of our tables: it can, for its steps or for its rows' numbers, but not for its text, its types or its keys.
-use Rattle.std.proofs.Common.{◌≡◌, ◌⊎◌, inl, inr, ℕ, zero, suc, ℤ, List, [], ◌∷◌, ◌++◌, length, drop, Bool, true, false, true≢false, ◌||◌, not, Option, Some, None, Err, Result, IsSome, refl, sym, ap, subst, ◌∙◌, arith, length-append}
-use Rattle.std.specs.Prelude.{◌/◌, ◌&&◌, nat_lt}
-use Rattle.std.specs.List.{AllByRecursion, list_all}
-use Rattle.sqlite.specs.declared.error.Error.{Error}
+use Rattle.moo_tables.proofs.Words.{◌≡◌, ◌⊎◌, inl, inr, ℕ, zero, suc, ℤ, List, [], ◌∷◌, ◌++◌, length, drop, Bool, true, false, true≢false, ◌||◌, not, Option, Some, None, Err, Result, IsSome, refl, sym, ap, subst, ◌∙◌, arith, length-append, ◌/◌, ◌&&◌, nat_lt, AllByRecursion, list_all, Error, Row, Table, Trees, put_row, rowid, with_tree, Edit, edit_of, with_rowid, without_all, cast_row, Given, Chosen, Answers, RefusesQuery, value_rows, edit_error, Concludes, Task, Written, Edited, Updates, Deletes, InsertsOr, Tries, TriesEach, Judged, Upserts, Meets, Clears, Puts, shown, count_of, nothing, inner, end, Term, overlay, Enforced, Datatype, NotNull, Check, PrimaryKey, Unique, ForeignKey, Refers, Keeps, passes, AreConflicts, ids_of, is_int, Column, Abort, Upsert, Values, Order, IsRefused, is_taken, taken_by, left_by, edited, are_fresh, have_rowids, is_referred, no_fold_overflows, accepts_program, accepts_terms, second_schema, table_of}
 use Rattle.sqlite.specs.declared.error.Error.TheVariants.{SqliteFailure}
 use Rattle.sqlite.specs.declared.error.ErrorCode.TheVariants as code
-use Rattle.sqlite.specs.Order.{Row}
-use Rattle.sqlite.specs.Table.{Table}
-use Rattle.sqlite.specs.Tree.{Trees, put_row, rowid}
-use Rattle.sqlite_trees.specs.Tree.{with_tree}
-use Rattle.sqlite.specs.Edit.{Edit, edit_of, with_rowid, without_all}
-use Rattle.sqlite.specs.Cast.{cast_row}
-use Rattle.sqlite.specs.Rowids.TheVariants.{Given, Chosen}
-use Rattle.sqlite.specs.Effect.{Answers, RefusesQuery, value_rows, edit_error}
-use Rattle.sqlite.specs.Does.{Concludes}
-use Rattle.sqlite.specs.Rows.{Task, Written, Edited, Updates, Deletes, InsertsOr, Tries, TriesEach, Judged, Upserts, Meets, Clears, Puts, shown, count_of, nothing}
-use Rattle.sqlite.specs.Query.{inner, end}
-use Rattle.sqlite.specs.Term.{Term}
-use Rattle.sqlite.specs.Program.{overlay}
 use Rattle.sqlite.specs.declared.run.Mode.{Mode}
-use Rattle.sqlite_schema.specs.declared.schema.Keys.TheVariants.{Enforced}
 use Rattle.sqlite_schema.specs.declared.schema.Among.TheVariants.{All}
-use Rattle.sqlite_schema.specs.declared.schema.Constraint.TheVariants.{Datatype, NotNull, Check, PrimaryKey, Unique, ForeignKey}
-use Rattle.sqlite_schema.specs.Rules.{Refers, Keeps, passes}
 use Rattle.sqlite_rules.specs.declared.error.Refusal.{Refusal}
 use Rattle.sqlite_rules.specs.declared.error.Refusal.TheVariants.{Violates, Mismatch, NoRowid, BadReference, TooDeep}
-use Rattle.sqlite_rules.specs.Keys.{AreConflicts}
 use Rattle.sqlite_rules.specs.Steps.{IsJudged, is_typed, is_present}
-use Rattle.sqlite_rules.specs.Calls.{ids_of}
-use Rattle.sqlite_trees.specs.View.{is_int}
-use Rattle.sqlite_schema.specs.declared.schema.Column.{Column}
-use Rattle.sqlite_schema.specs.declared.command.Conflict.TheVariants.{Abort}
-use Rattle.sqlite_schema.specs.declared.command.Upsert.{Upsert}
-use Rattle.sqlite.specs.Source.TheVariants.{Values}
-use Rattle.sqlite_value.specs.declared.keys.Order.{Order}
-use Rattle.sqlite_rules.specs.Edit.{IsRefused, is_taken, taken_by, left_by, edited, are_fresh, have_rowids, is_referred}
 use Rattle.sqlite_rules.specs.Action.{works, Leads, Writes}
-use Rattle.sqlite_sql.proofs.QueryLemmas.{no_fold_overflows}
-use Rattle.sqlite_typing.specs.Types.{accepts_program, accepts_terms}
-use Rattle.moo_tables.specs.Tables.{second_schema, table_of}
 use Rattle.moo_tables.proofs.TextLemmas.{plain_query, writes_where}
 
 -- all that SQL may refuse a write for

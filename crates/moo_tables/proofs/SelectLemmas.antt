@@ -1,17 +1,5 @@
 -- What the texts that read a table mean.
-use Rattle.std.proofs.Common.{◌≡◌, ℕ, List, map, false, refl}
-use Rattle.sqlite.specs.Command.TheVariants.{Select}
-use Rattle.sqlite.specs.Schema.{Schema}
-use Rattle.sqlite.specs.Table.{Table}
-use Rattle.sqlite.specs.Listing.{understood, reads_listing}
-use Rattle.sqlite.specs.Term.{Term, col}
-use Rattle.sqlite.proofs.Callers.{IsPlain, command_of}
-use Rattle.sqlite_tied.specs.Compute.{everything}
-use Rattle.sqlite_schema.specs.declared.program.Program.{Program}
-use Rattle.moo_tables.specs.declared.version.Version.{Version}
-use Rattle.moo_tables.specs.declared.version.Version.TheVariants.{First, Second}
-use Rattle.moo_tables.specs.Tables.{first_schema, second_schema, schema_of, slot_tree, number_places, pair_places, head_table, object_table, prop_table, slot_table, slot2_table, verb_table, petition_table, petition_head_table}
-use Rattle.moo_tables.specs.Texts.{select_text, names}
+use Rattle.moo_tables.proofs.Words.{◌≡◌, ℕ, List, map, false, refl, Select, Schema, Table, understood, reads_listing, Term, col, IsPlain, command_of, everything, Program, Version, First, Second, first_schema, second_schema, schema_of, slot_tree, number_places, pair_places, head_table, object_table, prop_table, slot_table, slot2_table, verb_table, petition_table, petition_head_table, select_text, names}
 use Rattle.moo_tables.proofs.TextLemmas.{in_order, number_order, pair_order}
 
 -- the text is this query of the schema, and reads no list of tables

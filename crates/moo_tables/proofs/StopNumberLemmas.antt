@@ -1,47 +1,5 @@
 -- Why a statement fails that writes a table with a number as its key, whichever it is.
-use Rattle.std.proofs.Common.{◌≡◌, ◌⊎◌, inl, inr, ℕ, ◌+◌, ℤ, List, [], ◌∷◌, ◌++◌, filter, map, drop, length, slice_get, Bool, true, false, true≢false, ◌&&◌, not, Some, None, Ok, Err, Result, IsTrue, refl, sym, ap, subst, ◌∙◌}
-use Rattle.std.specs.List.{list_any, list_all}
-use Rattle.std.specs.List.Sorted.{IsPermutation}
-use Rattle.sqlite.specs.declared.error.Error.{Error}
-use Rattle.sqlite.specs.declared.types.Value.{Value}
-use Rattle.sqlite.specs.declared.types.Value.TheVariants.{Null, Int, Text}
-use Rattle.std.specs.Ordering.{is_eq}
-use Rattle.std.proofs.lemmas.Bool.{and_parts, and_from}
-use Rattle.std.proofs.lemmas.Cmp.{tied_itself}
-use Rattle.sqlite_value.proofs.OrderLemmas.{value_cmp_total}
-use Rattle.sqlite.specs.Order.{Row, value_cmp}
-use Rattle.sqlite.specs.Term.{Term, col, holds, eval_all}
-use Rattle.sqlite.specs.Table.{Table}
-use Rattle.sqlite.specs.Tree.{Trees, rowid, has_rowid}
-use Rattle.sqlite_trees.specs.Tree.{with_tree}
-use Rattle.sqlite.specs.Edit.{edit_of, with_rowid, without_all, id_in}
-use Rattle.sqlite.specs.Cast.{cast_row}
-use Rattle.sqlite.specs.Rowids.TheVariants.{Given, Chosen}
-use Rattle.sqlite.specs.Rows.{Updates, shown}
-use Rattle.sqlite.specs.Program.{overlay}
-use Rattle.sqlite.specs.Does.{Does}
-use Rattle.sqlite.specs.Effect.{Answers}
-use Rattle.sqlite.specs.Command.TheVariants.{InsertOr, Update, Delete}
-use Rattle.sqlite.specs.Source.TheVariants.{Values}
-use Rattle.sqlite_schema.specs.declared.command.Conflict.TheVariants.{Abort}
-use Rattle.sqlite_schema.specs.declared.schema.Keys.TheVariants.{Enforced}
-use Rattle.sqlite.specs.Listing.{understood}
-use Rattle.sqlite.specs.State.{State, mode_of}
-use Rattle.sqlite_schema.specs.declared.schema.Constraint.TheVariants.{Unique}
-use Rattle.sqlite_schema.specs.declared.schema.Column.{Column}
-use Rattle.sqlite_schema.specs.Rules.{Keeps}
-use Rattle.sqlite_rules.specs.Edit.{is_taken}
-use Rattle.sqlite_rules.specs.Keys.{AreConflicts}
-use Rattle.sqlite_rules.specs.Lists.{Has}
-use Rattle.sqlite_rules.specs.Calls.{ids_of}
-use Rattle.sqlite_rules.proofs.ListLemmas.{some_has, some_from, all_has, has_filtered}
-use Rattle.sqlite_trees.specs.View.{is_int}
-use Rattle.sqlite.proofs.Callers.{one_permutation}
-use Rattle.sqlite_typing.specs.Types.{accepts_program, accepts_terms}
-use Rattle.moo_tables.specs.Cause.{HasCauseIn}
-use Rattle.moo_tables.specs.Tables.{Tables, second_schema, numbered}
-use Rattle.moo_tables.specs.Texts.{update_text, keep_text, put_text, remove_text}
-use Rattle.moo_tables.specs.Inside.{AreKeyed, Sees}
+use Rattle.moo_tables.proofs.Words.{◌≡◌, ◌⊎◌, inl, inr, ℕ, ◌+◌, ℤ, List, [], ◌∷◌, ◌++◌, filter, map, drop, length, slice_get, Bool, true, false, true≢false, ◌&&◌, not, Some, None, Ok, Err, Result, IsTrue, refl, sym, ap, subst, ◌∙◌, list_any, list_all, IsPermutation, Error, Value, Null, Int, Text, is_eq, and_parts, and_from, tied_itself, value_cmp_total, Row, value_cmp, Term, col, holds, eval_all, Table, Trees, rowid, has_rowid, with_tree, edit_of, with_rowid, without_all, id_in, cast_row, Given, Chosen, Updates, shown, overlay, Does, Answers, InsertOr, Update, Delete, Values, Abort, Enforced, understood, State, mode_of, Unique, Column, Keeps, is_taken, AreConflicts, Has, ids_of, some_has, some_from, all_has, has_filtered, is_int, one_permutation, accepts_program, accepts_terms, HasCauseIn, Tables, second_schema, numbered, update_text, keep_text, put_text, remove_text, AreKeyed, Sees}
 use Rattle.moo_tables.proofs.TextLemmas.{WritesByNumber, KeepsByNumber, plain_query, number_terms, number_overwrite, number_keep, written_over, writes_where, by_number, by_given}
 use Rattle.moo_tables.proofs.KeyLemmas.{is_false, both_ways, filter_same, int_value}
 use Rattle.moo_tables.proofs.QueryLemmas.{chosen, shows_all}

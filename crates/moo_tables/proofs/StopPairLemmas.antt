@@ -1,46 +1,6 @@
 -- Why a statement fails that writes a table with two columns as its key, whichever it is.
-use Rattle.std.proofs.Common.{◌≡◌, ◌⊎◌, inl, inr, ℕ, ◌+◌, ℤ, List, [], ◌∷◌, ◌++◌, map, drop, length, slice_get, true, true≢false, not, Some, None, Ok, Err, Result, IsTrue, refl, sym, ap, subst, ◌∙◌}
-use Rattle.std.specs.List.Sorted.{IsPermutation}
-use Rattle.std.specs.Ordering.{is_eq}
-use Rattle.std.proofs.lemmas.Bool.{and_parts, not-true}
-use Rattle.std.proofs.lemmas.Cmp.{tied_itself}
-use Rattle.sqlite_value.proofs.OrderLemmas.{value_cmp_total}
-use Rattle.sqlite_value.specs.Keys.{plain}
-use Rattle.sqlite.specs.declared.error.Error.{Error}
-use Rattle.sqlite.specs.declared.types.Value.{Value}
-use Rattle.sqlite.specs.declared.types.Value.TheVariants.{Null, Int, Text}
-use Rattle.sqlite.specs.Order.{Row, column, value_cmp}
-use Rattle.sqlite.specs.Term.{col, eval_all}
-use Rattle.sqlite.specs.Table.{Table}
-use Rattle.sqlite.specs.Tree.{Trees, rowid, has_rowid, put_row, without_rowid}
-use Rattle.sqlite_trees.specs.Tree.{with_tree}
-use Rattle.sqlite.specs.Edit.{edit_of, without_all, id_in, next_rowid}
-use Rattle.sqlite.specs.Cast.{cast_row}
-use Rattle.sqlite.specs.Rowids.TheVariants.{Given, Chosen}
-use Rattle.sqlite.specs.Rows.{Updates, shown}
-use Rattle.sqlite.specs.Program.{overlay}
-use Rattle.sqlite.specs.Does.{Does}
-use Rattle.sqlite.specs.Effect.{Answers}
-use Rattle.sqlite.specs.Command.TheVariants.{InsertOr, Update, Delete}
-use Rattle.sqlite.specs.Source.TheVariants.{Values}
-use Rattle.sqlite.specs.Listing.{understood}
-use Rattle.sqlite.specs.State.{State, mode_of}
-use Rattle.sqlite_schema.specs.declared.command.Conflict.TheVariants.{Abort}
-use Rattle.sqlite_schema.specs.declared.schema.Keys.TheVariants.{Enforced}
-use Rattle.sqlite_schema.specs.declared.schema.Constraint.TheVariants.{Unique}
-use Rattle.sqlite_schema.specs.declared.schema.Column.{Column}
-use Rattle.sqlite_schema.specs.Rules.{Keeps}
-use Rattle.sqlite_rules.specs.Keys.{AreConflicts}
-use Rattle.sqlite_rules.specs.Lists.{Has}
-use Rattle.sqlite_rules.specs.Calls.{ids_of}
-use Rattle.sqlite_rules.proofs.ListLemmas.{all_has, has_filtered}
+use Rattle.moo_tables.proofs.Words.{◌≡◌, ◌⊎◌, inl, inr, ℕ, ◌+◌, ℤ, List, [], ◌∷◌, ◌++◌, map, drop, length, slice_get, true, true≢false, not, Some, None, Ok, Err, Result, IsTrue, refl, sym, ap, subst, ◌∙◌, IsPermutation, is_eq, and_parts, not-true, tied_itself, value_cmp_total, plain, Error, Value, Null, Int, Text, Row, column, value_cmp, col, eval_all, Table, Trees, rowid, has_rowid, put_row, without_rowid, with_tree, edit_of, without_all, id_in, next_rowid, cast_row, Given, Chosen, Updates, shown, overlay, Does, Answers, InsertOr, Update, Delete, Values, understood, State, mode_of, Abort, Enforced, Unique, Column, Keeps, AreConflicts, Has, ids_of, all_has, has_filtered, is_int, accepts_program, accepts_terms, HasCauseIn, Tables, second_schema, paired, has_pair, update_text, keep_text, put_text, remove_text, AreKeyed, Sees}
 use Rattle.sqlite_rules.proofs.PlaceLemmas.{next_is_free}
-use Rattle.sqlite_trees.specs.View.{is_int}
-use Rattle.sqlite_typing.specs.Types.{accepts_program, accepts_terms}
-use Rattle.moo_tables.specs.Cause.{HasCauseIn}
-use Rattle.moo_tables.specs.Tables.{Tables, second_schema, paired, has_pair}
-use Rattle.moo_tables.specs.Texts.{update_text, keep_text, put_text, remove_text}
-use Rattle.moo_tables.specs.Inside.{AreKeyed, Sees}
 use Rattle.moo_tables.proofs.TextLemmas.{WritesByPair, KeepsByPair, plain_query, pair_terms, pair_overwrite, pair_keep, written_over, writes_where, by_pair, by_given}
 use Rattle.moo_tables.proofs.KeyLemmas.{int_value}
 use Rattle.moo_tables.proofs.QueryLemmas.{chosen, shows_all}

@@ -1,23 +1,12 @@
 -- Why a statement fails whose text and values are sound.
-use Rattle.std.proofs.Common.{◌≡◌, inl, inr, ℕ, ◌≤◌, List, [], append-nil, length, Bool, true, false, true≢false, ◌||◌, Option, Some, None, Ok, Err, Result, IsTrue, refl, sym, ap, subst, subst₂, ◌∙◌}
-use Rattle.std.specs.Prelude.{⊤}
-use Rattle.sqlite.specs.declared.error.Error.{Error}
-use Rattle.sqlite.specs.Order.{Row}
-use Rattle.sqlite.specs.Schema.{Schema}
-use Rattle.sqlite.specs.Does.{Does}
-use Rattle.sqlite.specs.Effect.{Database, is_query}
+use Rattle.moo_tables.proofs.Words.{◌≡◌, inl, inr, ℕ, ◌≤◌, List, [], append-nil, length, Bool, true, false, true≢false, ◌||◌, Option, Some, None, Ok, Err, Result, IsTrue, refl, sym, ap, subst, subst₂, ◌∙◌, ⊤, Error, Row, Schema, Does, Database, is_query, understood, timed, State, HasCleanDisk, Fails, HasCause, IsNotRun, IsNoStatement, IsStatement, IsMisplaced, ExecutesIn, ExecutesInside, EndsScope, RunsCommand, shows_rows, is_pragma, mode_of, text_of, IsPlain, command_of, StopsChange}
 use Rattle.sqlite.specs.declared.run.Mode.{Mode}
-use Rattle.sqlite.specs.Listing.{understood}
-use Rattle.sqlite.specs.Clock.{timed}
-use Rattle.sqlite.specs.State.{State, HasCleanDisk, Fails, HasCause, IsNotRun, IsNoStatement, IsStatement, IsMisplaced, ExecutesIn, ExecutesInside, EndsScope, RunsCommand, shows_rows, is_pragma, mode_of, text_of}
-use Rattle.sqlite.proofs.Callers.{IsPlain, command_of}
 use Rattle.sqlite_resolve.specs.declared.compiled.Compiled.{Compiled}
 use Rattle.sqlite_resolve.specs.declared.error.CompileError.{CompileError}
 use Rattle.sqlite_schema.specs.declared.command.Command.{Command}
 use Rattle.sqlite_schema.specs.declared.command.Command.TheVariants.{InsertOr, Update, Delete, Begin, Commit, Rollback, Release, RollbackTo}
 use Rattle.sqlite_trees.specs.declared.error.StoreError.{StoreError}
 use Rattle.sqlite_trees.specs.declared.error.StoreError.TheVariants.{OutOfMemory, Io, Corrupt, Full, Broken, Unstorable}
-use Rattle.moo_tables.specs.Cause.{StopsChange}
 use Rattle.moo_tables.proofs.RefusalLemmas.{IsAllowed}
 
 abbrev pub is_change : Command → Bool

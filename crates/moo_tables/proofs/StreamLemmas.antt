@@ -1,18 +1,7 @@
 -- A query that is read row by row.
-use Rattle.std.proofs.Common.{◌≡◌, ◌⊎◌, refl, false, ℕ, List, [], ◌∷◌, ◌++◌, None, Some, Result, Ok, Err, OnErr, inl, inr, sym, subst, ◌∙◌, arith}
-use Rattle.sqlite.specs.Order.{Row}
-use Rattle.sqlite.specs.Schema.{Schema}
-use Rattle.sqlite.specs.Clock.{timed}
-use Rattle.sqlite.specs.Listing.{understood, reads_listing, IsSourceOf}
-use Rattle.sqlite.specs.Held.{Held, state}
+use Rattle.moo_tables.proofs.Words.{◌≡◌, ◌⊎◌, refl, false, ℕ, List, [], ◌∷◌, ◌++◌, None, Some, Result, Ok, Err, OnErr, inl, inr, sym, subst, ◌∙◌, arith, Row, Schema, timed, understood, reads_listing, IsSourceOf, Held, state, Database, Error, State, HasCleanDisk, Shown, ShowsRows, Survives, CommitsShowing, IsUnchanged, IsRolledBack, Fails, FailsToQuery, FailsToShow, IsNotRun, IsPlain, begun_plain, survives_then, HasTables}
 use Rattle.sqlite.specs.Given.{HasGiven, HasBegun, Advances, IsRefused}
-use Rattle.sqlite.specs.Effect.{Database}
-use Rattle.sqlite.specs.declared.error.Error.{Error}
-use Rattle.sqlite.specs.State.{State, HasCleanDisk, Shown, ShowsRows, Survives, CommitsShowing, IsUnchanged, IsRolledBack, Fails, FailsToQuery, FailsToShow, IsNotRun}
-use Rattle.sqlite.proofs.Callers.{IsPlain, begun_plain}
-use Rattle.sqlite.proofs.StateLemmas.{survives_then}
 use Rattle.sqlite_trees.specs.declared.store.Store.{Ghosts}
-use Rattle.moo_tables.specs.Inside.{HasTables}
 
 pub unchanged_then : (a b c : State) → IsUnchanged a b → IsUnchanged b c → IsUnchanged a c
 unchanged_then a b c p q = (

@@ -1,20 +1,9 @@
 -- A column of texts that is never empty has a text in each row of a sound table.
-use Rattle.std.proofs.Common.{◌≡◌, ◌+◌, ℕ, List, [], ◌∷◌, ◌++◌, drop, take, length, codes, Option, Some, None, true, false, not, ◌||◌, if◌then◌else◌, refl, sym, ap, ◌∙◌, true≢false}
-use Rattle.std.proofs.lemmas.Bool.{and_parts, not-true}
-use Rattle.sqlite.specs.declared.types.Value.{Value}
+use Rattle.moo_tables.proofs.Words.{◌≡◌, ◌+◌, ℕ, List, [], ◌∷◌, ◌++◌, drop, take, length, codes, Option, Some, None, true, false, not, ◌||◌, if◌then◌else◌, refl, sym, ap, ◌∙◌, true≢false, and_parts, not-true, Value, Row, column, State, is_of, are_typed, are_present, has_computed, Column, Datatype, NotNull, Has, all_has, Tables, required, object_table, slot2_table, verb_table, petition_table, Sees}
 use Rattle.sqlite.specs.declared.types.Value.TheVariants as value
-use Rattle.sqlite.specs.Order.{Row, column}
-use Rattle.sqlite.specs.State.{State}
 use Rattle.sqlite_sql.specs.Ops.{is_null}
 use Rattle.sqlite_schema.specs.Names.{is_key}
-use Rattle.sqlite_schema.specs.Rules.{is_of, are_typed, are_present, has_computed}
-use Rattle.sqlite_schema.specs.declared.schema.Column.{Column}
-use Rattle.sqlite_schema.specs.declared.schema.Constraint.TheVariants.{Datatype, NotNull}
 use Rattle.sqlite_schema.specs.declared.schema.Kind.TheVariants as kind
-use Rattle.sqlite_rules.specs.Lists.{Has}
-use Rattle.sqlite_rules.proofs.ListLemmas.{all_has}
-use Rattle.moo_tables.specs.Tables.{Tables, required, object_table, slot2_table, verb_table, petition_table}
-use Rattle.moo_tables.specs.Inside.{Sees}
 use Rattle.moo_tables.proofs.SeenLemmas.{sound_seen}
 
 -- the row has a text there

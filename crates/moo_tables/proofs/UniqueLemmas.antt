@@ -1,25 +1,6 @@
 -- No two rows of a table share a key of two columns, whichever row is put or taken out.
-use Rattle.std.proofs.Common.{◌≡◌, ◌⊎◌, inl, inr, ℤ, List, [], ◌∷◌, true, true≢false, ◌&&◌, not, IsTrue, refl, sym, ap, subst, ◌∙◌}
-use Rattle.std.specs.List.{AllByRecursion}
-use Rattle.std.specs.Ordering.{is_eq, is_ne}
-use Rattle.std.proofs.lemmas.Bool.{and_parts, and_from}
-use Rattle.std.proofs.lemmas.Cmp.{tied_itself}
-use Rattle.sqlite.specs.declared.types.Value.TheVariants.{Int}
-use Rattle.sqlite.specs.Order.{Row, column, value_cmp}
-use Rattle.sqlite.specs.Ops.{binary, is_true}
-use Rattle.sqlite.specs.Collation.TheVariants.{Binary}
-use Rattle.sqlite_sql.specs.declared.ops.BinaryOp.TheVariants.{Compare}
-use Rattle.sqlite_sql.specs.declared.ops.CompareOp.TheVariants.{Eq}
-use Rattle.sqlite.specs.Edit.{id_in}
-use Rattle.sqlite.specs.Tree.{rowid, put_row}
-use Rattle.sqlite_schema.specs.Rules.{agree, differ, clashes}
-use Rattle.sqlite_value.specs.Keys.{first_key, plain}
-use Rattle.sqlite_value.proofs.OrderLemmas.{value_cmp_total}
-use Rattle.sqlite_rules.specs.Lists.{Has}
-use Rattle.sqlite_rules.proofs.ListLemmas.{all_from, some_has}
+use Rattle.moo_tables.proofs.Words.{◌≡◌, ◌⊎◌, inl, inr, ℤ, List, [], ◌∷◌, true, true≢false, ◌&&◌, not, IsTrue, refl, sym, ap, subst, ◌∙◌, AllByRecursion, is_eq, is_ne, and_parts, and_from, tied_itself, Int, Row, column, value_cmp, binary, is_true, Binary, Compare, Eq, id_in, rowid, put_row, agree, differ, clashes, first_key, plain, value_cmp_total, Has, all_from, some_has, is_int, has_pair}
 use Rattle.sqlite_rules.proofs.TableLemmas.{put_has}
-use Rattle.sqlite_trees.specs.View.{is_int}
-use Rattle.moo_tables.specs.Tables.{has_pair}
 use Rattle.moo_tables.proofs.KeyLemmas.{is_false, int_value, pair_apart, pair_exact}
 use Rattle.moo_tables.proofs.RowLemmas.{equal_number}
 use Rattle.moo_tables.proofs.ListingLemmas.{differ_numbers}

@@ -1,21 +1,6 @@
 -- The rows of one tree, after an update by their key: the row that has it is written over, or there is none and all stay.
-use Rattle.std.proofs.Common.{◌≡◌, ◌⊎◌, inl, inr, List, [], ◌∷◌, map, drop, length, Bool, true, false, true≢false, IsTrue, refl, sym, ap, subst, ◌∙◌}
-use Rattle.std.specs.List.{list_all, list_any}
-use Rattle.std.specs.List.Sorted.{IsPermutation}
-use Rattle.sqlite.specs.Order.{Row}
-use Rattle.sqlite.specs.declared.types.Value.TheVariants.{Int}
-use Rattle.sqlite.specs.Term.{Term, holds, eval_all}
-use Rattle.sqlite.specs.Tree.{rowid, has_rowid, put_row}
-use Rattle.sqlite.specs.Edit.{id_in, without_all, put_all, numbered}
-use Rattle.sqlite.specs.Cast.{cast_row}
-use Rattle.sqlite.specs.Rowids.TheVariants.{Given}
-use Rattle.sqlite.specs.Table.{Table}
-use Rattle.sqlite.proofs.Callers.{one_permutation}
-use Rattle.sqlite_rules.specs.Calls.{ids_of}
-use Rattle.sqlite_trees.specs.View.{is_int}
-use Rattle.sqlite_rules.specs.Lists.{Has}
-use Rattle.sqlite_rules.proofs.ListLemmas.{all_has, some_has, some_from}
-use Rattle.moo_tables.specs.Inside.{AreKeyed}
+use Rattle.moo_tables.proofs.Words.{◌≡◌, ◌⊎◌, inl, inr, List, [], ◌∷◌, map, drop, length, Bool, true, false, true≢false, IsTrue, refl, sym, ap, subst, ◌∙◌, list_all, list_any, IsPermutation, Row, Int, Term, holds, eval_all, rowid, has_rowid, put_row, id_in, without_all, put_all, cast_row, Given, Table, one_permutation, ids_of, is_int, Has, all_has, some_has, some_from, AreKeyed}
+use Rattle.sqlite.specs.Edit.{numbered}
 use Rattle.moo_tables.proofs.QueryLemmas.{chosen}
 use Rattle.moo_tables.proofs.KeyLemmas.{is_false, both_ways, filter_same, int_value}
 use Rattle.moo_tables.proofs.RowLemmas.{rest}

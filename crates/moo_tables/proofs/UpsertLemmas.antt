@@ -1,31 +1,6 @@
 -- What an upsert makes of the tables, whatever they are: it puts its row, or writes over the first row that has its key.
-use Rattle.std.proofs.Common.{◌≡◌, inl, inr, ℕ, ◌/◌, ℤ, List, [], ◌∷◌, ◌++◌, length, slice_get, Option, Some, None, Ok, Err, sym, ap, subst, ◌∙◌}
-use Rattle.sqlite.specs.Order.{Row}
-use Rattle.sqlite.specs.Term.{Term}
-use Rattle.sqlite.specs.Table.{Table}
-use Rattle.sqlite.specs.Schema.{Schema}
-use Rattle.sqlite.specs.Source.TheVariants.{Values}
-use Rattle.sqlite.specs.Command.TheVariants.{InsertOr}
-use Rattle.sqlite.specs.Edit.{edit_of, with_rowid, Applies}
-use Rattle.sqlite.specs.Cast.{cast_row}
-use Rattle.sqlite.specs.Rowids.TheVariants.{Chosen, Given}
-use Rattle.sqlite.specs.Does.{Tally, Does}
-use Rattle.sqlite.specs.Rows.{Task, Written, Puts, Clears, Meets, Upserts, Judged, TriesEach, Tries, count_of, nothing, shown}
-use Rattle.sqlite.specs.Tree.{Trees, rowid}
-use Rattle.sqlite.specs.Effect.{Database, Answers, value_rows, edit_error}
+use Rattle.moo_tables.proofs.Words.{◌≡◌, inl, inr, ℕ, ◌/◌, ℤ, List, [], ◌∷◌, ◌++◌, length, slice_get, Option, Some, None, Ok, Err, sym, ap, subst, ◌∙◌, Row, Term, Table, Schema, Values, InsertOr, edit_of, with_rowid, Applies, cast_row, Chosen, Given, Tally, Does, Task, Written, Puts, Clears, Meets, Upserts, Judged, TriesEach, Tries, count_of, nothing, shown, Trees, rowid, Database, Answers, value_rows, edit_error, State, mode_of, Writes, Enforced, Abort, Upsert, Program, Column, Order, taken_by, AreConflicts, ids_of, one_step, table_of}
 use Rattle.sqlite_rules.specs.declared.error.Refusal.{Refusal}
-use Rattle.sqlite.specs.State.{State, mode_of, Writes}
-use Rattle.sqlite_schema.specs.declared.schema.Keys.TheVariants.{Enforced}
-use Rattle.sqlite_schema.specs.declared.command.Conflict.TheVariants.{Abort}
-use Rattle.sqlite_schema.specs.declared.command.Upsert.{Upsert}
-use Rattle.sqlite_schema.specs.declared.program.Program.{Program}
-use Rattle.sqlite_schema.specs.declared.schema.Column.{Column}
-use Rattle.sqlite_value.specs.declared.keys.Order.{Order}
-use Rattle.sqlite_rules.specs.Edit.{taken_by}
-use Rattle.sqlite_rules.specs.Keys.{AreConflicts}
-use Rattle.sqlite_rules.specs.Calls.{ids_of}
-use Rattle.sqlite.proofs.Callers.{one_step}
-use Rattle.moo_tables.specs.Tables.{table_of}
 use Rattle.moo_tables.proofs.StepLemmas.{SetsOffNothing, went, same_value}
 
 module _ (schema : Schema) (table : Table) (db : Trees) (params : Row) (q : Program) where

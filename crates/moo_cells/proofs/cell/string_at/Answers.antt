@@ -1,5 +1,4 @@
-use Rattle.std.proofs.Common.{sym, ◌∙◌}
-use Rattle.std.proofs.lemmas.Result.{err_from_is_err_and}
+use Rattle.moo_cells.proofs.Words.{sym, ◌∙◌, err_from_is_err_and}
 use Rattle.moo_cells.proofs.Texts.{not_text, text_inj}
 use Rattle.moo_cells.proofs.cell.string_at.Goals as goal
 

@@ -1,11 +1,4 @@
-use Rattle.std.proofs.Common.{Option, sym, subst}
-use Rattle.std.specs.Prelude.{IfSome}
-use Rattle.moo_damage.specs.declared.kind.Kind.{Kind}
-use Rattle.moo_damage.specs.declared.kind.Key.{Key}
-use Rattle.moo_damage.specs.Kinds.{IsFirstInRows}
-use Rattle.std.proofs.lemmas.Result.{err_from_is_err_and}
-use Rattle.moo_tables.specs.Listing.{tables_of}
-use Rattle.moo_cells.specs.Damage.{SaysOfCells}
+use Rattle.moo_cells.proofs.Words.{Option, sym, subst, IfSome, Kind, Key, IsFirstInRows, err_from_is_err_and, tables_of, SaysOfCells}
 use Rattle.moo_cells.proofs.CellsLemmas.{rows_damage, none_met, says_nothing, says_no_damage, one_good}
 use Rattle.moo_cells.proofs.cells.read_cells.Goals as goal
 

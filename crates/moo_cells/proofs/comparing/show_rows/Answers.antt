@@ -1,13 +1,5 @@
-use Rattle.std.proofs.Common.{List, find, refl, subst, subst₂}
-use Rattle.std.proofs.lemmas.Result.{IfOk-weaker}
-use Rattle.sqlite.specs.Order.{Row}
-use Rattle.sqlite.specs.Tree.{has_rowid}
+use Rattle.moo_cells.proofs.Words.{List, find, refl, subst, subst₂, IfOk-weaker, Row, has_rowid, Head, version_number, ShowEach, HeadIs, ReadsHead, ReadsCounter, ReadsObject, ReadsProp, ReadsSlot, ReadsVerb, ReadsPetition}
 use Rattle.moo_rows.specs.Walk.{objects_left, props_left, slots_left, verbs_left, petitions_left}
-use Rattle.moo_rows.specs.declared.row.Head.{Head}
-use Rattle.moo_tables.specs.Version.{version_number}
-use Rattle.moo_cells.specs.Each.{ShowEach}
-use Rattle.moo_cells.specs.Head.{HeadIs, ReadsHead, ReadsCounter}
-use Rattle.moo_cells.specs.Reading.{ReadsObject, ReadsProp, ReadsSlot, ReadsVerb, ReadsPetition}
 use Rattle.moo_cells.proofs.Compared.{all_shown}
 use Rattle.moo_cells.proofs.comparing.show_rows.Goals as goal
 

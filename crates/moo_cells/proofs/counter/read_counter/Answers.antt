@@ -1,8 +1,4 @@
-use Rattle.std.proofs.Common.{◌≡◌, ℕ, find}
-use Rattle.sqlite.specs.Tree.{has_rowid}
-use Rattle.moo_tables.specs.Cells.{petition_head_cells}
-use Rattle.moo_tables.specs.declared.version.Version.TheVariants.{Second}
-use Rattle.moo_cells.specs.Head.{IsCounter, ReadsCounter}
+use Rattle.moo_cells.proofs.Words.{◌≡◌, ℕ, find, has_rowid, petition_head_cells, Second, IsCounter, ReadsCounter}
 use Rattle.moo_cells.proofs.Exits.{both_some}
 use Rattle.moo_cells.proofs.HeadLemmas.{one_row, no_counter, counter_read}
 use Rattle.moo_cells.proofs.counter.read_counter.Goals as goal

@@ -1,9 +1,4 @@
-use Rattle.std.proofs.Common.{find, refl, ap}
-use Rattle.sqlite.specs.Order.{Row, column}
-use Rattle.sqlite.specs.Tree.{has_rowid}
-use Rattle.moo_rows.specs.declared.row.Head.{Head}
-use Rattle.moo_tables.specs.Version.{version_number}
-use Rattle.moo_cells.specs.Head.{greatest, HeadIs, ReadsHead, ReadsNewer, ReadsKnown, IsNewerThan, HasHead, SaysOfHead}
+use Rattle.moo_cells.proofs.Words.{find, refl, ap, Row, column, has_rowid, Head, version_number, greatest, HeadIs, ReadsHead, ReadsNewer, ReadsKnown, IsNewerThan, HasHead, SaysOfHead}
 use Rattle.moo_cells.proofs.Exits.{ok_then, err_then}
 use Rattle.moo_cells.proofs.HeadLemmas.{no_head, one_row, head_is, says_table}
 use Rattle.moo_cells.proofs.head.head_in.Goals as goal

@@ -1,6 +1,4 @@
-use Rattle.std.proofs.Common.{refl, arith}
-use Rattle.std.proofs.lemmas.Int.{ints}
-use Rattle.moo_tables.specs.Version.{version_number}
+use Rattle.moo_cells.proofs.Words.{refl, arith, ints, version_number}
 use Rattle.moo_cells.proofs.HeadLemmas.{no_numbers, newer}
 use Rattle.moo_cells.proofs.head.head_of.Goals as goal
 

@@ -1,6 +1,4 @@
-use Rattle.std.proofs.Common.{◌≡◌, ℤ, length, [], ◌∷◌, ap, sym, subst, ◌∙◌, w64, FitsSigned, to_z, of_z}
-use Rattle.std.proofs.lemmas.Int.{to_z-of_z}
-use Rattle.sqlite.specs.declared.types.Value.{Value}
+use Rattle.moo_cells.proofs.Words.{◌≡◌, ℤ, length, [], ◌∷◌, ap, sym, subst, ◌∙◌, w64, FitsSigned, to_z, of_z, to_z-of_z, Value}
 use Rattle.sqlite.specs.declared.types.Value.TheVariants.{Int as Number}
 use Rattle.moo_cells.proofs.Columns.{all_columns}
 use Rattle.moo_cells.proofs.head.numbers_of.Goals as goal

@@ -1,14 +1,7 @@
-use Rattle.std.proofs.Common.{◌≡◌, true, true≢false, sym, subst, ◌∙◌}
-use Rattle.std.specs.Prelude.{◌&&◌}
-use Rattle.std.specs.List.{list_all}
-use Rattle.std.proofs.lemmas.Result.{err_from_is_err_and}
+use Rattle.moo_cells.proofs.Words.{◌≡◌, true, true≢false, sym, subst, ◌∙◌, ◌&&◌, list_all, err_from_is_err_and, Spells, Fits, spread, one_spelled, is_named, are_few, are_shallow}
 use Rattle.moo_value.specs.declared.value.Value.{Value}
 use Rattle.moo_value.specs.declared.value.Value.TheVariants.{List as a_list}
-use Rattle.moo_value.specs.Literal.{Spells, Fits}
-use Rattle.moo_value.specs.Value.{spread}
 use Rattle.moo_value.specs.Values.{Values}
-use Rattle.moo_value.proofs.Printed.{one_spelled}
-use Rattle.moo_world.specs.Petitions.{is_named, are_few, are_shallow}
 use Rattle.moo_cells.proofs.Texts.{fails_none, calls_within, calls_held, calls_may, same_values}
 use Rattle.moo_cells.proofs.literal.calls_spelled.Goals as goal
 

@@ -1,11 +1,6 @@
-use Rattle.std.proofs.Common.{◌≡◌, true, List, map, length, ◌≤◌, Some, subst}
-use Rattle.std.proofs.lemmas.Result.{err_from_is_err_and}
-use Rattle.moo_value.specs.declared.value.ObjNo.{ObjNo}
+use Rattle.moo_cells.proofs.Words.{◌≡◌, true, List, map, length, ◌≤◌, Some, subst, err_from_is_err_and, ObjNo, Spells, Fits, accept_fits, object_list}
 use Rattle.moo_value.specs.declared.value.Value.{Value}
 use Rattle.moo_value.specs.declared.value.Value.TheVariants.{Obj, List as a_list}
-use Rattle.moo_value.specs.Literal.{Spells, Fits}
-use Rattle.moo_world.specs.World.{accept_fits}
-use Rattle.moo_world.specs.Answers.{object_list}
 use Rattle.moo_cells.specs.declared.fault.RowFault.{RowFault}
 use Rattle.moo_cells.specs.declared.fault.RowFault.TheVariants.{Unreadable}
 use Rattle.moo_cells.proofs.Exits.{both_ok, err_then}

@@ -1,6 +1,4 @@
-use Rattle.std.proofs.Common.{sym, ◌∙◌}
-use Rattle.std.proofs.lemmas.Result.{err_from_is_err_and}
-use Rattle.moo_world.proofs.Form.Ranges.{fits_tested}
+use Rattle.moo_cells.proofs.Words.{sym, ◌∙◌, err_from_is_err_and, fits_tested}
 use Rattle.moo_cells.proofs.Texts.{not_state, text_inj, not_empty}
 use Rattle.moo_cells.proofs.literal.state_at.Goals as goal
 

@@ -1,6 +1,4 @@
-use Rattle.std.proofs.Common.{sym, ◌∙◌}
-use Rattle.std.proofs.lemmas.Bool.{and_parts, and_from}
-use Rattle.std.proofs.lemmas.Result.{err_from_is_err_and}
+use Rattle.moo_cells.proofs.Words.{sym, ◌∙◌, and_parts, and_from, err_from_is_err_and}
 use Rattle.moo_cells.proofs.ObjectLemmas.{cells_shown, columns_read, flags_in, row_with}
 use Rattle.moo_cells.proofs.object.read_object.Goals as goal
 

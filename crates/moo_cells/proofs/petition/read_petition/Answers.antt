@@ -1,9 +1,4 @@
-use Rattle.std.proofs.Common.{ap, sym, ◌∙◌, ◌≡◌, length, [], ◌∷◌}
-use Rattle.std.proofs.lemmas.Bool.{and_parts, and_from}
-use Rattle.std.proofs.lemmas.Result.{err_from_is_err_and}
-use Rattle.sqlite.specs.Order.{Row, column}
-use Rattle.moo_world.specs.Arguments.{is_number}
-use Rattle.moo_cells.specs.Reading.{calls_fit}
+use Rattle.moo_cells.proofs.Words.{ap, sym, ◌∙◌, ◌≡◌, length, [], ◌∷◌, and_parts, and_from, err_from_is_err_and, Row, column, is_number, calls_fit}
 use Rattle.moo_cells.proofs.Columns.{all_columns}
 use Rattle.moo_cells.proofs.petition.read_petition.Goals as goal
 

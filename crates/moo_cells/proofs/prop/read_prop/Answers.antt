@@ -1,7 +1,4 @@
-use Rattle.std.proofs.Common.{ap, sym, ◌∙◌}
-use Rattle.std.proofs.lemmas.Bool.{and_parts}
-use Rattle.std.proofs.lemmas.Result.{err_from_is_err_and}
-use Rattle.sqlite.specs.Order.{Row, column}
+use Rattle.moo_cells.proofs.Words.{ap, sym, ◌∙◌, and_parts, err_from_is_err_and, Row, column}
 use Rattle.moo_cells.proofs.prop.read_prop.Goals as goal
 
 pub returns-in_err-id-clause-err : goal.returns-in_err-id-clause-err

@@ -1,15 +1,4 @@
-use Rattle.std.proofs.Common.{◌≡◌, List, find, sym, ap, subst}
-use Rattle.std.proofs.lemmas.Result.{err_from_is_err_and}
-use Rattle.sqlite.specs.Order.{Row}
-use Rattle.sqlite.specs.Tree.{has_rowid}
-use Rattle.moo_rows.specs.declared.row.Head.{Head}
-use Rattle.moo_rows.specs.Maps.{Maps}
-use Rattle.moo_tables.specs.Listing.{tables_of, has_key_pair}
-use Rattle.moo_tables.specs.Version.{version_number}
-use Rattle.moo_cells.specs.Head.{greatest, HeadIs, ReadsHead, HasHead, IsNewerThan, ReadsCounter, HasCounter, SaysOfHead}
-use Rattle.moo_cells.specs.Reading.{ReadsObject, ReadsProp, ReadsSlot, ReadsVerb, ReadsPetition}
-use Rattle.moo_cells.specs.Holding.{HoldsTable, object_number, prop_number, slot_number, verb_number, petition_number}
-use Rattle.moo_cells.specs.Damage.{SaysOfCells}
+use Rattle.moo_cells.proofs.Words.{◌≡◌, List, find, sym, ap, subst, err_from_is_err_and, Row, has_rowid, Head, Maps, tables_of, has_key_pair, version_number, greatest, HeadIs, ReadsHead, HasHead, IsNewerThan, ReadsCounter, HasCounter, SaysOfHead, ReadsObject, ReadsProp, ReadsSlot, ReadsVerb, ReadsPetition, HoldsTable, object_number, prop_number, slot_number, verb_number, petition_number, SaysOfCells}
 use Rattle.moo_cells.proofs.RowsLemmas.{read_all, rows_shown, rows_within, says_head, says_object, says_prop, says_slot, says_verb, says_petition, none_met}
 use Rattle.moo_cells.proofs.rows.read_rows.Goals as goal
 

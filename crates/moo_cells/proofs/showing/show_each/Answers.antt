@@ -1,8 +1,7 @@
-use Rattle.std.proofs.Common.{◌≡◌, ◌<◌, length, List, [], Bool, true, false, not, Option, None, Some, rules, arith, sym, ap, ◌∙◌, subst₂}
+use Rattle.moo_cells.proofs.Words.{◌≡◌, ◌<◌, length, List, [], Bool, true, false, not, Option, None, Some, rules, arith, sym, ap, ◌∙◌, subst₂, ShowEach}
 use Rattle.std.proofs.lemmas.List.{drop_all}
 use Rattle.std.specs.Iterator.{YieldsFirstBy}
 use Rattle.std.specs.Option.{is_some}
-use Rattle.moo_cells.specs.Each.{ShowEach}
 use Rattle.moo_cells.proofs.Beside.{one_more}
 use Rattle.moo_cells.proofs.showing.show_each.Goals as goal
 

@@ -1,8 +1,4 @@
-use Rattle.std.proofs.Common.{◌≡◌, length, [], ◌∷◌, ap, sym, subst, ◌∙◌}
-use Rattle.std.proofs.lemmas.Result.{err_from_is_err_and}
-use Rattle.sqlite.specs.declared.types.Value.{Value}
-use Rattle.sqlite.specs.Order.{Row, column}
-use Rattle.moo_cells.specs.Shows.{ShowsBits}
+use Rattle.moo_cells.proofs.Words.{◌≡◌, length, [], ◌∷◌, ap, sym, subst, ◌∙◌, err_from_is_err_and, Value, Row, column, ShowsBits}
 use Rattle.moo_cells.proofs.Columns.{all_columns}
 use Rattle.moo_cells.proofs.slot.read_slot.Goals as goal
 

@@ -1,7 +1,4 @@
-use Rattle.std.proofs.Common.{◌≡◌, length, [], ◌∷◌, ap, sym, ◌∙◌}
-use Rattle.std.proofs.lemmas.Bool.{and_parts, and_from}
-use Rattle.std.proofs.lemmas.Result.{err_from_is_err_and}
-use Rattle.sqlite.specs.Order.{Row, column}
+use Rattle.moo_cells.proofs.Words.{◌≡◌, length, [], ◌∷◌, ap, sym, ◌∙◌, and_parts, and_from, err_from_is_err_and, Row, column}
 use Rattle.moo_cells.proofs.Columns.{all_columns}
 use Rattle.moo_cells.proofs.Texts.{has_a_word}
 use Rattle.moo_cells.proofs.verb.read_verb.Goals as goal

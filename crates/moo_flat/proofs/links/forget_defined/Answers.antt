@@ -1,6 +1,4 @@
-use Rattle.moo_ordered.specs.Ordered.{contents}
-use Rattle.moo_rows.specs.Maps.{slot_cmp}
-use Rattle.moo_rows.proofs.Linking.{forgot-other}
+use Rattle.moo_flat.proofs.Words.{contents, slot_cmp, forgot-other}
 use Rattle.moo_flat.proofs.links.forget_defined.Goals as goal
 
 pub returns : goal.returns

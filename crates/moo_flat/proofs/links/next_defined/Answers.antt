@@ -1,6 +1,4 @@
-use Rattle.std.proofs.Common.{◌≡◌, None, rules}
-use Rattle.moo_rows.specs.Maps.{prop_cmp}
-use Rattle.moo_rows.proofs.Firsts.{pair-none}
+use Rattle.moo_flat.proofs.Words.{◌≡◌, None, rules, prop_cmp, pair-none}
 use Rattle.moo_flat.proofs.links.next_defined.Goals as goal
 
 pub returns-in_err-of : goal.returns-in_err-of

@@ -1,6 +1,4 @@
-use Rattle.moo_rows.specs.Maps.{object_cmp}
-use Rattle.moo_ordered.specs.Ordered.{contents}
-use Rattle.moo_rows.proofs.Firsts.{next-first}
+use Rattle.moo_flat.proofs.Words.{object_cmp, contents, next-first}
 use Rattle.moo_flat.proofs.links.next_of.Goals as goal
 
 pub returns : goal.returns

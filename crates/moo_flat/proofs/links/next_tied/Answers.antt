@@ -1,6 +1,4 @@
-use Rattle.std.proofs.Common.{◌≡◌, None, rules}
-use Rattle.moo_rows.specs.Maps.{object_cmp}
-use Rattle.moo_rows.proofs.Firsts.{pair-none}
+use Rattle.moo_flat.proofs.Words.{◌≡◌, None, rules, object_cmp, pair-none}
 use Rattle.moo_flat.proofs.links.next_tied.Goals as goal
 
 pub returns-in_err-of : goal.returns-in_err-of

@@ -1,9 +1,6 @@
-use Rattle.std.proofs.Common.{◌≡◌, ap, ◌∙◌, pos, true, Some, [], ◌∷◌}
-use Rattle.std.specs.FinMap.{insert}
-use Rattle.moo_value.specs.declared.value.ObjNo.{ObjNo}
+use Rattle.moo_flat.proofs.Words.{◌≡◌, ap, ◌∙◌, pos, true, Some, [], ◌∷◌, insert, ObjNo, Maps, Held}
 use Rattle.moo_rows.specs.declared.row.Head.{Head}
 use Rattle.moo_rows.specs.declared.row.ObjRow.{ObjRow}
-use Rattle.moo_rows.specs.Maps.{Maps, Held}
 use Rattle.moo_flat.proofs.opening.put_opening.Goals as goal
 
 abbrev of : Held → Maps

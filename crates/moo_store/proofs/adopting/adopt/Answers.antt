@@ -1,12 +1,4 @@
-use Rattle.std.proofs.Common.{◌≡◌, true, false, sym, ap, ◌∙◌, subst}
-use Rattle.sqlite.specs.State.{HasCleanDisk}
-use Rattle.sqlite.specs.Held.{state}
-use Rattle.moo_world.specs.Rows.{IsGood}
-use Rattle.moo_world.specs.Judge.{state_of}
-use Rattle.moo_cells.specs.Shows.{ShowsRows}
-use Rattle.moo_tables.specs.Tables.{Tables, schema_of, second_schema}
-use Rattle.moo_tables.specs.Inside.{Rests, HasTables}
-use Rattle.moo_store.specs.World.{store_of, StandsFor}
+use Rattle.moo_store.proofs.Words.{◌≡◌, true, false, sym, ap, ◌∙◌, subst, HasCleanDisk, state, IsGood, state_of, ShowsRows, Tables, schema_of, second_schema, Rests, HasTables, store_of, StandsFor}
 use Rattle.moo_store.proofs.AdoptLemmas.{stands, clean_at, survives_at, left_still}
 use Rattle.moo_store.proofs.adopting.adopt.Goals as goal
 

@@ -1,6 +1,4 @@
-use Rattle.std.proofs.Common.{inr}
-use Rattle.sqlite.specs.Held.{state}
-use Rattle.moo_tables.proofs.InsideLemmas.{clean_before}
+use Rattle.moo_store.proofs.Words.{inr, state, clean_before}
 use Rattle.moo_store.proofs.AdoptLemmas.{undone, refused_survives, has_still, rests_still, version_of_old, crash, undone_late, says_of_store}
 use Rattle.moo_store.proofs.adopting.open_rows.Goals as goal
 

@@ -1,10 +1,6 @@
-use Rattle.std.proofs.Common.{Option, sym, subst, arith}
-use Rattle.std.specs.Prelude.{IfNone}
+use Rattle.moo_store.proofs.Words.{Option, sym, subst, arith, IfNone, TextFault, feed_side, feed_room, EndsAt, is_batch, is_lost_answer, Completes, Halts}
 use Rattle.moo_text.specs.Given.{BreaksOff, ReadsNext}
-use Rattle.moo_text.specs.declared.fault.TextFault.{TextFault}
-use Rattle.moo_text.specs.Side.{feed_side, feed_room, EndsAt}
 use Rattle.moo_text.proofs.Giving.{handed_on}
-use Rattle.moo_store.specs.Turns.{is_batch, is_lost_answer, Completes, Halts}
 use Rattle.moo_store.proofs.Going.{going_starts, going_on, going_through, halts_before, halts_inside, one_more, falls_at_turn}
 use Rattle.moo_store.proofs.answering.answer_all.Goals as goal
 

@@ -1,5 +1,4 @@
-use Rattle.std.proofs.Common.{◌≡◌, ◌+◌, ◌≤◌, None}
-use Rattle.moo_text.specs.Side.{feed_side, feed_room}
+use Rattle.moo_store.proofs.Words.{◌≡◌, ◌+◌, ◌≤◌, None, feed_side, feed_room}
 use Rattle.moo_store.proofs.Going.{Going}
 use Rattle.moo_store.proofs.answering.answer_all.Given as goal
 

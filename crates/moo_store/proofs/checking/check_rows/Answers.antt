@@ -1,10 +1,6 @@
-use Rattle.std.proofs.Common.{subst}
+use Rattle.moo_store.proofs.Words.{subst, state, Second, Rests, ShowsRows}
 use Rattle.std.proofs.lemmas.Result.{on_ok_weaker}
-use Rattle.sqlite.specs.Held.{state}
-use Rattle.moo_tables.specs.declared.version.Version.TheVariants.{Second}
-use Rattle.moo_tables.specs.Inside.{Rests}
 use Rattle.moo_tables.specs.Listing.{tables_of}
-use Rattle.moo_cells.specs.Shows.{ShowsRows}
 use Rattle.moo_store.specs.Checked.{SaysInCheck}
 use Rattle.moo_store.proofs.AdoptLemmas.{on_each_err}
 use Rattle.moo_store.proofs.CheckLemmas.{whole_here}

@@ -1,5 +1,4 @@
-use Rattle.std.proofs.Common.{◌≡◌, length, ap, arith}
-use Rattle.moo_rows.specs.Walk.{objects_left}
+use Rattle.moo_store.proofs.Words.{◌≡◌, length, ap, arith, objects_left}
 use Rattle.moo_store.proofs.CheckLemmas.{objects_held, few_objects}
 use Rattle.moo_store.proofs.checking.object_count.Goals as goal
 

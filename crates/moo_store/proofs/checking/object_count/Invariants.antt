@@ -1,6 +1,4 @@
-use Rattle.std.proofs.Common.{◌≡◌, ◌+◌, length}
-use Rattle.std.specs.FinMap.{entries}
-use Rattle.moo_rows.specs.Walk.{objects_left}
+use Rattle.moo_store.proofs.Words.{◌≡◌, ◌+◌, length, entries, objects_left}
 use Rattle.moo_store.proofs.checking.object_count.Given as goal
 
 -- those counted, and those left

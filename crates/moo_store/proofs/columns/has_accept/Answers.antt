@@ -1,5 +1,4 @@
-use Rattle.std.proofs.Common.{ap, option_map, Bor}
-use Rattle.moo_rows.specs.declared.row.ObjRow.{ObjRow}
+use Rattle.moo_store.proofs.Words.{ap, option_map, Bor, ObjRow}
 use Rattle.moo_rows.specs.Equal.{list_eq-exact}
 use Rattle.moo_rows.specs.SameRows.{option-exact}
 use Rattle.moo_store.proofs.Exactly.{has_part}

@@ -1,5 +1,4 @@
-use Rattle.std.proofs.Common.{ap, option_map, Bor}
-use Rattle.moo_rows.specs.declared.row.PetitionRow.{PetitionRow}
+use Rattle.moo_store.proofs.Words.{ap, option_map, Bor, PetitionRow}
 use Rattle.moo_value.specs.Equal.{same_by-exact}
 use Rattle.moo_value.specs.Values.{coded_values}
 use Rattle.moo_store.proofs.Exactly.{has_part}

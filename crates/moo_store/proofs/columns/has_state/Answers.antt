@@ -1,6 +1,6 @@
-use Rattle.std.proofs.Common.{ap, option_map, Bor}
-use Rattle.moo_rows.specs.declared.row.SlotRow.{SlotRow}
-use Rattle.moo_store.proofs.Exactly.{has_part, state-exact}
+use Rattle.moo_store.proofs.Words.{ap, option_map, Bor, SlotRow}
+use Rattle.moo_rows.specs.SameRows.{state-exact}
+use Rattle.moo_store.proofs.Exactly.{has_part}
 use Rattle.moo_store.proofs.columns.has_state.Goals as goal
 
 pub returns-in-Some : goal.returns-in-Some

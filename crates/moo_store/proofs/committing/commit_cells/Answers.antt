@@ -1,6 +1,4 @@
-use Rattle.sqlite.specs.Held.{state}
-use Rattle.moo_tables.specs.Cells.{tables_with}
-use Rattle.moo_tables.specs.Inside.{Leaves}
+use Rattle.moo_store.proofs.Words.{state, tables_with, Leaves}
 use Rattle.moo_store.proofs.Committed.{at_written, at_kept, clean_at_commit, survives_next}
 use Rattle.moo_store.proofs.committing.commit_cells.Goals as goal
 

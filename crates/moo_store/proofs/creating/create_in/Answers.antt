@@ -1,9 +1,4 @@
-use Rattle.std.proofs.Common.{◌⊎◌, true, subst, IfOk, IfErr, ◌≡◌}
-use Rattle.sqlite.specs.State.{Survives}
-use Rattle.sqlite.specs.Held.{state}
-use Rattle.moo_world.specs.Judge.{state_of}
-use Rattle.moo_store.specs.States.{LeavesState}
-use Rattle.moo_store.specs.World.{store_of, StandsFor}
+use Rattle.moo_store.proofs.Words.{◌⊎◌, true, subst, IfOk, IfErr, ◌≡◌, Survives, state, state_of, LeavesState, store_of, StandsFor}
 use Rattle.moo_store.proofs.creating.create_in.Goals as goal
 
 pub load_in-requires-clause-good : goal.load_in-requires-clause-good

@@ -1,9 +1,4 @@
-use Rattle.std.proofs.Common.{IsTrue, true, inr, sym, subst, rules}
-use Rattle.sqlite.specs.State.{HasCleanDisk, Survives}
-use Rattle.sqlite.specs.Held.{state}
-use Rattle.moo_world.specs.Judge.{state_of}
-use Rattle.moo_store.specs.States.{KeepsRows, LeavesState}
-use Rattle.moo_store.specs.World.{ShowsItsRows}
+use Rattle.moo_store.proofs.Words.{IsTrue, true, inr, sym, subst, rules, HasCleanDisk, Survives, state, state_of, KeepsRows, LeavesState, ShowsItsRows}
 use Rattle.moo_store.proofs.Opened.{has_no_tables, keeps_all, survives_all}
 use Rattle.moo_store.proofs.loading.load_in.Goals as goal
 

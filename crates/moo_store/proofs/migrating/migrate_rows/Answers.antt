@@ -1,6 +1,4 @@
-use Rattle.std.proofs.Common.{None, sym, subst}
-use Rattle.sqlite.specs.Held.{state}
-use Rattle.moo_store.specs.Printed.{PrintEach, PrintsSlot, all_of}
+use Rattle.moo_store.proofs.Words.{None, sym, subst, state, PrintEach, PrintsSlot, all_of}
 use Rattle.moo_store.proofs.Migrated.{keeps_migrated, survives_migrated}
 use Rattle.moo_store.proofs.migrating.migrate_rows.Goals as goal
 

@@ -1,10 +1,5 @@
-use Rattle.std.proofs.Common.{Some, None, List, Option, ap, sym, subst}
-use Rattle.std.specs.FinMap.{FinMap, empty, get, get-empty}
+use Rattle.moo_store.proofs.Words.{Some, None, List, Option, ap, sym, subst, FinMap, empty, get, get-empty, Head, object_cmp, prop_cmp, slot_cmp, verb_cmp, petition_cmp, objects_left, props_left, verbs_left, petitions_left, PrintEach, PrintsObject, PrintsProp, PrintsSlot, PrintsVerb, PrintsPetition, as_changes}
 use Rattle.std.specs.declared.cmp.Ordering.{Ordering}
-use Rattle.moo_rows.specs.declared.row.Head.{Head}
-use Rattle.moo_rows.specs.Maps.{object_cmp, prop_cmp, slot_cmp, verb_cmp, petition_cmp}
-use Rattle.moo_rows.specs.Walk.{objects_left, props_left, verbs_left, petitions_left}
-use Rattle.moo_store.specs.Printed.{PrintEach, PrintsObject, PrintsProp, PrintsSlot, PrintsVerb, PrintsPetition, as_changes}
 use Rattle.moo_store.proofs.printing.print_all.Goals as goal
 
 -- no row is there of an empty map

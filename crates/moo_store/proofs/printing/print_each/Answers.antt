@@ -1,7 +1,4 @@
-use Rattle.std.proofs.Common.{◌≡◌, ◌+◌, [], ◌∷◌, ◌++◌, take, sym, ap, ◌∙◌, subst, refl, arith}
-use Rattle.std.proofs.lemmas.List.{take_more}
-use Rattle.moo_cells.specs.Shows.{ShowsOrNone}
-use Rattle.moo_store.specs.Printed.{PrintEach}
+use Rattle.moo_store.proofs.Words.{◌≡◌, ◌+◌, [], ◌∷◌, ◌++◌, take, sym, ap, ◌∙◌, subst, refl, arith, take_more, ShowsOrNone, PrintEach}
 use Rattle.moo_store.proofs.Written.{one_more}
 use Rattle.moo_store.proofs.printing.print_each.Goals as goal
 

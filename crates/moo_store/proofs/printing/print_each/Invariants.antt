@@ -1,5 +1,4 @@
-use Rattle.std.proofs.Common.{take}
-use Rattle.moo_store.specs.Printed.{PrintEach}
+use Rattle.moo_store.proofs.Words.{take, PrintEach}
 use Rattle.moo_store.proofs.printing.print_each.Given as goal
 
 -- so far, the changes that are passed

@@ -1,7 +1,5 @@
+use Rattle.moo_store.proofs.Words.{subst, None, slots_left, PrintEach, PrintsSlot, as_changes}
 use Rattle.std.proofs.lemmas.Result.{IfOk-weaker}
-use Rattle.std.proofs.Common.{subst, None}
-use Rattle.moo_rows.specs.Walk.{slots_left}
-use Rattle.moo_store.specs.Printed.{PrintEach, PrintsSlot, as_changes}
 use Rattle.moo_store.proofs.printing.print_slots.Goals as goal
 
 pub returns : goal.returns

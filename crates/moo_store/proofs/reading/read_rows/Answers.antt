@@ -1,7 +1,4 @@
-use Rattle.std.proofs.Common.{sym, subst}
-use Rattle.sqlite.specs.Held.{state}
-use Rattle.moo_cells.specs.Shows.{ShowsRows}
-use Rattle.moo_store.specs.Opening.{Says}
+use Rattle.moo_store.proofs.Words.{sym, subst, state, ShowsRows, Says}
 use Rattle.moo_store.proofs.Versions.{version_is}
 use Rattle.moo_store.proofs.reading.read_rows.Goals as goal
 

@@ -1,5 +1,4 @@
-use Rattle.sqlite.specs.Held.{state}
-use Rattle.moo_store.specs.World.{store_of}
+use Rattle.moo_store.proofs.Words.{state, store_of}
 use Rattle.moo_store.proofs.AdoptLemmas.{on_each_ok}
 use Rattle.moo_store.proofs.HeadlineLemmas.{found, holds, led_to}
 use Rattle.moo_store.proofs.reopening.run_and_reopen.Goals as goal

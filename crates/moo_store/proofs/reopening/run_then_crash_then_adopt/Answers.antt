@@ -1,10 +1,4 @@
-use Rattle.std.proofs.Common.{true}
-use Rattle.sqlite.specs.State.{HasCleanDisk, Survives}
-use Rattle.sqlite.specs.Held.{state}
-use Rattle.moo_tables.proofs.InsideLemmas.{clean_before}
-use Rattle.moo_store.specs.States.{ShowsState}
-use Rattle.moo_store.specs.Opening.{IsOfStore, Adopts}
-use Rattle.moo_store.specs.World.{store_of, StandsFor}
+use Rattle.moo_store.proofs.Words.{true, HasCleanDisk, Survives, state, clean_before, ShowsState, IsOfStore, Adopts, store_of, StandsFor}
 use Rattle.moo_store.specs.Reopened.{HoldsAcknowledged}
 use Rattle.moo_store.proofs.AdoptLemmas.{on_both_ok, both_ok, both_err}
 use Rattle.moo_store.proofs.HeadlineLemmas.{found, holds, led_to}

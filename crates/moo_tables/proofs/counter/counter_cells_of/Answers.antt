@@ -1,9 +1,4 @@
-use Rattle.std.proofs.Common.{◌≡◌}
-use Rattle.sqlite.specs.Held.{state}
-use Rattle.moo_tables.specs.declared.version.Version.TheVariants.{Second}
-use Rattle.moo_tables.specs.Tables.{second_schema, petition_head_table}
-use Rattle.moo_tables.specs.Texts.{select_text}
-use Rattle.moo_tables.specs.Listing.{ListsNumbers}
+use Rattle.moo_tables.proofs.Words.{◌≡◌, state, Second, second_schema, petition_head_table, select_text, ListsNumbers}
 use Rattle.moo_tables.proofs.SelectLemmas.{select_counter}
 use Rattle.moo_tables.proofs.ReadLemmas.{reads, fails, lists, plain_of, counter_lists}
 use Rattle.moo_tables.proofs.counter.counter_cells_of.Goals as goal

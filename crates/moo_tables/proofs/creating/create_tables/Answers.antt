@@ -1,5 +1,4 @@
-use Rattle.sqlite.specs.Held.{state}
-use Rattle.moo_tables.specs.Inside.{HasNoTables}
+use Rattle.moo_tables.proofs.Words.{state, HasNoTables}
 use Rattle.moo_tables.proofs.GrowLemmas.{all_made}
 use Rattle.moo_tables.proofs.creating.create_tables.Goals as goal
 

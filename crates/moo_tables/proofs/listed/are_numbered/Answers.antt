@@ -1,7 +1,4 @@
-use Rattle.std.proofs.Common.{rules, ap, option_map}
-use Rattle.sqlite.specs.declared.types.Value.TheVariants.{Int}
-use Rattle.sqlite.specs.Order.{value_cmp}
-use Rattle.sqlite_trees.specs.View.{is_int}
+use Rattle.moo_tables.proofs.Words.{rules, ap, option_map, Int, value_cmp, is_int}
 use Rattle.moo_tables.proofs.ListedLemmas.{has_number, number_in, goes_on, ends_low, reads_all, numbers_keyed, numbers_not_keyed}
 use Rattle.moo_tables.proofs.listed.are_numbered.Goals as goal
 

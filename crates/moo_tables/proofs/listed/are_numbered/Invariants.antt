@@ -1,5 +1,4 @@
-use Rattle.std.proofs.Common.{◌≡◌, None, drop, option_map}
-use Rattle.sqlite.specs.declared.types.Value.TheVariants.{Int}
+use Rattle.moo_tables.proofs.Words.{◌≡◌, None, drop, option_map, Int}
 use Rattle.moo_tables.proofs.ListedLemmas.{numbers_rise}
 use Rattle.moo_tables.proofs.listed.are_numbered.Given as goal
 

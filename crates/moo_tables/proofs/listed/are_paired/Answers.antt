@@ -1,7 +1,4 @@
-use Rattle.std.proofs.Common.{rules, ap, option_map}
-use Rattle.std.proofs.lemmas.Bool.{and_from}
-use Rattle.sqlite_trees.specs.View.{is_int}
-use Rattle.moo_tables.specs.Rising.{pair_cmp, pair_of_ints, has_two_numbers}
+use Rattle.moo_tables.proofs.Words.{rules, ap, option_map, and_from, is_int, pair_cmp, pair_of_ints, has_two_numbers}
 use Rattle.moo_tables.proofs.ListedLemmas.{pair_in, both, goes_on, ends_low, reads_all, pairs_keyed, pairs_not_keyed}
 use Rattle.moo_tables.proofs.listed.are_paired.Goals as goal
 

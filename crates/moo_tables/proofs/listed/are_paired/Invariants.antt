@@ -1,5 +1,4 @@
-use Rattle.std.proofs.Common.{◌≡◌, None, drop, option_map}
-use Rattle.moo_tables.specs.Rising.{pair_of_ints}
+use Rattle.moo_tables.proofs.Words.{◌≡◌, None, drop, option_map, pair_of_ints}
 use Rattle.moo_tables.proofs.ListedLemmas.{pairs_rise}
 use Rattle.moo_tables.proofs.listed.are_paired.Given as goal
 

@@ -1,10 +1,4 @@
-use Rattle.std.proofs.Common.{◌≡◌, rules, arith}
-use Rattle.sqlite.specs.Held.{state}
-use Rattle.sqlite.specs.State.{HasCleanDisk}
-use Rattle.moo_tables.specs.declared.version.Version.TheVariants.{First}
-use Rattle.moo_tables.specs.Cells.{migrated}
-use Rattle.moo_tables.specs.Tables.{Tables}
-use Rattle.moo_tables.specs.Inside.{Holds}
+use Rattle.moo_tables.proofs.Words.{◌≡◌, rules, arith, state, HasCleanDisk, First, migrated, Tables, Holds}
 use Rattle.moo_tables.proofs.MigrateLemmas.{rests_then, empty_then}
 use Rattle.moo_tables.proofs.migrating.migrate.Goals as goal
 

@@ -1,8 +1,4 @@
-use Rattle.std.proofs.Common.{refl}
-use Rattle.sqlite.specs.Held.{state}
-use Rattle.moo_tables.specs.Tables.{schema_of, object_table}
-use Rattle.moo_tables.specs.Texts.{select_text}
-use Rattle.moo_tables.specs.Listing.{ListsNumbers}
+use Rattle.moo_tables.proofs.Words.{refl, state, schema_of, object_table, select_text, ListsNumbers}
 use Rattle.moo_tables.proofs.SelectLemmas.{select_object}
 use Rattle.moo_tables.proofs.ReadLemmas.{reads, fails, lists, plain_of, object_lists}
 use Rattle.moo_tables.proofs.object.object_cells_of.Goals as goal

@@ -1,6 +1,4 @@
-use Rattle.std.proofs.Common.{rules, ◌≡◌, ◌⊎◌, Result, Ok, Err, OnErr, false, refl, inl, ◌∙◌}
-use Rattle.sqlite.specs.Held.{state}
-use Rattle.sqlite.specs.State.{HasCleanDisk, IsUnchanged, IsRolledBack}
+use Rattle.moo_tables.proofs.Words.{rules, ◌≡◌, ◌⊎◌, Result, Ok, Err, OnErr, false, refl, inl, ◌∙◌, state, HasCleanDisk, IsUnchanged, IsRolledBack}
 use Rattle.moo_tables.proofs.StreamLemmas.{IsGiving, begins, refused, survives_on, failed_on, unchanged_on, gives_on, shown_on}
 use Rattle.moo_tables.proofs.query.all_rows.Goals as goal
 

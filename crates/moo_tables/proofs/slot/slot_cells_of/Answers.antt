@@ -1,12 +1,4 @@
-use Rattle.std.proofs.Common.{◌≡◌, sym, subst, ◌∙◌}
-use Rattle.sqlite.specs.Held.{state}
-use Rattle.sqlite.specs.Listing.{understood}
-use Rattle.sqlite.proofs.Callers.{IsPlain}
-use Rattle.moo_tables.specs.declared.version.Version.{Version}
-use Rattle.moo_tables.specs.declared.version.Version.TheVariants.{First, Second}
-use Rattle.moo_tables.specs.Tables.{schema_of}
-use Rattle.moo_tables.specs.Texts.{select_text}
-use Rattle.moo_tables.specs.Listing.{ListsPairs}
+use Rattle.moo_tables.proofs.Words.{◌≡◌, sym, subst, ◌∙◌, state, understood, IsPlain, Version, First, Second, schema_of, select_text, ListsPairs}
 use Rattle.moo_tables.proofs.SelectLemmas.{slots_table, select_slot}
 use Rattle.moo_tables.proofs.ReadLemmas.{reads, fails, lists, plain_of, slot_lists}
 use Rattle.moo_tables.proofs.slot.slot_cells_of.Goals as goal

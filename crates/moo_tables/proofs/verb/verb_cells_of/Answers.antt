@@ -1,8 +1,4 @@
-use Rattle.std.proofs.Common.{refl}
-use Rattle.sqlite.specs.Held.{state}
-use Rattle.moo_tables.specs.Tables.{schema_of, verb_table}
-use Rattle.moo_tables.specs.Texts.{select_text}
-use Rattle.moo_tables.specs.Listing.{ListsPairs}
+use Rattle.moo_tables.proofs.Words.{refl, state, schema_of, verb_table, select_text, ListsPairs}
 use Rattle.moo_tables.proofs.SelectLemmas.{select_verb}
 use Rattle.moo_tables.proofs.ReadLemmas.{reads, fails, lists, plain_of, verb_lists}
 use Rattle.moo_tables.proofs.verb.verb_cells_of.Goals as goal

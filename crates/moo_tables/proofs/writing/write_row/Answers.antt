@@ -1,6 +1,4 @@
-use Rattle.std.proofs.Common.{subst, sym, OnOk}
-use Rattle.sqlite.specs.Held.{state}
-use Rattle.moo_tables.specs.Inside.{Changes}
+use Rattle.moo_tables.proofs.Words.{subst, sym, OnOk, state, Changes}
 use Rattle.moo_tables.proofs.writing.write_row.Goals as goal
 
 pub returns-in-Some-clause-written : goal.returns-in-Some-clause-written

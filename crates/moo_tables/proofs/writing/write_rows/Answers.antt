@@ -1,8 +1,4 @@
-use Rattle.std.proofs.Common.{◌∙◌, take, subst, sym}
-use Rattle.std.proofs.lemmas.List.{take_all}
-use Rattle.sqlite.specs.Held.{state}
-use Rattle.moo_tables.specs.Cells.{with_each}
-use Rattle.moo_tables.specs.Inside.{Sees, KeepsSlot}
+use Rattle.moo_tables.proofs.Words.{◌∙◌, take, subst, sym, take_all, state, with_each, Sees, KeepsSlot}
 use Rattle.moo_tables.proofs.InsideLemmas.{stays_then, changes_then}
 use Rattle.moo_tables.proofs.ChangeLemmas.{fold_more}
 use Rattle.moo_tables.proofs.writing.write_rows.Goals as goal

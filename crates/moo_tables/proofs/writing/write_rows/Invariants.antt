@@ -1,7 +1,4 @@
-use Rattle.std.proofs.Common.{◌≡◌, take}
-use Rattle.sqlite.specs.Held.{state}
-use Rattle.moo_tables.specs.Inside.{StaysInside, Changes}
-use Rattle.moo_tables.specs.Cells.{with_each}
+use Rattle.moo_tables.proofs.Words.{◌≡◌, take, state, StaysInside, Changes, with_each}
 use Rattle.moo_tables.proofs.writing.write_rows.Given as goal
 
 abbrev pub invariant-loop-change : goal.invariant-loop-change

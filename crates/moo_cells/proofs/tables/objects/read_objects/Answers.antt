@@ -1,11 +1,4 @@
-use Rattle.std.proofs.Common.{rules, ◌≡◌, ◌∷◌, sym, length, refl, ap, ◌∙◌, w64, arith}
-use Rattle.std.specs.Vec.Iter.{into_iter_items, into_iter_len}
-use Rattle.std.proofs.lemmas.Int.{to_z-of_z}
-use Rattle.sqlite.specs.Order.{column}
-use Rattle.moo_rows.proofs.Orders.{object_total}
-use Rattle.moo_rows.specs.Exact.{object_exact}
-use Rattle.moo_rows.specs.Maps.{Maps}
-use Rattle.moo_damage.specs.declared.kind.Key.TheVariants.{Object}
+use Rattle.moo_cells.proofs.Words.{rules, ◌≡◌, ◌∷◌, sym, length, refl, ap, ◌∙◌, w64, arith, into_iter_items, into_iter_len, to_z-of_z, column, object_total, object_exact, Maps, Object}
 use Rattle.moo_cells.proofs.Keys.{objects_bear, self_tied}
 use Rattle.moo_cells.proofs.Table.{held_none, held_more, held_first, takes_next, takes_on, took_all}
 use Rattle.moo_cells.proofs.tables.objects.read_objects.Goals as goal

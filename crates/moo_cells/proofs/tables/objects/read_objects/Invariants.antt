@@ -1,8 +1,4 @@
-use Rattle.std.proofs.Common.{◌≡◌, ◌++◌, length}
-use Rattle.std.specs.Vec.Iter.{into_iter_items, into_iter_len}
-use Rattle.sqlite.specs.Tree.{has_rowid}
-use Rattle.moo_cells.specs.Reading.{ReadsObject}
-use Rattle.moo_cells.specs.Holding.{object_number, HoldsTable}
+use Rattle.moo_cells.proofs.Words.{◌≡◌, ◌++◌, length, into_iter_items, into_iter_len, has_rowid, ReadsObject, object_number, HoldsTable}
 use Rattle.moo_cells.proofs.tables.objects.read_objects.Given as goal
 
 abbrev pub invariant-loop-row : goal.invariant-loop-row

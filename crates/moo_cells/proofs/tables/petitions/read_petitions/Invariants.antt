@@ -1,8 +1,4 @@
-use Rattle.std.proofs.Common.{◌≡◌, ◌++◌, length}
-use Rattle.std.specs.Vec.Iter.{into_iter_items, into_iter_len}
-use Rattle.sqlite.specs.Tree.{has_rowid}
-use Rattle.moo_cells.specs.Reading.{ReadsPetition}
-use Rattle.moo_cells.specs.Holding.{petition_number, HoldsTable}
+use Rattle.moo_cells.proofs.Words.{◌≡◌, ◌++◌, length, into_iter_items, into_iter_len, has_rowid, ReadsPetition, petition_number, HoldsTable}
 use Rattle.moo_cells.proofs.tables.petitions.read_petitions.Given as goal
 
 abbrev pub invariant-loop-row : goal.invariant-loop-row

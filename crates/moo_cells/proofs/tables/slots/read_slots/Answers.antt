@@ -1,10 +1,4 @@
-use Rattle.std.proofs.Common.{rules, ◌≡◌, ◌∷◌, sym, length, refl, ap, ◌∙◌, w64, arith}
-use Rattle.std.specs.Vec.Iter.{into_iter_items, into_iter_len}
-use Rattle.std.proofs.lemmas.Int.{to_z-of_z}
-use Rattle.moo_rows.proofs.Orders.{slot_total}
-use Rattle.moo_rows.specs.Exact.{slot_exact}
-use Rattle.moo_rows.specs.Maps.{Maps}
-use Rattle.moo_damage.specs.declared.kind.Key.TheVariants.{Slot}
+use Rattle.moo_cells.proofs.Words.{rules, ◌≡◌, ◌∷◌, sym, length, refl, ap, ◌∙◌, w64, arith, into_iter_items, into_iter_len, to_z-of_z, slot_total, slot_exact, Maps, Slot}
 use Rattle.moo_cells.proofs.Keys.{slots_bear, pair_mine}
 use Rattle.moo_cells.proofs.Table.{held_none, held_more, held_first, takes_next, takes_on, took_all}
 use Rattle.moo_cells.proofs.tables.slots.read_slots.Goals as goal

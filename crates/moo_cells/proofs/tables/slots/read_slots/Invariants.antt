@@ -1,8 +1,4 @@
-use Rattle.std.proofs.Common.{◌≡◌, ◌++◌, length}
-use Rattle.std.specs.Vec.Iter.{into_iter_items, into_iter_len}
-use Rattle.moo_tables.specs.Listing.{has_key_pair}
-use Rattle.moo_cells.specs.Reading.{ReadsSlot}
-use Rattle.moo_cells.specs.Holding.{slot_number, HoldsTable}
+use Rattle.moo_cells.proofs.Words.{◌≡◌, ◌++◌, length, into_iter_items, into_iter_len, has_key_pair, ReadsSlot, slot_number, HoldsTable}
 use Rattle.moo_cells.proofs.tables.slots.read_slots.Given as goal
 
 abbrev pub invariant-loop-row : goal.invariant-loop-row

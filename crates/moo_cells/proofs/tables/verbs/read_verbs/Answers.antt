@@ -1,10 +1,4 @@
-use Rattle.std.proofs.Common.{rules, ◌≡◌, ◌∷◌, sym, length, refl, ap, ◌∙◌, w64, arith}
-use Rattle.std.specs.Vec.Iter.{into_iter_items, into_iter_len}
-use Rattle.std.proofs.lemmas.Int.{to_z-of_z}
-use Rattle.moo_rows.proofs.Orders.{verb_total}
-use Rattle.moo_rows.specs.Exact.{verb_exact}
-use Rattle.moo_rows.specs.Maps.{Maps}
-use Rattle.moo_damage.specs.declared.kind.Key.TheVariants.{Verb}
+use Rattle.moo_cells.proofs.Words.{rules, ◌≡◌, ◌∷◌, sym, length, refl, ap, ◌∙◌, w64, arith, into_iter_items, into_iter_len, to_z-of_z, verb_total, verb_exact, Maps, Verb}
 use Rattle.moo_cells.proofs.Keys.{verbs_bear, pair_mine}
 use Rattle.moo_cells.proofs.Table.{held_none, held_more, held_first, takes_next, takes_on, took_all}
 use Rattle.moo_cells.proofs.tables.verbs.read_verbs.Goals as goal

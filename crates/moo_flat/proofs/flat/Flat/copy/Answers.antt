@@ -1,15 +1,8 @@
-use Rattle.std.proofs.Common.{rules, ap, ◌∙◌, sym, subst, refl}
-use Rattle.std.specs.Prelude.{⊤}
-use Rattle.std.specs.FinMap.{get}
-use Rattle.moo_ordered.specs.Ordered.{contents}
-use Rattle.moo_rows.specs.Links.{AreCovered, AreOfDefiners}
+use Rattle.moo_flat.proofs.Words.{rules, ap, ◌∙◌, sym, subst, refl, ⊤, get, contents, AreCovered, AreOfDefiners, ObjNo, PropId, Held, object_cmp, prop_cmp, slot_cmp}
 use Rattle.std.proofs.lemmas.Map.Entries.{entries_from_clone}
 use Rattle.std.specs.FinMap as map
-use Rattle.moo_value.specs.declared.value.ObjNo.{ObjNo}
-use Rattle.moo_rows.specs.declared.row.PropId.{PropId}
 use Rattle.moo_rows.specs.declared.row.VerbId.{VerbId}
 use Rattle.moo_rows.specs.declared.row.PetitionId.{PetitionId}
-use Rattle.moo_rows.specs.Maps.{Held, object_cmp, prop_cmp, slot_cmp}
 use Rattle.moo_rows.specs.ObjectRow.{object_clone}
 use Rattle.moo_rows.specs.SameClones.{prop_clone, slot_clone, verb_clone, petition_clone}
 use Rattle.moo_flat.proofs.flat.Flat.copy.Goals as goal

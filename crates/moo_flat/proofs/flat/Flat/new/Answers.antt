@@ -1,7 +1,4 @@
-use Rattle.std.proofs.Common.{ap, ◌∙◌}
-use Rattle.std.specs.FinMap.{get, get-empty, from_entries}
-use Rattle.moo_rows.specs.Maps.{object_cmp, prop_cmp}
-use Rattle.moo_rows.specs.Links.{row_has, row_defined}
+use Rattle.moo_flat.proofs.Words.{ap, ◌∙◌, get, get-empty, from_entries, object_cmp, prop_cmp, row_has, row_defined}
 use Rattle.moo_flat.proofs.flat.Flat.new.Goals as goal
 
 pub invariant_of-result : goal.invariant_of-result

@@ -1,9 +1,4 @@
-use Rattle.std.proofs.Common.{Option, ◌-◌}
-use Rattle.std.specs.FinMap.{get}
-use Rattle.moo_rows.specs.declared.row.PropId.{PropId}
-use Rattle.moo_ordered.specs.Ordered.{contents}
-use Rattle.moo_rows.specs.Maps.{prop_cmp}
-use Rattle.moo_rows.specs.Links.{IsFirst, row_defined}
+use Rattle.moo_flat.proofs.Words.{Option, ◌-◌, get, PropId, contents, prop_cmp, IsFirst, row_defined}
 use Rattle.moo_flat.proofs.flat.FlatRows.next_defined.Given as goal
 
 -- what is first past `last` is first past `after`

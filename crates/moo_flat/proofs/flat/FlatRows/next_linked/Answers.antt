@@ -1,13 +1,5 @@
-use Rattle.std.proofs.Common.{◌≡◌, true, false, Some, None, rules}
-use Rattle.std.specs.FinMap.{get}
-use Rattle.moo_value.specs.declared.value.ObjNo.{ObjNo}
-use Rattle.moo_ordered.specs.Ordered.{contents}
-use Rattle.moo_rows.specs.Maps.{object_cmp}
+use Rattle.moo_flat.proofs.Words.{◌≡◌, true, false, Some, None, rules, get, ObjNo, contents, object_cmp, is_candidate, row_has, object_total, candidate-covers, first-none, first-found, first-skipped}
 use Rattle.moo_rows.specs.Exact.{object_exact}
-use Rattle.moo_rows.specs.Links.{is_candidate, row_has}
-use Rattle.moo_rows.proofs.Orders.{object_total}
-use Rattle.moo_rows.proofs.Linking.{candidate-covers}
-use Rattle.moo_rows.proofs.Firsts.{first-none, first-found, first-skipped}
 use Rattle.moo_flat.proofs.flat.FlatRows.next_linked.Goals as goal
 
 pub returns-in-None : goal.returns-in-None

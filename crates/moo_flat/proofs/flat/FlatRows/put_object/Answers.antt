@@ -1,11 +1,5 @@
-use Rattle.std.proofs.Common.{◌≡◌, Some, ap, ◌∙◌, rules}
-use Rattle.std.specs.FinMap.{get, get-insert}
-use Rattle.moo_ordered.specs.Ordered.{contents}
-use Rattle.moo_rows.specs.Maps.{object_cmp}
-use Rattle.moo_rows.specs.Links.{has_link, ties_of}
-use Rattle.moo_rows.proofs.Orders.{object_total}
+use Rattle.moo_flat.proofs.Words.{◌≡◌, Some, ap, ◌∙◌, rules, get, get-insert, contents, object_cmp, has_link, ties_of, object_total, covered-put, covered-there, stays-there}
 use Rattle.std.specs.Option.{option_map}
-use Rattle.moo_rows.proofs.Linking.{covered-put, covered-there, stays-there}
 use Rattle.moo_flat.proofs.flat.FlatRows.put_object.Goals as goal
 
 pub invariant_of-self-then-are_same : goal.invariant_of-self-then-are_same

@@ -1,6 +1,4 @@
-use Rattle.std.proofs.Common.{ap, ◌∙◌}
-use Rattle.moo_ordered.specs.Ordered.{contents}
-use Rattle.moo_rows.specs.Maps.{Held, no_maps, object_cmp, prop_cmp, slot_cmp, verb_cmp, with_petition}
+use Rattle.moo_flat.proofs.Words.{ap, ◌∙◌, contents, Held, no_maps, object_cmp, prop_cmp, slot_cmp, verb_cmp, with_petition}
 use Rattle.moo_flat.proofs.flat.FlatRows.put_petition.Goals as goal
 
 -- (not by `search`, which takes the keys of properties for those of petitions)

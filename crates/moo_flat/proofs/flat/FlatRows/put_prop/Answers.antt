@@ -1,12 +1,4 @@
-use Rattle.std.proofs.Common.{sym, ap, ◌∙◌}
-use Rattle.std.specs.Prelude.{is_some}
-use Rattle.std.specs.FinMap.{get, get-insert}
-use Rattle.moo_ordered.specs.Ordered.{contents}
-use Rattle.moo_rows.specs.Maps.{prop_cmp, slot_cmp}
-use Rattle.moo_rows.specs.Links.{row_defined}
-use Rattle.moo_rows.proofs.Orders.{prop_total, slot_total}
-use Rattle.moo_rows.proofs.Firsts.{lacked-insert}
-use Rattle.moo_rows.proofs.Linking.{defined-put}
+use Rattle.moo_flat.proofs.Words.{sym, ap, ◌∙◌, is_some, get, get-insert, contents, prop_cmp, slot_cmp, row_defined, prop_total, slot_total, lacked-insert, defined-put}
 use Rattle.moo_flat.proofs.flat.FlatRows.put_prop.Goals as goal
 
 pub invariant_of-self-in_err-put-2 : goal.invariant_of-self-in_err-put-2

@@ -1,9 +1,4 @@
-use Rattle.std.proofs.Common.{ap, ◌∙◌}
-use Rattle.std.specs.FinMap.{get, get-remove}
-use Rattle.moo_ordered.specs.Ordered.{contents}
-use Rattle.moo_rows.specs.Maps.{object_cmp}
-use Rattle.moo_rows.proofs.Orders.{object_total}
-use Rattle.moo_rows.proofs.Linking.{covered-remove}
+use Rattle.moo_flat.proofs.Words.{ap, ◌∙◌, get, get-remove, contents, object_cmp, object_total, covered-remove}
 use Rattle.moo_flat.proofs.flat.FlatRows.remove_object.Goals as goal
 
 pub invariant_of-self : goal.invariant_of-self

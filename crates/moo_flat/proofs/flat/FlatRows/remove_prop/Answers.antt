@@ -1,9 +1,4 @@
-use Rattle.std.proofs.Common.{ap, ◌∙◌}
-use Rattle.std.specs.FinMap.{get, get-remove}
-use Rattle.moo_ordered.specs.Ordered.{contents}
-use Rattle.moo_rows.specs.Maps.{prop_cmp, slot_cmp}
-use Rattle.moo_rows.proofs.Orders.{prop_total}
-use Rattle.moo_rows.proofs.Linking.{defined-remove}
+use Rattle.moo_flat.proofs.Words.{ap, ◌∙◌, get, get-remove, contents, prop_cmp, slot_cmp, prop_total, defined-remove}
 use Rattle.moo_flat.proofs.flat.FlatRows.remove_prop.Goals as goal
 
 pub invariant_of-self : goal.invariant_of-self

@@ -1,12 +1,4 @@
-use Rattle.std.proofs.Common.{sym, ap, ◌∙◌}
-use Rattle.std.specs.FinMap.{get}
-use Rattle.std.specs.Prelude.{is_some}
-use Rattle.moo_ordered.specs.Ordered.{contents}
-use Rattle.moo_rows.specs.Maps.{object_cmp}
-use Rattle.moo_rows.specs.Links.{LinkSets, tie_cmp, may_have, is_kept}
-use Rattle.moo_rows.proofs.Orders.{object_total, tie_total}
-use Rattle.moo_rows.proofs.Firsts.{lacked-put, has-insert, on_ok}
-use Rattle.moo_rows.proofs.Linking.{more-parents, more-places, more-players, may-as-kept, kept-may}
+use Rattle.moo_flat.proofs.Words.{sym, ap, ◌∙◌, get, is_some, contents, object_cmp, LinkSets, tie_cmp, may_have, is_kept, object_total, tie_total, lacked-put, has-insert, on_ok, more-parents, more-places, more-players, may-as-kept, kept-may}
 use Rattle.moo_flat.proofs.links.Links.add_one.Goals as goal
 
 pub returns-in-ChildOf-clause-others : goal.returns-in-ChildOf-clause-others

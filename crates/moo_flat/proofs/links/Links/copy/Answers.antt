@@ -1,8 +1,6 @@
-use Rattle.std.proofs.Common.{rules, ◌∙◌, refl}
+use Rattle.moo_flat.proofs.Words.{rules, ◌∙◌, refl, ⊤, ObjNo}
 use Rattle.std.proofs.lemmas.Map.Entries.{entries_from_clone}
 use Rattle.std.specs.FinMap as map
-use Rattle.std.specs.Prelude.{⊤}
-use Rattle.moo_value.specs.declared.value.ObjNo.{ObjNo}
 use Rattle.moo_flat.proofs.links.Links.copy.Goals as goal
 
 -- clones of equal keys leave equal maps

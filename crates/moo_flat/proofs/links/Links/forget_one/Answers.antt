@@ -1,9 +1,4 @@
-use Rattle.std.proofs.Common.{sym, ap, ◌∙◌}
-use Rattle.moo_ordered.specs.Ordered.{contents}
-use Rattle.moo_rows.specs.Maps.{object_cmp}
-use Rattle.moo_rows.specs.Links.{LinkSets, tie_cmp, may_have, is_kept}
-use Rattle.moo_rows.proofs.Linking.{less-parents, less-places, less-players, may-as-kept}
-use Rattle.moo_rows.specs.Links.{ties_have}
+use Rattle.moo_flat.proofs.Words.{sym, ap, ◌∙◌, contents, object_cmp, LinkSets, tie_cmp, may_have, is_kept, less-parents, less-places, less-players, may-as-kept, ties_have}
 use Rattle.moo_flat.proofs.links.Links.forget_one.Goals as goal
 
 pub returns-in-ChildOf : goal.returns-in-ChildOf

@@ -1,8 +1,4 @@
-use Rattle.std.proofs.Common.{ap, ◌∙◌}
-use Rattle.std.specs.FinMap.{get, get-empty, from_entries}
-use Rattle.moo_rows.specs.Maps.{object_cmp}
-use Rattle.moo_rows.specs.Links.{tie_cmp}
-use Rattle.moo_rows.proofs.Linking.{none-may}
+use Rattle.moo_flat.proofs.Words.{ap, ◌∙◌, get, get-empty, from_entries, object_cmp, tie_cmp, none-may}
 use Rattle.moo_flat.proofs.links.Links.new.Goals as goal
 
 pub returns : goal.returns

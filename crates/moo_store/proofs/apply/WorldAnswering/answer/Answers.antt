@@ -1,5 +1,4 @@
-use Rattle.std.proofs.Common.{sym, subst}
-use Rattle.moo_store.specs.Text.{StandsBehind}
+use Rattle.moo_store.proofs.Words.{sym, subst, StandsBehind}
 use Rattle.moo_store.proofs.apply.WorldAnswering.answer.Goals as goal
 
 pub returns : goal.returns

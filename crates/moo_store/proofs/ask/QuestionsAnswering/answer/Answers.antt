@@ -1,5 +1,4 @@
-use Rattle.std.proofs.Common.{refl, sym, subst}
-use Rattle.moo_store.specs.Stand.{AsksBatch}
+use Rattle.moo_store.proofs.Words.{refl, sym, subst, AsksBatch}
 use Rattle.moo_store.proofs.Asking.{asked_one}
 use Rattle.moo_store.proofs.ask.QuestionsAnswering.answer.Goals as goal
 

@@ -1,12 +1,4 @@
-use Rattle.std.proofs.Common.{sym, subst}
-use Rattle.std.specs.Prelude.{OnOk, IsTrue}
-use Rattle.sqlite.specs.Held.{state}
-use Rattle.sqlite.specs.State.{HasCleanDisk}
-use Rattle.moo_tables.specs.Tables.{Tables}
-use Rattle.moo_tables.specs.Inside.{Rests}
-use Rattle.moo_cells.specs.Shows.{ShowsRows}
-use Rattle.moo_store.specs.Kept.{World}
-use Rattle.moo_store.specs.World.{store_of, StandsFor}
+use Rattle.moo_store.proofs.Words.{sym, subst, OnOk, IsTrue, state, HasCleanDisk, Tables, Rests, ShowsRows, World, store_of, StandsFor}
 use Rattle.moo_store.proofs.CheckLemmas.{works_on, stands_on}
 use Rattle.moo_store.proofs.world.World.check.Goals as goal
 

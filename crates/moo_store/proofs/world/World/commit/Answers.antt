@@ -1,21 +1,6 @@
-use Rattle.std.proofs.Common.{◌≡◌, ◌⊎◌, false, Some, IsTrue, refl, sym, ap, subst}
-use Rattle.sqlite.specs.Held.{state}
-use Rattle.sqlite.specs.State.{HasCleanDisk}
-use Rattle.moo_world.specs.Rows.{IsGood}
-use Rattle.moo_world.specs.Judge.{state_of}
-use Rattle.moo_draft.specs.Changes.{AreChanges}
-use Rattle.moo_store.specs.Kept.{World}
-use Rattle.moo_store.specs.Printed.{Prints}
-use Rattle.moo_store.specs.World.{store_of, ShowsItsRows, IsAt}
-use Rattle.moo_store.specs.States.{KeepsRows, LeavesRows}
-use Rattle.moo_tables.specs.Tables.{Tables}
-use Rattle.moo_tables.specs.Inside.{Rests}
-use Rattle.moo_store.specs.Untouched.{KeepsCells}
-use Rattle.moo_cells.specs.Shows.{ShowsRows}
+use Rattle.moo_store.proofs.Words.{◌≡◌, ◌⊎◌, false, Some, IsTrue, refl, sym, ap, subst, state, HasCleanDisk, IsGood, state_of, AreChanges, World, Prints, store_of, ShowsItsRows, IsAt, KeepsRows, LeavesRows, Tables, Rests, KeepsCells, ShowsRows, KeepsFaults, IsStopped, Store}
 use Rattle.moo_store.proofs.Crashes.{rows_left, keeps_state, rows_written}
 use Rattle.moo_store.proofs.Running.{when_ok}
-use Rattle.moo_store.specs.Stopped.{KeepsFaults, IsStopped}
-use Rattle.moo_store.specs.declared.fault.StoreFault.TheVariants.{Store}
 use Rattle.moo_store.proofs.world.World.commit.Goals as goal
 use Rattle.moo_store.proofs.world.World.commit.Goals.{then-is_err, else-is_err}
 

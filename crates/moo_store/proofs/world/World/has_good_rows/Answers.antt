@@ -1,6 +1,4 @@
-use Rattle.std.proofs.Common.{◌≡◌, false, subst}
-use Rattle.moo_world.specs.Rows.{IsGood}
-use Rattle.moo_store.specs.Kept.{World}
+use Rattle.moo_store.proofs.Words.{◌≡◌, false, subst, IsGood, World}
 use Rattle.moo_store.proofs.world.World.has_good_rows.Goals as goal
 
 pub returns : goal.returns

@@ -1,6 +1,4 @@
-use Rattle.std.proofs.Common.{refl}
-use Rattle.sqlite.specs.Held.{state}
-use Rattle.moo_world.specs.Judge.{state_of}
+use Rattle.moo_store.proofs.Words.{refl, state, state_of}
 use Rattle.moo_store.proofs.Crashes.{keeps_state}
 use Rattle.moo_store.proofs.world.World.over.Goals as goal
 

@@ -1,13 +1,6 @@
-use Rattle.std.proofs.Common.{◌≡◌, ◌+◌, vec_len, refl, sym, ◌∙◌, subst, arith, true, false, Ok, Err}
-use Rattle.std.specs.Prelude.{⊤}
-use Rattle.moo_store.specs.declared.fault.StoreFault.TheVariants.{OutOfMemory, Closed}
+use Rattle.moo_store.proofs.Words.{◌≡◌, ◌+◌, vec_len, refl, sym, ◌∙◌, subst, arith, true, false, Ok, Err, ⊤, OutOfMemory, Closed, acknowledged, added, LeavesLed, store_of, World, IsGood}
 use Rattle.moo_store.proofs.Running.{when_ok, starts, goes_on, answers, is_at_end, stops, left_at, fails_of, runs_one, runs_through, runs_stopped, next_in_hand, fewer}
 use Rattle.moo_store.proofs.Untouched.{is_over, wrote_at_start, wrote_on, wrote_stopped, same_stopped, led_over, led_stopped}
-use Rattle.moo_store.specs.Answered.{acknowledged, added}
-use Rattle.moo_store.specs.Led.{LeavesLed}
-use Rattle.moo_store.specs.World.{store_of}
-use Rattle.moo_store.specs.Kept.{World}
-use Rattle.moo_world.specs.Rows.{IsGood}
 use Rattle.moo_store.proofs.Stopped.{faults_same, faults_then, stopped_since, was_open}
 use Rattle.moo_store.proofs.world.World.run.Goals as goal
 

@@ -1,9 +1,6 @@
-use Rattle.std.proofs.Common.{◌≤◌, ◌+◌, ◌-◌, length, vec_len, vec_capacity}
-use Rattle.moo_store.specs.Answered.{added}
+use Rattle.moo_store.proofs.Words.{◌≤◌, ◌+◌, ◌-◌, length, vec_len, vec_capacity, added, KeepsFaults, store_of}
 use Rattle.moo_store.proofs.Running.{Progress}
 use Rattle.moo_store.proofs.Untouched.{Wrote}
-use Rattle.moo_store.specs.Stopped.{KeepsFaults}
-use Rattle.moo_store.specs.World.{store_of}
 use Rattle.moo_store.proofs.world.World.run.Given as goal
 
 abbrev pub invariant-loop-batch : goal.invariant-loop-batch

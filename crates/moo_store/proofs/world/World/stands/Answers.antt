@@ -1,8 +1,4 @@
-use Rattle.std.proofs.Common.{◌≡◌, Bool, IsTrue, false, refl, subst}
-use Rattle.sqlite.specs.Held.{state}
-use Rattle.moo_world.specs.Judge.{state_of}
-use Rattle.moo_store.specs.Kept.{World}
-use Rattle.moo_store.specs.World.{ShowsItsRows, StandsFor}
+use Rattle.moo_store.proofs.Words.{◌≡◌, Bool, IsTrue, false, refl, subst, state, state_of, World, ShowsItsRows, StandsFor}
 use Rattle.moo_store.proofs.Crashes.{keeps_state}
 use Rattle.moo_store.proofs.world.World.stands.Goals as goal
 

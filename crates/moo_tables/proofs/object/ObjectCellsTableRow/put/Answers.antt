@@ -1,6 +1,4 @@
-use Rattle.std.proofs.Common.{ap, ◌∙◌}
-use Rattle.sqlite.specs.declared.types.Value.TheVariants.{Text}
-use Rattle.moo_tables.specs.Object.{object_row}
+use Rattle.moo_tables.proofs.Words.{ap, ◌∙◌, Text, object_row}
 use Rattle.moo_tables.proofs.ObjectLemmas.{put, put_fails}
 use Rattle.moo_tables.proofs.RowLemmas.{ran_as}
 use Rattle.moo_tables.proofs.StoppedLemmas.{with_values}
