@@ -1,4 +1,4 @@
-use Rattle.moo_value.proofs.Words.{◌≡◌, ◌+◌, ◌-◌, ◌*◌, ◌<◌, ◌≤◌, ℕ, Bool, true, false, List, length, get_or, drop, Err, refl, sym, ap, subst, ◌∙◌, inl, inr, FitsSigned, pos, to_z, of_z, arith, rules, Ok, ◌-ℤ◌, nat_le, w64, w128, to_z-of_z, cases_lt, OutOfRange, is_digit, signed, an_integer, digits_at, limit}
+use Rattle.moo_value.proofs.Words.{◌≡◌, ◌+◌, ◌-◌, ◌*◌, ◌<◌, ◌≤◌, ℕ, Bool, true, false, List, length, get_or, drop, Err, refl, sym, ap, subst, ◌∙◌, inl, inr, FitsSigned, pos, to_z, of_z, arith, rules, ◌-ℤ◌, nat_le, w64, w128, to_z-of_z, cases_lt, OutOfRange, is_digit, signed, an_integer, digits_at, limit}
 use Rattle.std.proofs.Math.Facts.{sfits_to_z}
 use Rattle.std.proofs.lemmas.List.{at_drop_more}
 use Rattle.moo_value.proofs.Numbers.{size, size-signed, next_is, minus_is, plus_is, digit_fits, grown, limited, unlimited}
