@@ -1,23 +1,11 @@
 -- Where reading a list stops, and any value.
-use Rattle.std.proofs.Common.{◌≡◌, ℕ, ℤ, zero, suc, ◌+◌, ◌-◌, ◌≤◌, Bool, true, false, cond, inl, inr, List, [], ◌∷◌, ◌++◌, length, drop, Ok, Err, refl, sym, ap, subst, ◌∙◌, append_assoc, arith}
-use Rattle.std.specs.Prelude.{◌==◌}
-use Rattle.std.proofs.lemmas.Bool.{eqb-true}
-use Rattle.std.proofs.lemmas.List.{length-append, append-nil, drop_at}
-use Rattle.moo_value.specs.declared.fault.LiteralFault.{LiteralFault}
-use Rattle.moo_value.specs.declared.fault.LiteralFault.TheVariants.{NotALiteral, OutOfRange, BadByte, TooDeep, TooLong, OutOfMemory}
-use Rattle.moo_value.specs.declared.value.Value.{Value}
-use Rattle.moo_value.specs.declared.value.Value.TheVariants.{Int, Obj, Str, Error, List as a_list}
-use Rattle.moo_value.specs.Text.{IsText}
-use Rattle.moo_value.specs.Values.{Values, no_values, int, object, string, error, list, levels}
-use Rattle.moo_value.specs.Value.{prepend, nesting}
-use Rattle.moo_value.specs.Literal.{is_blank, is_digit, is_word, AreBlanks, Comma, SpellsItems, SpellsToken, Spells, HoldInside, HoldIn, NumberKind, an_integer, an_object, InRange, BeginsNo, Ends}
-use Rattle.moo_value.specs.Fault.{NumberBut, TextBut, DepthBut, MayBreak}
-use Rattle.moo_value.specs.Reading.{Read, ◌>>=◌, after_blanks, token_at, opened_at, items_at, value_at}
-use Rattle.moo_value.proofs.Results.{chosen, is_err, no_err, bind_err, bind_which}
-use Rattle.moo_value.proofs.Items.{item_at, first_is, comma_is, no_blank, behind_byte, skipped}
-use Rattle.moo_value.proofs.Literals.{and_others, blanks_taken, blanks_skipped, items_more, item_spelled, item_holds, item_levels, value_taken, takes, value_again, item_front, step_at}
+use Rattle.moo_value.proofs.Words.{◌≡◌, ℕ, zero, suc, ◌+◌, ◌-◌, ◌≤◌, Bool, true, false, inl, inr, List, [], ◌∷◌, ◌++◌, length, drop, Ok, Err, refl, sym, ap, subst, ◌∙◌, append_assoc, arith, ◌==◌, eqb-true, length-append, append-nil, drop_at, LiteralFault, NotALiteral, TooDeep, Value, Int, Obj, Error, a_list, IsText, Values, no_values, levels, prepend, nesting, is_blank, is_digit, is_word, AreBlanks, Comma, SpellsItems, SpellsToken, Spells, HoldInside, HoldIn, InRange, BeginsNo, Ends, NumberBut, TextBut, DepthBut, MayBreak, Read, ◌>>=◌, after_blanks, token_at, opened_at, items_at, value_at, chosen, is_err, no_err, bind_err}
+use Rattle.moo_value.proofs.ReadOrRefused.{all_deep, all_in, value_again}
+use Rattle.moo_value.proofs.Results.{bind_which}
+use Rattle.moo_value.proofs.Items.{item_at, no_blank, skipped}
+use Rattle.moo_value.proofs.Lists.{and_others, blanks_taken, blanks_skipped, items_more, item_spelled, item_holds, item_levels, value_taken, takes, item_front, step_at, item_view}
 use Rattle.moo_value.proofs.Stops.{Stop, SameHead, behind, behind_more, at_once, at_end}
-use Rattle.moo_value.proofs.TokenStops.{Fine, Goes, flat, zero_fits, token_stop}
+use Rattle.moo_value.proofs.Tokens.{Fine, Goes, flat, zero_fits, token_stop}
 
 abbrev pub FineItems : ℕ → Bool → List ℕ → Type 0
 FineItems l first t = (vs : Values) × HoldInside InRange IsText vs × (levels vs ≤ l) × SpellsItems first vs t
@@ -40,50 +28,7 @@ closed_item first v comma t is s = item_spelled first v no_values (comma ++ (t +
 
 pub item_deep : (f : LiteralFault) (v : Value) (vs : Values) (l : ℕ) → DepthBut f l (nesting v) → DepthBut f l (levels vs) → DepthBut f l (levels (prepend v vs))
 item_deep TooDeep v vs l d ds = tt
-item_deep NotALiteral v vs l d ds = item_levels v vs l d ds
-item_deep OutOfRange v vs l d ds = item_levels v vs l d ds
-item_deep BadByte v vs l d ds = item_levels v vs l d ds
-item_deep TooLong v vs l d ds = item_levels v vs l d ds
-item_deep OutOfMemory v vs l d ds = item_levels v vs l d ds
-
-pub all_number : (f : LiteralFault) (kind : NumberKind) (z : ℤ) → InRange kind z → NumberBut f kind z
-all_number OutOfRange kind z h = tt
-all_number NotALiteral kind z h = h
-all_number BadByte kind z h = h
-all_number TooDeep kind z h = h
-all_number TooLong kind z h = h
-all_number OutOfMemory kind z h = h
-
-pub all_text : (f : LiteralFault) (s : List ℕ) → IsText s → TextBut f s
-all_text BadByte s h = tt
-all_text TooLong s h = h.allowed
-all_text NotALiteral s h = h
-all_text OutOfRange s h = h
-all_text TooDeep s h = h
-all_text OutOfMemory s h = h
-
-pub all_deep : (f : LiteralFault) (l d : ℕ) → d ≤ l → DepthBut f l d
-all_deep TooDeep l d h = tt
-all_deep NotALiteral l d h = h
-all_deep OutOfRange l d h = h
-all_deep BadByte l d h = h
-all_deep TooLong l d h = h
-all_deep OutOfMemory l d h = h
-
-all_inside : (f : LiteralFault) (vs : Values) → HoldInside InRange IsText vs → HoldInside (NumberBut f) (TextBut f) vs
-all_inside f no_values h = tt
-all_inside f (int n vs) h = (all_number f an_integer n h.0, all_inside f vs h.1)
-all_inside f (object n vs) h = (all_number f an_object n h.0, all_inside f vs h.1)
-all_inside f (string s vs) h = (all_text f s h.0, all_inside f vs h.1)
-all_inside f (error e vs) h = all_inside f vs h
-all_inside f (list us vs) h = (all_inside f us h.0, all_inside f vs h.1)
-
-all_in : (f : LiteralFault) (v : Value) → HoldIn InRange IsText v → HoldIn (NumberBut f) (TextBut f) v
-all_in f (Int n) h = all_number f an_integer n h
-all_in f (Obj o) h = all_number f an_object o.0 h
-all_in f (Str s) h = all_text f s h
-all_in f (Error e) h = tt
-all_in f (a_list vs) h = all_inside f vs h
+item_deep _ v vs l d ds = item_levels v vs l d ds
 
 ends_on : (v : Value) (rest t : List ℕ) (d : ℕ) (ds : List ℕ) → rest ≡ d ∷ ds → SameHead rest t → Ends v rest → Ends v t
 ends_on v rest t d ds e same h = go v (same d ds e) h
@@ -94,9 +39,8 @@ ends_on v rest t d ds e same h = go v (same d ds e) h
     go : (w : Value) → ((us : List ℕ) × (t ≡ d ∷ us)) → Ends w rest → Ends w t
     go (Int n) s k = one_byte is_digit s k
     go (Obj n) s k = one_byte is_digit s k
-    go (Str n) s k = tt
     go (Error n) s k = one_byte is_word s k
-    go (a_list n) s k = tt
+    go _ s k = tt
 
 blank_stop : (l : ℕ) (first : Bool) (c : ℕ) (cs : List ℕ) (f : LiteralFault) → is_blank c ≡ true → Stop (items_at (value_at l) first zero) (FineItems l first) (GoesItems l first) cs f → Stop (items_at (value_at l) first zero) (FineItems l first) (GoesItems l first) (c ∷ cs) f
 blank_stop l first c cs f here s =
@@ -171,37 +115,17 @@ items_stop : (l : ℕ) → ValueStops l → (first : Bool) (k : ℕ) (b : List �
 items_stop l stops first zero [] f e = at_end (items_at (value_at l) first zero) (FineItems l first) (GoesItems l first) f (nothing_fine l first) (sym (is_err NotALiteral f e))
 items_stop l stops first (suc k) [] f e = at_end (items_at (value_at l) first zero) (FineItems l first) (GoesItems l first) f (nothing_fine l first) (sym (is_err NotALiteral f e))
 items_stop l stops first (suc k) (c ∷ cs) f e = items_stop l stops first k cs f e
-items_stop l stops true zero (c ∷ cs) f e =
-    elim (chosen (is_blank c) (items_at (value_at l) true zero cs) (cond (c == 125) (Ok (no_values, cs)) (step_at l (c ∷ cs) cs)) (Err f) e) [
-      | inl blank ↦ blank_stop l true c cs f blank.0 (items_stop l stops true zero cs f blank.1)
-      | inr other ↦ elim (chosen (c == 125) (Ok (no_values, cs)) (step_at l (c ∷ cs) cs) (Err f) other.1) [
-        | inl ends ↦ absurd (no_err (no_values, cs) f ends.1)
-        | inr value ↦
-            item_stop l stops true [] (c ∷ cs) cs f refl
-            (λ v rest h. let t = takes l (c ∷ cs) v rest h in behind_byte c cs t.0 rest t.1 t.2)
-            (λ t same. let h = same c cs refl in ap (items_at (value_at l) true zero) h.1 ∙ first_is (value_at l) (takes l) c h.0 other.0 value.0 ∙ ap (λ (u : List ℕ). and_others l (value_at l u)) (sym h.1))
-            (λ k h. items_stop l stops false k cs f h) value.1
-      ]
-    ]
-items_stop l stops false zero (c ∷ cs) f e =
-    elim (chosen (is_blank c) (items_at (value_at l) false zero cs) (cond (c == 125) (Ok (no_values, cs)) (cond (c == 44) (step_at l cs cs) (Err NotALiteral))) (Err f) e) [
-      | inl blank ↦ blank_stop l false c cs f blank.0 (items_stop l stops false zero cs f blank.1)
-      | inr other ↦ elim (chosen (c == 125) (Ok (no_values, cs)) (cond (c == 44) (step_at l cs cs) (Err NotALiteral)) (Err f) other.1) [
-        | inl ends ↦ absurd (no_err (no_values, cs) f ends.1)
-        | inr value ↦ elim (chosen (c == 44) (step_at l cs cs) (Err NotALiteral) (Err f) value.1) [
-          | inl comma ↦
-              subst (λ (d : ℕ). Stop (items_at (value_at l) false zero) (FineItems l false) (GoesItems l false) (d ∷ cs) f) (sym (eqb-true c 44 comma.0))
-              (item_stop l stops false (44 ∷ []) cs cs f ([], 44 ∷ [], tt, refl, refl)
-              (λ v rest h. let t = takes l cs v rest h in (t.0, t.1))
-              (λ t same. comma_is (value_at l) (takes l) t)
-              (λ k h. items_stop l stops false k cs f h) comma.1)
-          | inr bad ↦
-              let is : NotALiteral ≡ f = is_err NotALiteral f bad.1 in
-              subst (λ (g : LiteralFault). Stop (items_at (value_at l) false zero) (FineItems l false) (GoesItems l false) (c ∷ cs) g) is
-              (at_once (items_at (value_at l) false zero) (FineItems l false) (GoesItems l false) c cs NotALiteral (nothing_fine l false) (λ any. rw (other.0, value.0, bad.0) refl) (inl refl))
-        ]
-      ]
-    ]
+items_stop l stops first zero (c ∷ cs) f e = elim (item_view l (takes l) first c cs) [
+  | inl blank ↦ blank_stop l first c cs f blank.0 (items_stop l stops first zero cs f (sym blank.1 ∙ e))
+  | inr (inl ends) ↦ absurd (no_err (no_values, cs) f (sym ends.1 ∙ e))
+  | inr (inr (inl v)) ↦
+      subst (λ (u : List ℕ). Stop (items_at (value_at l) first zero) (FineItems l first) (GoesItems l first) u f) (sym v.whole)
+      (item_stop l stops first v.comma v.value cs f v.is v.suffix v.fronts (λ k h. items_stop l stops false k cs f h) (sym v.step ∙ e))
+  | inr (inr (inr bad)) ↦
+      let h : (let r : Read Values = Err NotALiteral in r) ≡ Err f = sym (bad cs) ∙ e in
+      subst (λ (g : LiteralFault). Stop (items_at (value_at l) first zero) (FineItems l first) (GoesItems l first) (c ∷ cs) g) (is_err NotALiteral f h)
+      (at_once (items_at (value_at l) first zero) (FineItems l first) (GoesItems l first) c cs NotALiteral (nothing_fine l first) bad (inl refl))
+]
 
 -- ---- where reading a value stops
 
@@ -249,11 +173,7 @@ spaced_stop l items f stops b w (c ∷ cs) all whole after e =
 
 outer_deep : (f : LiteralFault) (a l : ℕ) → DepthBut f l a → DepthBut f (suc l) (a + 1)
 outer_deep TooDeep a l d = tt
-outer_deep NotALiteral a l d = omega (arith, d)
-outer_deep OutOfRange a l d = omega (arith, d)
-outer_deep BadByte a l d = omega (arith, d)
-outer_deep TooLong a l d = omega (arith, d)
-outer_deep OutOfMemory a l d = omega (arith, d)
+outer_deep _ a l d = omega (arith, d)
 
 pub value_stop : (l : ℕ) → ValueStops l
 value_stop zero b f e =

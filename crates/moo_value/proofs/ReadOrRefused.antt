@@ -1,58 +1,54 @@
 -- A spelling of a value that keeps every limit but one is read, or refused by that limit's fault.
-use Rattle.std.proofs.Common.{◌≡◌, ◌≢◌, ℕ, ℤ, zero, suc, ◌+◌, ◌<◌, ◌≤◌, max, Bool, true, false, cond, ◌⊎◌, inl, inr, List, [], ◌∷◌, ◌++◌, length, Result, Ok, Err, refl, sym, ap, subst, ◌∙◌, append_assoc, arith}
-use Rattle.std.specs.Prelude.{nat_le, ◌==◌}
-use Rattle.std.proofs.lemmas.Bool.{cases_lt}
-use Rattle.std.proofs.lemmas.List.{length-append, append-nil}
-use Rattle.moo_value.specs.declared.fault.LiteralFault.{LiteralFault}
-use Rattle.moo_value.specs.declared.fault.LiteralFault.TheVariants.{NotALiteral, OutOfRange, BadByte, TooDeep, TooLong, OutOfMemory}
-use Rattle.moo_value.specs.declared.value.Value.{Value}
-use Rattle.moo_value.specs.declared.value.Value.TheVariants.{Int, Obj, Str, Error, List as a_list}
-use Rattle.moo_value.specs.Text.{is_allowed}
-use Rattle.moo_value.specs.Values.{Values, no_values, int, object, string, error, list, levels}
-use Rattle.moo_value.specs.Value.{prepend}
-use Rattle.moo_value.specs.Literal.{is_digit, AreDigits, value_after, signed, Item, SpellsNumber, SpellsBytes, SpellsItems, SpellsToken, Spells, HoldInside, HoldIn, NumberKind, an_integer, an_object, InRange, BeginsNo, Ends}
-use Rattle.moo_value.specs.Fault.{NumberBut, TextBut, DepthBut, KeepsBut}
-use Rattle.moo_value.specs.Reading.{Read, ◌>>=◌, limit, after_blanks, some_digits_at, number_at, string_at, token_at, opened_at, items_at, value_at}
-use Rattle.moo_value.proofs.Numbers.{digits_over, unlimited}
-use Rattle.moo_value.proofs.Texts.{AreAllowed, each_allowed}
-use Rattle.moo_value.proofs.Tokens.{number_again, no_minus, first_of_number, IsNoList, token_starts, token_again}
+use Rattle.moo_value.proofs.Words.{◌≡◌, ℕ, ℤ, zero, suc, ◌+◌, ◌<◌, ◌≤◌, Bool, true, false, cond, ◌⊎◌, inl, inr, List, [], ◌∷◌, ◌++◌, length, Result, Ok, Err, refl, sym, ap, subst, ◌∙◌, append_assoc, arith, nat_le, ◌==◌, not, length-append, append-nil, LiteralFault, NotALiteral, OutOfRange, BadByte, TooDeep, TooLong, OutOfMemory, Value, Int, Obj, Str, Error, a_list, is_allowed, IsText, Values, no_values, int, object, string, error, list, levels, prepend, nesting, is_digit, Item, SpellsNumber, SpellsBytes, SpellsItems, SpellsToken, Spells, HoldInside, HoldIn, NumberKind, an_integer, an_object, InRange, BeginsNo, Ends, NumberBut, TextBut, DepthBut, KeepsBut, Read, ◌>>=◌, after_blanks, number_at, string_at, token_at, opened_at, items_at, value_at, AreAllowed}
+use Rattle.moo_value.proofs.Numbers.{number_again, number_either}
+use Rattle.std.proofs.Common.{max}
+use Rattle.moo_value.proofs.Texts.{each_allowed}
+use Rattle.moo_value.proofs.Tokens.{first_of_number, IsNoList, token_starts, name_first, code_again, letter_starts}
+use Rattle.moo_value.specs.Reading.{code_at}
 use Rattle.moo_value.proofs.Items.{spaced_is}
-use Rattle.moo_value.proofs.Literals.{and_others, item_front, items_end, value_spaced}
+use Rattle.moo_value.proofs.Lists.{and_others, item_front, items_end, value_spaced}
+
+-- ---- what is within the limits keeps every one
+
+all_number : (f : LiteralFault) (kind : NumberKind) (z : ℤ) → InRange kind z → NumberBut f kind z
+all_number OutOfRange kind z h = tt
+all_number _ kind z h = h
+
+all_text : (f : LiteralFault) (s : List ℕ) → IsText s → TextBut f s
+all_text BadByte s h = tt
+all_text TooLong s h = h.allowed
+all_text _ s h = h
+
+pub all_deep : (f : LiteralFault) (l d : ℕ) → d ≤ l → DepthBut f l d
+all_deep TooDeep l d h = tt
+all_deep _ l d h = h
+
+all_inside : (f : LiteralFault) (vs : Values) → HoldInside InRange IsText vs → HoldInside (NumberBut f) (TextBut f) vs
+all_inside f no_values h = tt
+all_inside f (int n vs) h = (all_number f an_integer n h.0, all_inside f vs h.1)
+all_inside f (object n vs) h = (all_number f an_object n h.0, all_inside f vs h.1)
+all_inside f (string s vs) h = (all_text f s h.0, all_inside f vs h.1)
+all_inside f (error e vs) h = all_inside f vs h
+all_inside f (list us vs) h = (all_inside f us h.0, all_inside f vs h.1)
+
+pub all_in : (f : LiteralFault) (v : Value) → HoldIn InRange IsText v → HoldIn (NumberBut f) (TextBut f) v
+all_in f (Int n) h = all_number f an_integer n h
+all_in f (Obj o) h = all_number f an_object o.0 h
+all_in f (Str s) h = all_text f s h
+all_in f (Error e) h = tt
+all_in f (a_list vs) h = all_inside f vs h
+
+-- ---- what a limit gives
 
 -- the faults that a limit gives
 abbrev pub Gave : LiteralFault → LiteralFault → Type 0
-Gave OutOfRange f = f ≡ OutOfRange
-Gave BadByte f = (f ≡ BadByte) ⊎ (f ≡ TooLong)
-Gave TooLong f = f ≡ TooLong
-Gave TooDeep f = f ≡ TooDeep
 Gave NotALiteral f = ⊥
 Gave OutOfMemory f = ⊥
+Gave BadByte f = (f ≡ BadByte) ⊎ (f ≡ TooLong)
+Gave g f = f ≡ g
 
 abbrev pub Either : {A : Type 0} → (LiteralFault → Type 0) → Result A LiteralFault → A → Type 0
 Either Gives r x = (r ≡ Ok x) ⊎ ((f : LiteralFault) × Gives f × (r ≡ Err f))
-
--- ---- numbers
-
-some_over : (kind : NumberKind) (negative : Bool) (ds rest : List ℕ) → 0 < length ds → AreDigits ds → limit kind negative < value_after 0 ds → some_digits_at kind negative (ds ++ rest) ≡ Err OutOfRange
-some_over kind negative [] rest some each lt = absurd (omega arith)
-some_over kind negative (d ∷ ds) rest some each lt =
-    let digit : is_digit d ≡ true = each.0 in
-    let over = digits_over kind negative 0 (d ∷ ds) rest each (omega arith) lt in
-    rw digit (rw digit at over)
-
-plain_number : (kind : NumberKind) (ds rest : List ℕ) → 0 < length ds → AreDigits ds → number_at kind (ds ++ rest) ≡ some_digits_at kind false (ds ++ rest)
-plain_number kind [] rest some each = absurd (omega arith)
-plain_number kind (d ∷ ds) rest some each = rw (no_minus d each.0) refl
-
-pub number_either : (kind : NumberKind) (z : ℤ) (t rest : List ℕ) → SpellsNumber z t → BeginsNo is_digit rest → (InRange kind z × (number_at kind (t ++ rest) ≡ Ok (z, rest))) ⊎ (number_at kind (t ++ rest) ≡ Err OutOfRange)
-number_either kind z t rest s ends = by_sign s.negative s.whole s.value (cases_lt (limit kind s.negative) (value_after 0 s.digits))
-  where
-    by_sign : (negative : Bool) → t ≡ cond negative (45 ∷ s.digits) s.digits → z ≡ signed negative (value_after 0 s.digits) → (limit kind negative < value_after 0 s.digits) ⊎ (value_after 0 s.digits ≤ limit kind negative) → (InRange kind z × (number_at kind (t ++ rest) ≡ Ok (z, rest))) ⊎ (number_at kind (t ++ rest) ≡ Err OutOfRange)
-    by_sign negative whole value (inr small) =
-        let fits : InRange kind z = subst (InRange kind) (sym value) (unlimited kind negative (value_after 0 s.digits) small) in
-        inl (fits, number_again kind z t rest s fits ends)
-    by_sign true whole value (inl over) = inr (ap (λ (u : List ℕ). number_at kind (u ++ rest)) whole ∙ some_over kind true s.digits rest s.some s.each over)
-    by_sign false whole value (inl over) = inr (ap (λ (u : List ℕ). number_at kind (u ++ rest)) whole ∙ plain_number kind s.digits rest s.some s.each ∙ some_over kind false s.digits rest s.some s.each over)
 
 -- ---- strings
 
@@ -64,48 +60,37 @@ more_string s c u rest r q e (inl ok) = inl (e ∙ ok ∙ ap (λ (t : List ℕ).
 more_string s c u rest r q e (inr (inl bad)) = inr (inl (e ∙ bad.0, λ all. bad.1 all.1))
 more_string s c u rest r q e (inr (inr long)) = inr (inr (e ∙ long.0, omega (arith, long.1, length-append s (c ∷ []))))
 
+-- a byte behind a backslash, and one by itself
+by_escape : (s : List ℕ) (c : ℕ) (u t rest : List ℕ) → StringOr (s ++ c ∷ []) u rest (string_at false (s ++ c ∷ []) t) → (a l : Bool) → is_allowed c ≡ a → nat_le 65535 (length s) ≡ l
+    → StringOr s (c ∷ u) rest (cond l (Err TooLong) (cond a (string_at false (s ++ c ∷ []) t) (Err BadByte)))
+by_escape s c u t rest next a true here long = inr (inr (refl, let full : 65535 ≤ length s = grind (arith, long) in omega (arith, full)))
+by_escape s c u t rest next false false bad room = inr (inl (refl, λ all. (let here : is_allowed c ≡ true = all.0 in absurd (let k : true ≡ false = sym here ∙ bad in cc))))
+by_escape s c u t rest next true false here room = more_string s c u rest (string_at false (s ++ c ∷ []) t) (string_at false (s ++ c ∷ []) t) refl next
+
+by_itself : (s : List ℕ) (c : ℕ) (u t rest : List ℕ) → StringOr (s ++ c ∷ []) u rest (string_at false (s ++ c ∷ []) t) → (a l : Bool) → is_allowed c ≡ a → nat_le 65535 (length s) ≡ l
+    → StringOr s (c ∷ u) rest (cond (not a) (Err BadByte) (cond l (Err TooLong) (string_at false (s ++ c ∷ []) t)))
+by_itself s c u t rest next false l bad room = inr (inl (refl, λ all. (let here : is_allowed c ≡ true = all.0 in absurd (let k : true ≡ false = sym here ∙ bad in cc))))
+by_itself s c u t rest next true true here long = inr (inr (refl, let full : 65535 ≤ length s = grind (arith, long) in omega (arith, full)))
+by_itself s c u t rest next true false here room = more_string s c u rest (string_at false (s ++ c ∷ []) t) (string_at false (s ++ c ∷ []) t) refl next
+
 string_either : (s u body rest : List ℕ) → SpellsBytes u body → StringOr s u rest (string_at false s (body ++ 34 ∷ rest))
 string_either s [] body rest spelled = inl (rw (spelled, append-nil s) refl)
-string_either s (c ∷ u) body rest spelled = by_form (string_either (s ++ c ∷ []) u spelled.0 rest spelled.1) spelled.2 (is_allowed c) refl (cases_lt (length s) 65535)
-  where
-    by_form : StringOr (s ++ c ∷ []) u rest (string_at false (s ++ c ∷ []) (spelled.0 ++ 34 ∷ rest)) → ((body ≡ 92 ∷ c ∷ spelled.0) ⊎ ((body ≡ c ∷ spelled.0) × (c ≢ 34) × (c ≢ 92))) → (b : Bool) → is_allowed c ≡ b → (length s < 65535) ⊎ (65535 ≤ length s) → StringOr s (c ∷ u) rest (string_at false s (body ++ 34 ∷ rest))
-    by_form ih (inl escaped) true here (inl short) =
-        let room : nat_le 65535 (length s) ≡ false = grind (arith, short) in
-        let e : string_at false s (92 ∷ c ∷ (spelled.0 ++ 34 ∷ rest)) ≡ string_at false (s ++ c ∷ []) (spelled.0 ++ 34 ∷ rest) = rw (room, here) refl in
-        more_string s c u rest (string_at false (s ++ c ∷ []) (spelled.0 ++ 34 ∷ rest)) (string_at false s (body ++ 34 ∷ rest)) (ap (λ (t : List ℕ). string_at false s (t ++ 34 ∷ rest)) escaped ∙ e) ih
-    by_form ih (inl escaped) false bad (inl short) =
-        let room : nat_le 65535 (length s) ≡ false = grind (arith, short) in
-        let e : string_at false s (92 ∷ c ∷ (spelled.0 ++ 34 ∷ rest)) ≡ Err BadByte = rw (room, bad) refl in
-        inr (inl (ap (λ (t : List ℕ). string_at false s (t ++ 34 ∷ rest)) escaped ∙ e, λ all. (let here : is_allowed c ≡ true = all.0 in absurd (let k : true ≡ false = sym here ∙ bad in cc))))
-    by_form ih (inl escaped) b here (inr long) =
-        let full : nat_le 65535 (length s) ≡ true = grind (arith, long) in
-        let e : string_at false s (92 ∷ c ∷ (spelled.0 ++ 34 ∷ rest)) ≡ Err TooLong = rw full refl in
-        inr (inr (ap (λ (t : List ℕ). string_at false s (t ++ 34 ∷ rest)) escaped ∙ e, omega (arith, long)))
-    by_form ih (inr plain) false bad room =
-        let no_quote : (c == 34) ≡ false = grind (arith, plain.1) in
-        let e : string_at false s (c ∷ (spelled.0 ++ 34 ∷ rest)) ≡ Err BadByte = rw (no_quote, bad) refl in
-        inr (inl (ap (λ (t : List ℕ). string_at false s (t ++ 34 ∷ rest)) plain.0 ∙ e, λ all. (let here : is_allowed c ≡ true = all.0 in absurd (let k : true ≡ false = sym here ∙ bad in cc))))
-    by_form ih (inr plain) true here (inr long) =
-        let no_quote : (c == 34) ≡ false = grind (arith, plain.1) in
-        let full : nat_le 65535 (length s) ≡ true = grind (arith, long) in
-        let e : string_at false s (c ∷ (spelled.0 ++ 34 ∷ rest)) ≡ Err TooLong = rw (no_quote, here, full) refl in
-        inr (inr (ap (λ (t : List ℕ). string_at false s (t ++ 34 ∷ rest)) plain.0 ∙ e, omega (arith, long)))
-    by_form ih (inr plain) true here (inl short) =
-        let no_quote : (c == 34) ≡ false = grind (arith, plain.1) in
-        let no_slash : (c == 92) ≡ false = grind (arith, plain.2) in
-        let room : nat_le 65535 (length s) ≡ false = grind (arith, short) in
-        let e : string_at false s (c ∷ (spelled.0 ++ 34 ∷ rest)) ≡ string_at false (s ++ c ∷ []) (spelled.0 ++ 34 ∷ rest) = rw (no_quote, here, room, no_slash) refl in
-        more_string s c u rest (string_at false (s ++ c ∷ []) (spelled.0 ++ 34 ∷ rest)) (string_at false s (body ++ 34 ∷ rest)) (ap (λ (t : List ℕ). string_at false s (t ++ 34 ∷ rest)) plain.0 ∙ e) ih
+string_either s (c ∷ u) body rest spelled =
+    let t = spelled.0 ++ 34 ∷ rest in
+    let next : StringOr (s ++ c ∷ []) u rest (string_at false (s ++ c ∷ []) t) = string_either (s ++ c ∷ []) u spelled.0 rest spelled.1 in
+    elim spelled.2 [
+      | inl escaped ↦ subst (λ (w : List ℕ). StringOr s (c ∷ u) rest (string_at false s (w ++ 34 ∷ rest))) (sym escaped) (by_escape s c u t rest next (is_allowed c) (nat_le 65535 (length s)) refl refl)
+      | inr plain ↦
+          let no_quote : (c == 34) ≡ false = grind (arith, plain.1) in
+          let no_slash : (c == 92) ≡ false = grind (arith, plain.2) in
+          subst (λ (w : List ℕ). StringOr s (c ∷ u) rest (string_at false s (w ++ 34 ∷ rest))) (sym plain.0) (rw (no_quote, no_slash) (by_itself s c u t rest next (is_allowed c) (nat_le 65535 (length s)) refl refl))
+    ]
 
 -- ---- tokens
 
 range_gave : (g : LiteralFault) (kind : NumberKind) (z : ℤ) → NumberBut g kind z → (g ≡ OutOfRange) ⊎ InRange kind z
 range_gave OutOfRange kind z n = inl refl
-range_gave NotALiteral kind z n = inr n
-range_gave BadByte kind z n = inr n
-range_gave TooDeep kind z n = inr n
-range_gave TooLong kind z n = inr n
-range_gave OutOfMemory kind z n = inr n
+range_gave _ kind z n = inr n
 
 text_gave : (g : LiteralFault) (u rest : List ℕ) (r : Read (List ℕ)) → TextBut g u → StringOr [] u rest r → Either (Gave g) r (u, rest)
 text_gave g u rest r t (inl ok) = inl ok
@@ -113,14 +98,8 @@ text_gave BadByte u rest r t (inr (inl bad)) = inr (BadByte, inl refl, bad.0)
 text_gave BadByte u rest r t (inr (inr long)) = inr (TooLong, inr refl, long.0)
 text_gave TooLong u rest r t (inr (inl bad)) = absurd (bad.1 (each_allowed u t))
 text_gave TooLong u rest r t (inr (inr long)) = inr (TooLong, refl, long.0)
-text_gave OutOfRange u rest r t (inr (inl bad)) = absurd (bad.1 (each_allowed u t.allowed))
-text_gave OutOfRange u rest r t (inr (inr long)) = absurd (omega (arith, long.1, t.short))
-text_gave NotALiteral u rest r t (inr (inl bad)) = absurd (bad.1 (each_allowed u t.allowed))
-text_gave NotALiteral u rest r t (inr (inr long)) = absurd (omega (arith, long.1, t.short))
-text_gave TooDeep u rest r t (inr (inl bad)) = absurd (bad.1 (each_allowed u t.allowed))
-text_gave TooDeep u rest r t (inr (inr long)) = absurd (omega (arith, long.1, t.short))
-text_gave OutOfMemory u rest r t (inr (inl bad)) = absurd (bad.1 (each_allowed u t.allowed))
-text_gave OutOfMemory u rest r t (inr (inr long)) = absurd (omega (arith, long.1, t.short))
+text_gave _ u rest r t (inr (inl bad)) = absurd (bad.1 (each_allowed u t.allowed))
+text_gave _ u rest r t (inr (inr long)) = absurd (omega (arith, long.1, t.short))
 
 bind_either : {A B : Type 0} (P : LiteralFault → Type 0) (r : Result A LiteralFault) (x : A) (f : A → Result B LiteralFault) (y : B) → Either P r x → f x ≡ Ok y → Either P (r >>= f) y
 bind_either P r x f y (inl ok) e = inl (ap (λ q. q >>= f) ok ∙ e)
@@ -147,7 +126,13 @@ token_either g (Obj o) t rest flat s n ends =
 token_either g (Str u) t rest flat s n ends =
     let same : token_at (t ++ rest) ≡ (string_at false [] (s.0 ++ 34 ∷ rest) >>= λ s. Ok (Str s.0, s.1)) = ap (λ (w : List ℕ). token_at (w ++ rest)) s.1 ∙ ap (λ (w : List ℕ). string_at false [] w >>= λ s. Ok (Str s.0, s.1)) (append_assoc s.0 (34 ∷ []) rest) in
     subst (λ (r : Read Value). Either (Gave g) r (Str u, rest)) (sym same) (bind_either (Gave g) (string_at false [] (s.0 ++ 34 ∷ rest)) (u, rest) (λ s. Ok (Str s.0, s.1)) (Str u, rest) (text_gave g u rest (string_at false [] (s.0 ++ 34 ∷ rest)) n (string_either [] u s.0 rest s.2)) refl)
-token_either g (Error e) t rest flat s n ends = inl (token_again (Error e) t rest flat s tt ends)
+token_either g (Error e) t rest flat s n ends =
+    let f = name_first e t s in
+    let whole : t ++ rest ≡ f.0 ∷ (f.1 ++ rest) = ap (λ (u : List ℕ). u ++ rest) f.2 in
+    let l = letter_starts f.0 f.3 in
+    let again : code_at (f.0 ∷ (f.1 ++ rest)) ≡ Ok (e, rest) = sym (ap code_at whole) ∙ code_again e t rest s ends in
+    let read : token_at (f.0 ∷ (f.1 ++ rest)) ≡ Ok (Error e, rest) = rw (l.0, l.1, f.3, again) refl in
+    inl (ap token_at whole ∙ read)
 token_either g (a_list vs) t rest flat s n ends = absurd flat
 
 -- ---- lists
@@ -172,36 +157,19 @@ item_either g l either first v vs t rest i keeps more =
     go b after (inl ok) (inr bad) = inr (bad.0, bad.1, ap (and_others l) ok ∙ ap (λ (x : Read Values). x >>= λ us. Ok (prepend v us.0, us.1)) bad.2)
 
 flat_deep : (g : LiteralFault) (l : ℕ) → DepthBut g l 0
-flat_deep TooDeep l = tt
-flat_deep NotALiteral l = omega arith
-flat_deep OutOfRange l = omega arith
-flat_deep BadByte l = omega arith
-flat_deep TooLong l = omega arith
-flat_deep OutOfMemory l = omega arith
+flat_deep g l = all_deep g l 0 (omega arith)
 
-pub left_deep : (g : LiteralFault) (a b l : ℕ) → DepthBut g l (max (a + 1) b) → DepthBut g l (a + 1) × DepthBut g l b
+left_deep : (g : LiteralFault) (a b l : ℕ) → DepthBut g l (max (a + 1) b) → DepthBut g l (a + 1) × DepthBut g l b
 left_deep TooDeep a b l d = (tt, tt)
-left_deep NotALiteral a b l d = (omega (arith, d), omega (arith, d))
-left_deep OutOfRange a b l d = (omega (arith, d), omega (arith, d))
-left_deep BadByte a b l d = (omega (arith, d), omega (arith, d))
-left_deep TooLong a b l d = (omega (arith, d), omega (arith, d))
-left_deep OutOfMemory a b l d = (omega (arith, d), omega (arith, d))
+left_deep _ a b l d = (omega (arith, d), omega (arith, d))
 
 inner_deep : (g : LiteralFault) (a l : ℕ) → DepthBut g (suc l) (a + 1) → DepthBut g l a
 inner_deep TooDeep a l d = tt
-inner_deep NotALiteral a l d = omega (arith, d)
-inner_deep OutOfRange a l d = omega (arith, d)
-inner_deep BadByte a l d = omega (arith, d)
-inner_deep TooLong a l d = omega (arith, d)
-inner_deep OutOfMemory a l d = omega (arith, d)
+inner_deep _ a l d = omega (arith, d)
 
 too_deep : (g : LiteralFault) (a : ℕ) → DepthBut g 0 (a + 1) → Gave g TooDeep
 too_deep TooDeep a d = refl
-too_deep NotALiteral a d = absurd (omega (arith, d))
-too_deep OutOfRange a d = absurd (omega (arith, d))
-too_deep BadByte a d = absurd (omega (arith, d))
-too_deep TooLong a d = absurd (omega (arith, d))
-too_deep OutOfMemory a d = absurd (omega (arith, d))
+too_deep _ a d = absurd (omega (arith, d))
 
 items_either : (g : LiteralFault) (l : ℕ) → ReadsEither g l → (vs : Values) (first : Bool) (t rest : List ℕ) → SpellsItems first vs t → HoldInside (NumberBut g) (TextBut g) vs → DepthBut g l (levels vs) → Either (Gave g) (items_at (value_at l) first zero (t ++ rest)) (vs, rest)
 items_either g l either no_values first t rest s holds deep =
@@ -234,10 +202,6 @@ flat_either g zero v t rest flat s holds ends = subst (λ (r : Read Value). Eith
 flat_either g (suc l) v t rest flat s holds ends = subst (λ (r : Read Value). Either (Gave g) r (v, rest)) (sym (spaced_same (suc l) v t rest s)) (opened_flat g (items_at (value_at l) true zero) v s.1 rest flat s.3 holds ends)
 
 pub value_either : (g : LiteralFault) (l : ℕ) → ReadsEither g l
-value_either g l (Int n) t rest s keeps ends = flat_either g l (Int n) t rest tt s keeps.0 ends
-value_either g l (Obj n) t rest s keeps ends = flat_either g l (Obj n) t rest tt s keeps.0 ends
-value_either g l (Str n) t rest s keeps ends = flat_either g l (Str n) t rest tt s keeps.0 ends
-value_either g l (Error n) t rest s keeps ends = flat_either g l (Error n) t rest tt s keeps.0 ends
 value_either g zero (a_list vs) t rest s keeps ends =
     inr (TooDeep, too_deep g (levels vs) keeps.1, spaced_same zero (a_list vs) t rest s ∙ ap (λ (u : List ℕ). value_at zero (u ++ rest)) s.3.1)
 value_either g (suc l) (a_list vs) t rest s keeps ends =
@@ -245,3 +209,9 @@ value_either g (suc l) (a_list vs) t rest s keeps ends =
     let same : value_at (suc l) (t ++ rest) ≡ (items_at (value_at l) true zero (body ++ rest) >>= λ vs. Ok (a_list vs.0, vs.1)) = spaced_same (suc l) (a_list vs) t rest s ∙ ap (λ (u : List ℕ). value_at (suc l) (u ++ rest)) s.3.1 in
     let inside = items_either g l (value_either g l) vs true body rest s.3.2 keeps.0 (inner_deep g (levels vs) l keeps.1) in
     subst (λ (r : Read Value). Either (Gave g) r (a_list vs, rest)) (sym same) (bind_either (Gave g) (items_at (value_at l) true zero (body ++ rest)) (vs, rest) (λ vs. Ok (a_list vs.0, vs.1)) (a_list vs, rest) inside refl)
+value_either g l v t rest s keeps ends = flat_either g l v t rest tt s keeps.0 ends
+
+-- ---- what is spelled within the limits is read
+
+pub value_again : (l : ℕ) (v : Value) (t rest : List ℕ) → Spells v t → HoldIn InRange IsText v → nesting v ≤ l → Ends v rest → value_at l (t ++ rest) ≡ Ok (v, rest)
+value_again l v t rest s holds shallow ends = elim (value_either NotALiteral l v t rest s (holds, shallow) ends) [ inl ok ↦ ok | inr bad ↦ absurd bad.1 ]

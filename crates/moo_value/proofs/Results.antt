@@ -7,6 +7,10 @@ pub chosen : {A : Type 0} (b : Bool) (x y z : A) → cond b x y ≡ z → ((b �
 chosen true x y z e = inl (refl, e)
 chosen false x y z e = inr (refl, e)
 
+pub either_way : (b : Bool) → (b ≡ true) ⊎ (b ≡ false)
+either_way true = inl refl
+either_way false = inr refl
+
 pub is_ok : {A : Type 0} (x y : A) → (let P : A → Result A LiteralFault = λ a. Ok a in P x ≡ P y) → x ≡ y
 is_ok x y e = cc
 

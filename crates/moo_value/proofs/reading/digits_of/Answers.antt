@@ -1,13 +1,6 @@
-use Rattle.std.proofs.Common.{◌≡◌, ◌+◌, ◌-◌, ◌*◌, ◌<◌, ◌≤◌, ℕ, Bool, true, false, List, length, get_or, drop, Err, refl, sym, ap, subst, ◌∙◌, inl, inr, FitsSigned, ◌-ℤ◌, pos, to_z, of_z, arith, rules}
-use Rattle.std.specs.Prelude.{nat_le}
-use Rattle.std.specs.Int.{w64, w128}
+use Rattle.moo_value.proofs.Words.{◌≡◌, ◌+◌, ◌-◌, ◌*◌, ◌<◌, ◌≤◌, ℕ, Bool, true, false, List, length, get_or, drop, Err, refl, sym, ap, subst, ◌∙◌, inl, inr, FitsSigned, pos, to_z, of_z, arith, rules, ◌-ℤ◌, nat_le, w64, w128, to_z-of_z, cases_lt, OutOfRange, is_digit, signed, an_integer, digits_at, limit}
 use Rattle.std.proofs.Math.Facts.{sfits_to_z}
-use Rattle.std.proofs.lemmas.Int.{to_z-of_z}
-use Rattle.std.proofs.lemmas.Bool.{cases_lt}
 use Rattle.std.proofs.lemmas.List.{at_drop_more}
-use Rattle.moo_value.specs.declared.fault.LiteralFault.TheVariants.{OutOfRange}
-use Rattle.moo_value.specs.Literal.{is_digit, signed, an_integer}
-use Rattle.moo_value.specs.Reading.{digits_at, limit}
 use Rattle.moo_value.proofs.Numbers.{size, size-signed, next_is, minus_is, plus_is, digit_fits, grown, limited, unlimited}
 use Rattle.moo_value.proofs.reading.digits_of.Goals.{then-negative, else-negative}
 use Rattle.moo_value.proofs.reading.digits_of.Goals as goal

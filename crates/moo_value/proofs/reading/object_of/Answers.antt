@@ -1,9 +1,5 @@
-use Rattle.std.proofs.Common.{◌≡◌, ℤ, Ok, sym, ap, subst, ◌∙◌, FitsSigned, w32, w64, to_z, of_z}
-use Rattle.std.proofs.lemmas.Int.{to_z-of_z}
-use Rattle.std.proofs.lemmas.Result.{err_from_is_err_and}
-use Rattle.moo_value.specs.Literal.{an_integer}
-use Rattle.moo_value.proofs.Tokens.{number_taken}
-use Rattle.moo_value.proofs.ObjectNumbers.{object_read, object_over, object_fails}
+use Rattle.moo_value.proofs.Words.{◌≡◌, ℤ, Ok, sym, ap, subst, ◌∙◌, FitsSigned, w32, to_z, of_z, w64, to_z-of_z, err_from_is_err_and, an_integer}
+use Rattle.moo_value.proofs.Numbers.{object_read, object_over, object_fails, number_taken}
 use Rattle.moo_value.proofs.reading.object_of.Goals as goal
 
 pub returns-in_err-number : goal.returns-in_err-number

@@ -1,13 +1,10 @@
-use Rattle.std.proofs.Common.{◌≡◌, ◌≤◌, ◌+◌, ℕ, Option, true, false, not, cond, Some, None, List, [], ◌∷◌, length, take, drop, ltb, refl, ap, ◌∙◌, suc, rules, arith}
+use Rattle.moo_value.proofs.Words.{◌≡◌, ◌≤◌, ◌+◌, ℕ, Option, true, false, cond, Some, List, [], ◌∷◌, length, take, drop, refl, ap, ◌∙◌, suc, rules, arith, not, YieldsList-from_slice, tests, is_word, word, after_word}
+use Rattle.std.proofs.Common.{None, ltb}
 use Rattle.std.specs.List.{position_or_len}
 use Rattle.std.specs.Option.{unwrap_or}
-use Rattle.std.proofs.lemmas.Iterator.{YieldsList-from_slice}
 use Rattle.std.proofs.lemmas.Iterator.Search.{position_from_yields_List}
 use Rattle.std.proofs.lemmas.List.Sums.{prefix_len-le-length}
 use Rattle.std.proofs.lemmas.Bool.Decides.{nat_tests}
-use borrow.Author.Tests.{tests}
-use Rattle.moo_value.specs.Literal.{is_word}
-use Rattle.moo_value.specs.Reading.{word, after_word}
 use Rattle.moo_value.proofs.reading.split_word.Goals as goal
 
 -- how many bytes stand before the first one that is of no word

@@ -1,9 +1,4 @@
-use Rattle.std.proofs.Common.{◌≡◌, ℕ, length, Result, Ok, Err, sym, ap}
-use Rattle.std.proofs.lemmas.Result.{err_from_is_err_and}
-use Rattle.moo_value.specs.Reading.{Fails}
-use Rattle.moo_value.specs.declared.value.Value.{Value}
-use Rattle.moo_value.specs.declared.fault.LiteralFault.{LiteralFault}
-use Rattle.moo_value.specs.declared.fault.LiteralFault.TheVariants.{NotALiteral, OutOfRange, BadByte, TooDeep, TooLong, OutOfMemory}
+use Rattle.moo_value.proofs.Words.{◌≡◌, ℕ, length, Result, Ok, Err, sym, ap, err_from_is_err_and, Fails, Value, LiteralFault, OutOfMemory}
 use Rattle.moo_value.proofs.Printed.{whole}
 use Rattle.moo_value.proofs.whole.read_whole_literal.Goals as goal
 
@@ -20,12 +15,8 @@ value_in (Err e) = Err e
 
 -- a fault that no literal in front has is none of a whole text
 fails_whole : (f : LiteralFault) (v : Value) (n : ℕ) → Fails f (let x : Read = Ok (v, n) in x) → Fails f (let x : Whole = Ok v in x)
-fails_whole NotALiteral v n e = ap value_in e
-fails_whole OutOfRange v n e = ap value_in e
-fails_whole BadByte v n e = ap value_in e
-fails_whole TooDeep v n e = ap value_in e
-fails_whole TooLong v n e = ap value_in e
 fails_whole OutOfMemory v n e = tt
+fails_whole _ v n e = ap value_in e
 
 abbrev count_in : ℕ → Read → ℕ
 count_in m (Ok r) = r.1

@@ -1,4 +1,4 @@
-use Rattle.std.proofs.Common.{◌≡◌, ◌++◌, ◌∷◌, [], ◌∙◌, rules}
+use Rattle.moo_value.proofs.Words.{◌≡◌, ◌++◌, ◌∷◌, [], ◌∙◌, rules}
 use Rattle.moo_value.proofs.Printed.{starts, starts_alike, starts_behind}
 use Rattle.moo_value.proofs.writing.put_string.Goals.{then-byte-eq34+in_ok-push-2, else-byte-eq34+else-byte-eq92}
 use Rattle.moo_value.proofs.writing.put_string.Goals as goal

@@ -1,6 +1,4 @@
-use Rattle.std.proofs.Common.{◌≡◌, ◌++◌, ◌∷◌, take}
-use Rattle.std.specs.List.{flat_map}
-use Rattle.moo_value.specs.Literal.{escape}
+use Rattle.moo_value.proofs.Words.{◌≡◌, ◌++◌, ◌∷◌, take, flat_map, escape}
 use Rattle.moo_value.proofs.writing.put_string.Given as goal
 
 abbrev pub invariant-loop-byte : goal.invariant-loop-byte

@@ -1,14 +1,8 @@
-use Rattle.std.proofs.Common.{◌≡◌, Bool, true, false, cond, Ok, Err, Option, None, Some, option_map, ℕ, List, [], ◌∷◌, map, refl, sym, ap, subst, ◌∙◌, Bor, rules}
-use Rattle.std.specs.Str.{str_eq_ignore_ascii_case}
+use Rattle.moo_value.proofs.Words.{◌≡◌, Bool, true, false, cond, Ok, Err, Option, Some, ℕ, List, [], ◌∷◌, map, refl, sym, ap, subst, ◌∙◌, rules, str_eq_ignore_ascii_case, YieldsList-from_slice, tests, Code, NotALiteral, name, named}
+use Rattle.std.proofs.Common.{None, option_map, Bor}
 use Rattle.std.specs.List.{find}
 use Rattle.std.specs.Option.{MatchOption}
-use Rattle.std.proofs.lemmas.Iterator.{YieldsList-from_slice}
 use Rattle.std.proofs.lemmas.Iterator.Search.{find_from_yields_List}
-use borrow.Author.Tests.{tests}
-use Rattle.moo_value.specs.declared.code.Code.{Code}
-use Rattle.moo_value.specs.declared.fault.LiteralFault.TheVariants.{NotALiteral}
-use Rattle.moo_value.specs.Literal.{name}
-use Rattle.moo_value.specs.Reading.{named}
 use Rattle.moo_value.proofs.code.Code.named.Goals as goal
 
 abbrev Named : Type 0

@@ -1,5 +1,4 @@
-use Rattle.std.proofs.Common.{sym, ◌∙◌}
-use Rattle.moo_value.specs.SameValue.{value-exact}
+use Rattle.moo_value.proofs.Words.{sym, ◌∙◌, value-exact}
 use Rattle.moo_value.proofs.value.Value.same.Goals as goal
 
 pub returns : goal.returns

@@ -1,4 +1,4 @@
-use Rattle.moo_value.proofs.Gather.{spread-gathered}
+use Rattle.moo_value.proofs.Words.{spread-gathered}
 use Rattle.moo_value.proofs.value.ValueList.into_vec.Goals as goal
 
 pub returns-clause-plain : goal.returns-clause-plain

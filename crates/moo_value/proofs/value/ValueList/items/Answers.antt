@@ -1,5 +1,4 @@
-use Rattle.std.proofs.Common.{◌∙◌}
-use Rattle.moo_value.proofs.Gather.{spread-gathered}
+use Rattle.moo_value.proofs.Words.{◌∙◌, spread-gathered}
 use Rattle.moo_value.proofs.value.ValueList.items.Goals as goal
 
 pub returns-clause-plain : goal.returns-clause-plain
