@@ -1,9 +1,8 @@
 -- When reading is told of, by the instants at which the clock is read.
-use Rattle.std.specs.Prelude.{◌≡◌, ◌⊎◌, ℕ, ◌+◌, ◌≤◌, Some, None}
+use Rattle.std.specs.Prelude.{◌≡◌, ℕ, ◌+◌, ◌≤◌}
 use Rattle.std.specs.Time.{instant_nanos}
 use Rattle.std.specs.declared.time.Instant.{Instant}
 use Rattle.moo_disk.specs.declared.reading.Run.{Run}
-use Rattle.moo_disk.specs.declared.reading.Reading.{Reading}
 
 -- a run that begins now, if the files were changed so often
 abbrev pub IsBegun : Run → Instant → ℕ → Type 0
@@ -16,7 +15,3 @@ GoesOn run now changes = (changes ≡ run.changes) × (instant_nanos now ≤ ins
 -- it began, or was last told of, five seconds ago or more
 abbrev pub IsDue : Run → Instant → Type 0
 IsDue run now = instant_nanos run.told + 5_000_000_000 ≤ instant_nanos now
-
--- it is time to tell of what is read
-abbrev pub Tells : Reading → Instant → ℕ → Type 0
-Tells reading now changes = (run : Run) × (reading.run ≡ Some run) × GoesOn run now changes × IsDue run now

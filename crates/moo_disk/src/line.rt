@@ -8,7 +8,7 @@ use std::fmt::{self, Display, Formatter};
 const MEGABYTE: u64 = 1_000_000;
 
 /// Which file is read.
-#[derive(Clone, Copy, Debug, PartialEq, Eq, Drop)]
+#[derive(Clone, Copy, Drop)]
 pub(crate) enum Subject {
     /// The database file.
     Database,
@@ -26,7 +26,7 @@ impl Display for Subject {
 }
 
 /// A line that tells of reading: how many bytes were read, and how many the file has, if that is known.
-#[derive(Clone, Copy, Debug, PartialEq, Eq, Drop)]
+#[derive(Clone, Copy, Drop)]
 pub(crate) struct Line {
     pub(crate) subject: Subject,
     pub(crate) read: u64,

@@ -1,7 +1,7 @@
 //! When reading is told of.
 
-ghost use Rattle.std.specs.Prelude.{◌≡◌, ◌+◌, ◌%◌, ◌<◌, ◌^◌, ◌↔◌, Option, Some, None, IsTrue, IsSome, IfSome, IfNone};
-ghost use Rattle.moo_disk.specs.Reading.{GoesOn, IsDue, Tells, IsBegun};
+ghost use Rattle.std.specs.Prelude.{◌≡◌, ◌+◌, ◌<◌, ◌^◌, ◌↔◌, Some, None, IsTrue};
+ghost use Rattle.moo_disk.specs.Reading.{GoesOn, IsDue, IsBegun};
 
 use std::time::{Duration, Instant};
 
@@ -12,7 +12,7 @@ const PATIENCE: u64 = 5;
 const PAUSE: u64 = 60;
 
 /// A run of reads, between which nothing was changed.
-#[derive(Clone, Copy, Debug, PartialEq, Eq, Drop)]
+#[derive(Clone, Copy, Drop)]
 pub(crate) struct Run {
     /// How often the files had been changed when it began.
     pub(crate) changes: u64,
@@ -50,7 +50,7 @@ impl Run {
 }
 
 /// What is read of a file: the run of reads that the clock was last read in, and the bytes that were read in it.
-#[derive(Clone, Copy, Debug, PartialEq, Eq, Drop)]
+#[derive(Clone, Copy, Drop)]
 pub(crate) struct Reading {
     pub(crate) run: Option<Run>,
     pub(crate) bytes: u64,
@@ -75,10 +75,15 @@ impl Reading {
         self.bytes = self.bytes.saturating_add(bytes as u64);
     }
 
-    /// Looks at the clock, if the files were changed so often: the bytes that were read in this run, if it is time to tell of them.
+    /// The clock reads `now`, and the files were changed so often: the bytes that were read in this run, if it is time to tell of them.
     pub(crate) fn step(&mut self, now: Instant, changes: u64) -> Option<u64>
-        ensures tells { IsSome result ↔ Tells self.old now changes }
-        ensures bytes { IfSome result (λ bytes. bytes ≡ self.old.bytes) }
+        // A read that belongs to no run begins one.
+        ensures begins { ((run : Run) → self.old.run ≡ Some run → ¬ GoesOn run now changes)
+            → (result ≡ None) × (self.new.bytes ≡ 0) × ((run : Run) × (self.new.run ≡ Some run) × IsBegun run now changes) }
+        ensures waits { (run : Run) → self.old.run ≡ Some run → GoesOn run now changes → ¬ IsDue run now
+            → (result ≡ None) × (self.new ≡ record self.old { run = Some (record run { looked = now }) }) }
+        ensures tells { (run : Run) → self.old.run ≡ Some run → GoesOn run now changes → IsDue run now
+            → (result ≡ Some self.old.bytes) × (self.new ≡ record self.old { run = Some (record run { looked = now; told = now }) }) }
     {
         let run = match self.run {
             Some(run) if run.goes_on(now, changes) => run,
@@ -88,12 +93,16 @@ impl Reading {
                 return None;
             }
         };
-        let is_due = run.is_due(now);
-        self.run = Some(Run {
-            changes,
-            told: if is_due { now } else { run.told },
-            looked: now,
-        });
-        if is_due { Some(self.bytes) } else { None }
+        if run.is_due(now) {
+            self.run = Some(Run {
+                told: now,
+                looked: now,
+                ..run
+            });
+            Some(self.bytes)
+        } else {
+            self.run = Some(Run { looked: now, ..run });
+            None
+        }
     }
 }

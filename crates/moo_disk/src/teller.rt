@@ -19,7 +19,7 @@ pub(crate) struct Teller<'a, C> {
     length: Option<u64>,
     reading: Reading,
     /// How many reads come before the next look at the clock.
-    left: u32,
+    reads_left: u32,
 }
 
 impl<'a, C: Clock + Eprint> Teller<'a, C> {
@@ -30,28 +30,28 @@ impl<'a, C: Clock + Eprint> Teller<'a, C> {
             subject,
             length: None,
             reading: Reading::new(),
-            left: 0,
+            reads_left: 0,
         }
     }
 
     /// Notes how long the file is.
-    pub(crate) fn has_length(&mut self, bytes: usize) {
+    pub(crate) fn note_length(&mut self, bytes: usize) {
         self.length = Some(bytes as u64);
     }
 
     /// Notes that the file is changed.
-    pub(crate) fn changes(&mut self) {
+    pub(crate) fn note_change(&mut self) {
         self.changes.note();
         self.length = None;
     }
 
     /// Notes that so many bytes are read, and tells of it if it is time.
-    pub(crate) fn reads(&mut self, bytes: usize) {
-        if self.left == 0 {
+    pub(crate) fn note_read(&mut self, bytes: usize) {
+        if self.reads_left == 0 {
             self.look();
-            self.left = STEP;
+            self.reads_left = STEP;
         }
-        self.left -= 1;
+        self.reads_left -= 1;
         self.reading.add(bytes);
     }
 

@@ -88,28 +88,28 @@ impl<'a, D: Disk, C: Clock + Eprint> Disk for Telling<'a, D, C> {
     fn len(&mut self) -> io::Result<usize> {
         let length = self.inner.len();
         if let Ok(bytes) = &length {
-            self.teller.has_length(*bytes);
+            self.teller.note_length(*bytes);
         }
         length
     }
 
     fn read_at(&mut self, at: usize, buf: &mut [u8]) -> io::Result<()> {
-        self.teller.reads(buf.len());
+        self.teller.note_read(buf.len());
         self.inner.read_at(at, buf)
     }
 
     fn read_checked(&mut self, key: u64, want: u64, at: usize, buf: &mut [u8]) -> io::Result<()> {
-        self.teller.reads(buf.len());
+        self.teller.note_read(buf.len());
         self.inner.read_checked(key, want, at, buf)
     }
 
     fn write_at(&mut self, at: usize, bytes: &[u8]) -> io::Result<()> {
-        self.teller.changes();
+        self.teller.note_change();
         self.inner.write_at(at, bytes)
     }
 
     fn set_len(&mut self, len: usize) -> io::Result<()> {
-        self.teller.changes();
+        self.teller.note_change();
         self.inner.set_len(len)
     }
 
