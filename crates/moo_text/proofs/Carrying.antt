@@ -1,20 +1,6 @@
 -- What the lines that are left of a text say, from one line to the next.
-use Rattle.std.proofs.Common.{◌≡◌, ℕ, ◌+◌, ◌<◌, ◌≤◌, true, false, inl, inr, List, [], ◌∷◌, ◌++◌, length, Option, Some, None, Result, Ok, Err, IfOk, IfErr, refl, sym, ap, subst, ◌∙◌, arith}
-use Rattle.std.specs.Prelude.{nat_lt}
-use Rattle.std.specs.Str.Lines.{lines}
-use Rattle.std.proofs.lemmas.List.{length-append}
-use Rattle.moo_world.specs.declared.call.Call.{Call}
-use Rattle.moo_text.specs.Line.{is_short, is_blank_line, is_end_line}
-use Rattle.moo_text.specs.LineReading.{header_of, call_of}
-use Rattle.moo_text.specs.Items.{between, within, skipping}
-use Rattle.moo_text.specs.Feed.{IsLineRead, TakesLine, Carries, TakesFirst, TakesNext}
-use Rattle.moo_text.specs.Side.{Side}
-use Rattle.moo_text.specs.Given.{ReadsLine, ReadsAlong, ReadsFirst, ReadsNext, BreaksOff}
+use Rattle.moo_text.proofs.Shared.{◌≡◌, ℕ, ◌+◌, ◌<◌, ◌≤◌, true, false, inl, inr, List, [], ◌∷◌, ◌++◌, length, Option, Some, None, Result, Ok, Err, IfOk, IfErr, refl, sym, ap, subst, ◌∙◌, arith, nat_lt, lines, length-append, Call, is_short, is_blank_line, is_end_line, header_of, call_of, between, within, skipping, IsLineRead, TakesLine, Carries, TakesFirst, TakesNext, Side, ReadsLine, ReadsAlong, ReadsFirst, ReadsNext, BreaksOff, TextFault, OutOfMemory, Header, Next}
 use Rattle.moo_text.proofs.Giving.{ReadsOn-none, ReadsOn-then, ReadsOn-map, ReadsOn-breaks, out_of_memory}
-use Rattle.moo_text.specs.declared.fault.TextFault.{TextFault}
-use Rattle.moo_text.specs.declared.fault.TextFault.TheVariants.{OutOfMemory}
-use Rattle.moo_text.specs.declared.header.Header.{Header}
-use Rattle.moo_text.specs.declared.next.Next.{Next}
 use Rattle.moo_text.specs.declared.next.Next.TheVariants.{Batch as Whole, Malformed, Truncated, End}
 
 -- lines that are read alike

@@ -1,18 +1,7 @@
 -- Reading line by line gives the one way in which a text is cut.
-use Rattle.std.proofs.Common.{◌≡◌, ℕ, suc, ◌+◌, ◌<◌, ◌≤◌, Bool, true, false, cond, ◌⊎◌, inl, inr, List, [], ◌∷◌, ◌++◌, length, Option, Some, None, refl, sym, ap, subst, ◌∙◌, append_assoc, arith}
-use Rattle.std.specs.Prelude.{nat_lt, ◌&&◌, ◌==◌}
-use Rattle.std.specs.Option.{option_map_or}
-use Rattle.std.proofs.lemmas.List.{append-nil, length-append}
-use Rattle.moo_value.specs.Reading.{after_blanks}
-use Rattle.moo_world.specs.declared.call.Call.{Call}
+use Rattle.moo_text.proofs.Shared.{◌≡◌, ℕ, suc, ◌+◌, ◌<◌, ◌≤◌, Bool, true, false, cond, ◌⊎◌, inl, inr, List, [], ◌∷◌, ◌++◌, length, Option, Some, None, refl, sym, ap, subst, ◌∙◌, append_assoc, arith, nat_lt, ◌&&◌, ◌==◌, option_map_or, append-nil, length-append, after_blanks, Call, is_short, is_end_word, is_blank_line, is_end_line, SpellsHeader, SpellsCall, header_of, call_of, between, within, skipping, Header, Next}
 use Rattle.moo_world.specs.declared.call.Batch.{Batch}
-use Rattle.moo_text.specs.Line.{is_short, is_end_word, is_blank_line, is_end_line}
-use Rattle.moo_text.specs.Grammar.{SpellsHeader, SpellsCall}
-use Rattle.moo_text.specs.LineReading.{header_of, call_of}
-use Rattle.moo_text.specs.Items.{between, within, skipping}
 use Rattle.moo_text.specs.Cut.{AreBlankLines, HaveNoEnd, IsContentLine, IsNoHeader, IsNoCall, AreCalls, IsBatch, IsFirstBad, IsMalformed, IsTruncated, Cuts}
-use Rattle.moo_text.specs.declared.header.Header.{Header}
-use Rattle.moo_text.specs.declared.next.Next.{Next}
 use Rattle.moo_text.specs.declared.next.Next.TheVariants.{Batch as Whole, Malformed, Truncated, End}
 use Rattle.moo_text.proofs.Headers.{header_taken, header_again}
 use Rattle.moo_text.proofs.Calls.{call_taken, call_again}

@@ -1,14 +1,8 @@
 -- The bytes that a reader gave, joined from call to call.
-use Rattle.std.proofs.Common.{◌≡◌, ℕ, ◌+◌, true, List, [], ◌++◌, length, Option, Some, None, refl, sym, ap, subst, ◌∙◌, append_assoc, arith}
+use Rattle.moo_text.proofs.Shared.{◌≡◌, ℕ, ◌+◌, true, List, [], ◌++◌, length, Option, Some, None, refl, sym, ap, subst, ◌∙◌, append_assoc, arith, Result, IfErr, length-append, Side, ReaderGives, ReadsOn, Explains, BreaksOff, TextFault, Read, Write, OutOfMemory, Long}
 use Rattle.std.specs.Io.KnownBytes.{Consumes}
-use Rattle.std.specs.Prelude.{Result, IfErr}
 use Rattle.std.specs.Result.{IsErrAnd}
 use Rattle.std.proofs.lemmas.Result.{err_from_is_err_and}
-use Rattle.std.proofs.lemmas.List.{length-append}
-use Rattle.moo_text.specs.Side.{Side}
-use Rattle.moo_text.specs.Given.{ReaderGives, ReadsOn, Explains, BreaksOff}
-use Rattle.moo_text.specs.declared.fault.TextFault.{TextFault}
-use Rattle.moo_text.specs.declared.fault.TextFault.TheVariants.{Read, Write, OutOfMemory, Long}
 
 Consumes-none : (a : Option (List ℕ)) → Consumes a a []
 Consumes-none None = tt

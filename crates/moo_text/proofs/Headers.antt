@@ -1,20 +1,7 @@
 -- A header is read as it is spelled.
-use Rattle.std.proofs.Common.{◌≡◌, ℕ, ◌≤◌, Bool, true, false, cond, inl, inr, List, [], ◌∷◌, ◌++◌, length, Option, Some, None, refl, sym, ap, subst, ◌∙◌, arith}
-use Rattle.std.specs.Prelude.{◌==◌, ◌&&◌, nat_le, codes}
-use Rattle.std.specs.List.{list_all}
-use Rattle.std.specs.Option.{option_map, option_and_then}
-use Rattle.std.proofs.lemmas.Bool.{eqb-true}
-use Rattle.std.proofs.lemmas.List.{append-nil}
+use Rattle.moo_text.proofs.Shared.{◌≡◌, ℕ, ◌≤◌, Bool, true, false, cond, inl, inr, List, [], ◌∷◌, ◌++◌, length, Option, Some, None, refl, sym, ap, subst, ◌∙◌, arith, ◌==◌, ◌&&◌, nat_le, codes, list_all, option_map, option_and_then, eqb-true, append-nil, Value, is_blank, is_digit, AreDigits, value_after, SpellsObject, Spells, InRange, an_object, chosen, same_text, same_text-Decides, is_short, words_of_line, SpellsPlace, SpellsAt, SpellsHeader, front_of, behind_word, object_value, begins_with_byte, object_of, is_place, place_number, last_place, at_of, header_behind, header_of, Header}
 use Rattle.moo_value.specs.declared.value.ObjNo.{ObjNo}
-use Rattle.moo_value.specs.declared.value.Value.{Value}
 use Rattle.moo_value.specs.declared.value.Value.TheVariants.{Int, Obj, Str, Error, List as a_list}
-use Rattle.moo_value.specs.Literal.{is_blank, is_digit, AreDigits, value_after, SpellsObject, Spells, InRange, an_object}
-use Rattle.moo_value.proofs.Results.{chosen}
-use Rattle.moo_world.specs.Objects.{same_text, same_text-Decides}
-use Rattle.moo_text.specs.Line.{is_short, words_of_line}
-use Rattle.moo_text.specs.Grammar.{SpellsPlace, SpellsAt, SpellsHeader}
-use Rattle.moo_text.specs.LineReading.{front_of, behind_word, object_value, begins_with_byte, object_of, is_place, place_number, last_place, at_of, header_behind, header_of}
-use Rattle.moo_text.specs.declared.header.Header.{Header}
 use Rattle.moo_text.proofs.Reading.{front_read, front_again_of}
 
 pub then_some : {A B : Type 0} (f : A → Option B) (o : Option A) (y : B) → option_and_then f o ≡ Some y → (x : A) × (o ≡ Some x) × (f x ≡ Some y)

@@ -1,13 +1,6 @@
 -- The items that are read from call to call, over the bytes that were given in all of them.
-use Rattle.std.proofs.Common.{◌≡◌, ℕ, true, List, [], ◌∷◌, ◌++◌, Option, Some, None, refl, sym, ap, subst, ◌∙◌, append_assoc, length}
-use Rattle.std.proofs.lemmas.List.{append-nil, length-append}
+use Rattle.moo_text.proofs.Shared.{◌≡◌, ℕ, true, List, [], ◌∷◌, ◌++◌, Option, Some, None, refl, sym, ap, subst, ◌∙◌, append_assoc, length, append-nil, length-append, items, TakesNext, Side, untouched, ReaderGives, Explains, BreaksOff, ReadsNext, ReadsItems, ReadsAll, StopsBehind, GivesAll, GivesFront, TextFault, Next}
 use Rattle.std.specs.Io.KnownBytes.{Consumes, IsAtEnd}
-use Rattle.moo_text.specs.Items.{items}
-use Rattle.moo_text.specs.Feed.{TakesNext}
-use Rattle.moo_text.specs.Side.{Side, untouched}
-use Rattle.moo_text.specs.Given.{ReaderGives, Explains, BreaksOff, ReadsNext, ReadsItems, ReadsAll, StopsBehind, GivesAll, GivesFront}
-use Rattle.moo_text.specs.declared.fault.TextFault.{TextFault}
-use Rattle.moo_text.specs.declared.next.Next.{Next}
 use Rattle.moo_text.specs.declared.next.Next.TheVariants.{Batch as Whole, Malformed, Truncated, End}
 use Rattle.moo_text.proofs.Giving.{ReaderGives-then, Explains-then, ReadsOn-none, ReadsOn-then, ReadsOn-stand}
 

@@ -1,3 +1,4 @@
+pub mod Shared
 pub mod Words
 pub mod Places
 pub mod Kept

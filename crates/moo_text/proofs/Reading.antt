@@ -1,23 +1,11 @@
 -- Reading a header and a call from left to right.
-use Rattle.std.proofs.Common.{◌≡◌, ℕ, zero, suc, ◌-◌, ◌<◌, ◌≤◌, true, false, inl, inr, List, [], ◌∷◌, ◌++◌, length, drop, Option, Some, None, Ok, Err, refl, sym, ap, ◌∙◌, append_assoc, arith, ◌↔◌}
-use Rattle.std.specs.Option.{option_map, option_and_then}
-use Rattle.std.specs.Prelude.{◌==◌, ◌&&◌}
-use Rattle.std.specs.List.{list_all}
+use Rattle.moo_text.proofs.Shared.{◌≡◌, ℕ, zero, suc, ◌-◌, ◌<◌, ◌≤◌, true, false, inl, inr, List, [], ◌∷◌, ◌++◌, length, drop, Option, Some, None, Ok, Err, refl, sym, ap, ◌∙◌, append_assoc, arith, ◌↔◌, option_map, option_and_then, ◌==◌, ◌&&◌, list_all, eqb-true, length-append, Value, Spells, Fits, Ends, Front, literal_at, value_at, after_blanks, chosen, fits, folded, is_all_blank, found, front_of, behind_value, values_at, behind_mark, after_mark, call_name}
 use Rattle.std.proofs.lemmas.List.Folds.{list_all-append}
-use Rattle.std.proofs.lemmas.Bool.{eqb-true}
-use Rattle.std.proofs.lemmas.List.{length-append}
-use Rattle.moo_value.specs.declared.value.Value.{Value}
-use Rattle.moo_value.specs.Literal.{Spells, Fits, Ends, Front}
-use Rattle.moo_value.specs.Reading.{literal_at, value_at, after_blanks, Read}
+use Rattle.moo_value.specs.Reading.{Read}
 use Rattle.moo_value.proofs.Literals.{front_taken, front_again, literal_again, value_taken, takes, blanks_taken}
-use Rattle.moo_value.proofs.Results.{chosen}
-use Rattle.moo_world.specs.Arguments.{fits}
-use Rattle.moo_world.specs.Objects.{folded}
 use Rattle.moo_world.specs.Names.{spelling}
 use Rattle.moo_world.specs.declared.name.CallName.{CallName}
 use Rattle.moo_world.specs.Names.{spelled_is}
-use Rattle.moo_text.specs.Line.{is_all_blank}
-use Rattle.moo_text.specs.LineReading.{found, front_of, behind_value, values_at, behind_mark, after_mark, call_name}
 
 -- ---- the literal in front
 

@@ -1,13 +1,5 @@
 -- A line of which so much is read, over the bytes that were given meanwhile.
-use Rattle.std.proofs.Common.{◌≡◌, ℕ, ◌+◌, ◌≤◌, ◌<◌, false, List, [], ◌++◌, length, take, drop, Option, Some, sym, ap, subst, ◌∙◌, append_assoc, arith}
-use Rattle.std.proofs.lemmas.List.{append-nil, length-append, length-take}
-use Rattle.std.specs.Prelude.{◌==◌}
-use Rattle.std.specs.Str.Lines.{strip_carriage_return}
-use Rattle.moo_text.specs.Feed.{TakesLine}
-use Rattle.moo_text.specs.Side.{Side, IsOver}
-use Rattle.moo_text.specs.Given.{ReaderGives, ReadsLine, BreaksOff}
-use Rattle.moo_text.specs.declared.fault.TextFault.{TextFault}
-use Rattle.moo_text.specs.declared.fault.TextFault.TheVariants.{OutOfMemory}
+use Rattle.moo_text.proofs.Shared.{◌≡◌, ℕ, ◌+◌, ◌≤◌, ◌<◌, false, List, [], ◌++◌, length, take, drop, Option, Some, sym, ap, subst, ◌∙◌, append_assoc, arith, append-nil, length-append, length-take, ◌==◌, strip_carriage_return, TakesLine, Side, IsOver, ReaderGives, ReadsLine, BreaksOff, TextFault, OutOfMemory}
 use Rattle.moo_text.proofs.Kept.{HasNoNewline, LineSoFar, NewlineAt, none-append, kept_again, end_found}
 use Rattle.moo_text.proofs.Giving.{ReaderGives-none, ReaderGives-then, gives_then_breaks, out_of_memory}
 

@@ -1,11 +1,5 @@
 -- The words of a line, one after another.
-use Rattle.std.proofs.Common.{◌≡◌, ℕ, true, false, inl, inr, List, [], ◌∷◌, length, refl, sym, ap, ◌∙◌, arith}
-use Rattle.std.specs.Prelude.{◌==◌, not}
-use Rattle.std.specs.List.{filter, slice_split, onto_first}
-use Rattle.std.proofs.lemmas.Bool.{cases_Bool}
-use Rattle.moo_value.specs.Literal.{is_blank}
-use Rattle.moo_value.specs.Reading.{after_blanks}
-use Rattle.moo_text.specs.Line.{words_of_line, until_blank, from_blank}
+use Rattle.moo_text.proofs.Shared.{◌≡◌, ℕ, true, false, inl, inr, List, [], ◌∷◌, length, refl, sym, ap, ◌∙◌, arith, ◌==◌, not, filter, slice_split, onto_first, cases_Bool, is_blank, after_blanks, words_of_line, until_blank, from_blank}
 
 kept : List (List ℕ) → List (List ℕ)
 kept parts = filter (λ word. not (length word == 0)) parts

@@ -1,18 +1,7 @@
 -- The rows after a verb was put or removed: the world that they show, and that they stay good.
-use Rattle.std.proofs.Common.{◌≡◌, ◌+◌, ◌<◌, ◌≤◌, true, Option, None, Some, ◌++◌, ◌∷◌, [], refl, sym, ◌∙◌, subst, arith}
-use Rattle.std.specs.Prelude.{is_some}
-use Rattle.std.specs.List.{remove}
+use Rattle.moo_verbs.proofs.Words.{◌≡◌, ◌+◌, ◌<◌, ◌≤◌, true, Option, None, Some, ◌++◌, ◌∷◌, [], refl, sym, ◌∙◌, subst, arith, is_some, remove, false≢true, ObjNo, VerbId, VerbRow, Maps, IsGood, look_ups, world_of, world_shown, IsWellFormed, is_object, verb_fits, verb_added, verb_removed, verb_changed, changed_at, has_verb, verb_place}
 use Rattle.std.specs.FinMap.{get, insert, remove as less}
-use Rattle.std.proofs.lemmas.Bool.{false≢true}
-use Rattle.moo_value.specs.declared.value.ObjNo.{ObjNo}
-use Rattle.moo_rows.specs.declared.row.VerbId.{VerbId}
-use Rattle.moo_rows.specs.declared.row.VerbRow.{VerbRow}
-use Rattle.moo_rows.specs.Maps.{Maps}
-use Rattle.moo_world.specs.Rows.{IsGood, look_ups, world_of, world_shown}
-use Rattle.moo_world.specs.World.{IsWellFormed, is_object, verb_fits}
 use Rattle.moo_world.proofs.Shown.Seen.{is_object_seen}
-use Rattle.moo_world.specs.Directories.{verb_added, verb_removed, verb_changed, changed_at}
-use Rattle.moo_verbs.specs.Places.{has_verb, verb_place}
 use Rattle.moo_verbs.proofs.Directories.{put_last, put_changed, removed}
 use Rattle.moo_world.proofs.Form.Directories.{stays_formed, added_fit, removed_fit, changed_fit}
 use Rattle.moo_verbs.proofs.Soundness.{put_sound, rest_sound}

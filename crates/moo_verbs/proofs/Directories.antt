@@ -1,25 +1,12 @@
 -- What a verb put or removed in the rows does to the world that they show.
-use Rattle.std.proofs.Common.{◌≡◌, ◌≢◌, ℕ, ◌<◌, ◌+◌, Bool, true, false, cond, Option, None, Some, List, [], ◌∷◌, ◌++◌, eqb, refl, sym, ap, ◌∙◌, add-one, arith}
-use Rattle.std.specs.Prelude.{is_some, slice_get, if◌then◌else◌}
-use Rattle.std.specs.Option.{option_map}
-use Rattle.std.specs.List.{remove}
+use Rattle.moo_verbs.proofs.Words.{◌≡◌, ◌≢◌, ℕ, ◌<◌, ◌+◌, Bool, true, false, cond, Option, None, Some, List, [], ◌∷◌, ◌++◌, eqb, refl, sym, ap, ◌∙◌, add-one, arith, is_some, slice_get, if◌then◌else◌, option_map, remove, eq-eqb, ne_eqb, eqb-true, ObjNo, VerbId, VerbRow, Maps, verb_cmp, same_object, same_object-Decides, World, Record, LookUps, IsSound, look_ups, world_of, world_shown, record_of, verb_id, verb_added, verb_removed, verb_changed, verb_at, changed_at, verb_place}
 use Rattle.std.specs.Ordering.{eq_by_cmp}
 use Rattle.std.specs.FinMap.{get, insert, remove as less, get-insert, get-remove}
-use Rattle.std.proofs.lemmas.Bool.{eq-eqb, ne_eqb, eqb-true}
-use Rattle.moo_value.specs.declared.value.ObjNo.{ObjNo}
 use Rattle.moo_rows.specs.declared.row.ObjRow.{ObjRow}
-use Rattle.moo_rows.specs.declared.row.VerbId.{VerbId}
-use Rattle.moo_rows.specs.declared.row.VerbRow.{VerbRow}
-use Rattle.moo_rows.specs.Maps.{Maps, verb_cmp}
 use Rattle.moo_rows.specs.Exact.{verb_exact}
 use Rattle.moo_rows.proofs.Orders.{verb_total}
-use Rattle.moo_world.specs.Objects.{same_object, same_object-Decides}
-use Rattle.moo_world.specs.World.{World, Record}
-use Rattle.moo_world.specs.Rows.{LookUps, IsSound, look_ups, world_of, world_shown, record_of, verb_id}
 use Rattle.moo_world.proofs.Form.Directories.{with_directory}
 use Rattle.moo_world.proofs.Shown.MapLaws.{decided_alike, key-Decides}
-use Rattle.moo_world.specs.Directories.{verb_added, verb_removed, verb_changed, verb_at, changed_at}
-use Rattle.moo_verbs.specs.Places.{verb_place}
 use Rattle.moo_verbs.proofs.Numbering.{below, one_more, none_more, get_at, removed_at, changed_below}
 use Rattle.moo_verbs.proofs.Entries.{row_at, verbs_shown, past}
 

@@ -1,25 +1,14 @@
 -- The walk over the verbs of an object gives them by ascending number.
-use Rattle.std.proofs.Common.{◌≡◌, ◌≢◌, ℕ, zero, suc, ◌<◌, ◌≤◌, Bool, true, false, cond, T, ◌&&◌, Option, None, Some, List, [], ◌∷◌, ◌++◌, Less, Equal, refl, sym, ap, ◌∙◌, subst, inl, inr, append-nil, arith}
-use Rattle.std.specs.Prelude.{is_some, unwrap_or, nat_lt}
-use Rattle.std.specs.Option.{option_map}
+use Rattle.moo_verbs.proofs.Words.{◌≡◌, ◌≢◌, ℕ, zero, suc, ◌<◌, ◌≤◌, Bool, true, false, cond, T, ◌&&◌, Option, None, Some, List, [], ◌∷◌, ◌++◌, Less, Equal, refl, sym, ap, ◌∙◌, subst, inl, inr, append-nil, arith, is_some, unwrap_or, nat_lt, option_map, cons_option, list_all, get, find, entries, get-entries, entries_sorted, is_sorted, cases_eq, cases_lt, false≢true, lt-ltb, le-ltb, ObjNo, VerbId, VerbRow, Maps, verb_cmp, verbs_of, verbs_of_left, IsSound, look_ups, world_of, world_shown, record_of, verb_id}
 use Rattle.std.specs.Cmp.{tied_itself, nat_cmp_is}
-use Rattle.std.specs.List.{cons_option, list_all}
 use Rattle.std.specs.Ordering.{eq_by_cmp, is_lt, int_eq, ordering_then, nat_cmp}
-use Rattle.std.specs.FinMap.{get, find, entries, get-entries, entries_sorted, is_sorted}
 use Rattle.std.specs.FinMap.Entries.{below_all, same_entries, is_sorted-where_key, find-where_key, find-append}
-use Rattle.std.proofs.lemmas.Bool.{cases_eq, cases_lt, false≢true, lt-ltb, le-ltb}
 use Rattle.std.proofs.lemmas.Bool.Decides.{Decides-int_eq}
-use Rattle.moo_value.specs.declared.value.ObjNo.{ObjNo}
 use Rattle.moo_rows.specs.declared.row.ObjRow.{ObjRow}
-use Rattle.moo_rows.specs.declared.row.VerbId.{VerbId}
-use Rattle.moo_rows.specs.declared.row.VerbRow.{VerbRow}
-use Rattle.moo_rows.specs.Maps.{Maps, verb_cmp}
-use Rattle.moo_rows.specs.Walk.{verbs_of, verbs_of_left}
 use Rattle.moo_rows.specs.Exact.{verb_exact}
 use Rattle.moo_rows.proofs.Orders.{object_total, verb_total}
 use Rattle.moo_rows.proofs.Walking.{first_of, second_of}
 use Rattle.moo_rows.proofs.OfObject.{verbs_of_left-all}
-use Rattle.moo_world.specs.Rows.{IsSound, look_ups, world_of, world_shown, record_of, verb_id}
 use Rattle.moo_world.specs.World.{Record, directory_of as verbs_in}
 use Rattle.moo_world.proofs.Shown.MapLaws.{key-Decides}
 use Rattle.moo_verbs.proofs.Numbering.{below, made_below, step}

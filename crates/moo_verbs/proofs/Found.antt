@@ -1,18 +1,8 @@
 -- What the walk over the verbs of an object finds, by places in the directory.
-use Rattle.std.proofs.Common.{◌≡◌, ℕ, ◌+◌, Bool, true, not, cond, Option, None, Some, List, [], ◌∷◌, map, length, refl, sym, ap, ◌∙◌, subst}
-use Rattle.std.specs.Prelude.{is_some, slice_get, nat_lt, IfSome, if◌then◌else◌}
-use Rattle.std.specs.Option.{option_map}
-use Rattle.std.specs.List.{find, position_or_len}
+use Rattle.moo_verbs.proofs.Words.{◌≡◌, ℕ, ◌+◌, Bool, true, not, cond, Option, None, Some, List, [], ◌∷◌, map, length, refl, sym, ap, ◌∙◌, subst, is_some, slice_get, nat_lt, IfSome, if◌then◌else◌, option_map, position_or_len, ObjNo, VerbId, VerbRow, Maps, verbs_of_left, IsSound, world_of, directory_of, has_verb, verb_place}
+use Rattle.std.specs.List.{find}
 use Rattle.std.proofs.lemmas.List.Folds.{find_at}
-use Rattle.moo_value.specs.declared.value.ObjNo.{ObjNo}
-use Rattle.moo_rows.specs.declared.row.VerbId.{VerbId}
-use Rattle.moo_rows.specs.declared.row.VerbRow.{VerbRow}
-use Rattle.moo_rows.specs.Maps.{Maps}
-use Rattle.moo_rows.specs.Walk.{verbs_of_left}
-use Rattle.moo_world.specs.Rows.{IsSound, world_of}
-use Rattle.moo_world.specs.World.{directory_of}
 use Rattle.moo_world.specs.Descriptors.{place_within}
-use Rattle.moo_verbs.specs.Places.{has_verb, verb_place}
 use Rattle.moo_verbs.proofs.Entries.{Entry, row_at, made, by_number, walked, verbs_shown}
 use Rattle.moo_verbs.proofs.Numbering.{placed, made_at, map-made}
 

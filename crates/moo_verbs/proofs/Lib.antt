@@ -1,3 +1,4 @@
+pub mod Words
 pub mod TableLaw
 pub mod Numbering
 pub mod Entries

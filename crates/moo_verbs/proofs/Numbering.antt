@@ -1,15 +1,8 @@
 -- Lists of what numbers below a bound have, in ascending number, and the place of a number in such a list.
-use Rattle.std.proofs.Common.{◌≡◌, ◌≢◌, ℕ, zero, suc, ◌<◌, ◌≤◌, ◌+◌, Option, None, Some, List, [], ◌∷◌, ◌++◌, length, refl, sym, ap, ◌∙◌, ◌⊎◌, inl, inr, append-nil, append_assoc, length-append, map, arith}
-use Rattle.std.specs.Prelude.{slice_get, if◌then◌else◌, nat_lt}
-use Rattle.std.specs.Option.{option_map}
-use Rattle.std.specs.List.{filter_map, cons_option, remove}
-use Rattle.std.proofs.lemmas.Bool.{cases_eq, lt-ltb, le-ltb}
+use Rattle.moo_verbs.proofs.Words.{◌≡◌, ◌≢◌, ℕ, zero, suc, ◌<◌, ◌≤◌, ◌+◌, Option, None, Some, List, [], ◌∷◌, ◌++◌, length, refl, sym, ap, ◌∙◌, ◌⊎◌, inl, inr, append-nil, append_assoc, length-append, map, arith, slice_get, if◌then◌else◌, nat_lt, option_map, filter_map, cons_option, remove, cases_eq, lt-ltb, le-ltb, VerbRow, numbers_below, changed_at}
 use Rattle.std.proofs.lemmas.List.Elements.{filter_map-append}
 use Rattle.std.proofs.lemmas.List.{map-append}
 use Rattle.std.proofs.lemmas.Option.{none-some, same_Some, slice_get_within}
-use Rattle.moo_rows.specs.declared.row.VerbRow.{VerbRow}
-use Rattle.moo_world.specs.Rows.{numbers_below}
-use Rattle.moo_world.specs.Directories.{changed_at}
 
 -- ---- lists with one element between a front and a back
 

@@ -1,14 +1,6 @@
 -- Rows stay sound where a verb is put or removed.
-use Rattle.std.proofs.Common.{◌≡◌, ℕ, ◌<◌, ◌≤◌, Bool, true, false, refl, sym, ap, ◌∙◌, inl, inr, arith}
-use Rattle.std.specs.Prelude.{is_some}
+use Rattle.moo_verbs.proofs.Words.{◌≡◌, ℕ, ◌<◌, ◌≤◌, Bool, true, false, refl, sym, ap, ◌∙◌, inl, inr, arith, is_some, cases_eq, false≢true, ObjNo, VerbId, VerbRow, Maps, same_object, same_object-Decides, IsSound}
 use Rattle.std.specs.FinMap.{get, insert, remove as less}
-use Rattle.std.proofs.lemmas.Bool.{cases_eq, false≢true}
-use Rattle.moo_value.specs.declared.value.ObjNo.{ObjNo}
-use Rattle.moo_rows.specs.declared.row.VerbId.{VerbId}
-use Rattle.moo_rows.specs.declared.row.VerbRow.{VerbRow}
-use Rattle.moo_rows.specs.Maps.{Maps}
-use Rattle.moo_world.specs.Objects.{same_object, same_object-Decides}
-use Rattle.moo_world.specs.Rows.{IsSound}
 use Rattle.moo_verbs.proofs.Directories.{put, put_other, put_apart, rest, rest_other, rest_apart, rest_here}
 use Rattle.moo_verbs.proofs.Entries.{row_at}
 

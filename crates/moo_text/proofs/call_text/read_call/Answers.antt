@@ -1,5 +1,4 @@
-use Rattle.std.proofs.Common.{◌≡◌, Some, None, sym, ◌∙◌, rules}
-use Rattle.moo_text.specs.LineReading.{call_of}
+use Rattle.moo_text.proofs.Shared.{◌≡◌, Some, None, sym, ◌∙◌, rules, call_of}
 use Rattle.moo_text.proofs.Calls.{call_taken, call_again}
 use Rattle.moo_text.proofs.call_text.read_call.Goals as goal
 

@@ -1,6 +1,4 @@
-use Rattle.std.proofs.Common.{◌≡◌, ◌++◌, [], ◌∷◌, Some, None, true, arith, rules, sym, ap, ◌∙◌}
-use Rattle.moo_world.specs.Arguments.{fits}
-use Rattle.moo_text.specs.LineReading.{front_of, after_mark}
+use Rattle.moo_text.proofs.Shared.{◌≡◌, ◌++◌, [], ◌∷◌, Some, None, true, arith, rules, sym, ap, ◌∙◌, fits, front_of, after_mark}
 use Rattle.moo_text.proofs.Reading.{one_read, closed_read, comma_read, front_shorter, mark_shorter, fits_push}
 use Rattle.moo_text.proofs.call_text.values_of.Goals as goal
 

@@ -1,6 +1,4 @@
-use Rattle.std.proofs.Common.{◌≡◌, length, true}
-use Rattle.std.specs.List.{list_all}
-use Rattle.moo_world.specs.Arguments.{fits}
+use Rattle.moo_text.proofs.Shared.{◌≡◌, length, true, list_all, fits}
 use Rattle.moo_text.proofs.Reading.{GoesOn}
 use Rattle.moo_text.proofs.call_text.values_of.Given as goal
 

@@ -1,10 +1,4 @@
-use Rattle.std.proofs.Common.{rules, arith, ◌<◌, ◌≡◌, Some, None, true, false, [], ◌∷◌, refl}
-use Rattle.moo_text.specs.Line.{is_blank_line, is_end_line}
-use Rattle.moo_text.specs.LineReading.{header_of}
-use Rattle.moo_text.specs.Items.{between, within, skipping}
-use Rattle.moo_text.specs.Side.{lines_side, lines_room}
-use Rattle.moo_text.specs.Given.{ReadsLine, BreaksOff}
-use Rattle.moo_text.specs.declared.fault.TextFault.TheVariants.{OutOfMemory}
+use Rattle.moo_text.proofs.Shared.{rules, arith, ◌<◌, ◌≡◌, Some, None, true, false, [], ◌∷◌, refl, is_blank_line, is_end_line, header_of, between, within, skipping, lines_side, lines_room, ReadsLine, BreaksOff, OutOfMemory}
 use Rattle.moo_text.specs.declared.next.Next.TheVariants.{Malformed}
 use Rattle.moo_text.proofs.Giving.{handed_on}
 use Rattle.moo_text.proofs.Carrying.{between_alike, along_line, along_end, along_breaks, along_refused, breaks_after, first_after, first_is_next, between_blank, between_end, between_header, between_none}

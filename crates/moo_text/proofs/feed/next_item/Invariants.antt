@@ -1,7 +1,4 @@
-use Rattle.std.proofs.Common.{◌≤◌}
-use Rattle.moo_text.specs.Items.{between}
-use Rattle.moo_text.specs.Side.{lines_side, lines_room}
-use Rattle.moo_text.specs.Given.{ReadsAlong}
+use Rattle.moo_text.proofs.Shared.{◌≤◌, between, lines_side, lines_room, ReadsAlong}
 use Rattle.moo_text.proofs.feed.next_item.Given as goal
 
 abbrev pub invariant-loop-line : goal.invariant-loop-line

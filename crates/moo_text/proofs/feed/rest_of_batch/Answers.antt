@@ -1,10 +1,4 @@
-use Rattle.std.proofs.Common.{◌≡◌, ◌≤◌, ◌<◌, ◌+◌, ◌++◌, [], ◌∷◌, Some, None, true, false, length, arith, rules, refl}
-use Rattle.moo_text.specs.Line.{is_blank_line, is_end_line}
-use Rattle.moo_text.specs.LineReading.{call_of}
-use Rattle.moo_text.specs.Items.{between, within, skipping}
-use Rattle.moo_text.specs.Side.{lines_side, lines_room}
-use Rattle.moo_text.specs.Given.{ReadsLine, BreaksOff}
-use Rattle.moo_text.specs.declared.fault.TextFault.TheVariants.{OutOfMemory}
+use Rattle.moo_text.proofs.Shared.{◌≡◌, ◌≤◌, ◌<◌, ◌+◌, ◌++◌, [], ◌∷◌, Some, None, true, false, length, arith, rules, refl, is_blank_line, is_end_line, call_of, between, within, skipping, lines_side, lines_room, ReadsLine, BreaksOff, OutOfMemory}
 use Rattle.moo_text.specs.declared.next.Next.TheVariants.{Batch as Whole, Truncated}
 use Rattle.moo_text.proofs.Giving.{handed_on}
 use Rattle.moo_text.proofs.Carrying.{within_alike, along_line, along_end, along_breaks, along_refused, breaks_after, first_after, bad_line, call_too_many, one_call, within_blank, within_end, room_for_one, pushed_along}

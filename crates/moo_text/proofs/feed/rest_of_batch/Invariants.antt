@@ -1,7 +1,4 @@
-use Rattle.std.proofs.Common.{[], ◌≤◌, ◌+◌, length}
-use Rattle.moo_text.specs.Items.{within}
-use Rattle.moo_text.specs.Side.{lines_side, lines_room}
-use Rattle.moo_text.specs.Given.{ReadsAlong}
+use Rattle.moo_text.proofs.Shared.{[], ◌≤◌, ◌+◌, length, within, lines_side, lines_room, ReadsAlong}
 use Rattle.moo_text.proofs.feed.rest_of_batch.Given as goal
 
 abbrev pub invariant-loop-calls : goal.invariant-loop-calls

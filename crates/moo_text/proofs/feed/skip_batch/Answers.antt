@@ -1,8 +1,4 @@
-use Rattle.std.proofs.Common.{rules, arith, ◌<◌, ◌≡◌, Some, None, true, false, ◌∷◌, refl}
-use Rattle.moo_text.specs.Line.{is_end_line}
-use Rattle.moo_text.specs.Items.{between, skipping}
-use Rattle.moo_text.specs.Side.{lines_side, lines_room}
-use Rattle.moo_text.specs.Given.{ReadsLine, BreaksOff}
+use Rattle.moo_text.proofs.Shared.{rules, arith, ◌<◌, ◌≡◌, Some, None, true, false, ◌∷◌, refl, is_end_line, between, skipping, lines_side, lines_room, ReadsLine, BreaksOff}
 use Rattle.moo_text.specs.declared.next.Next.TheVariants.{Malformed, Truncated}
 use Rattle.moo_text.proofs.Giving.{handed_on}
 use Rattle.moo_text.proofs.Carrying.{skipping_alike, along_line, along_end, along_breaks, skipping_end, skipping_on}

@@ -1,6 +1,4 @@
-use Rattle.std.proofs.Common.{◌≡◌, ◌<◌, ◌^◌, drop}
-use Rattle.std.specs.List.{list_all}
-use Rattle.moo_value.specs.Literal.{is_digit, value_after}
+use Rattle.moo_text.proofs.Shared.{◌≡◌, ◌<◌, ◌^◌, drop, list_all, is_digit, value_after}
 use Rattle.moo_text.proofs.header.place_of.Given as goal
 
 abbrev pub invariant-loop-digit : goal.invariant-loop-digit

@@ -1,5 +1,4 @@
-use Rattle.std.proofs.Common.{ℕ, List, ◌∷◌, sym, ap, ◌∙◌}
-use Rattle.moo_text.specs.Line.{words_of_line, from_blank}
+use Rattle.moo_text.proofs.Shared.{ℕ, List, ◌∷◌, sym, ap, ◌∙◌, words_of_line, from_blank}
 use Rattle.moo_text.proofs.Words.{no_words_of, next_word_is}
 use Rattle.moo_text.proofs.line.next_word.Goals as goal
 

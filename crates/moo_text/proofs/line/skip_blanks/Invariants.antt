@@ -1,5 +1,4 @@
-use Rattle.std.proofs.Common.{◌≡◌, drop}
-use Rattle.moo_value.specs.Reading.{after_blanks}
+use Rattle.moo_text.proofs.Shared.{◌≡◌, drop, after_blanks}
 use Rattle.moo_text.proofs.line.skip_blanks.Given as goal
 
 abbrev pub invariant-loop-i : goal.invariant-loop-i

@@ -1,5 +1,4 @@
-use Rattle.std.proofs.Common.{◌≡◌, ◌++◌, drop, take}
-use Rattle.moo_text.specs.Line.{until_blank, from_blank}
+use Rattle.moo_text.proofs.Shared.{◌≡◌, ◌++◌, drop, take, until_blank, from_blank}
 use Rattle.moo_text.proofs.line.split_at_blank.Given as goal
 
 abbrev pub invariant-loop-i : goal.invariant-loop-i

@@ -1,5 +1,4 @@
-use Rattle.std.proofs.Common.{◌≡◌, ◌++◌, drop, take}
-use Rattle.moo_value.specs.Reading.{word, after_word}
+use Rattle.moo_text.proofs.Shared.{◌≡◌, ◌++◌, drop, take, word, after_word}
 use Rattle.moo_text.proofs.line.split_word.Given as goal
 
 abbrev pub invariant-loop-i : goal.invariant-loop-i

@@ -1,5 +1,4 @@
-use Rattle.std.proofs.Common.{ℕ, List, Some, sym, ap, ◌∙◌}
-use Rattle.std.proofs.lemmas.List.{take_rest}
+use Rattle.moo_text.proofs.Shared.{ℕ, List, Some, sym, ap, ◌∙◌, take_rest}
 use Rattle.moo_world.proofs.Form.Ranges.{fits_of}
 use Rattle.moo_text.proofs.Reading.{front_found, no_front}
 use Rattle.moo_text.proofs.literal.read_front.Goals as goal

@@ -1,5 +1,4 @@
-use Rattle.std.proofs.Common.{◌≡◌, ◌++◌, take}
-use Rattle.std.specs.List.{flat_map}
+use Rattle.moo_text.proofs.Shared.{◌≡◌, ◌++◌, take, flat_map}
 use Rattle.moo_text.specs.Replies.{answer_line}
 use Rattle.moo_text.proofs.reply.put_answers.Given as goal
 

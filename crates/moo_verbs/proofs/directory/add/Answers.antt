@@ -1,13 +1,6 @@
-use Rattle.std.proofs.Common.{FitsSigned, w32, rules, ◌≡◌, ◌+◌, refl, sym, ap, ◌∙◌, subst, arith}
-use Rattle.std.specs.FinMap.{insert}
-use Rattle.moo_value.specs.declared.value.ObjNo.{ObjNo}
+use Rattle.moo_verbs.proofs.Words.{FitsSigned, w32, rules, ◌≡◌, ◌+◌, refl, sym, ap, ◌∙◌, subst, arith, insert, ObjNo, VerbId, VerbRow, Held, wrote, world_of, Keeps, props_stay}
 use Rattle.moo_rows.specs.declared.row.Head.{Head}
-use Rattle.moo_rows.specs.declared.row.VerbId.{VerbId}
-use Rattle.moo_rows.specs.declared.row.VerbRow.{VerbRow}
-use Rattle.moo_rows.specs.Maps.{Held, wrote}
-use Rattle.moo_world.specs.Rows.{world_of}
-use Rattle.moo_world.specs.Keeps.{Keeps}
-use Rattle.moo_world.specs.Numbers.{props_stay, verb_added}
+use Rattle.moo_world.specs.Numbers.{verb_added}
 use Rattle.moo_world.proofs.Form.Limits.{verb_within}
 use Rattle.moo_verbs.proofs.Changes.{added_world, added_good}
 use Rattle.moo_verbs.proofs.directory.add.Goals as goal

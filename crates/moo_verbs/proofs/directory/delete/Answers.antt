@@ -1,8 +1,5 @@
-use Rattle.std.proofs.Common.{refl, sym, ap, ◌∙◌, subst, arith}
-use Rattle.moo_rows.specs.Maps.{Held}
-use Rattle.moo_world.specs.Rows.{world_of}
-use Rattle.moo_world.specs.Keeps.{Keeps}
-use Rattle.moo_world.specs.Numbers.{props_stay, verb_removed}
+use Rattle.moo_verbs.proofs.Words.{refl, sym, ap, ◌∙◌, subst, arith, Held, world_of, Keeps, props_stay}
+use Rattle.moo_world.specs.Numbers.{verb_removed}
 use Rattle.moo_verbs.proofs.Changes.{removed_world, removed_good}
 use Rattle.moo_verbs.proofs.directory.delete.Goals as goal
 

@@ -1,5 +1,4 @@
-use Rattle.std.proofs.Common.{◌≡◌, ◌++◌, map}
-use Rattle.moo_rows.specs.Walk.{verbs_of_left}
+use Rattle.moo_verbs.proofs.Words.{◌≡◌, ◌++◌, map, verbs_of_left}
 use Rattle.moo_verbs.proofs.Entries.{Entry}
 use Rattle.moo_verbs.proofs.Found.{walk}
 use Rattle.moo_verbs.proofs.directory.list.Given as goal

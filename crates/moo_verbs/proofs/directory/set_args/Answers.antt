@@ -1,10 +1,5 @@
-use Rattle.std.proofs.Common.{◌≡◌, refl, sym, ap, ◌∙◌, subst, arith}
-use Rattle.std.specs.FinMap.{insert}
-use Rattle.moo_rows.specs.declared.row.VerbRow.{VerbRow}
-use Rattle.moo_rows.specs.Maps.{Held, wrote}
-use Rattle.moo_world.specs.Rows.{world_of}
-use Rattle.moo_world.specs.Keeps.{Keeps}
-use Rattle.moo_world.specs.Numbers.{props_stay, verb_changed}
+use Rattle.moo_verbs.proofs.Words.{◌≡◌, refl, sym, ap, ◌∙◌, subst, arith, insert, VerbRow, Held, wrote, world_of, Keeps, props_stay}
+use Rattle.moo_world.specs.Numbers.{verb_changed}
 use Rattle.moo_verbs.proofs.Changes.{changed_world, changed_good}
 use Rattle.moo_verbs.proofs.directory.set_args.Goals as goal
 

@@ -1,9 +1,5 @@
-use Rattle.std.proofs.Common.{FitsSigned, w32, rules, refl, sym, ap, ◌∙◌, subst, arith}
-use Rattle.moo_rows.specs.declared.row.VerbRow.{VerbRow}
-use Rattle.moo_rows.specs.Maps.{Held}
-use Rattle.moo_world.specs.Rows.{world_of}
-use Rattle.moo_world.specs.Keeps.{Keeps}
-use Rattle.moo_world.specs.Numbers.{props_stay, verb_changed}
+use Rattle.moo_verbs.proofs.Words.{FitsSigned, w32, rules, refl, sym, ap, ◌∙◌, subst, arith, VerbRow, Held, world_of, Keeps, props_stay}
+use Rattle.moo_world.specs.Numbers.{verb_changed}
 use Rattle.moo_world.proofs.Form.Limits.{verb_within}
 use Rattle.moo_verbs.proofs.Changes.{changed_world, changed_good}
 use Rattle.moo_verbs.proofs.directory.set_info.Goals as goal

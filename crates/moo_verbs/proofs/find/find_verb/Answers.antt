@@ -1,13 +1,5 @@
-use Rattle.std.proofs.Common.{◌≡◌, true, sym, ap, ◌∙◌, subst}
-use Rattle.std.specs.Prelude.{IfSome}
-use Rattle.std.specs.Option.{option_map, option_and_then}
-use Rattle.std.specs.List.{position, position_or_len}
-use Rattle.moo_rows.specs.declared.row.VerbRow.{VerbRow}
-use Rattle.moo_world.specs.Rows.{world_of}
-use Rattle.moo_world.specs.World.{directory_of}
+use Rattle.moo_verbs.proofs.Words.{◌≡◌, true, sym, ap, ◌∙◌, subst, IfSome, option_map, option_and_then, position, position_or_len, VerbRow, world_of, directory_of, one_matches, has_verb, verb_place}
 use Rattle.moo_world.specs.Descriptors.{place_within, described}
-use Rattle.moo_world.specs.Matching.{one_matches}
-use Rattle.moo_verbs.specs.Places.{has_verb, verb_place}
 use Rattle.moo_verbs.proofs.Found.{id_of, found_place, found_held, found_word}
 use Rattle.moo_verbs.proofs.find.find_verb.Goals as goal
 

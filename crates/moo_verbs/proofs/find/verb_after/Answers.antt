@@ -1,7 +1,4 @@
-use Rattle.std.proofs.Common.{sym, ap, ◌∙◌}
-use Rattle.std.specs.Option.{option_map}
-use Rattle.std.proofs.lemmas.Iterator.Consumers.{nth_from_yields_List, YieldsList-from_first}
-use Rattle.moo_rows.specs.Walk.{verbs_of_left}
+use Rattle.moo_verbs.proofs.Words.{sym, ap, ◌∙◌, option_map, nth_from_yields_List, YieldsList-from_first, verbs_of_left}
 use Rattle.moo_verbs.proofs.Found.{walk, id_of}
 use Rattle.moo_verbs.proofs.find.verb_after.Goals as goal
 

@@ -1,9 +1,4 @@
-use Rattle.std.proofs.Common.{rules, sym, ap, ◌∙◌}
-use Rattle.std.specs.Option.{option_map}
-use Rattle.std.proofs.lemmas.Iterator.Consumers.{YieldsList-from_first}
-use Rattle.std.proofs.lemmas.Iterator.Search.{find_from_yields_List}
-use Rattle.moo_rows.specs.Walk.{verbs_of_left}
-use Rattle.moo_world.specs.Matching.{one_matches}
+use Rattle.moo_verbs.proofs.Words.{rules, sym, ap, ◌∙◌, option_map, YieldsList-from_first, find_from_yields_List, verbs_of_left, one_matches}
 use Rattle.moo_verbs.proofs.Entries.{Entry}
 use Rattle.moo_verbs.proofs.Found.{walk, id_of}
 use Rattle.moo_verbs.proofs.find.verb_named.Goals as goal

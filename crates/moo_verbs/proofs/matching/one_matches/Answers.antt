@@ -1,8 +1,5 @@
-use Rattle.std.proofs.Common.{rules, not}
-use Rattle.std.proofs.lemmas.Iterator.Search.{any_from_yields_List}
+use Rattle.moo_verbs.proofs.Words.{rules, not, any_from_yields_List, YieldsList-from_filter, YieldsList-at, is_space, is_empty, matches}
 use Rattle.std.proofs.lemmas.Iterator.Splits.{YieldsList-from_slice_split}
-use Rattle.std.proofs.lemmas.Iterator.Consumers.{YieldsList-from_filter, YieldsList-at}
-use Rattle.moo_world.specs.Matching.{is_space, is_empty, matches}
 use Rattle.moo_verbs.proofs.matching.one_matches.Goals as goal
 use borrow.Author.Tests.{tests}
 

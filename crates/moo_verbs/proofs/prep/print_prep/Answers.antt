@@ -1,5 +1,4 @@
-use Rattle.std.proofs.Common.{sym, ap, ◌∙◌}
-use Rattle.moo_world.specs.Prepositions.{prep_text}
+use Rattle.moo_verbs.proofs.Words.{sym, ap, ◌∙◌, prep_text}
 use Rattle.moo_verbs.proofs.TableLaw.{prep_reads}
 use Rattle.moo_verbs.proofs.prep.print_prep.Goals as goal
 

@@ -1,8 +1,5 @@
-use Rattle.std.proofs.Common.{rules, ◌∙◌}
-use Rattle.std.proofs.lemmas.Iterator.Search.{any_from_yields_List}
+use Rattle.moo_verbs.proofs.Words.{rules, ◌∙◌, any_from_yields_List, same_name, set_text}
 use Rattle.std.proofs.lemmas.Iterator.Splits.{YieldsList-from_slice_split}
-use Rattle.moo_world.specs.Matching.{same_name}
-use Rattle.moo_world.specs.Prepositions.{set_text}
 use Rattle.moo_world.specs.VerbReading.{is_slash}
 use Rattle.moo_verbs.proofs.reading.has_phrase.Goals as goal
 use borrow.Author.Tests.{tests}

@@ -1,9 +1,4 @@
-use Rattle.std.proofs.Common.{◌≡◌, ◌<◌, ◌+◌, ◌++◌, true, false, ℕ, List, Some, None, Ok, length, take, drop, sym, ap, subst, ◌∙◌, arith, rules}
-use Rattle.std.specs.Prelude.{◌==◌}
-use Rattle.std.specs.List.{position_from}
-use Rattle.std.proofs.lemmas.List.{length-drop}
-use Rattle.moo_text.specs.Side.{lines_side}
-use Rattle.moo_text.specs.Given.{ReadsLine, BreaksOff}
+use Rattle.moo_text.proofs.Shared.{◌≡◌, ◌<◌, ◌+◌, ◌++◌, true, false, ℕ, List, Some, None, Ok, length, take, drop, sym, ap, subst, ◌∙◌, arith, rules, ◌==◌, position_from, length-drop, lines_side, ReadsLine, BreaksOff}
 use Rattle.moo_text.proofs.Kept.{kept_short, no_newline, newline_there, text_ends, last_line}
 use Rattle.moo_text.proofs.Giving.{handed_on}
 use Rattle.moo_text.proofs.SoFar.{piece_read, room_falls, some_there, found_line, ends_with, piece_fails, beside}
