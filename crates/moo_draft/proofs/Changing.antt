@@ -1,17 +1,12 @@
 -- The changes of a map are exact, and applied to it they give the new one.
-use Rattle.std.proofs.Common.{◌≡◌, ◌≢◌, Bool, true, false, cond, T, ◌&&◌, Option, None, Some, List, [], ◌∷◌, ◌++◌, append_assoc, append-nil, Less, Equal, Greater, Ordering, unwrap_or, refl, sym, ap, ◌∙◌, subst}
+use Rattle.moo_draft.proofs.Words.{◌≡◌, ◌≢◌, Bool, true, false, cond, T, ◌&&◌, Option, None, Some, List, [], ◌∷◌, ◌++◌, append_assoc, append-nil, Less, Equal, Greater, Ordering, unwrap_or, refl, sym, ap, ◌∙◌, subst, eq_by_cmp, is_lt, is_eq, FinMap, find, get, get-from_entries, same_map, is_sorted, contents, changed, row_over, IsChanges, changed_each}
 use Rattle.std.specs.Cmp.{IsTotalOrder}
-use Rattle.std.specs.Ordering.{eq_by_cmp, is_lt, is_eq}
 use Rattle.std.specs.BTreeMap.{BTreeMap, IsOrdered}
-use Rattle.std.specs.FinMap.{FinMap, find, get, get-from_entries, same_map, is_sorted}
 use Rattle.std.specs.FinMap.Entries.{below_all, same_entries}
 use Rattle.std.specs.List.{AllByRecursion}
 use Rattle.std.specs.List.Sorted.{IsStrictlySortedBy}
 use Rattle.std.specs.Map.{keys_of}
 use Rattle.std.proofs.lemmas.Map.Lookups.{CmpEqualImpliesEq}
-use Rattle.moo_ordered.specs.Ordered.{contents}
-use Rattle.moo_draft.specs.Overlay.{changed, row_over}
-use Rattle.moo_draft.specs.Changes.{IsChanges, changed_each}
 use Rattle.moo_draft.specs.Without.{Without, no_more, kept, left_out}
 use Rattle.moo_draft.proofs.Overlays.{get-changed}
 

@@ -1,24 +1,13 @@
 -- The links of a draft's objects, and the properties that its objects define.
-use Rattle.std.proofs.Common.{◌≡◌, Bool, true, false, ◌||◌, cond, Option, None, Some, Less, Equal, Greater, Ordering, unwrap_or, is_some, refl, sym, ap, ◌∙◌, subst}
+use Rattle.moo_draft.proofs.Words.{◌≡◌, Bool, true, false, ◌||◌, cond, Option, None, Some, Less, Equal, Greater, Ordering, unwrap_or, is_some, refl, sym, ap, ◌∙◌, subst, eq_by_cmp, is_eq, FinMap, get, insert, get-insert, ObjNo, PropId, object_exact, object_cmp, prop_cmp, slot_cmp, is_kept, is_candidate, is_to_nothing, has_link, ties_of, ties_have, row_has, row_defined, AreOfDefiners, or_first, or_second, object_total, prop_total, overlaid, of_changes, is_that, may_have_own, is_candidate_of_either, EitherCovers}
 use Rattle.std.specs.Prelude.{⊤}
 use Rattle.std.specs.Option.{option_map}
-use Rattle.std.specs.Ordering.{eq_by_cmp, is_eq}
-use Rattle.std.specs.FinMap.{FinMap, get, insert, get-insert}
 use Rattle.std.proofs.lemmas.Bool.{true≢false}
-use Rattle.moo_value.specs.declared.value.ObjNo.{ObjNo}
 use Rattle.moo_rows.specs.declared.row.ObjRow.{ObjRow}
-use Rattle.moo_rows.specs.declared.row.PropId.{PropId}
 use Rattle.moo_rows.specs.declared.row.PropRow.{PropRow}
 use Rattle.moo_rows.specs.declared.row.Link.{Link}
-use Rattle.moo_rows.specs.Exact.{object_exact}
-use Rattle.moo_rows.specs.Maps.{object_cmp, prop_cmp, slot_cmp}
-use Rattle.moo_rows.specs.Links.{is_kept, is_candidate, is_to_nothing, has_link, ties_of, ties_have, row_has, row_defined, AreOfDefiners}
-use Rattle.moo_rows.proofs.Firsts.{or_first, or_second}
 use Rattle.moo_rows.proofs.Linking.{defined-put, defined-remove}
-use Rattle.moo_rows.proofs.Orders.{object_total, prop_total}
-use Rattle.moo_draft.specs.Overlay.{overlaid}
 use Rattle.moo_draft.specs.declared.own.OwnLinks.{OwnLinks}
-use Rattle.moo_draft.specs.Either.{of_changes, is_that, may_have_own, is_candidate_of_either, EitherCovers}
 use Rattle.moo_draft.proofs.Overlays.{get-overlaid}
 
 -- ---- objects

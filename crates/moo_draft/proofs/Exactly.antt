@@ -1,9 +1,5 @@
 -- The changes from some rows to others: one list, that leads to one result.
-use Rattle.std.proofs.Common.{[], refl, sym, ap, ◌∙◌}
-use Rattle.std.specs.FinMap.{get}
-use Rattle.moo_rows.specs.Maps.{Maps}
-use Rattle.moo_rows.specs.Exact.{object_exact, prop_exact, slot_exact, verb_exact, petition_exact}
-use Rattle.moo_rows.proofs.Orders.{object_total, prop_total, slot_total, verb_total, petition_total}
+use Rattle.moo_draft.proofs.Words.{[], refl, sym, ap, ◌∙◌, get, Maps, object_exact, prop_exact, slot_exact, verb_exact, petition_exact, object_total, prop_total, slot_total, verb_total, petition_total}
 use Rattle.moo_draft.specs.Laws.{ChangesAreUnique, ChangesGiveTheRows, UndoneIsNoChange}
 use Rattle.moo_draft.proofs.Changing.{changes-unique, changes-applied, no-changes}
 

@@ -1,3 +1,4 @@
+pub mod Words
 pub mod Overlays
 pub mod Drafts
 pub mod Changing

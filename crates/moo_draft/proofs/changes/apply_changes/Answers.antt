@@ -1,8 +1,4 @@
-use Rattle.std.proofs.Common.{ap, ◌∙◌}
-use Rattle.moo_rows.specs.Maps.{Maps, Held}
-use Rattle.moo_rows.specs.Exact.{object_exact, prop_exact, slot_exact, verb_exact, petition_exact}
-use Rattle.moo_rows.proofs.Orders.{object_total, prop_total, slot_total, verb_total, petition_total}
-use Rattle.moo_draft.specs.Changes.{changed_each}
+use Rattle.moo_draft.proofs.Words.{ap, ◌∙◌, Maps, Held, object_exact, prop_exact, slot_exact, verb_exact, petition_exact, object_total, prop_total, slot_total, verb_total, petition_total, changed_each}
 use Rattle.moo_draft.proofs.Changing.{changes-applied}
 use Rattle.moo_draft.proofs.changes.apply_changes.Goals as goal
 

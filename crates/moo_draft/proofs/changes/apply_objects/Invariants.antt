@@ -1,6 +1,4 @@
-use Rattle.std.proofs.Common.{◌≡◌, length}
-use Rattle.std.specs.Vec.Iter.{into_iter_items, into_iter_len}
-use Rattle.moo_draft.specs.Changes.{changed_each}
+use Rattle.moo_draft.proofs.Words.{◌≡◌, length, into_iter_items, into_iter_len, changed_each}
 use Rattle.moo_draft.proofs.changes.apply_objects.Given as goal
 
 -- with the changes that are left, it is as with all

@@ -1,8 +1,5 @@
-use Rattle.std.proofs.Common.{sym, ◌∙◌, subst, rules}
+use Rattle.moo_draft.proofs.Words.{sym, ◌∙◌, subst, rules, contents, row_over, IsChanges}
 use Rattle.std.proofs.lemmas.List.{nil_from_length}
-use Rattle.moo_ordered.specs.Ordered.{contents}
-use Rattle.moo_draft.specs.Overlay.{row_over}
-use Rattle.moo_draft.specs.Changes.{IsChanges}
 use Rattle.moo_draft.proofs.Changing.{nothing-changed}
 use Rattle.moo_draft.proofs.changes.changed_rows.Goals as goal
 

@@ -1,12 +1,4 @@
-use Rattle.std.specs.Prelude.{is_some}
-use Rattle.std.specs.FinMap.{get}
-use Rattle.moo_rows.specs.declared.row.PropId.{PropId}
-use Rattle.moo_ordered.specs.Ordered.{contents}
-use Rattle.moo_rows.specs.Maps.{slot_cmp}
-use Rattle.moo_rows.specs.Links.{is_definer}
-use Rattle.moo_rows.specs.Exact.{prop_exact}
-use Rattle.moo_rows.proofs.Orders.{prop_total}
-use Rattle.moo_rows.proofs.Firsts.{either-first}
+use Rattle.moo_draft.proofs.Words.{is_some, get, PropId, contents, slot_cmp, is_definer, prop_exact, prop_total, either-first}
 use Rattle.moo_draft.proofs.either.next_defined_of_either.Goals as goal
 
 pub returns : goal.returns

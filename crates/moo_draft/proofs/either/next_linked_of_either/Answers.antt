@@ -1,12 +1,4 @@
-use Rattle.std.specs.Prelude.{◌||◌}
-use Rattle.moo_value.specs.declared.value.ObjNo.{ObjNo}
-use Rattle.moo_ordered.specs.Ordered.{contents}
-use Rattle.moo_rows.specs.Maps.{object_cmp}
-use Rattle.moo_rows.specs.Links.{is_linked, is_candidate}
-use Rattle.moo_rows.specs.Exact.{object_exact}
-use Rattle.moo_rows.proofs.Orders.{object_total}
-use Rattle.moo_rows.proofs.Firsts.{either-first}
-use Rattle.moo_draft.specs.Either.{is_that}
+use Rattle.moo_draft.proofs.Words.{◌||◌, ObjNo, contents, object_cmp, is_linked, is_candidate, object_exact, object_total, either-first, is_that}
 use Rattle.moo_draft.proofs.either.next_linked_of_either.Goals as goal
 
 pub returns : goal.returns

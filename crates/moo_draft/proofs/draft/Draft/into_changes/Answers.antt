@@ -1,9 +1,4 @@
-use Rattle.std.proofs.Common.{refl, sym, subst}
-use Rattle.std.specs.FinMap.{get}
-use Rattle.moo_ordered.specs.Ordered.{contents}
-use Rattle.moo_rows.specs.Maps.{object_cmp, prop_cmp, slot_cmp, verb_cmp, petition_cmp}
-use Rattle.moo_rows.proofs.Orders.{object_total, prop_total, slot_total, verb_total, petition_total}
-use Rattle.moo_draft.specs.Changes.{IsChanges}
+use Rattle.moo_draft.proofs.Words.{refl, sym, subst, get, contents, object_cmp, prop_cmp, slot_cmp, verb_cmp, petition_cmp, object_total, prop_total, slot_total, verb_total, petition_total, IsChanges}
 use Rattle.moo_draft.proofs.Overlays.{get-overlaid}
 use Rattle.moo_draft.proofs.draft.Draft.into_changes.Goals as goal
 

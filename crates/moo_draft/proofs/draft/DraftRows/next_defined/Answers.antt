@@ -1,14 +1,4 @@
-use Rattle.std.proofs.Common.{◌≡◌, true, false, ◌||◌, Some, None, sym, ap, ◌∙◌, rules}
-use Rattle.std.specs.Prelude.{is_some}
-use Rattle.std.specs.FinMap.{get}
-use Rattle.moo_rows.specs.declared.row.PropId.{PropId}
-use Rattle.moo_ordered.specs.Ordered.{contents}
-use Rattle.moo_rows.specs.Maps.{prop_cmp, slot_cmp}
-use Rattle.moo_rows.specs.Exact.{prop_exact}
-use Rattle.moo_rows.specs.Links.{row_defined}
-use Rattle.moo_rows.proofs.Orders.{prop_total}
-use Rattle.moo_rows.proofs.Firsts.{first-none, first-found, first-skipped}
-use Rattle.moo_draft.specs.Overlay.{overlaid}
+use Rattle.moo_draft.proofs.Words.{◌≡◌, true, false, ◌||◌, Some, None, sym, ap, ◌∙◌, rules, is_some, get, PropId, contents, prop_cmp, slot_cmp, prop_exact, row_defined, prop_total, first-none, first-found, first-skipped, overlaid}
 use Rattle.moo_draft.proofs.Overlays.{get-overlaid}
 use Rattle.moo_draft.proofs.Drafts.{draft-defines}
 use Rattle.moo_draft.proofs.draft.DraftRows.next_defined.Goals as goal

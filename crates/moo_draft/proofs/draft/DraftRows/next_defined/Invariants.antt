@@ -1,10 +1,4 @@
-use Rattle.std.proofs.Common.{Option, ◌-◌}
-use Rattle.std.specs.FinMap.{get}
-use Rattle.moo_rows.specs.declared.row.PropId.{PropId}
-use Rattle.moo_ordered.specs.Ordered.{contents}
-use Rattle.moo_rows.specs.Maps.{prop_cmp}
-use Rattle.moo_rows.specs.Links.{IsFirst, row_defined}
-use Rattle.moo_draft.specs.Overlay.{overlaid}
+use Rattle.moo_draft.proofs.Words.{Option, ◌-◌, get, PropId, contents, prop_cmp, IsFirst, row_defined, overlaid}
 use Rattle.moo_draft.proofs.draft.DraftRows.next_defined.Given as goal
 
 -- what is first past `last` is first past `after`

@@ -1,14 +1,4 @@
-use Rattle.std.proofs.Common.{◌≡◌, true, false, Some, None, sym, ap, ◌∙◌, rules}
-use Rattle.std.specs.FinMap.{get}
-use Rattle.moo_value.specs.declared.value.ObjNo.{ObjNo}
-use Rattle.moo_ordered.specs.Ordered.{contents}
-use Rattle.moo_rows.specs.Maps.{object_cmp}
-use Rattle.moo_rows.specs.Exact.{object_exact}
-use Rattle.moo_rows.specs.Links.{row_has}
-use Rattle.moo_rows.proofs.Orders.{object_total}
-use Rattle.moo_rows.proofs.Firsts.{first-none, first-found, first-skipped}
-use Rattle.moo_draft.specs.Overlay.{overlaid}
-use Rattle.moo_draft.specs.Either.{is_candidate_of_either}
+use Rattle.moo_draft.proofs.Words.{◌≡◌, true, false, Some, None, sym, ap, ◌∙◌, rules, get, ObjNo, contents, object_cmp, object_exact, row_has, object_total, first-none, first-found, first-skipped, overlaid, is_candidate_of_either}
 use Rattle.moo_draft.proofs.Overlays.{get-overlaid}
 use Rattle.moo_draft.proofs.Drafts.{draft-covers}
 use Rattle.moo_draft.proofs.draft.DraftRows.next_linked.Goals as goal

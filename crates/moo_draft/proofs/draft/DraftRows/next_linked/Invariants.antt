@@ -1,10 +1,4 @@
-use Rattle.std.proofs.Common.{Option, pos, ◌-ℤ◌, nat_abs}
-use Rattle.std.specs.FinMap.{get}
-use Rattle.moo_value.specs.declared.value.ObjNo.{ObjNo}
-use Rattle.moo_ordered.specs.Ordered.{contents}
-use Rattle.moo_rows.specs.Maps.{object_cmp}
-use Rattle.moo_rows.specs.Links.{IsFirst, row_has}
-use Rattle.moo_draft.specs.Overlay.{overlaid}
+use Rattle.moo_draft.proofs.Words.{Option, pos, ◌-ℤ◌, nat_abs, get, ObjNo, contents, object_cmp, IsFirst, row_has, overlaid}
 use Rattle.moo_draft.proofs.draft.DraftRows.next_linked.Given as goal
 
 -- what is first past `last` is first past `after`

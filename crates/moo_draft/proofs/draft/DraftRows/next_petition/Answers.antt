@@ -1,6 +1,4 @@
-use Rattle.moo_ordered.specs.Ordered.{contents}
-use Rattle.moo_rows.specs.Maps.{petition_cmp}
-use Rattle.moo_rows.proofs.Orders.{petition_total}
+use Rattle.moo_draft.proofs.Words.{contents, petition_cmp, petition_total}
 use Rattle.moo_draft.proofs.Overlays.{next-overlaid}
 use Rattle.moo_draft.proofs.draft.DraftRows.next_petition.Goals as goal
 

@@ -1,7 +1,4 @@
-use Rattle.std.proofs.Common.{sym, ◌∙◌}
-use Rattle.moo_ordered.specs.Ordered.{contents}
-use Rattle.moo_rows.specs.Maps.{petition_cmp}
-use Rattle.moo_rows.proofs.Orders.{petition_total}
+use Rattle.moo_draft.proofs.Words.{sym, ◌∙◌, contents, petition_cmp, petition_total}
 use Rattle.moo_draft.proofs.Overlays.{get-overlaid}
 use Rattle.moo_draft.proofs.draft.DraftRows.petition.Goals as goal
 

@@ -1,12 +1,5 @@
-use Rattle.std.proofs.Common.{◌≡◌, Some, ap, ◌∙◌}
+use Rattle.moo_draft.proofs.Words.{◌≡◌, Some, ap, ◌∙◌, contents, object_cmp, has_link, object_exact, object_total, overlaid, of_changes, may_have_own}
 use Rattle.std.specs.FinMap as map
-use Rattle.moo_ordered.specs.Ordered.{contents}
-use Rattle.moo_rows.specs.Maps.{object_cmp}
-use Rattle.moo_rows.specs.Links.{has_link}
-use Rattle.moo_rows.specs.Exact.{object_exact}
-use Rattle.moo_rows.proofs.Orders.{object_total}
-use Rattle.moo_draft.specs.Overlay.{overlaid}
-use Rattle.moo_draft.specs.Either.{of_changes, may_have_own}
 use Rattle.moo_draft.proofs.Overlays.{overlaid-insert}
 use Rattle.moo_draft.proofs.Drafts.{either-change, either-more, put-there}
 use Rattle.moo_draft.proofs.draft.DraftRows.put_object.Goals as goal

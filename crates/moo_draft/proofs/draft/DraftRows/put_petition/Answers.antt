@@ -1,10 +1,5 @@
-use Rattle.std.proofs.Common.{◌≡◌, Some, ap, ◌∙◌}
+use Rattle.moo_draft.proofs.Words.{◌≡◌, Some, ap, ◌∙◌, contents, petition_cmp, petition_exact, petition_total, overlaid}
 use Rattle.std.specs.FinMap as map
-use Rattle.moo_ordered.specs.Ordered.{contents}
-use Rattle.moo_rows.specs.Maps.{petition_cmp}
-use Rattle.moo_rows.specs.Exact.{petition_exact}
-use Rattle.moo_rows.proofs.Orders.{petition_total}
-use Rattle.moo_draft.specs.Overlay.{overlaid}
 use Rattle.moo_draft.proofs.Overlays.{overlaid-insert}
 use Rattle.moo_draft.proofs.draft.DraftRows.put_petition.Goals as goal
 

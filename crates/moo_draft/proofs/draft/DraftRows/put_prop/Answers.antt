@@ -1,13 +1,5 @@
-use Rattle.std.proofs.Common.{◌≡◌, Some, is_some, sym, ap, ◌∙◌}
+use Rattle.moo_draft.proofs.Words.{◌≡◌, Some, is_some, sym, ap, ◌∙◌, contents, prop_cmp, slot_cmp, row_defined, prop_exact, lacked-insert, prop_total, slot_total, overlaid, of_changes}
 use Rattle.std.specs.FinMap as map
-use Rattle.moo_ordered.specs.Ordered.{contents}
-use Rattle.moo_rows.specs.Maps.{prop_cmp, slot_cmp}
-use Rattle.moo_rows.specs.Links.{row_defined}
-use Rattle.moo_rows.specs.Exact.{prop_exact}
-use Rattle.moo_rows.proofs.Firsts.{lacked-insert}
-use Rattle.moo_rows.proofs.Orders.{prop_total, slot_total}
-use Rattle.moo_draft.specs.Overlay.{overlaid}
-use Rattle.moo_draft.specs.Either.{of_changes}
 use Rattle.moo_draft.proofs.Overlays.{overlaid-insert}
 use Rattle.moo_draft.proofs.Drafts.{draft-put}
 use Rattle.moo_draft.proofs.draft.DraftRows.put_prop.Goals as goal

@@ -1,10 +1,5 @@
-use Rattle.std.proofs.Common.{◌≡◌, None, refl, ap, ◌∙◌}
+use Rattle.moo_draft.proofs.Words.{◌≡◌, None, refl, ap, ◌∙◌, contents, object_cmp, object_exact, object_total, overlaid}
 use Rattle.std.specs.FinMap as map
-use Rattle.moo_ordered.specs.Ordered.{contents}
-use Rattle.moo_rows.specs.Maps.{object_cmp}
-use Rattle.moo_rows.specs.Exact.{object_exact}
-use Rattle.moo_rows.proofs.Orders.{object_total}
-use Rattle.moo_draft.specs.Overlay.{overlaid}
 use Rattle.moo_draft.proofs.Overlays.{overlaid-insert}
 use Rattle.moo_draft.proofs.Drafts.{either-change}
 use Rattle.moo_draft.proofs.draft.DraftRows.remove_object.Goals as goal

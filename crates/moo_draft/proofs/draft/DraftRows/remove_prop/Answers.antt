@@ -1,10 +1,5 @@
-use Rattle.std.proofs.Common.{◌≡◌, None, ap, ◌∙◌}
+use Rattle.moo_draft.proofs.Words.{◌≡◌, None, ap, ◌∙◌, contents, prop_cmp, slot_cmp, prop_exact, prop_total, overlaid}
 use Rattle.std.specs.FinMap as map
-use Rattle.moo_ordered.specs.Ordered.{contents}
-use Rattle.moo_rows.specs.Maps.{prop_cmp, slot_cmp}
-use Rattle.moo_rows.specs.Exact.{prop_exact}
-use Rattle.moo_rows.proofs.Orders.{prop_total}
-use Rattle.moo_draft.specs.Overlay.{overlaid}
 use Rattle.moo_draft.proofs.Overlays.{overlaid-insert}
 use Rattle.moo_draft.proofs.Drafts.{draft-remove}
 use Rattle.moo_draft.proofs.draft.DraftRows.remove_prop.Goals as goal
