@@ -40,7 +40,7 @@ abbrev pub body_plan : Mode → Option ℕ → Plan
 body_plan mode None = Decided (Refused BadRequest)
 body_plan mode (Some n) = if nat_lt 1048576 n then Decided (Refused TooLarge) else Body mode n
 
--- a question, unless the number that it needs is none
+-- the question that the path asks; not found if it asks none
 abbrev pub question_plan : Option Question → Plan
 question_plan None = Decided (Refused NotFound)
 question_plan (Some question) = Decided (Asks question)

@@ -86,7 +86,7 @@ fn plan_body(mode: Mode, length: Option<u64>) -> Plan
     }
 }
 
-/// A question, unless the number that it needs is none.
+/// The question that the path asks. Not found if it asks none.
 fn plan_question(question: Option<Question>) -> Plan
     ensures value { result ≡ question_plan question }
     ensures bound { IsBounded result }

@@ -56,7 +56,7 @@ impl Topic {
         }
     }
 
-    /// The question that a path of the topic asks. None if its number is none.
+    /// The question that a path of the topic asks. None if it needs a number, and the path has something else there.
     pub(crate) fn question(self, path: &[u8]) -> Option<Question>
         ensures { result ≡ question_of self path.now }
     {
