@@ -1,21 +1,19 @@
 -- What a run of one batch, and a question, say of a World wherever it stands.
-use Rattle.std.proofs.Common.{◌≡◌, ◌≢◌, inl, inr, ℕ, ◌<◌, List, [], ◌∷◌, length, refl, sym, ap, subst, ◌∙◌, arith, Bool, true, false}
-use Rattle.std.specs.Prelude.{◌⊎◌, Result, Ok, Err, IsTrue, IsErrOf, IfOk, IfErr, OnOk, Option, ⊤}
+use Rattle.std.proofs.Common.{◌≡◌, ◌≢◌, inl, inr, ◌<◌, List, [], ◌∷◌, length, refl, sym, ap, subst, ◌∙◌, arith, Bool, true, false}
+use Rattle.std.specs.Prelude.{◌⊎◌, Result, Ok, Err, IsTrue, IsErrOf, IfOk, IfErr, OnOk, ⊤}
 use Rattle.std.specs.Result.{IsOkAnd}
 use Rattle.sqlite.specs.declared.error.Error.{Error}
 use Rattle.sqlite.specs.State.{HasCleanDisk}
 use Rattle.sqlite.specs.Store.{Ghosts}
+use Rattle.moo_rows.specs.Maps.{Maps}
 use Rattle.moo_world.specs.declared.call.Batch.{Batch}
 use Rattle.moo_world.specs.Judge.{State, state_of, judge}
 use Rattle.moo_world.specs.Rows.{IsGood}
 use Rattle.moo_tables.specs.Tables.{Tables}
 use Rattle.moo_tables.specs.Inside.{Rests}
-use Rattle.moo_value.specs.declared.value.ObjNo.{ObjNo}
 use Rattle.moo_text.specs.declared.reply.Answer.TheVariants as answered
 use Rattle.moo_text.specs.declared.reply.Reply.{Reply}
 use Rattle.moo_text.specs.declared.reply.Reply.TheVariants.{NoMemory}
-use Rattle.moo_dump.specs.declared.seen.Look.{Look}
-use Rattle.moo_dump.specs.Look.{look_of}
 use Rattle.moo_store.specs.Answered.{answer_of, IsRun, acknowledged, added}
 use Rattle.moo_store.specs.Stand.{Stand, Works, Failed, StoreFailed, RunsBatch}
 use Rattle.moo_store.specs.Kept.{World}
@@ -29,11 +27,11 @@ use Rattle.moo_store.specs.declared.fault.StoreFault.TheVariants.{Store, Damaged
 use Rattle.moo_store.proofs.Asking.{asked_one}
 use Rattle.moo_store.proofs.Crashes.{IsSettled}
 use Rattle.moo_store.proofs.Untouched.{written_none}
-use Rattle.moo_request.specs.declared.asked.Asked.TheVariants.{Calls, Seq, Object}
+use Rattle.moo_request.specs.declared.asked.Asked.TheVariants.{Calls, Question as Asks}
 use Rattle.moo_request.specs.declared.asked.Mode.TheVariants.{Run, Ask}
+use Rattle.moo_request.specs.declared.question.Question.{Question}
 use Rattle.moo_responses.specs.declared.outcome.Outcome.{Outcome}
 use Rattle.moo_responses.specs.declared.outcome.Outcome.TheVariants as outcome
-use Rattle.moo_responses.specs.Outcomes.{looked}
 use Rattle.moo_http.specs.Answers.{MayAnswer, taken_by, failed_by}
 use Rattle.moo_http.specs.Settled.{ComesOfRun, lost_by}
 
@@ -244,29 +242,18 @@ asked g known world batch (Err fault) judged run closed (Works s) at = absurd (j
 asked g known world batch (Err fault) judged run closed (Failed s) at = inl (answered.Closed, (refl, refl), ap came_of (closed at.0))
 asked g known world batch (Err fault) judged run closed (StoreFailed s hand) at = inl (answered.Closed, (refl, refl), ap came_of (closed at.0))
 
-abbrev pub told_seq : Result ℕ StoreFault → Outcome
-told_seq (Ok seq) = outcome.Seq seq
-told_seq (Err fault) = lost_by fault
+-- what the rows of a World that works tell, it tells wherever it stands
+pub told_by_rows : {S : Type 0} (g : Ghosts S) (known : Bool) (world : World S) (question : Question) (rows : Maps) (o : Outcome) → ((known : Bool) (s : State) → StandsFor g known world s → state_of rows ≡ s) → world.failed ≡ false
+    → MayAnswer (Works (state_of rows)) (Asks question) o (Works (state_of rows)) → (stand : Stand) → StandsAt g known world stand → MayAnswer stand (Asks question) o stand
+told_by_rows g known world question rows o state works told (Works s) at = subst (λ (now : State). MayAnswer (Works now) (Asks question) o (Works now)) (state known s at) told
+told_by_rows g known world question rows o state works told (Failed s) at = let failed = at.0 in absurd cc
+told_by_rows g known world question rows o state works told (StoreFailed s hand) at = let failed = at.0 in absurd cc
 
-pub numbered : {S : Type 0} (g : Ghosts S) (known : Bool) (world : World S) (r : Result ℕ StoreFault) → ((known : Bool) (s : State) → StandsFor g known world s → r ≡ Ok s.seq) → (IsTrue world.failed → r ≡ Err Closed)
-    → (stand : Stand) → StandsAt g known world stand → MayAnswer stand Seq (told_seq r) stand
-numbered g known world r number closed (Works s) at = inl (ap told_seq (number known s at), refl)
-numbered g known world r number closed (Failed s) at = inl (ap told_seq (closed at.0), refl)
-numbered g known world r number closed (StoreFailed s hand) at = inl (ap told_seq (closed at.0), refl)
-
-abbrev pub told_look : Result (Option Look) StoreFault → Outcome
-told_look (Ok look) = looked look
-told_look (Err fault) = lost_by fault
-
-look_told : {S : Type 0} (g : Ghosts S) (known : Bool) (world : World S) (n : ObjNo) (s : State) (r : Result (Option Look) StoreFault) → IfOk r (λ look. look ≡ look_of s.world n) → IfErr r (λ fault. fault ≡ OutOfMemory) → MayAnswer (Works s) (Object n) (told_look r) (Works s)
-look_told g known world n s (Ok look) is fault = inl (ap looked is, refl)
-look_told g known world n s (Err why) is fault = inr (tt, ap lost_by fault, refl)
-
-pub seen : {S : Type 0} (g : Ghosts S) (known : Bool) (world : World S) (n : ObjNo) (r : Result (Option Look) StoreFault) → ((known : Bool) (s : State) → StandsFor g known world s → IfOk r (λ look. look ≡ look_of s.world n))
-    → (world.failed ≡ false → IfErr r (λ fault. fault ≡ OutOfMemory)) → (IsTrue world.failed → r ≡ Err Closed) → (stand : Stand) → StandsAt g known world stand → MayAnswer stand (Object n) (told_look r) stand
-seen g known world n r look fault closed (Works s) at = look_told g known world n s r (look known s at) (fault at.works)
-seen g known world n r look fault closed (Failed s) at = inl (ap told_look (closed at.0), refl)
-seen g known world n r look fault closed (StoreFailed s hand) at = inl (ap told_look (closed at.0), refl)
+-- and one that failed is closed
+pub told_closed : {S : Type 0} (g : Ghosts S) (known : Bool) (world : World S) (question : Question) → world.failed ≡ true → (stand : Stand) → StandsAt g known world stand → MayAnswer stand (Asks question) outcome.Closed stand
+told_closed g known world question failed (Works s) at = let works = at.works in absurd cc
+told_closed g known world question failed (Failed s) at = inl (refl, refl)
+told_closed g known world question failed (StoreFailed s hand) at = inl (refl, refl)
 
 -- ---- the one reply
 

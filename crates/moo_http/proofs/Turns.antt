@@ -1,12 +1,11 @@
 -- The connections that a source hands out, served one after another.
-use Rattle.std.proofs.Common.{◌≡◌, inl, inr, ℕ, suc, ◌+◌, Bool, true, false, List, [], ◌∷◌, Option, Some, None, length, refl, sym, ap, subst, ◌∙◌, arith}
+use Rattle.std.proofs.Common.{◌≡◌, inl, inr, ℕ, suc, ◌+◌, Bool, true, false, List, [], ◌∷◌, Option, Some, refl, sym, subst, arith}
 use Rattle.std.specs.Prelude.{◌≢◌, Result, Ok, Err, is_ok, IfErr, IsTrue}
 use Rattle.sqlite.specs.State.{HasCleanDisk}
 use Rattle.sqlite.specs.Store.{Ghosts}
 use Rattle.moo_store.specs.Stand.{Stand}
 use Rattle.moo_store.specs.Kept.{World}
 use Rattle.moo_store.specs.World.{store_of, CrashLeaves, StandsAt}
-use Rattle.moo_request.specs.declared.request.Received.{Received}
 use Rattle.moo_request.specs.declared.request.Received.TheVariants.{Nothing, Request}
 use Rattle.moo_http.specs.declared.arrivals.Connection.{Connection}
 use Rattle.moo_http.specs.declared.fault.ServeFault.{ServeFault}
@@ -14,7 +13,7 @@ use Rattle.moo_http.specs.declared.fault.ServeFault.TheVariants.{Read, Write, Ou
 use Rattle.moo_http.specs.declared.service.ServiceFault.{ServiceFault}
 use Rattle.moo_http.specs.declared.service.ServiceFault.TheVariants as service
 use Rattle.moo_http.specs.Connections.{Moves, AfterConnections, StandsAtEnd}
-use Rattle.moo_http.specs.Serves.{Gets, Serves, StandsStill, Served}
+use Rattle.moo_http.specs.Serves.{Serves, StandsStill, Served}
 use Rattle.moo_http.specs.Turns.{Yields, Exchanged, Visited, Visit, AfterTurns, Attended, ServesFrom, attended_between, ServesOn, answered_in, failed_in}
 
 -- the same end, of which something else holds

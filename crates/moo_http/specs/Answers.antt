@@ -5,25 +5,24 @@ use Rattle.sqlite.specs.Store.{Ghosts}
 use Rattle.moo_text.specs.declared.reply.Answer.{Answer}
 use Rattle.moo_world.specs.declared.call.Batch.{Batch}
 use Rattle.moo_world.specs.Judge.{State, judge}
-use Rattle.moo_dump.specs.Look.{look_of}
 use Rattle.moo_store.specs.Answered.{reply_of, answer_of, state_behind, acknowledged}
 use Rattle.moo_store.specs.Stand.{Stand, Works, Failed, StoreFailed, RunsBatch, AsksBatch}
 use Rattle.moo_store.specs.Kept.{World}
 use Rattle.moo_store.specs.World.{store_of, CrashLeaves, StandsAt}
 use Rattle.moo_request.specs.declared.asked.Asked.{Asked}
-use Rattle.moo_request.specs.declared.asked.Asked.TheVariants.{Refused, Calls, Seq, Object}
+use Rattle.moo_request.specs.declared.asked.Asked.TheVariants.{Refused, Calls, Question}
 use Rattle.moo_request.specs.declared.asked.Mode.TheVariants.{Run, Ask}
 use Rattle.moo_responses.specs.declared.outcome.Outcome.{Outcome}
 use Rattle.moo_responses.specs.declared.outcome.Outcome.TheVariants as outcome
-use Rattle.moo_responses.specs.Outcomes.{looked, outcome_of}
+use Rattle.moo_responses.specs.Outcomes.{outcome_of}
+use Rattle.moo_responses.specs.Told.{told_of, TellingTakesMemory}
 
 -- what comes of what is asked at a state, and the state that it leaves
 abbrev pub answer : State → Asked → Outcome × State
 answer s (Refused refusal) = (outcome.Refused refusal, s)
 answer s (Calls Run batch) = (outcome.Replied (reply_of (judge s batch)), state_behind s batch)
 answer s (Calls Ask batch) = (outcome.Replied (answer_of s (judge s batch)), s)
-answer s Seq = (outcome.Seq s.seq, s)
-answer s (Object n) = (looked (look_of s.world n), s)
+answer s (Question question) = (outcome.Told (told_of question s), s)
 
 -- ---- a World that stands somewhere
 
@@ -38,16 +37,14 @@ abbrev pub Comes : Stand → Asked → Outcome → Stand → Type 0
 Comes old (Refused refusal) o new = (o ≡ outcome.Refused refusal) × (new ≡ old)
 Comes old (Calls Run batch) o new = (a : Answer) × RunsBatch old batch a new × (o ≡ outcome_of a)
 Comes old (Calls Ask batch) o new = (a : Answer) × AsksBatch old batch a new × (o ≡ outcome_of a)
-Comes old Seq o new = (o ≡ tell (λ s. outcome.Seq s.seq) old) × (new ≡ old)
-Comes old (Object n) o new = (o ≡ tell (λ s. looked (look_of s.world n)) old) × (new ≡ old)
+Comes old (Question question) o new = (o ≡ tell (λ s. outcome.Told (told_of question s)) old) × (new ≡ old)
 
 -- the World takes memory for what it hands out
 abbrev pub TakesMemory : Asked → Type 0
 TakesMemory (Refused refusal) = ⊥
 TakesMemory (Calls Run batch) = ⊤
 TakesMemory (Calls Ask batch) = ⊥
-TakesMemory Seq = ⊥
-TakesMemory (Object n) = ⊤
+TakesMemory (Question question) = TellingTakesMemory question
 
 -- So it comes; or memory for what is handed out is refused, and nothing changes.
 abbrev pub MayAnswer : Stand → Asked → Outcome → Stand → Type 0
@@ -71,8 +68,7 @@ abbrev pub taken_by : Asked → Outcome → List Batch
 taken_by (Refused refusal) o = []
 taken_by (Calls Run batch) o = acknowledged_of batch o
 taken_by (Calls Ask batch) o = []
-taken_by Seq o = []
-taken_by (Object n) o = []
+taken_by (Question question) o = []
 
 -- the batch, if it was run and the store failed in it
 abbrev pub failed_of : Batch → Outcome → List Batch
@@ -83,5 +79,4 @@ abbrev pub failed_by : Asked → Outcome → List Batch
 failed_by (Refused refusal) o = []
 failed_by (Calls Run batch) o = failed_of batch o
 failed_by (Calls Ask batch) o = []
-failed_by Seq o = []
-failed_by (Object n) o = []
+failed_by (Question question) o = []

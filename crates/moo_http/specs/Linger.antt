@@ -1,5 +1,5 @@
 -- What is read and thrown away.
-use Rattle.std.specs.Prelude.{◌≡◌, ◌≤◌, ℕ, List, length, Option}
+use Rattle.std.specs.Prelude.{◌≤◌, ℕ, List, length, Option}
 use Rattle.std.specs.Io.KnownBytes.{Consumes}
 
 -- at most so many bytes are taken

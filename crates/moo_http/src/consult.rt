@@ -2,19 +2,20 @@
 
 ghost use Rattle.std.specs.Prelude.{◌≡◌, ◌∷◌, [], length, OnOk, Bool};
 ghost use Rattle.moo_store.specs.Untouched.{IsMovedBy};
-ghost use Rattle.moo_store.specs.Stand.{Stand};
+ghost use Rattle.moo_world.specs.Judge.{state_of};
+ghost use Rattle.moo_world.specs.Rows.{world_of};
+ghost use Rattle.moo_world.specs.World.{IsTree};
+ghost use Rattle.moo_store.specs.Stand.{Stand, Works};
 ghost use Rattle.sqlite.specs.State.{HasCleanDisk};
 ghost use Rattle.moo_store.specs.World.{store_of, StandsAt};
-ghost use Rattle.moo_responses.specs.Outcomes.{looked};
 ghost use Rattle.moo_http.specs.Answers.{MayAnswer, Consulted, taken_by, failed_by};
 ghost use Rattle.moo_http.specs.Settled.{ComesOfRun, lost_by};
 
-use moo_dump::Look;
-use moo_request::{Asked, Mode};
-use moo_responses::Outcome;
+use moo_request::{Asked, Mode, Question};
+use moo_responses::{Outcome, tell};
+use moo_rows::Rows;
 use moo_store::{StoreFault, World};
 use moo_text::Reply;
-use moo_value::ObjNo;
 use moo_world::Batch;
 use sqlite::Alter;
 use std::alloc::Global;
@@ -72,31 +73,24 @@ fn ask_batch<S: Alter + Drop>(world: &World<S>, batch: &Batch) -> Outcome
     }
 }
 
-fn ask_seq<S: Alter + Drop>(world: &World<S>) -> Outcome
-    ensures { (known : Bool) (stand : Stand) → StandsAt S.Store known world.now stand → MayAnswer stand Asked.Seq result stand }
+/// What comes of a question to a World of these rows that works.
+fn ask_rows<R: Rows>(alloc: Global, rows: &R, question: Question) -> Outcome
+    requires { IsTree (world_of (R.held rows.now).maps) }
+    ensures { MayAnswer (Works (state_of (R.held rows.now).maps)) (Asked.Question question) result (Works (state_of (R.held rows.now).maps)) }
 {
-    match world.seq() {
-        Ok(seq) => Outcome::Seq(seq),
-        Err(fault) => lost(fault),
+    match tell(alloc, rows, question) {
+        Ok(told) => Outcome::Told(told),
+        Err(_) => Outcome::NoMemory,
     }
 }
 
-/// What comes of a look. It shows nothing if there isn't such an object.
-fn show(look: Option<Look>) -> Outcome
-    ensures { result ≡ looked look }
+/// What comes of a question.
+fn ask_question<S: Alter + Drop>(alloc: Global, world: &World<S>, question: Question) -> Outcome
+    ensures { (known : Bool) (stand : Stand) → StandsAt S.Store known world.now stand → MayAnswer stand (Asked.Question question) result stand }
 {
-    match look {
-        Some(look) => Outcome::Object(look),
-        None => Outcome::NoObject,
-    }
-}
-
-fn look_at<S: Alter + Drop>(world: &World<S>, number: ObjNo) -> Outcome
-    ensures { (known : Bool) (stand : Stand) → StandsAt S.Store known world.now stand → MayAnswer stand (Asked.Object number) result stand }
-{
-    match world.object(number) {
-        Ok(look) => show(look),
-        Err(fault) => lost(fault),
+    match world.good_rows() {
+        Some(rows) => ask_rows(alloc, rows, question),
+        None => Outcome::Closed,
     }
 }
 
@@ -125,8 +119,7 @@ fn answer<S: Alter + Drop>(alloc: Global, world: &mut World<S>, asked: &Asked) -
     match asked {
         Asked::Refused(refusal) => Outcome::Refused(*refusal),
         Asked::Calls(mode, batch) => take_batch(alloc, world, *mode, batch),
-        Asked::Seq => ask_seq(world),
-        Asked::Object(number) => look_at(world, *number),
+        Asked::Question(question) => ask_question(alloc, world, *question),
     }
 }
 

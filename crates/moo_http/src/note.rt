@@ -5,7 +5,7 @@ ghost use Rattle.moo_responses.specs.Responses.{response_of, reply_response};
 
 use crate::arrivals::Closing;
 use crate::fault::ServeFault;
-use moo_request::{Asked, Mode};
+use moo_request::{Asked, Mode, Question};
 use moo_responses::Outcome;
 use moo_text::Reply;
 use std::fmt::{self, Display, Formatter};
@@ -18,9 +18,8 @@ pub enum Route {
     Unknown,
     Batch,
     Ask,
-    Seq,
-    /// The object with this number.
-    Object(i32),
+    /// That of a question.
+    Question(Question),
 }
 
 impl Display for Route {
@@ -29,8 +28,7 @@ impl Display for Route {
             Route::Unknown => write!(f, "-"),
             Route::Batch => write!(f, "/batch"),
             Route::Ask => write!(f, "/ask"),
-            Route::Seq => write!(f, "/seq"),
-            Route::Object(number) => write!(f, "/object/{number}"),
+            Route::Question(question) => write!(f, "{question}"),
         }
     }
 }
@@ -87,8 +85,7 @@ fn route_of(asked: &Asked) -> Route {
     match asked {
         Asked::Refused(_) => Route::Unknown,
         Asked::Calls(mode, _) => route_of_batch(*mode),
-        Asked::Seq => Route::Seq,
-        Asked::Object(number) => Route::Object(number.0),
+        Asked::Question(question) => Route::Question(*question),
     }
 }
 

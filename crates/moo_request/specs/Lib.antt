@@ -7,6 +7,7 @@ pub mod Lengths
 pub mod Numbers
 pub mod Plan
 pub mod Planned
+pub mod Questions
 pub mod Request
 pub mod Routes
 pub mod Settled

@@ -1,20 +1,21 @@
 -- What the head of a request alone decides.
-use Rattle.std.specs.Prelude.{◌==◌, ℕ, ℤ, List, drop, length, map, Option, Some, None, option_and_then, codes, bytes_eq, nat_lt, nat_le, if◌then◌else◌, Bool}
+use Rattle.std.specs.Prelude.{◌==◌, ℕ, List, length, map, Option, Some, None, option_and_then, codes, bytes_eq, nat_lt, nat_le, if◌then◌else◌, Bool}
 use Rattle.std.specs.List.{before_first}
 use Rattle.httparse.specs.Grammar.{RequestHead}
 use Rattle.httparse.specs.Spans.{name_and_value}
-use Rattle.moo_request.specs.declared.asked.Asked.TheVariants.{Refused, Seq, Object}
+use Rattle.moo_request.specs.declared.asked.Asked.TheVariants.{Refused, Question as Asks}
 use Rattle.moo_request.specs.declared.asked.Method.{Method}
 use Rattle.moo_request.specs.declared.asked.Method.TheVariants.{Get, Post}
 use Rattle.moo_request.specs.declared.asked.Mode.{Mode}
-use Rattle.moo_request.specs.declared.asked.Mode.TheVariants.{Run, Ask}
 use Rattle.moo_request.specs.declared.asked.Refusal.TheVariants.{BadRequest, NotFound, NotAllowed, TooLarge}
 use Rattle.moo_request.specs.declared.routes.Endpoint.{Endpoint}
-use Rattle.moo_request.specs.declared.routes.Endpoint.TheVariants as to
+use Rattle.moo_request.specs.declared.routes.Endpoint.TheVariants.{Batch, About}
+use Rattle.moo_request.specs.declared.question.Question.{Question}
 use Rattle.moo_request.specs.declared.plan.Plan.{Plan}
 use Rattle.moo_request.specs.declared.plan.Plan.TheVariants.{Decided, Body}
 use Rattle.moo_request.specs.Lengths.{Line, length_text}
-use Rattle.moo_request.specs.Numbers.{bounded_of, number_of}
+use Rattle.moo_request.specs.Numbers.{bounded_of}
+use Rattle.moo_request.specs.Questions.{question_of}
 use Rattle.moo_request.specs.Routes.{endpoint_of}
 
 -- the path is the target before its first question mark
@@ -23,10 +24,8 @@ path_of target = before_first (λ b. b == 63) target
 
 -- the method of a route
 abbrev pub method_of : Endpoint → Method
-method_of to.Batch = Post
-method_of to.Ask = Post
-method_of to.Seq = Get
-method_of to.Object = Get
+method_of (Batch mode) = Post
+method_of (About topic) = Get
 
 abbrev pub method_text : Method → List ℕ
 method_text Get = codes "GET"
@@ -41,16 +40,14 @@ abbrev pub body_plan : Mode → Option ℕ → Plan
 body_plan mode None = Decided (Refused BadRequest)
 body_plan mode (Some n) = if nat_lt 1048576 n then Decided (Refused TooLarge) else Body mode n
 
-abbrev pub object_plan : Option ℤ → Plan
-object_plan None = Decided (Refused NotFound)
-object_plan (Some n) = Decided (Object (record { 0 = n }))
+-- the question that the path asks; not found if it asks none
+abbrev pub question_plan : Option Question → Plan
+question_plan None = Decided (Refused NotFound)
+question_plan (Some question) = Decided (Asks question)
 
--- the number of an object is after `/object/`
 abbrev pub endpoint_plan : Endpoint → List ℕ → List Line → Plan
-endpoint_plan to.Batch path lines = body_plan Run (length_of lines)
-endpoint_plan to.Ask path lines = body_plan Ask (length_of lines)
-endpoint_plan to.Seq path lines = Decided Seq
-endpoint_plan to.Object path lines = object_plan (number_of (drop 8 path))
+endpoint_plan (Batch mode) path lines = body_plan mode (length_of lines)
+endpoint_plan (About topic) path lines = question_plan (question_of topic path)
 
 -- first the route, then its method, then what it needs
 abbrev pub routed_plan : Option Endpoint → List ℕ → List ℕ → List Line → Plan

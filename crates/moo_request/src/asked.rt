@@ -1,6 +1,6 @@
 //! What a request asks.
 
-use moo_value::ObjNo;
+use crate::question::Question;
 use moo_world::Batch;
 
 /// The method that a route has.
@@ -39,8 +39,6 @@ pub enum Asked {
     Refused(Refusal),
     /// A batch.
     Calls(Mode, Batch),
-    /// The number of accepted batches.
-    Seq,
-    /// One object.
-    Object(ObjNo),
+    /// Something of the world, which stays as it is.
+    Question(Question),
 }

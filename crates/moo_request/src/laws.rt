@@ -1,10 +1,13 @@
 //! What holds of what is received.
 
-ghost use Rattle.std.specs.Prelude.{◌≡◌, ℕ, List, [], Some, None, codes};
+ghost use Rattle.std.specs.Prelude.{◌≡◌, ℕ, List, [], Some, None, codes, map};
 ghost use Rattle.moo_request.specs.Request.{Receives};
 ghost use Rattle.moo_request.specs.Routes.{endpoint_of};
 ghost use Rattle.moo_request.specs.declared.request.Received.{Received as AReceived};
-ghost use Rattle.moo_request.specs.declared.routes.Endpoint.TheVariants.{Batch, Ask, Seq, Object};
+ghost use Rattle.moo_request.specs.declared.routes.Endpoint.TheVariants.{Batch, About};
+ghost use Rattle.moo_request.specs.declared.asked.Mode.TheVariants.{Run, Ask};
+ghost use Rattle.moo_request.specs.declared.question.Topic.TheVariants.{Seq, Object};
+ghost use Rattle.moo_request.specs.Questions.{all_topics, sample_path};
 
 /// What is received of bytes is determined by them.
 pub fn received_once()
@@ -13,10 +16,11 @@ pub fn received_once()
 
 /// The route of a path, computed at each route and at paths that have none.
 pub fn routes_are_known()
-    ensures batch { endpoint_of (codes "/batch") ≡ Some Batch }
-    ensures ask { endpoint_of (codes "/ask") ≡ Some Ask }
-    ensures seq { endpoint_of (codes "/seq") ≡ Some Seq }
-    ensures object { endpoint_of (codes "/object/12") ≡ Some Object }
+    ensures batch { endpoint_of (codes "/batch") ≡ Some (Batch Run) }
+    ensures ask { endpoint_of (codes "/ask") ≡ Some (Batch Ask) }
+    ensures seq { endpoint_of (codes "/seq") ≡ Some (About Seq) }
+    ensures object { endpoint_of (codes "/object/12") ≡ Some (About Object) }
+    ensures topics { map (λ topic. endpoint_of (sample_path topic)) all_topics ≡ map (λ topic. Some (About topic)) all_topics }
     ensures deeper { endpoint_of (codes "/object/1/2") ≡ None }
     ensures bare { endpoint_of (codes "/object/") ≡ None }
     ensures unknown { endpoint_of (codes "/nothing") ≡ None }

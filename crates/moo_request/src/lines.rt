@@ -1,6 +1,6 @@
 //! The lines of a head.
 
-ghost use Rattle.std.specs.Prelude.{◌≡◌, ◌==◌, ◌≤◌, ℕ, length, map, codes, All, option_map};
+ghost use Rattle.std.specs.Prelude.{◌≡◌, length, map, All, option_map};
 ghost use Rattle.httparse.specs.Spans.{IsHeaderWithin, header_bytes};
 ghost use Rattle.moo_request.specs.Lengths.{is_line_of, values_of, length_text};
 ghost use Rattle.moo_request.specs.Found.{IsFoundAmong};

@@ -1,17 +1,16 @@
 //! What the head of a request alone decides.
 
-ghost use Rattle.std.specs.Prelude.{◌≡◌, All, IsUtf8, length, map, bytes_eq, drop};
+ghost use Rattle.std.specs.Prelude.{◌≡◌, All, IsUtf8, length, map, bytes_eq};
 ghost use Rattle.httparse.specs.Spans.{IsHeaderWithin, header_bytes};
-ghost use Rattle.moo_request.specs.Numbers.{number_of};
-ghost use Rattle.moo_request.specs.Plan.{path_of, method_of, method_text, length_of, body_plan, object_plan, endpoint_plan, routed_plan, plan_of};
+ghost use Rattle.moo_request.specs.Plan.{path_of, method_of, method_text, length_of, body_plan, question_plan, endpoint_plan, routed_plan, plan_of};
 ghost use Rattle.moo_request.specs.Planned.{IsBounded};
 
 use crate::asked::{Asked, Method, Mode, Refusal};
 use crate::lines::stated_length;
-use crate::numbers::{bounded, number_in};
+use crate::numbers::bounded;
+use crate::question::Question;
 use crate::routes::{Endpoint, Routes};
 use httparse::spans::HeaderSpan;
-use moo_value::ObjNo;
 use std::str;
 
 const MAX_BODY: u64 = 1_048_576;
@@ -38,8 +37,8 @@ fn method_for(endpoint: Endpoint) -> Method
     ensures { result ≡ method_of endpoint }
 {
     match endpoint {
-        Endpoint::Batch | Endpoint::Ask => Method::Post,
-        Endpoint::Seq | Endpoint::Object => Method::Get,
+        Endpoint::Batch(_) => Method::Post,
+        Endpoint::About(_) => Method::Get,
     }
 }
 
@@ -87,18 +86,13 @@ fn plan_body(mode: Mode, length: Option<u64>) -> Plan
     }
 }
 
-/// The number of an object is after `/object/`.
-fn plan_object(path: &[u8]) -> Plan
-    ensures value { result ≡ object_plan (number_of (drop 8 path.now)) }
+/// The question that the path asks. Not found if it asks none.
+fn plan_question(question: Option<Question>) -> Plan
+    ensures value { result ≡ question_plan question }
     ensures bound { IsBounded result }
 {
-    let number = if path.len() < 8 {
-        None
-    } else {
-        number_in(&path[8..])
-    };
-    match number {
-        Some(number) => Plan::Decided(Asked::Object(ObjNo(number))),
+    match question {
+        Some(question) => Plan::Decided(Asked::Question(question)),
         None => Plan::Decided(Asked::Refused(Refusal::NotFound)),
     }
 }
@@ -110,10 +104,8 @@ fn plan_endpoint(endpoint: Endpoint, path: &[u8], bytes: &[u8], lines: &[HeaderS
     ensures bound { IsBounded result }
 {
     match endpoint {
-        Endpoint::Batch => plan_body(Mode::Run, body_length(bytes, lines)),
-        Endpoint::Ask => plan_body(Mode::Ask, body_length(bytes, lines)),
-        Endpoint::Seq => Plan::Decided(Asked::Seq),
-        Endpoint::Object => plan_object(path),
+        Endpoint::Batch(mode) => plan_body(mode, body_length(bytes, lines)),
+        Endpoint::About(topic) => plan_question(topic.question(path)),
     }
 }
 

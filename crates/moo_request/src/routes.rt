@@ -1,18 +1,21 @@
 //! The routes of the service.
 
 ghost use Rattle.std.specs.Prelude.{◌≡◌, OnOk};
-ghost use Rattle.moo_request.specs.Routes.{service_rows, with_route, endpoint_of};
+ghost use Rattle.moo_request.specs.Routes.{service_rows, with_route, with_topics, endpoint_of};
+ghost use Rattle.moo_request.specs.Questions.{all_topics};
 
+use crate::asked::Mode;
+use crate::question::Topic;
 use matchit::Router;
 use std::alloc::{AllocError, Global};
 
 /// What a path names.
 #[derive(Clone, Copy, Debug, PartialEq, Eq, Drop)]
 pub enum Endpoint {
-    Batch,
-    Ask,
-    Seq,
-    Object,
+    /// Batches are sent to it.
+    Batch(Mode),
+    /// It answers a question.
+    About(Topic),
 }
 
 /// The router of the service.
@@ -36,14 +39,23 @@ fn add_route(
     }
 }
 
+/// Adds the route of each topic. AllocError if memory runs out.
+fn add_topics(router: &mut Router<Endpoint>) -> Result<(), AllocError>
+    ensures { OnOk result (router.new ≡ with_topics all_topics router.old) }
+{
+    for topic in Topic::all() {
+        add_route(router, topic.pattern(), Endpoint::About(*topic))?;
+    }
+    Ok(())
+}
+
 impl Routes {
-    /// The router of the four routes. AllocError if memory runs out.
+    /// The router of the two routes of batches and of each topic. AllocError if memory runs out.
     pub fn new(alloc: Global) -> Result<Routes, AllocError> {
         let mut router = Router::new(alloc);
-        add_route(&mut router, "/batch", Endpoint::Batch)?;
-        add_route(&mut router, "/ask", Endpoint::Ask)?;
-        add_route(&mut router, "/seq", Endpoint::Seq)?;
-        add_route(&mut router, "/object/{n}", Endpoint::Object)?;
+        add_route(&mut router, "/batch", Endpoint::Batch(Mode::Run))?;
+        add_route(&mut router, "/ask", Endpoint::Batch(Mode::Ask))?;
+        add_topics(&mut router)?;
         Ok(Routes { router })
     }
 

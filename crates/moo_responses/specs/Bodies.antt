@@ -22,8 +22,9 @@ call_body call word = object (member (codes "call") (number (unsigned call)) (me
 abbrev pub stale_body : ℕ → Data
 stale_body seq = object (member (codes "error") (string (codes "stale")) (member (codes "seq") (number (unsigned seq)) no_members))
 
-abbrev pub seq_body : ℕ → Data
-seq_body seq = object (member (codes "seq") (number (unsigned seq)) no_members)
+-- a number under a key
+abbrev pub number_body : List ℕ → ℕ → Data
+number_body key n = object (member key (number (unsigned n)) no_members)
 
 -- each answer as its printed literal, and the number
 abbrev pub accepted_body : List Value → ℕ → Data

@@ -1,16 +1,9 @@
--- What comes of a look, and of a batch by its answer.
-use Rattle.std.specs.Prelude.{Option, Some, None}
+-- What comes of a batch by its answer.
 use Rattle.moo_text.specs.declared.reply.Answer.{Answer}
 use Rattle.moo_text.specs.declared.reply.Answer.TheVariants as answered
-use Rattle.moo_dump.specs.declared.seen.Look.{Look}
 use Rattle.moo_request.specs.declared.asked.Refusal.TheVariants.{BadRequest, Malformed}
 use Rattle.moo_responses.specs.declared.outcome.Outcome.{Outcome}
 use Rattle.moo_responses.specs.declared.outcome.Outcome.TheVariants as outcome
-
--- a look shows nothing if there is no object
-abbrev pub looked : Option Look → Outcome
-looked None = outcome.NoObject
-looked (Some look) = outcome.Object look
 
 -- what comes of a batch by its answer
 abbrev pub outcome_of : Answer → Outcome

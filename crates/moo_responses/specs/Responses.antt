@@ -10,8 +10,9 @@ use Rattle.moo_request.specs.declared.asked.Method.TheVariants.{Get, Post}
 use Rattle.moo_request.specs.declared.asked.Refusal.{Refusal}
 use Rattle.moo_request.specs.declared.asked.Refusal.TheVariants.{BadRequest, NotFound, NotAllowed, TooLarge, Malformed}
 use Rattle.moo_responses.specs.declared.outcome.Outcome.{Outcome}
-use Rattle.moo_responses.specs.declared.outcome.Outcome.TheVariants.{Refused, Closed, Fault, NoMemory, NoObject, Replied, Seq, Object}
-use Rattle.moo_responses.specs.Bodies.{error_body, call_body, stale_body, seq_body, accepted_body, look_body}
+use Rattle.moo_responses.specs.declared.outcome.Outcome.TheVariants.{Refused, Closed, Fault, NoMemory, Replied, Told}
+use Rattle.moo_responses.specs.Bodies.{error_body, call_body, stale_body, accepted_body}
+use Rattle.moo_responses.specs.Told.{told_status, told_body}
 use Rattle.moo_responses.specs.Bytes.{text_of}
 
 -- a status, the method to name in a line `allow`, and a body
@@ -46,10 +47,8 @@ response_of (Refused refusal) = refusal_response refusal
 response_of Closed = plain 503 (error_body (codes "closed"))
 response_of Fault = plain 503 (error_body (codes "fault"))
 response_of NoMemory = plain 503 (error_body (codes "nomemory"))
-response_of NoObject = plain 404 (error_body (codes "E_INVARG"))
 response_of (Replied reply) = reply_response reply
-response_of (Seq seq) = plain 200 (seq_body seq)
-response_of (Object look) = plain 200 (look_body look)
+response_of (Told told) = plain (told_status told) (told_body told)
 
 -- the bytes of a response; to HEAD the body is left off
 abbrev pub response_text : Bool → Response → List ℕ

@@ -1,14 +1,14 @@
 //! The JSON of answers: each body is built by one function and printed by another.
 
-ghost use Rattle.std.specs.Prelude.{◌≡◌, map, cond, IfOk, string_bytes, false};
+ghost use Rattle.std.specs.Prelude.{◌≡◌, map, IfOk, string_bytes, false};
 ghost use Rattle.serde_json.specs.View.{view, items_view};
 ghost use Rattle.serde_json.specs.Written.{compact_text, has_float};
 ghost use Rattle.moo_value.specs.Literal.{print};
-ghost use Rattle.moo_responses.specs.Bodies.{strings, error_body, call_body, stale_body, seq_body, accepted_body};
+ghost use Rattle.moo_responses.specs.Bodies.{strings, error_body, call_body, stale_body, number_body, accepted_body};
 
 use crate::limits::read_limits;
 use moo_value::{Value as Literal, print_literal};
-use serde_json::{Value, json};
+use serde_json::{Map, Value, json, put};
 use std::alloc::{AllocError, Global};
 
 /// JSON without floats, printed.
@@ -38,10 +38,12 @@ fn stale_value(alloc: Global, seq: u64) -> Result<Value, AllocError>
     json!(in alloc; {"error": "stale", "seq": seq})
 }
 
-fn seq_value(alloc: Global, seq: u64) -> Result<Value, AllocError>
-    ensures { IfOk result (λ value. view value ≡ seq_body seq) }
+fn number_value(alloc: Global, key: &str, number: u64) -> Result<Value, AllocError>
+    ensures { IfOk result (λ value. view value ≡ number_body key.now number) }
 {
-    json!(in alloc; {"seq": seq})
+    let mut fields = Map::new(alloc);
+    put(&mut fields, alloc, key, Value::from(number))?;
+    Ok(Value::Object(fields))
 }
 
 /// A word under `error`.
@@ -68,11 +70,11 @@ pub(crate) fn stale_text(alloc: Global, seq: u64) -> Result<String, AllocError>
     printed(alloc, &value)
 }
 
-/// The number of accepted batches.
-pub(crate) fn seq_text(alloc: Global, seq: u64) -> Result<String, AllocError>
-    ensures { IfOk result (λ text. string_bytes text ≡ compact_text (seq_body seq)) }
+/// A number under a key.
+pub(crate) fn number_text(alloc: Global, key: &str, number: u64) -> Result<String, AllocError>
+    ensures { IfOk result (λ text. string_bytes text ≡ compact_text (number_body key.now number)) }
 {
-    let value = seq_value(alloc, seq)?;
+    let value = number_value(alloc, key, number)?;
     printed(alloc, &value)
 }
 

@@ -8,6 +8,8 @@ mod look_body;
 mod outcome;
 mod respond;
 mod response;
+mod told;
 
 pub use answer::answer_text;
 pub use outcome::Outcome;
+pub use told::{Told, tell};

@@ -1,6 +1,6 @@
 //! What came of a request.
 
-use moo_dump::Look;
+use crate::told::Told;
 use moo_request::Refusal;
 use moo_text::Reply;
 
@@ -15,12 +15,8 @@ pub enum Outcome {
     Fault,
     /// Memory ran out, and nothing changed.
     NoMemory,
-    /// The number is that of no object.
-    NoObject,
     /// What its batch was answered.
     Replied(Reply),
-    /// The number of accepted batches.
-    Seq(u64),
-    /// What the object looks like.
-    Object(Look),
+    /// What its question was told.
+    Told(Told),
 }

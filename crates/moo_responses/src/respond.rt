@@ -2,15 +2,15 @@
 
 ghost use Rattle.std.specs.Prelude.{◌≡◌, None, IfOk};
 ghost use Rattle.moo_responses.specs.Responses.{plain, method_name, refusal_response, reply_response, response_of};
-ghost use Rattle.moo_responses.specs.Bodies.{error_body, call_body, stale_body, seq_body, accepted_body, look_body};
+ghost use Rattle.moo_responses.specs.Bodies.{error_body, call_body, stale_body, accepted_body};
+ghost use Rattle.moo_responses.specs.Told.{told_status, told_body};
 ghost use Rattle.moo_responses.specs.Shown.{Shows};
 
-use crate::bodies::{accepted_text, call_text, error_text, seq_text, stale_text};
-use crate::look_body::look_text;
+use crate::bodies::{accepted_text, call_text, error_text, stale_text};
 use crate::outcome::Outcome;
 use crate::response::Response;
+use crate::told::{Told, status_of, told_text};
 use http::StatusCode;
-use moo_dump::Look;
 use moo_request::{Method, Refusal};
 use moo_text::Reply;
 use moo_world::Answers;
@@ -66,13 +66,6 @@ fn stale(alloc: Global, seq: u64) -> Result<Response, AllocError>
     Ok(with_body(StatusCode::CONFLICT, body))
 }
 
-fn number(alloc: Global, seq: u64) -> Result<Response, AllocError>
-    ensures { IfOk result (λ r. Shows r (plain 200 (seq_body seq))) }
-{
-    let body = seq_text(alloc, seq)?;
-    Ok(with_body(StatusCode::OK, body))
-}
-
 fn accepted(alloc: Global, answers: &Answers, seq: u64) -> Result<Response, AllocError>
     ensures { IfOk result (λ r. Shows r (plain 200 (accepted_body answers.now seq))) }
 {
@@ -80,11 +73,11 @@ fn accepted(alloc: Global, answers: &Answers, seq: u64) -> Result<Response, Allo
     Ok(with_body(StatusCode::OK, body))
 }
 
-fn object(alloc: Global, look: &Look) -> Result<Response, AllocError>
-    ensures { IfOk result (λ r. Shows r (plain 200 (look_body look.now))) }
+fn say(alloc: Global, told: &Told) -> Result<Response, AllocError>
+    ensures { IfOk result (λ r. Shows r (plain (told_status told.now) (told_body told.now))) }
 {
-    let body = look_text(alloc, look)?;
-    Ok(with_body(StatusCode::OK, body))
+    let body = told_text(alloc, told)?;
+    Ok(with_body(status_of(told), body))
 }
 
 fn not_allowed(alloc: Global, method: Method) -> Result<Response, AllocError>
@@ -133,9 +126,7 @@ pub(crate) fn respond(alloc: Global, outcome: &Outcome) -> Result<Response, Allo
         Outcome::Closed => error(alloc, StatusCode::SERVICE_UNAVAILABLE, "closed"),
         Outcome::Fault => error(alloc, StatusCode::SERVICE_UNAVAILABLE, "fault"),
         Outcome::NoMemory => error(alloc, StatusCode::SERVICE_UNAVAILABLE, "nomemory"),
-        Outcome::NoObject => error(alloc, StatusCode::NOT_FOUND, "E_INVARG"),
         Outcome::Replied(reply) => reply_to(alloc, reply),
-        Outcome::Seq(seq) => number(alloc, *seq),
-        Outcome::Object(look) => object(alloc, look),
+        Outcome::Told(told) => say(alloc, told),
     }
 }

@@ -1,6 +1,8 @@
 //! Answering the items of a text in turn.
 
-ghost use Rattle.std.specs.Prelude.{◌≡◌, IfOk, IfErr, IfSome, IfNone};
+ghost use Rattle.std.specs.Prelude.{◌≡◌, Bool, false, IsTrue, IfOk, IfErr, IfSome, IfNone};
+ghost use Rattle.moo_world.specs.Judge.{state_of};
+ghost use Rattle.moo_store.specs.World.{StandsFor};
 ghost use Rattle.moo_world.specs.Rows.{IsGood};
 ghost use Rattle.moo_world.specs.declared.call.Batch.{Batch};
 ghost use Rattle.moo_text.specs.declared.reply.Answer.{Answer};
@@ -34,8 +36,11 @@ pub(crate) trait Answering {
 
 impl<S: Alter + Drop> World<S> {
     /// The rows, unless the World has failed.
-    pub(crate) fn good_rows(&self) -> Option<&Flat>
-        ensures { IfSome result (λ rows. IsGood rows.now.maps) }
+    pub fn good_rows(&self) -> Option<&Flat>
+        ensures good { IfSome result (λ rows. IsGood rows.now.maps) }
+        ensures state { (known : Bool) (s : _) → StandsFor S.Store known self.now s → IfSome result (λ rows. state_of rows.now.maps ≡ s) }
+        ensures works { IfSome result (λ _. self.now.failed ≡ false) }
+        ensures failed { IfNone result (IsTrue self.now.failed) }
     {
         if self.failed { None } else { Some(&self.rows) }
     }

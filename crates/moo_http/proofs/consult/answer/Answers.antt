@@ -8,11 +8,8 @@ returns-in-Refused-clause-comes g c known stand at = (stand, at, rw c.in-Refused
 pub returns-in-Calls-clause-comes : goal.returns-in-Calls-clause-comes
 returns-in-Calls-clause-comes g c known stand at = rw c.in-Calls.is (c.take_batch.ensures.comes known stand at)
 
-pub returns-in-Seq-clause-comes : goal.returns-in-Seq-clause-comes
-returns-in-Seq-clause-comes g c known stand at = (stand, at, rw c.in-Seq.is (c.ask_seq.ensures known stand at))
-
-pub returns-in-Object-clause-comes : goal.returns-in-Object-clause-comes
-returns-in-Object-clause-comes g c known stand at = (stand, at, rw c.in-Object.is (c.look_at.ensures known stand at))
+pub returns-in-Question-clause-comes : goal.returns-in-Question-clause-comes
+returns-in-Question-clause-comes g c known stand at = (stand, at, rw c.in-Question.is (c.ask_question.ensures known stand at))
 
 pub returns-in-Refused-clause-moved : goal.returns-in-Refused-clause-moved
 returns-in-Refused-clause-moved g c = rw c.in-Refused.is (written_none g.S.Store c.args.world.now (g.met.S.Store.settled c.args.world.now.connection.store))
@@ -20,8 +17,5 @@ returns-in-Refused-clause-moved g c = rw c.in-Refused.is (written_none g.S.Store
 pub returns-in-Calls-clause-moved : goal.returns-in-Calls-clause-moved
 returns-in-Calls-clause-moved g c = rw c.in-Calls.is c.take_batch.ensures.moved
 
-pub returns-in-Seq-clause-moved : goal.returns-in-Seq-clause-moved
-returns-in-Seq-clause-moved g c = rw c.in-Seq.is (written_none g.S.Store c.args.world.now (g.met.S.Store.settled c.args.world.now.connection.store))
-
-pub returns-in-Object-clause-moved : goal.returns-in-Object-clause-moved
-returns-in-Object-clause-moved g c = rw c.in-Object.is (written_none g.S.Store c.args.world.now (g.met.S.Store.settled c.args.world.now.connection.store))
+pub returns-in-Question-clause-moved : goal.returns-in-Question-clause-moved
+returns-in-Question-clause-moved g c = rw c.in-Question.is (written_none g.S.Store c.args.world.now (g.met.S.Store.settled c.args.world.now.connection.store))

@@ -7,9 +7,9 @@ use Rattle.moo_http.proofs.Connections.{stood}
 use Rattle.moo_http.proofs.Turns.{ends_as, unvisited}
 use Rattle.moo_http.proofs.listen.serve_next.Goals as goal
 
-either : {X : Type 0} (b : Bool) → (b ≡ true → X) → (b ≡ false → X) → X
-either true first second = first refl
-either false first second = second refl
+by_test : {X : Type 0} (b : Bool) → (b ≡ true → X) → (b ≡ false → X) → X
+by_test true first second = first refl
+by_test false first second = second refl
 
 pub returns-clause-turn : goal.returns-clause-turn
 returns-clause-turn g c known stand at =
@@ -17,7 +17,7 @@ returns-clause-turn g c known stand at =
     let opened = c.in-Some.connection in
     let Seen = λ (end : Stand). Visited served.result stand end (g.A.Reader.Read.remaining opened.reader) (g.A.Reader.Read.remaining served.new.reader) (g.A.Writer.Write.contents opened.writer) (g.A.Writer.Write.contents served.new.writer) in
     let Turn = λ (end : Stand). Visit g.A.Arrivals.hands_out g.A.Arrivals.takes_back g.A.Reader.Read.remaining g.A.Writer.Write.contents served.result c.args.arrivals.now stand c.close.new.self end in
-    either opened.is_limited
+    by_test opened.is_limited
     (λ is. ends_as g.S.Store known served.new.world Seen Turn
     (λ end visit. inl (opened, record { reader = served.new.reader; writer = served.new.writer; is_limited = opened.is_limited }, c.accept.new.self, c.in-Some.ensures, visit, c.close.ensures, (λ none. absurd (true≢false (sym is ∙ none))))) (served.ensures.visited known stand at))
     (λ is.

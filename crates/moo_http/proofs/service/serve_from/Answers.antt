@@ -1,11 +1,7 @@
-use Rattle.std.proofs.Common.{◌≡◌, ℕ, Option, List, [], Bool, refl}
-use Rattle.std.specs.Prelude.{Result}
-use Rattle.sqlite.specs.Store.{Ghosts}
-use Rattle.moo_store.specs.Stand.{Stand}
-use Rattle.moo_http.specs.Connections.{AfterConnections, ServesPort, SaysByResult}
+use Rattle.std.proofs.Common.{◌≡◌, [], refl}
+use Rattle.moo_http.specs.Connections.{AfterConnections, ServesPort}
 use Rattle.moo_http.specs.Turns.{Attended, ServesFrom}
 use Rattle.moo_http.specs.Lines.{listening_line}
-use Rattle.moo_http.specs.declared.service.ServiceFault.{ServiceFault}
 use Rattle.moo_http.specs.declared.service.ServiceFault.TheVariants.{OutOfMemory}
 use Rattle.moo_store.proofs.Untouched.{written_none}
 use Rattle.moo_http.proofs.Connections.{stood, no_front, fails_early, says_all}

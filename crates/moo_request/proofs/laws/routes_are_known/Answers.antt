@@ -5,4 +5,4 @@ use Rattle.moo_request.proofs.laws.routes_are_known.Goals as goal
 
 pub returns : goal.returns
 unfolding matchit_on_literals service_rows
-returns c = record { batch = refl; ask = refl; seq = refl; object = refl; deeper = refl; bare = refl; unknown = refl; root = refl; empty = refl }
+returns c = record { batch = refl; ask = refl; seq = refl; object = refl; topics = refl; deeper = refl; bare = refl; unknown = refl; root = refl; empty = refl }
