@@ -1,17 +1,5 @@
 -- The entries that are ahead, as their lines are taken one after another.
-use Rattle.std.proofs.Common.{◌≡◌, ℕ, ◌+◌, List, [], ◌∷◌, ◌++◌, length, get_or, drop, refl, sym, ap, subst, ◌∙◌, append_assoc, length-append}
-use Rattle.std.specs.Prelude.{codes}
-use Rattle.std.specs.List.{flat_map, AllByRecursion}
-use Rattle.std.proofs.lemmas.Bool.{false≢true}
-use Rattle.std.proofs.lemmas.Bool.Decides.{Decides-eqb}
-use Rattle.std.proofs.lemmas.List.{drop_at}
-use Rattle.moo_value.specs.declared.value.Value.{Value}
-use Rattle.moo_value.specs.declared.value.Value.TheVariants.{Int, Obj, Str, Error, List as a_list}
-use Rattle.moo_value.specs.Literal.{Fits, HoldInside, InRange}
-use Rattle.moo_value.specs.Text.{IsText}
-use Rattle.moo_value.specs.Value.{gather}
-use Rattle.moo_load.specs.Entries.{Entry, an_object, a_property, a_slot, a_verb, a_petition, entry_text, entry_values, entry_lines, EntryFits, carried, EachHas}
-use Rattle.moo_load.specs.Printed.{IsOneLine, word_text}
+use Rattle.moo_load.proofs.Words.{◌≡◌, ℕ, ◌+◌, List, [], ◌∷◌, ◌++◌, length, get_or, drop, refl, sym, ap, subst, ◌∙◌, append_assoc, length-append, codes, flat_map, AllByRecursion, false≢true, Decides-eqb, drop_at, Value, Int, Obj, Str, Error, a_list, Fits, HoldInside, InRange, IsText, gather, Entry, an_object, a_property, a_slot, a_verb, a_petition, entry_text, entry_values, entry_lines, EntryFits, carried, EachHas, IsOneLine, word_text}
 use Rattle.moo_load.proofs.OneLine.{one_line_append, list_plain}
 use Rattle.moo_load.proofs.Taken.{word_of, line_of, text_is}
 

@@ -1,9 +1,5 @@
 -- Where a line ends.
-use Rattle.std.proofs.Common.{◌≡◌, ℕ, ◌+◌, Bool, true, false, cond, Some, List, [], ◌∷◌, ◌++◌, length, refl, ap, ◌∙◌, arith}
-use Rattle.std.specs.Prelude.{◌==◌, not}
-use Rattle.std.specs.List.{list_all, position_from}
-use Rattle.std.proofs.lemmas.Bool.{false≢true, and_parts}
-use Rattle.moo_load.specs.Printed.{IsOneLine}
+use Rattle.moo_load.proofs.Words.{◌≡◌, ℕ, ◌+◌, Bool, true, false, cond, Some, List, [], ◌∷◌, ◌++◌, length, refl, ap, ◌∙◌, arith, ◌==◌, not, list_all, position_from, false≢true, and_parts, IsOneLine}
 
 abbrev is_end : ℕ → Bool
 is_end byte = byte == 10

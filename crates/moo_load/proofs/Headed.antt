@@ -1,18 +1,5 @@
 -- The two lines of a heading.
-use Rattle.std.proofs.Common.{◌≡◌, ℕ, ◌+◌, ◌<◌, pos, negsuc, ◌≤ℤ◌, List, [], ◌∷◌, ◌++◌, length, drop, refl, sym, ap, ◌∙◌, append_assoc, length-append, arith}
-use Rattle.std.specs.Prelude.{codes, ◌^◌}
-use Rattle.std.specs.Fmt.{decimal}
-use Rattle.std.proofs.lemmas.Bool.{lt-ltb}
-use Rattle.std.proofs.lemmas.Int.{ints}
-use Rattle.std.proofs.lemmas.List.{drop_at, drop-drop}
-use Rattle.moo_value.specs.declared.value.ObjNo.{ObjNo}
-use Rattle.moo_value.specs.declared.value.Value.TheVariants.{Int, Obj}
-use Rattle.moo_value.specs.Literal.{Fits, print}
-use Rattle.moo_world.specs.Judge.{State}
-use Rattle.moo_world.proofs.Form.Ranges.{range_of}
-use Rattle.moo_dump.specs.Dump.{heading}
-use Rattle.moo_load.specs.OneState.{IsHeld}
-use Rattle.moo_load.specs.Printed.{IsOneLine}
+use Rattle.moo_load.proofs.Words.{◌≡◌, ℕ, ◌+◌, ◌<◌, pos, negsuc, ◌≤ℤ◌, List, [], ◌∷◌, ◌++◌, length, drop, refl, sym, ap, ◌∙◌, append_assoc, length-append, arith, codes, ◌^◌, decimal, lt-ltb, ints, drop_at, drop-drop, ObjNo, Int, Obj, Fits, print, State, range_of, heading, IsHeld, IsOneLine}
 use Rattle.moo_load.proofs.One.Fitting.{fit}
 use Rattle.moo_load.proofs.OneLine.{one_line_append, integer_plain, object_plain}
 

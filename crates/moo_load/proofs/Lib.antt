@@ -1,3 +1,4 @@
+pub mod Words
 pub mod Accepting
 pub mod Ahead
 pub mod Ends

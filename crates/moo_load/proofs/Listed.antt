@@ -1,16 +1,7 @@
 -- The printed values of a list, read one after another.
-use Rattle.std.proofs.Common.{◌≡◌, ℕ, true, false, Result, List, [], ◌∷◌, ◌++◌, length, drop, Ok, Err, ◌≢◌, refl, sym, ap, subst, ◌∙◌, append_assoc}
-use Rattle.std.specs.List.{AllByRecursion}
-use Rattle.std.proofs.lemmas.List.{drop_at}
-use Rattle.moo_value.specs.declared.fault.LiteralFault.{LiteralFault}
+use Rattle.moo_load.proofs.Words.{◌≡◌, ℕ, true, false, Result, List, [], ◌∷◌, ◌++◌, length, drop, Ok, Err, ◌≢◌, refl, sym, ap, subst, ◌∙◌, append_assoc, AllByRecursion, drop_at, LiteralFault, Value, Int, Obj, Str, Error, a_list, gather, Fits, Ends, Front, print, print_items, printed, prepend_printed, ArePrinted}
 use Rattle.moo_value.specs.declared.fault.LiteralFault.TheVariants.{NotALiteral, OutOfRange, BadByte, TooDeep, TooLong, OutOfMemory}
 use Rattle.moo_value.specs.Reading.{Fails}
-use Rattle.moo_value.specs.declared.value.Value.{Value}
-use Rattle.moo_value.specs.declared.value.Value.TheVariants.{Int, Obj, Str, Error, List as a_list}
-use Rattle.moo_value.specs.Value.{gather}
-use Rattle.moo_value.specs.Literal.{Fits, Ends, Front, print, print_items}
-use Rattle.moo_value.proofs.Printed.{printed, prepend_printed}
-use Rattle.moo_load.specs.Printed.{ArePrinted}
 
 -- what is printed after a value of a list
 abbrev pub after_value : List Value → List ℕ

@@ -1,12 +1,6 @@
 -- The next property of a definer is one alone.
-use Rattle.std.proofs.Common.{◌≡◌, Bool, Option, Some, None, sym, ◌∙◌, refl}
-use Rattle.std.specs.Cmp.{nat_cmp_is, ranked}
-use Rattle.std.specs.declared.cmp.Ordering.{Ordering}
-use Rattle.std.specs.declared.cmp.Ordering.TheVariants.{Less, Equal, Greater}
-use Rattle.std.proofs.lemmas.Bool.{false≢true}
-use Rattle.moo_rows.specs.declared.row.PropId.{PropId}
-use Rattle.moo_rows.specs.Links.{IsFirst}
-use Rattle.moo_rows.specs.Maps.{prop_cmp}
+use Rattle.moo_load.proofs.Words.{◌≡◌, Bool, Option, Some, None, sym, ◌∙◌, refl, nat_cmp_is, ranked, Ordering, Less, false≢true, PropId, IsFirst, prop_cmp}
+use Rattle.std.specs.declared.cmp.Ordering.TheVariants.{Equal, Greater}
 
 -- two that are the least past a number are one
 pub one_first : (passes : PropId → Bool) (after : PropId) (found : Option PropId) (id : PropId) → IsFirst prop_cmp passes after found → IsFirst prop_cmp passes after (Some id) → found ≡ Some id

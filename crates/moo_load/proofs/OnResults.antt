@@ -1,5 +1,6 @@
 -- What follows from what is said of a result.
-use Rattle.std.proofs.Common.{Result, Ok, Err, OnOk}
+use Rattle.moo_load.proofs.Words.{Result, Ok, Err}
+use Rattle.std.proofs.Common.{OnOk}
 use Rattle.std.specs.Prelude.{IfOk, IfErr}
 
 pub on_ok : {A E : Type 0} {P Q : Type 0} (r : Result A E) → (P → Q) → OnOk r P → OnOk r Q

@@ -1,19 +1,13 @@
 -- What is printed has no line end.
-use Rattle.std.proofs.Common.{◌≡◌, ℕ, ℤ, Bool, true, false, cond, List, [], ◌∷◌, ◌++◌, refl, sym, ap, ◌∙◌}
-use Rattle.std.specs.Prelude.{◌==◌, ◌||◌, ◌&&◌, not, IsTrue}
+use Rattle.moo_load.proofs.Words.{◌≡◌, ℕ, ℤ, Bool, true, false, cond, List, [], ◌∷◌, ◌++◌, refl, sym, ap, ◌∙◌, ◌==◌, ◌||◌, ◌&&◌, not, flat_map, list_all, false≢true, and_parts, Decides-eqb, Int, Obj, a_list, IsText, Values, no_values, HoldInside, InRange, print_items, print, spelled, IsOneLine}
+use Rattle.std.specs.Prelude.{IsTrue}
 use Rattle.std.specs.Fmt.{signed_decimal}
-use Rattle.std.specs.List.{flat_map, list_all}
-use Rattle.std.proofs.lemmas.Bool.{false≢true, and_parts}
-use Rattle.std.proofs.lemmas.Bool.Decides.{Decides-eqb}
 use Rattle.std.proofs.lemmas.List.Folds.{list_all-append}
 use Rattle.moo_value.specs.declared.code.Code.{Code}
 use Rattle.moo_value.specs.declared.code.Code.TheVariants.{None}
-use Rattle.moo_value.specs.declared.value.Value.TheVariants.{Int, Obj, List as a_list}
-use Rattle.moo_value.specs.Text.{is_allowed, IsText}
-use Rattle.moo_value.specs.Values.{Values, no_values, int, object, string, error, list}
-use Rattle.moo_value.specs.Literal.{is_digit, is_blank, AreDigits, AreBlanks, Spaced, HoldInside, an_integer, an_object, InRange, SpellsNumber, SpellsObject, escape, name, print_string, print_comma, print_items, print}
-use Rattle.moo_value.proofs.Printed.{spelled}
-use Rattle.moo_load.specs.Printed.{IsOneLine}
+use Rattle.moo_value.specs.Text.{is_allowed}
+use Rattle.moo_value.specs.Values.{int, object, string, error, list}
+use Rattle.moo_value.specs.Literal.{is_digit, is_blank, AreDigits, AreBlanks, Spaced, an_integer, an_object, SpellsNumber, SpellsObject, escape, name, print_string, print_comma}
 
 abbrev plain : ℕ → Bool
 plain byte = not (byte == 10)

@@ -1,34 +1,10 @@
 -- The line of an entry, split into its word and its values.
-use Rattle.std.proofs.Common.{◌≡◌, ℕ, ◌+◌, true, List, [], ◌∷◌, ◌++◌, get_or, drop, refl, sym, ap, ◌∙◌}
-use Rattle.std.proofs.lemmas.Bool.{false≢true}
-use Rattle.std.proofs.lemmas.Bool.Decides.{Decides-eqb}
+use Rattle.moo_load.proofs.Words.{◌≡◌, ℕ, ◌+◌, true, List, [], ◌∷◌, ◌++◌, get_or, drop, refl, sym, ap, ◌∙◌, false≢true, Decides-eqb, insert, ◌<◌, pos, ObjNo, Value, Int, Obj, Str, print, ObjRow, PetitionId, PetitionRow, PropId, PropRow, VerbRow, Maps, object_values, verb_values, Pair, petition_fits, row_fits, state_fits, verb_fits, is_property_name, list_of, Object, Property, Verb, Petition, Entry, an_object, a_property, a_slot, a_verb, a_petition, entry_text, entry_values, EntryFits, NumberIsLeft, entry_taken, ArePrinted, word_text, petition_values, slot_values, petition_taken, dumped_slot, IsNextProperty, SlotIsNext, slot_line_put, LastSlot}
 use Rattle.std.proofs.lemmas.List.{append_cancel_right}
-use Rattle.std.specs.FinMap.{insert}
-use Rattle.std.specs.Prelude.{◌<◌, pos}
-use Rattle.moo_value.specs.declared.value.ObjNo.{ObjNo}
-use Rattle.moo_value.specs.declared.value.Value.{Value}
-use Rattle.moo_value.specs.declared.value.Value.TheVariants.{Int, Obj, Str}
-use Rattle.moo_value.specs.Literal.{print}
-use Rattle.moo_rows.specs.declared.row.ObjRow.{ObjRow}
-use Rattle.moo_rows.specs.declared.row.PetitionId.{PetitionId}
-use Rattle.moo_rows.specs.declared.row.PetitionRow.{PetitionRow}
-use Rattle.moo_rows.specs.declared.row.PropId.{PropId}
-use Rattle.moo_rows.specs.declared.row.PropRow.{PropRow}
-use Rattle.moo_rows.specs.declared.row.VerbRow.{VerbRow}
-use Rattle.moo_rows.specs.Maps.{Maps}
-use Rattle.moo_dump.specs.Dump.{object_values, verb_values}
-use Rattle.moo_world.specs.Objects.{Pair}
-use Rattle.moo_world.specs.Petitions.{petition_fits}
-use Rattle.moo_world.specs.World.{Slot as ASlot, row_fits, state_fits, verb_fits, is_property_name}
-use Rattle.moo_world.specs.Answers.{list_of}
+use Rattle.moo_world.specs.World.{Slot as ASlot}
 use Rattle.moo_load.specs.declared.line.Word.{Word}
-use Rattle.moo_load.specs.declared.line.Word.TheVariants.{Object, Property, Slot, Verb, Petition}
-use Rattle.moo_load.specs.Entries.{Entry, an_object, a_property, a_slot, a_verb, a_petition, entry_text, entry_values, EntryFits, NumberIsLeft, entry_taken}
-use Rattle.moo_load.specs.Printed.{ArePrinted, word_text, petition_values, slot_values}
-use Rattle.moo_load.specs.Rows.{property_taken, verb_taken, petition_taken}
-use Rattle.moo_load.specs.RowsOf.{dumped_slot}
-use Rattle.moo_load.specs.Slots.{IsNextProperty, SlotIsNext, slot_line_put}
-use Rattle.moo_load.specs.declared.taking.LastSlot.{LastSlot}
+use Rattle.moo_load.specs.declared.line.Word.TheVariants.{Slot}
+use Rattle.moo_load.specs.Rows.{property_taken, verb_taken}
 
 abbrev pub word_of : Entry → Word
 word_of (an_object x row) = Object

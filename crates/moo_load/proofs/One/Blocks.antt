@@ -1,25 +1,7 @@
 -- The entries of one object among those of a state, and the petitions.
-use Rattle.std.proofs.Common.{◌≡◌, ℕ, ℤ, zero, suc, ◌<◌, Bool, true, false, cond, List, [], ◌∷◌, ◌++◌, map, Option, Some, None, refl, sym, ap, subst, ◌∙◌, append-nil, arith, inl, inr}
-use Rattle.std.specs.Prelude.{pos, is_some}
-use Rattle.std.specs.List.{flat_map, filter, filter_map, cons_option, AllByRecursion}
-use Rattle.std.specs.FinMap.{entries}
-use Rattle.std.proofs.lemmas.Bool.{false≢true, cases_lt}
+use Rattle.moo_load.proofs.Words.{◌≡◌, ℕ, ℤ, zero, suc, ◌<◌, Bool, true, false, cond, List, [], ◌∷◌, ◌++◌, map, Option, Some, None, refl, sym, ap, subst, ◌∙◌, append-nil, arith, inl, inr, pos, is_some, flat_map, filter, filter_map, cons_option, AllByRecursion, entries, false≢true, cases_lt, flat_map-append, filter_map-append, ObjNo, ObjRow, PetitionId, PetitionRow, VerbRow, State, objects_of, Name, Pair, object_at, folded, same_object, same_object-Decides, numbers_below, World, Record, Slot, is_object, slot_of, chain, owed_by, numbers_to, assigned, all_weaker, Entry, an_object, a_property, a_slot, a_verb, a_petition}
 use Rattle.std.proofs.lemmas.List.{map-append}
-use Rattle.std.proofs.lemmas.List.Concat.{flat_map-append}
-use Rattle.std.proofs.lemmas.List.Elements.{filter_map-append}
-use Rattle.moo_value.specs.declared.value.ObjNo.{ObjNo}
-use Rattle.moo_rows.specs.declared.row.ObjRow.{ObjRow}
-use Rattle.moo_rows.specs.declared.row.PetitionId.{PetitionId}
-use Rattle.moo_rows.specs.declared.row.PetitionRow.{PetitionRow}
-use Rattle.moo_rows.specs.declared.row.VerbRow.{VerbRow}
-use Rattle.moo_world.specs.Judge.{State}
-use Rattle.moo_world.specs.ObjectLists.{objects_of}
-use Rattle.moo_world.specs.Objects.{Name, Pair, object_at, folded, same_object, same_object-Decides}
-use Rattle.moo_world.specs.Rows.{numbers_below}
-use Rattle.moo_world.specs.World.{World, Record, Slot, IsTree, is_object, slot_of, chain, owed_by, numbers_to}
-use Rattle.moo_world.proofs.Ancestry.Trees.{assigned}
-use Rattle.moo_world.proofs.Shown.EntriesInOrder.{all_weaker}
-use Rattle.moo_load.specs.Entries.{Entry, an_object, a_property, a_slot, a_verb, a_petition}
+use Rattle.moo_world.specs.World.{IsTree}
 use Rattle.moo_load.proofs.One.Entries.{owed_entry, record_entries, object_entries, entries_of}
 use Rattle.moo_load.proofs.One.Fitting.{all_append, all_map, all_flat, all_each}
 

@@ -1,16 +1,6 @@
 -- The lines of a dump, each with what it tells.
-use Rattle.std.proofs.Common.{◌≡◌, ℕ, List, [], ◌∷◌, ◌++◌, map, Option, Some, None, refl, sym, ap, ◌∙◌, append_assoc, append-nil}
-use Rattle.std.specs.Prelude.{codes}
-use Rattle.std.specs.List.{flat_map}
-use Rattle.std.specs.FinMap.{entries}
-use Rattle.std.proofs.lemmas.List.Concat.{flat_map-append}
-use Rattle.moo_value.specs.declared.value.ObjNo.{ObjNo}
-use Rattle.moo_world.specs.Judge.{State}
-use Rattle.moo_world.specs.ObjectLists.{objects_of}
-use Rattle.moo_world.specs.Objects.{Pair, folded}
-use Rattle.moo_world.specs.World.{World, Record, Slot, slot_of, chain, owed_by}
-use Rattle.moo_load.specs.Entries.{Entry, an_object, a_property, a_slot, a_verb, a_petition, entry_text}
-use Rattle.moo_dump.specs.Dump.{object_line, property_line, slot_line, owed_line, verb_line, petition_line, record_lines, object_lines, heading, dump}
+use Rattle.moo_load.proofs.Words.{◌≡◌, ℕ, List, [], ◌∷◌, ◌++◌, map, Option, Some, None, refl, sym, ap, ◌∙◌, append_assoc, append-nil, codes, flat_map, entries, flat_map-append, ObjNo, State, objects_of, Pair, folded, World, Record, Slot, slot_of, chain, owed_by, Entry, an_object, a_property, a_slot, a_verb, a_petition, entry_text, heading, dump}
+use Rattle.moo_dump.specs.Dump.{object_line, property_line, slot_line, owed_line, verb_line, petition_line, record_lines, object_lines}
 use Rattle.moo_dump.proofs.FlatMaps.{flat_map-map, flat_map-flat_map}
 
 abbrev pub owed_entry : World → ObjNo → Pair → List Entry

@@ -1,49 +1,14 @@
 -- What a well formed state is dumped as is within the limits.
-use Rattle.std.proofs.Common.{◌≡◌, ℕ, ◌+◌, ◌<◌, Bool, true, false, cond, List, [], ◌∷◌, ◌++◌, map, Option, Some, None, refl, sym, ap, subst, ◌∙◌, arith}
-use Rattle.std.specs.Prelude.{◌&&◌, pos, nat_le, is_some, unwrap_or, length}
-use Rattle.std.specs.Option.{option_map}
-use Rattle.std.specs.List.{flat_map, list_all, IsDistinct, AllByRecursion}
-use Rattle.std.specs.FinMap.{get, get-entries, entries, entries_sorted, find as find_key}
-use Rattle.std.proofs.lemmas.Bool.{false≢true, and_parts, leb-true, le-leb, lt-ltb}
-use Rattle.std.proofs.lemmas.Option.{same_Some}
-use Rattle.moo_value.specs.declared.value.ObjNo.{ObjNo}
-use Rattle.moo_value.specs.declared.value.Value.{Value}
-use Rattle.moo_value.specs.declared.value.Value.TheVariants.{Int, Obj, Str, List as a_list}
-use Rattle.moo_value.specs.Literal.{Fits}
-use Rattle.moo_value.specs.Value.{gather, nesting, spread}
+use Rattle.moo_load.proofs.Words.{◌≡◌, ℕ, ◌+◌, ◌<◌, Bool, true, false, cond, List, [], ◌∷◌, ◌++◌, map, Option, Some, None, refl, sym, ap, subst, ◌∙◌, arith, ◌&&◌, pos, nat_le, is_some, unwrap_or, length, option_map, flat_map, list_all, IsDistinct, AllByRecursion, get, get-entries, entries, entries_sorted, find_key, false≢true, and_parts, leb-true, lt-ltb, same_Some, ObjNo, Value, Int, Obj, Str, a_list, Fits, gather, nesting, spread, Bits, ObjRow, PetitionId, PetitionRow, Place, This, any_object, no_object, Preposition, SlotState, Clear, Set, VerbBits, VerbRow, letters_of, verb_letters_of, petition_cmp, petition_total, flag, is_number, fits, all_within_limits, accept_value, State, IsFormed, objects_of, Pair, same_text, folded, same_text-Decides, is_named, are_few, are_shallow, petition_fits, place_text, prep_text, World, Record, Slot, IsWellFormed, Climbs, Chain, NamesDiffer, is_object, defined_by, owed_by, pair_named, slot_of, chain, is_property_name, verb_fits, accept_fits, row_fits, state_fits, with_slots, linked, Chain-chain, row_fitting, slot_state, own_entries, all_weaker, state_values, an_object, a_property, a_slot, a_verb, a_petition}
+use Rattle.std.proofs.lemmas.Bool.{le-leb}
 use Rattle.moo_value.specs.Values.{levels}
-use Rattle.moo_rows.specs.declared.row.Bits.{Bits}
-use Rattle.moo_rows.specs.declared.row.ObjRow.{ObjRow}
-use Rattle.moo_rows.specs.declared.row.PetitionId.{PetitionId}
-use Rattle.moo_rows.specs.declared.row.PetitionRow.{PetitionRow}
-use Rattle.moo_rows.specs.declared.row.Place.{Place}
-use Rattle.moo_rows.specs.declared.row.Place.TheVariants.{This, Any as any_object, None as no_object}
-use Rattle.moo_rows.specs.declared.row.Preposition.{Preposition}
 use Rattle.moo_rows.specs.declared.row.Preposition.TheVariants.{None as no_preposition, Any as any_preposition, Set as a_set}
 use Rattle.moo_rows.specs.declared.row.PrepositionSet.TheVariants.{With}
-use Rattle.moo_rows.specs.declared.row.SlotState.{SlotState}
-use Rattle.moo_rows.specs.declared.row.SlotState.TheVariants.{Clear, Set}
-use Rattle.moo_rows.specs.declared.row.VerbBits.{VerbBits}
-use Rattle.moo_rows.specs.declared.row.VerbRow.{VerbRow}
-use Rattle.moo_rows.specs.Bits.{letters_of, verb_letters_of}
-use Rattle.moo_rows.specs.Maps.{petition_cmp}
-use Rattle.moo_rows.proofs.Orders.{petition_total}
-use Rattle.moo_world.specs.Answers.{flag}
-use Rattle.moo_world.specs.Arguments.{is_number, is_text, fits, all_within_limits}
-use Rattle.moo_world.specs.Calls.{accept_value}
-use Rattle.moo_world.specs.Judge.{State}
-use Rattle.moo_world.specs.Requests.{IsFormed}
-use Rattle.moo_world.specs.ObjectLists.{objects_of}
-use Rattle.moo_world.specs.Objects.{Pair, same_text, folded, same_text-Decides}
-use Rattle.moo_world.specs.Petitions.{is_named, are_few, are_shallow, petition_fits}
-use Rattle.moo_world.specs.Prepositions.{place_text, prep_text}
-use Rattle.moo_world.specs.World.{World, Record, Slot, IsWellFormed, Climbs, Chain, NamesDiffer, is_object, defined_by, owed_by, pair_named, slot_of, chain, is_property_name, has_word, verb_fits, accept_fits, row_fits, state_fits, with_slots}
-use Rattle.moo_world.proofs.Ancestry.Trees.{linked, nothing_is_no_object, Chain-chain}
-use Rattle.moo_world.proofs.Form.Limits.{object_numbered, row_fitting, slot_owner, slot_state}
+use Rattle.moo_world.specs.Arguments.{is_text}
+use Rattle.moo_world.specs.World.{has_word}
+use Rattle.moo_world.proofs.Ancestry.Trees.{nothing_is_no_object}
+use Rattle.moo_world.proofs.Form.Limits.{object_numbered, slot_owner}
 use Rattle.moo_world.proofs.Form.Ranges.{fits_tested}
-use Rattle.moo_world.proofs.Shown.EntriesInOrder.{own_entries, all_weaker}
-use Rattle.moo_dump.specs.Dump.{state_values}
-use Rattle.moo_load.specs.Entries.{an_object, a_property, a_slot, a_verb, a_petition}
 use Rattle.moo_load.proofs.One.Entries.{owed_entry, record_entries, object_entries, entries_of}
 use Rattle.moo_load.proofs.One.Injective.{IsFit}
 

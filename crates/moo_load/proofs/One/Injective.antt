@@ -1,14 +1,5 @@
 -- The lines of entries that fit tell the entries.
-use Rattle.std.proofs.Common.{◌≡◌, ℕ, ◌+◌, List, [], ◌∷◌, ◌++◌, get_or, refl, sym, ap, ◌∙◌, append_assoc}
-use Rattle.std.specs.Prelude.{codes}
-use Rattle.std.specs.List.{flat_map, AllByRecursion}
-use Rattle.std.proofs.lemmas.Bool.{false≢true}
-use Rattle.std.proofs.lemmas.Bool.Decides.{Decides-eqb}
-use Rattle.moo_value.specs.Literal.{Fits}
-use Rattle.moo_value.specs.declared.value.Value.TheVariants.{Obj, Str}
-use Rattle.moo_dump.specs.Dump.{object_values, verb_values}
-use Rattle.moo_load.specs.Printed.{petition_values}
-use Rattle.moo_load.specs.Entries.{Entry, an_object, a_property, a_slot, a_verb, a_petition, entry_text}
+use Rattle.moo_load.proofs.Words.{◌≡◌, ℕ, ◌+◌, List, [], ◌∷◌, ◌++◌, get_or, refl, sym, ap, ◌∙◌, append_assoc, codes, flat_map, AllByRecursion, false≢true, Decides-eqb, Fits, Obj, Str, object_values, verb_values, petition_values, Entry, an_object, a_property, a_slot, a_verb, a_petition, entry_text}
 use Rattle.moo_load.proofs.One.Texts.{one_line}
 use Rattle.moo_load.proofs.One.Values.{slot_values, one_object, one_property, one_slot, one_verb, one_petition}
 

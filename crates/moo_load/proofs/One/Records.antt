@@ -1,16 +1,5 @@
 -- The entries of an object tell its record.
-use Rattle.std.proofs.Common.{◌≡◌, Bool, true, false, cond, List, [], ◌∷◌, ◌++◌, map, drop, Option, Some, None, refl, sym, ap, ◌∙◌, append-nil}
-use Rattle.std.specs.Prelude.{is_some}
-use Rattle.std.specs.Option.{option_map, option_and_then}
-use Rattle.std.specs.List.{flat_map, filter_map, find, AllByRecursion}
-use Rattle.std.proofs.lemmas.List.Elements.{filter_map-append}
-use Rattle.moo_value.specs.declared.value.ObjNo.{ObjNo}
-use Rattle.moo_rows.specs.declared.row.ObjRow.{ObjRow}
-use Rattle.moo_rows.specs.declared.row.VerbRow.{VerbRow}
-use Rattle.moo_world.specs.Objects.{Name, Pair, same_text, folded, same_text-Decides}
-use Rattle.moo_world.specs.World.{World, Record, Slot, IsWellFormed, slot_of, chain, owed_by, pair_named}
-use Rattle.moo_world.proofs.Ancestry.Trees.{Chain-chain}
-use Rattle.moo_load.specs.Entries.{Entry, an_object, a_property, a_slot, a_verb}
+use Rattle.moo_load.proofs.Words.{◌≡◌, Bool, true, false, cond, List, [], ◌∷◌, ◌++◌, map, drop, Option, Some, None, refl, sym, ap, ◌∙◌, append-nil, is_some, option_map, option_and_then, flat_map, filter_map, find, AllByRecursion, filter_map-append, ObjNo, ObjRow, VerbRow, Name, Pair, same_text, folded, same_text-Decides, World, Record, Slot, IsWellFormed, slot_of, chain, owed_by, pair_named, Chain-chain, Entry, an_object, a_property, a_slot, a_verb}
 use Rattle.moo_load.proofs.One.Entries.{owed_entry, beside_row, record_entries, object_entries}
 use Rattle.moo_load.proofs.One.Fitting.{all_map, all_flat, all_each}
 use Rattle.moo_load.proofs.One.Blocks.{none_made, each_made}

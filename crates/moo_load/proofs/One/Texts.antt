@@ -1,15 +1,6 @@
 -- A printed value, and a printed list, tell their values and where they end.
-use Rattle.std.proofs.Common.{◌≡◌, ℕ, true, false, List, [], ◌∷◌, ◌++◌, length, get_or, drop, refl, sym, ap, subst, ◌∙◌, append_assoc}
-use Rattle.std.specs.List.{AllByRecursion}
-use Rattle.std.proofs.lemmas.Bool.{false≢true}
-use Rattle.std.proofs.lemmas.Bool.Decides.{Decides-eqb}
-use Rattle.std.proofs.lemmas.List.{drop_at, append_cancel_left}
-use Rattle.moo_value.specs.declared.value.Value.{Value}
-use Rattle.moo_value.specs.declared.value.Value.TheVariants.{Int, Obj, Str, Error, List as a_list}
-use Rattle.moo_value.specs.Value.{gather}
-use Rattle.moo_value.specs.Literal.{Fits, Ends, Front, print}
-use Rattle.moo_value.proofs.Printed.{printed, one, prepend_printed}
-use Rattle.moo_world.specs.Answers.{list_of}
+use Rattle.moo_load.proofs.Words.{◌≡◌, ℕ, true, false, List, [], ◌∷◌, ◌++◌, length, get_or, drop, refl, sym, ap, subst, ◌∙◌, append_assoc, AllByRecursion, false≢true, Decides-eqb, drop_at, append_cancel_left, Value, Int, Obj, Str, Error, a_list, gather, Fits, Ends, Front, print, printed, prepend_printed, list_of}
+use Rattle.moo_value.proofs.Printed.{one}
 use Rattle.moo_dump.specs.Dump.{line}
 use Rattle.moo_load.proofs.Listed.{after_value}
 

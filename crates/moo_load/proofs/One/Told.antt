@@ -1,21 +1,7 @@
 -- A dump names one state.
-use Rattle.std.proofs.Common.{◌≡◌, true, ℕ, ℤ, pos, negsuc, List, [], ◌∷◌, ◌++◌, drop, refl, sym, ap, ◌∙◌, append_assoc, arith}
-use Rattle.std.specs.Prelude.{codes, ◌≤ℤ◌}
-use Rattle.std.specs.Fmt.{decimal}
-use Rattle.std.specs.List.{filter, filter_map, flat_map}
+use Rattle.moo_load.proofs.Words.{◌≡◌, true, ℕ, ℤ, pos, negsuc, List, [], ◌∷◌, ◌++◌, drop, refl, sym, ap, ◌∙◌, append_assoc, arith, codes, ◌≤ℤ◌, decimal, filter, filter_map, flat_map, lt-ltb, ints, ObjNo, Value, Int, Obj, Fits, print, State, range_of, heading, dump, IsHeld, AreTheSame, entry_text}
 use Rattle.std.specs.FinMap.{same_entries_map}
-use Rattle.std.proofs.lemmas.Bool.{lt-ltb}
-use Rattle.std.proofs.lemmas.Int.{ints}
-use Rattle.moo_value.specs.declared.value.ObjNo.{ObjNo}
-use Rattle.moo_value.specs.declared.value.Value.{Value}
-use Rattle.moo_value.specs.declared.value.Value.TheVariants.{Int, Obj}
-use Rattle.moo_value.specs.Literal.{Fits, print}
 use Rattle.moo_world.specs.Arguments.{in_range}
-use Rattle.moo_world.specs.Judge.{State}
-use Rattle.moo_world.proofs.Form.Ranges.{range_of}
-use Rattle.moo_dump.specs.Dump.{heading, dump}
-use Rattle.moo_load.specs.OneState.{IsHeld, AreTheSame}
-use Rattle.moo_load.specs.Entries.{entry_text}
 use Rattle.moo_load.proofs.One.Entries.{entries_of, dump_is}
 use Rattle.moo_load.proofs.One.Texts.{one_print}
 use Rattle.moo_load.proofs.One.Values.{object_in}

@@ -1,35 +1,9 @@
 -- The values of a line tell the row that they are printed from.
-use Rattle.std.proofs.Common.{◌≡◌, ℕ, ℤ, Bool, true, false, List, [], ◌∷◌, map, get_or, drop, Option, Some, None, refl, sym, ap, ◌∙◌}
-use Rattle.std.specs.Prelude.{pos, not, ◌==◌}
-use Rattle.std.specs.Option.{option_map}
-use Rattle.std.proofs.lemmas.Option.{same_Some}
-use Rattle.moo_value.specs.declared.value.ObjNo.{ObjNo}
-use Rattle.moo_value.specs.declared.value.Value.{Value}
-use Rattle.moo_value.specs.declared.value.Value.TheVariants.{Int, Obj, Str, List as a_list}
-use Rattle.moo_value.specs.Value.{gather, spread}
-use Rattle.moo_value.specs.Values.{Values, no_values}
-use Rattle.moo_rows.specs.declared.row.Bits.{Bits}
-use Rattle.moo_rows.specs.declared.row.ObjRow.{ObjRow}
-use Rattle.moo_rows.specs.declared.row.PetitionId.{PetitionId}
-use Rattle.moo_rows.specs.declared.row.PetitionRow.{PetitionRow}
-use Rattle.moo_rows.specs.declared.row.Place.{Place}
-use Rattle.moo_rows.specs.declared.row.Place.TheVariants.{This, Any as any_object, None as no_object}
-use Rattle.moo_rows.specs.declared.row.Preposition.{Preposition}
-use Rattle.moo_rows.specs.declared.row.SlotState.{SlotState}
-use Rattle.moo_rows.specs.declared.row.SlotState.TheVariants.{Clear, Set}
-use Rattle.moo_rows.specs.declared.row.VerbBits.{VerbBits}
-use Rattle.moo_rows.specs.declared.row.VerbRow.{VerbRow}
-use Rattle.moo_rows.specs.Bits.{letters_of, verb_letters_of, bits_of, verb_bits_of}
-use Rattle.moo_world.specs.Answers.{flag}
+use Rattle.moo_load.proofs.Words.{◌≡◌, ℕ, ℤ, Bool, true, false, List, [], ◌∷◌, map, get_or, drop, Option, Some, None, refl, sym, ap, ◌∙◌, pos, not, ◌==◌, option_map, same_Some, ObjNo, Value, Int, Obj, Str, a_list, gather, spread, Values, no_values, Bits, ObjRow, PetitionId, PetitionRow, Place, This, any_object, no_object, Preposition, SlotState, Clear, Set, VerbBits, VerbRow, letters_of, verb_letters_of, flag, accept_value, Name, Pair, same_text, folded, prep_text, place_text, Slot, object_values, state_values, verb_values, petition_values}
+use Rattle.moo_rows.specs.Bits.{bits_of, verb_bits_of}
 use Rattle.moo_world.specs.Arguments.{objects_among}
-use Rattle.moo_world.specs.Calls.{accept_value}
-use Rattle.moo_world.specs.Objects.{Name, Pair, same_text, folded}
-use Rattle.moo_world.specs.Prepositions.{prep_text, place_text}
 use Rattle.moo_world.specs.VerbReading.{place_of, prep_of}
-use Rattle.moo_world.specs.World.{Slot}
 use Rattle.moo_verbs.proofs.TableLaw.{prep_read_again}
-use Rattle.moo_dump.specs.Dump.{object_values, state_values, verb_values}
-use Rattle.moo_load.specs.Printed.{petition_values}
 
 -- ---- what a value holds
 

@@ -1,17 +1,5 @@
 -- The text of a dump, as it is read.
-use Rattle.std.proofs.Common.{◌≡◌, ℕ, List, ◌++◌, sym, ap, subst, ◌∙◌}
-use Rattle.std.specs.List.{AllByRecursion}
-use Rattle.moo_rows.specs.declared.row.Head.{Head}
-use Rattle.moo_rows.specs.declared.row.PropId.{PropId}
-use Rattle.moo_rows.specs.Maps.{Maps, no_maps}
-use Rattle.moo_dump.specs.Dump.{heading, dump}
-use Rattle.moo_world.specs.Judge.{State}
-use Rattle.moo_world.specs.Objects.{Pair}
-use Rattle.moo_load.specs.Entries.{EntryFits, entry_lines, entries_taken, carried, EachHas, NumbersAreLeft}
-use Rattle.moo_load.specs.OneState.{IsHeld}
-use Rattle.moo_load.specs.Rows.{first_head}
-use Rattle.moo_load.specs.RowsOf.{HasNumbers, AreRowsOf}
-use Rattle.moo_load.specs.Slots.{no_slot, SlotIsNext, slot_line_put}
+use Rattle.moo_load.proofs.Words.{◌≡◌, ℕ, List, ◌++◌, sym, ap, subst, ◌∙◌, AllByRecursion, Head, PropId, Maps, no_maps, heading, dump, State, Pair, EntryFits, entry_lines, entries_taken, carried, EachHas, NumbersAreLeft, IsHeld, first_head, HasNumbers, AreRowsOf, no_slot, SlotIsNext, slot_line_put}
 use Rattle.moo_load.proofs.One.Entries.{entries_of, dump_is}
 use Rattle.moo_load.proofs.ReadBack.Fit.{all_fit}
 use Rattle.moo_load.proofs.ReadBack.Numbers.{number}

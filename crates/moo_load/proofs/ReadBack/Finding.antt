@@ -1,34 +1,15 @@
 -- The lines of slots come in the order in which their properties are found.
-use Rattle.std.proofs.Common.{◌≡◌, ℕ, ◌+◌, ◌<◌, ◌≤◌, Bool, true, false, cond, Option, Some, None, List, [], ◌∷◌, ◌++◌, map, length, refl, sym, ap, subst, ◌∙◌, arith, append_assoc, length-append, append-nil}
-use Rattle.std.specs.Prelude.{◌&&◌, is_some}
-use Rattle.std.specs.Cmp.{nat_cmp_is, ranked}
-use Rattle.std.specs.FinMap.{get, entries}
-use Rattle.std.specs.List.{AllByRecursion, IsDistinct, flat_map, filter}
-use Rattle.std.specs.Option.{option_map}
+use Rattle.moo_load.proofs.Words.{◌≡◌, ℕ, ◌+◌, ◌<◌, ◌≤◌, Bool, true, false, cond, Option, Some, None, List, [], ◌∷◌, ◌++◌, map, length, refl, sym, ap, subst, ◌∙◌, arith, append_assoc, length-append, append-nil, ◌&&◌, is_some, nat_cmp_is, ranked, get, entries, AllByRecursion, IsDistinct, flat_map, filter, option_map, Less, length-map, flat_map-append, none-some, ObjNo, PropId, is_definer, Maps, State, objects_of, Name, Pair, object_at, folded, same_object, is_among, same_object-Decides, numbers_below, World, Record, Slot, IsWellFormed, Climbs, is_object, slot_of, pair_named, names_of, defined_by, owed_by, chain, numbers_to, linked, Chain-chain, all_weaker, LastSlot, Entry, an_object, a_property, a_slot, a_verb, a_petition, EachHas, all_properties, at_number, property_row, no_slot, IsNextProperty, SlotIsNext, slot_line_put}
 use Rattle.std.specs.Ordering.{int_eq}
-use Rattle.std.specs.declared.cmp.Ordering.TheVariants.{Less}
-use Rattle.std.proofs.lemmas.List.{length-map}
-use Rattle.std.proofs.lemmas.List.Concat.{flat_map-append}
-use Rattle.std.proofs.lemmas.Option.{none-some}
-use Rattle.moo_value.specs.declared.value.ObjNo.{ObjNo}
-use Rattle.moo_rows.specs.declared.row.PropId.{PropId}
-use Rattle.moo_rows.specs.Links.{is_definer, row_defined}
-use Rattle.moo_rows.specs.Maps.{Maps}
-use Rattle.moo_world.specs.Judge.{State}
-use Rattle.moo_world.specs.ObjectLists.{objects_of}
-use Rattle.moo_world.specs.Objects.{Name, Pair, nothing, object_at, folded, same_object, is_among, same_object-Decides}
-use Rattle.moo_world.specs.Rows.{numbers_below}
-use Rattle.moo_world.specs.World.{World, Record, Slot, IsWellFormed, Climbs, is_object, parent_of, slot_of, pair_named, names_of, defined_by, owed_by, chain, numbers_to}
+use Rattle.moo_rows.specs.Links.{row_defined}
+use Rattle.moo_world.specs.Objects.{nothing}
+use Rattle.moo_world.specs.World.{parent_of}
 use Rattle.moo_world.proofs.Ancestry.Chains.{Climbs-once}
-use Rattle.moo_world.proofs.Ancestry.Trees.{linked, no_parent, Chain-chain}
+use Rattle.moo_world.proofs.Ancestry.Trees.{no_parent}
 use Rattle.moo_world.proofs.Inheritance.Owed.{all_right}
 use Rattle.moo_world.proofs.Inheritance.Reparenting.{all_left}
-use Rattle.moo_world.proofs.Shown.EntriesInOrder.{all_weaker}
 use Rattle.moo_damage.proofs.Apart.{none_any}
-use Rattle.moo_load.specs.declared.taking.LastSlot.{LastSlot}
-use Rattle.moo_load.specs.Entries.{Entry, an_object, a_property, a_slot, a_verb, a_petition, EachHas}
-use Rattle.moo_load.specs.RowsOf.{all_properties, at_number, property_row}
-use Rattle.moo_load.specs.Slots.{no_slot, number_before, IsNextProperty, SlotIsNext, slot_line_put}
+use Rattle.moo_load.specs.Slots.{number_before}
 use Rattle.moo_load.proofs.One.Entries.{owed_entry, record_entries, object_entries, entries_of}
 use Rattle.moo_load.proofs.One.Fitting.{own_names}
 use Rattle.moo_load.proofs.ReadBack.Lists.{of_all, number_at}

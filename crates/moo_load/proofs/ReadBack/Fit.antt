@@ -1,24 +1,6 @@
 -- The entries of a state fit, and are its rows.
-use Rattle.std.proofs.Common.{◌≡◌, ℕ, suc, ◌+◌, ◌<◌, ◌≤◌, true, Option, Some, None, List, [], ◌∷◌, ◌++◌, map, length, refl, ap, subst, ◌∙◌, arith, append-nil}
-use Rattle.std.specs.Prelude.{is_some, unwrap_or}
-use Rattle.std.specs.FinMap.{get, get-entries, entries, entries_sorted, find as find_key}
-use Rattle.std.specs.List.{AllByRecursion, flat_map, filter_map, cons_option, list_all}
-use Rattle.std.specs.Option.{option_map}
-use Rattle.std.proofs.lemmas.List.Elements.{filter_map-append}
-use Rattle.moo_value.specs.declared.value.ObjNo.{ObjNo}
-use Rattle.moo_rows.specs.declared.row.PetitionId.{PetitionId}
-use Rattle.moo_rows.specs.declared.row.PetitionRow.{PetitionRow}
-use Rattle.moo_rows.specs.Maps.{Maps, petition_cmp}
-use Rattle.moo_rows.proofs.Orders.{petition_total}
-use Rattle.moo_world.specs.Judge.{State}
-use Rattle.moo_world.specs.ObjectLists.{objects_of}
-use Rattle.moo_world.specs.Objects.{Pair, folded}
-use Rattle.moo_world.specs.Requests.{IsFormed}
-use Rattle.moo_world.specs.World.{World, Record, Slot, IsWellFormed, is_property_name, with_slots, slot_of, defined_by, owed_by, chain, directory_of}
-use Rattle.moo_world.proofs.Form.Limits.{row_fitting, slot_state}
-use Rattle.moo_world.proofs.Shown.EntriesInOrder.{own_entries, all_weaker}
-use Rattle.moo_load.specs.Entries.{Entry, an_object, a_property, a_slot, a_verb, a_petition, RowFits, EntryFits, NumbersAreLeft, entry_taken}
-use Rattle.moo_load.specs.RowsOf.{all_properties, all_verbs}
+use Rattle.moo_load.proofs.Words.{◌≡◌, ℕ, suc, ◌+◌, ◌<◌, ◌≤◌, true, Option, Some, None, List, [], ◌∷◌, ◌++◌, map, length, refl, ap, subst, ◌∙◌, arith, append-nil, is_some, unwrap_or, get, get-entries, entries, entries_sorted, find_key, AllByRecursion, flat_map, filter_map, cons_option, list_all, option_map, filter_map-append, ObjNo, PetitionId, PetitionRow, Maps, petition_cmp, petition_total, State, objects_of, Pair, folded, IsFormed, World, Record, Slot, IsWellFormed, is_property_name, with_slots, slot_of, defined_by, owed_by, chain, directory_of, row_fitting, slot_state, own_entries, all_weaker, Entry, an_object, a_property, a_slot, a_verb, a_petition, EntryFits, NumbersAreLeft, entry_taken, all_properties, all_verbs}
+use Rattle.moo_load.specs.Entries.{RowFits}
 use Rattle.moo_load.proofs.One.Blocks.{none_made}
 use Rattle.moo_load.proofs.One.Entries.{owed_entry, record_entries, object_entries, entries_of}
 use Rattle.moo_load.proofs.One.Fitting.{all_append, all_map, all_flat, all_each, all_both, all_tested, verbs_fit, entries_fit}

@@ -1,10 +1,5 @@
 -- Lists, what stands in them, and their numbers.
-use Rattle.std.proofs.Common.{◌≡◌, ℕ, zero, suc, ◌+◌, Option, Some, None, List, [], ◌∷◌, ◌++◌, map, length, refl, sym, ap, subst, ◌∙◌, ◌⊎◌, inl, inr, arith, append_assoc, length-append}
-use Rattle.std.specs.Prelude.{slice_get}
-use Rattle.std.specs.List.{AllByRecursion, filter_map, flat_map, cons_option}
-use Rattle.std.proofs.lemmas.Option.{same_Some, none-some}
-use Rattle.std.proofs.lemmas.List.Elements.{filter_map-append}
-use Rattle.moo_load.specs.RowsOf.{at_number}
+use Rattle.moo_load.proofs.Words.{◌≡◌, ℕ, zero, suc, ◌+◌, Option, Some, None, List, [], ◌∷◌, ◌++◌, map, length, refl, sym, ap, subst, ◌∙◌, ◌⊎◌, inl, inr, arith, append_assoc, length-append, slice_get, AllByRecursion, filter_map, flat_map, cons_option, same_Some, none-some, filter_map-append, at_number}
 
 -- it stands in the list
 abbrev pub Stands : {A : Type 0} → A → List A → Type 0

@@ -1,18 +1,7 @@
 -- The number of a property in the list of all.
-use Rattle.std.proofs.Common.{◌≡◌, ℕ, zero, suc, ◌+◌, ◌<◌, ◌≤◌, Bool, true, false, cond, Some, List, [], ◌∷◌, ◌++◌, length, refl, sym, ap, subst, ◌∙◌, ◌⊎◌, inl, inr, arith}
-use Rattle.std.specs.Prelude.{◌&&◌, slice_get}
-use Rattle.std.specs.List.{AllByRecursion, IsDistinct}
-use Rattle.std.proofs.lemmas.Bool.{false≢true}
-use Rattle.std.proofs.lemmas.Option.{same_Some, none-some}
-use Rattle.moo_value.specs.declared.value.ObjNo.{ObjNo}
-use Rattle.moo_rows.specs.declared.row.PropId.{PropId}
-use Rattle.moo_world.specs.ObjectLists.{objects_of}
-use Rattle.moo_world.specs.Objects.{Pair, folded, same_object, same_text, same_pair, same_pair-self, same_object-Decides, same_text-Decides}
-use Rattle.moo_world.specs.World.{World, IsWellFormed, defined_by, names_of, owed_by}
+use Rattle.moo_load.proofs.Words.{◌≡◌, ℕ, zero, suc, ◌+◌, ◌<◌, ◌≤◌, Bool, true, false, cond, Some, List, [], ◌∷◌, ◌++◌, length, refl, sym, ap, subst, ◌∙◌, ◌⊎◌, inl, inr, arith, ◌&&◌, slice_get, AllByRecursion, IsDistinct, false≢true, same_Some, none-some, ObjNo, PropId, objects_of, Pair, folded, same_object, same_text, same_pair, same_object-Decides, same_text-Decides, World, IsWellFormed, defined_by, names_of, owed_by, all_weaker, distinct_append, all_properties, at_number}
+use Rattle.moo_world.specs.Objects.{same_pair-self}
 use Rattle.moo_world.proofs.Inheritance.Owed.{owed_by-append}
-use Rattle.moo_world.proofs.Shown.EntriesInOrder.{all_weaker}
-use Rattle.moo_damage.proofs.Apart.{distinct_append}
-use Rattle.moo_load.specs.RowsOf.{all_properties, at_number}
 use Rattle.moo_load.proofs.One.Fitting.{all_map, all_flat, all_each}
 use Rattle.moo_load.proofs.ReadBack.Lists.{Stands, of_all}
 use Rattle.moo_load.proofs.ReadBack.Once.{split, before_differs, objects_once, own_names_differ, other_pair, distinct_weaker}

@@ -1,19 +1,6 @@
 -- Objects, and properties with their definers, stand once in their lists.
-use Rattle.std.proofs.Common.{◌≡◌, ℕ, zero, suc, ◌<◌, Bool, true, false, cond, Option, Some, None, List, [], ◌∷◌, ◌++◌, map, refl, sym, ap, subst, ◌∙◌, ◌⊎◌, inl, inr, arith}
-use Rattle.std.specs.Prelude.{◌&&◌, is_some, unwrap_or}
-use Rattle.std.specs.Option.{option_map}
-use Rattle.std.specs.List.{AllByRecursion, filter, filter_map, cons_option, IsDistinct}
-use Rattle.std.proofs.lemmas.Bool.{false≢true, cases_lt}
-use Rattle.std.proofs.lemmas.Option.{same_Some, none-some}
-use Rattle.moo_value.specs.declared.value.ObjNo.{ObjNo}
-use Rattle.moo_world.specs.ObjectLists.{objects_of}
-use Rattle.moo_world.specs.Objects.{Pair, object_at, folded, same_object, same_text, same_pair, same_text-Decides}
-use Rattle.moo_world.specs.Rows.{numbers_below}
-use Rattle.moo_world.specs.World.{World, Record, IsWellFormed, NamesDiffer, is_object, defined_by, owed_by, chain, numbers_to}
-use Rattle.moo_world.proofs.Ancestry.Trees.{assigned, Chain-chain, chain-step}
-use Rattle.moo_world.proofs.Shown.EntriesInOrder.{all_weaker}
+use Rattle.moo_load.proofs.Words.{◌≡◌, ℕ, zero, suc, ◌<◌, Bool, true, false, cond, Option, Some, None, List, [], ◌∷◌, ◌++◌, map, refl, sym, ap, subst, ◌∙◌, ◌⊎◌, inl, inr, arith, ◌&&◌, is_some, unwrap_or, option_map, AllByRecursion, filter, filter_map, cons_option, IsDistinct, false≢true, cases_lt, same_Some, none-some, ObjNo, objects_of, Pair, object_at, folded, same_object, same_text, same_pair, same_text-Decides, numbers_below, World, Record, IsWellFormed, NamesDiffer, is_object, defined_by, owed_by, chain, numbers_to, assigned, Chain-chain, chain-step, all_weaker, distinct_numbers}
 use Rattle.moo_world.proofs.Shown.PairLists.{pairs_left}
-use Rattle.moo_damage.proofs.Apart.{distinct_numbers}
 use Rattle.moo_load.proofs.One.Blocks.{apart}
 use Rattle.moo_load.proofs.ReadBack.Lists.{Stands, stands_left, stands_map, of_all}
 

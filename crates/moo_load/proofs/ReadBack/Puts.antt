@@ -1,13 +1,5 @@
 -- Rows that are put into a map one after another.
-use Rattle.std.proofs.Common.{◌≡◌, Bool, true, false, cond, Option, Some, None, List, [], ◌∷◌, refl, sym, ap, ◌∙◌, ◌⊎◌, inl, inr}
-use Rattle.std.specs.List.{AllByRecursion}
-use Rattle.std.specs.Cmp.{IsTotalOrder}
-use Rattle.std.specs.FinMap.{FinMap, get, insert, empty, get-insert, get-empty}
-use Rattle.std.specs.Ordering.{eq_by_cmp}
-use Rattle.std.specs.declared.cmp.Ordering.{Ordering}
-use Rattle.std.proofs.lemmas.Bool.{false≢true}
-use Rattle.std.proofs.lemmas.Map.Lookups.{CmpEqualImpliesEq}
-use Rattle.moo_world.proofs.Shown.MapLaws.{key-Decides}
+use Rattle.moo_load.proofs.Words.{◌≡◌, Bool, true, false, cond, Option, Some, None, List, [], ◌∷◌, refl, sym, ap, ◌∙◌, ◌⊎◌, inl, inr, AllByRecursion, IsTotalOrder, FinMap, get, insert, empty, get-insert, get-empty, eq_by_cmp, Ordering, false≢true, CmpEqualImpliesEq, key-Decides}
 
 abbrev pub puts : {K X : Type 0} {cmp : K → K → Ordering} → List (K × X) → FinMap cmp X → FinMap cmp X
 puts [] m = m

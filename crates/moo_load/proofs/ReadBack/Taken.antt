@@ -1,22 +1,5 @@
 -- What the rows of entries make of maps, map by map.
-use Rattle.std.proofs.Common.{◌≡◌, ℕ, suc, ◌+◌, Option, Some, None, List, [], ◌∷◌, length, refl, arith}
-use Rattle.std.specs.Prelude.{max}
-use Rattle.std.specs.List.{filter_map}
-use Rattle.moo_value.specs.declared.value.ObjNo.{ObjNo}
-use Rattle.moo_rows.specs.declared.row.ObjRow.{ObjRow}
-use Rattle.moo_rows.specs.declared.row.PetitionId.{PetitionId}
-use Rattle.moo_rows.specs.declared.row.PetitionRow.{PetitionRow}
-use Rattle.moo_rows.specs.declared.row.PropId.{PropId}
-use Rattle.moo_rows.specs.declared.row.PropRow.{PropRow}
-use Rattle.moo_rows.specs.declared.row.SlotRow.{SlotRow}
-use Rattle.moo_rows.specs.declared.row.VerbId.{VerbId}
-use Rattle.moo_rows.specs.declared.row.VerbRow.{VerbRow}
-use Rattle.moo_rows.specs.Maps.{Maps}
-use Rattle.moo_world.specs.Objects.{Pair}
-use Rattle.moo_load.specs.declared.taking.LastSlot.{LastSlot}
-use Rattle.moo_load.specs.Entries.{Entry, an_object, a_property, a_slot, a_verb, a_petition, entry_taken, entries_taken, carried}
-use Rattle.moo_load.specs.RowsOf.{property_row, dumped_slot}
-use Rattle.moo_load.specs.Slots.{slot_line_put}
+use Rattle.moo_load.proofs.Words.{◌≡◌, ℕ, suc, ◌+◌, Option, Some, None, List, [], ◌∷◌, length, refl, arith, max, filter_map, ObjNo, ObjRow, PetitionId, PetitionRow, PropId, PropRow, SlotRow, VerbId, VerbRow, Maps, Pair, LastSlot, Entry, an_object, a_property, a_slot, a_verb, a_petition, entry_taken, entries_taken, carried, property_row, dumped_slot, slot_line_put}
 use Rattle.moo_load.proofs.One.Blocks.{petition_in}
 use Rattle.moo_load.proofs.ReadBack.Lists.{counted}
 use Rattle.moo_load.proofs.ReadBack.Puts.{puts}

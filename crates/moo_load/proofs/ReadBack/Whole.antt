@@ -1,37 +1,8 @@
 -- What is read of the entries of a state are its rows.
-use Rattle.std.proofs.Common.{◌≡◌, ℕ, ◌+◌, ◌<◌, ◌≤◌, Bool, true, false, cond, Option, Some, None, List, [], ◌∷◌, ◌++◌, map, length, refl, sym, ap, subst, ◌∙◌, inl, inr, arith}
-use Rattle.std.specs.Prelude.{is_some, unwrap_or, max}
-use Rattle.std.specs.FinMap.{FinMap, get, get-entries, entries, entries_sorted, empty, same_map, find as find_key}
-use Rattle.std.specs.List.{AllByRecursion, IsDistinct, flat_map, filter_map, find}
-use Rattle.std.specs.Option.{option_map, option_and_then}
-use Rattle.std.specs.Ordering.{eq_by_cmp}
-use Rattle.std.proofs.lemmas.Bool.{false≢true}
-use Rattle.std.proofs.lemmas.Option.{same_Some, none-some}
-use Rattle.moo_value.specs.declared.value.ObjNo.{ObjNo}
-use Rattle.moo_rows.specs.declared.row.ObjRow.{ObjRow}
-use Rattle.moo_rows.specs.declared.row.PetitionId.{PetitionId}
-use Rattle.moo_rows.specs.declared.row.PetitionRow.{PetitionRow}
-use Rattle.moo_rows.specs.declared.row.PropId.{PropId}
-use Rattle.moo_rows.specs.declared.row.PropRow.{PropRow}
-use Rattle.moo_rows.specs.declared.row.SlotRow.{SlotRow}
-use Rattle.moo_rows.specs.declared.row.VerbId.{VerbId}
-use Rattle.moo_rows.specs.declared.row.VerbRow.{VerbRow}
-use Rattle.moo_rows.specs.Exact.{object_exact, prop_exact, slot_exact, verb_exact, petition_exact}
-use Rattle.moo_rows.specs.Maps.{Maps, no_maps, object_cmp, prop_cmp, slot_cmp, verb_cmp, petition_cmp}
-use Rattle.moo_rows.proofs.Orders.{object_total, prop_total, slot_total, verb_total, petition_total}
-use Rattle.moo_world.specs.Judge.{State}
-use Rattle.moo_world.specs.ObjectLists.{objects_of}
-use Rattle.moo_world.specs.Objects.{Name, Pair, folded, same_object, same_text, same_object-Decides, same_text-Decides}
-use Rattle.moo_world.specs.Requests.{IsFormed}
-use Rattle.moo_world.specs.World.{World, Record, Slot, is_object, row_of, slot_of, pair_named, names_of, defined_by, owed_by, chain}
-use Rattle.moo_world.proofs.Ancestry.Trees.{Chain-chain}
-use Rattle.moo_world.proofs.Inheritance.Owed.{named_so}
-use Rattle.moo_world.proofs.Shown.MapLaws.{key-Decides}
-use Rattle.moo_world.proofs.Shown.EntriesInOrder.{own_entries, all_weaker}
-use Rattle.moo_load.specs.Entries.{Entry, an_object, a_property, a_slot, a_verb, a_petition, NumbersAreLeft, entries_taken, carried}
-use Rattle.moo_load.specs.Rows.{first_head}
-use Rattle.moo_load.specs.RowsOf.{all_properties, all_verbs, at_number, property_row, dumped_slot, slot_of_property, verb_on, IsAbove, HasNumbers, AreRowsOf}
-use Rattle.moo_load.specs.Slots.{no_slot, slot_line_put}
+use Rattle.moo_load.proofs.Words.{◌≡◌, ℕ, ◌+◌, ◌<◌, ◌≤◌, Bool, true, false, cond, Option, Some, None, List, [], ◌∷◌, ◌++◌, map, length, refl, sym, ap, subst, ◌∙◌, inl, inr, arith, is_some, unwrap_or, max, FinMap, get, get-entries, entries, entries_sorted, empty, find_key, AllByRecursion, IsDistinct, flat_map, filter_map, find, option_map, option_and_then, eq_by_cmp, false≢true, same_Some, none-some, ObjNo, ObjRow, PetitionId, PetitionRow, PropId, PropRow, SlotRow, VerbId, VerbRow, object_exact, prop_exact, slot_exact, verb_exact, petition_exact, Maps, no_maps, object_cmp, prop_cmp, slot_cmp, verb_cmp, petition_cmp, object_total, prop_total, slot_total, verb_total, petition_total, State, objects_of, Name, Pair, folded, same_object, same_text, same_object-Decides, same_text-Decides, IsFormed, World, Record, Slot, is_object, slot_of, pair_named, names_of, defined_by, owed_by, chain, Chain-chain, named_so, key-Decides, own_entries, all_weaker, Entry, an_object, a_property, a_slot, a_verb, a_petition, NumbersAreLeft, entries_taken, carried, first_head, all_properties, all_verbs, at_number, property_row, dumped_slot, slot_of_property, verb_on, HasNumbers, AreRowsOf, no_slot, slot_line_put}
+use Rattle.std.specs.FinMap.{same_map}
+use Rattle.moo_world.specs.World.{row_of}
+use Rattle.moo_load.specs.RowsOf.{IsAbove}
 use Rattle.moo_load.proofs.One.Blocks.{petition_in, petitions_of}
 use Rattle.moo_load.proofs.One.Entries.{owed_entry, record_entries, object_entries, entries_of}
 use Rattle.moo_load.proofs.One.Fitting.{all_append, all_map, all_flat, all_each, own_names}

@@ -1,19 +1,5 @@
 -- A dump has a line for each property and each verb.
-use Rattle.std.proofs.Common.{◌≡◌, ◌<◌, ◌≤◌, List, [], ◌∷◌, ◌++◌, length, map, Option, Some, None, ap, arith}
-use Rattle.std.specs.Prelude.{codes, unwrap_or}
-use Rattle.std.specs.Option.{option_map}
-use Rattle.std.specs.FinMap.{entries}
-use Rattle.std.specs.List.{flat_map}
-use Rattle.std.proofs.lemmas.List.{length-append, length-map}
-use Rattle.moo_value.specs.declared.value.ObjNo.{ObjNo}
-use Rattle.moo_rows.specs.declared.row.VerbRow.{VerbRow}
-use Rattle.moo_dump.specs.Dump.{heading, dump}
-use Rattle.moo_world.specs.Judge.{State}
-use Rattle.moo_world.specs.ObjectLists.{objects_of}
-use Rattle.moo_world.specs.Objects.{Pair}
-use Rattle.moo_world.specs.World.{World, Record, defined_by, owed_by, chain, directory_of}
-use Rattle.moo_load.specs.Entries.{Entry, an_object, a_property, a_slot, a_verb, a_petition, entry_text}
-use Rattle.moo_load.specs.RowsOf.{HasNumbers}
+use Rattle.moo_load.proofs.Words.{◌≡◌, ◌<◌, ◌≤◌, List, [], ◌∷◌, ◌++◌, length, map, Option, Some, None, ap, arith, codes, unwrap_or, option_map, entries, flat_map, length-append, length-map, ObjNo, VerbRow, heading, dump, State, objects_of, Pair, World, Record, defined_by, owed_by, chain, directory_of, Entry, an_object, a_property, a_slot, a_verb, a_petition, entry_text, HasNumbers}
 use Rattle.moo_load.proofs.One.Entries.{owed_entry, record_entries, object_entries, entries_of, dump_is}
 
 some_text : (e : Entry) → 0 < length (entry_text e)

@@ -1,25 +1,7 @@
 -- The rows of a state are good, and show the same state.
-use Rattle.std.proofs.Common.{◌≡◌, ℕ, ◌<◌, ◌≤◌, Bool, true, false, cond, ◌&&◌, List, Option, Some, None, refl, sym, ap, subst, ◌∙◌, arith}
-use Rattle.std.specs.Prelude.{is_some}
-use Rattle.std.specs.Option.{option_map, option_and_then}
-use Rattle.std.specs.FinMap.{FinMap, get}
-use Rattle.std.proofs.lemmas.Bool.{false≢true}
-use Rattle.std.proofs.lemmas.Option.{none-some, same_Some}
-use Rattle.moo_value.specs.declared.value.ObjNo.{ObjNo}
-use Rattle.moo_rows.specs.declared.row.PetitionRow.{PetitionRow}
-use Rattle.moo_rows.specs.declared.row.PropRow.{PropRow}
-use Rattle.moo_rows.specs.declared.row.SlotRow.{SlotRow}
-use Rattle.moo_rows.specs.declared.row.VerbRow.{VerbRow}
-use Rattle.moo_rows.specs.Maps.{Maps, petition_cmp}
-use Rattle.moo_world.specs.Judge.{State, state_of}
-use Rattle.moo_world.specs.Objects.{Name, Pair, same_object, folded, same_object-Decides, same_text-Decides}
+use Rattle.moo_load.proofs.Words.{◌≡◌, ℕ, ◌<◌, ◌≤◌, Bool, true, false, cond, ◌&&◌, List, Option, Some, None, refl, sym, ap, subst, ◌∙◌, arith, is_some, option_map, option_and_then, FinMap, get, false≢true, none-some, same_Some, ObjNo, PetitionRow, PropRow, SlotRow, VerbRow, Maps, petition_cmp, State, state_of, Name, Pair, same_object, folded, same_object-Decides, same_text-Decides, IsFormed, world_of, world_shown, prop_id, verb_id, World, Record, Slot, IsWellFormed, is_object, slot_of, chain, dump, AreTheSame, all_properties, all_verbs, at_number, property_row, slot_of_property, verb_on, HasNumbers, AreRowsOf}
 use Rattle.moo_world.specs.Petitions.{PetitionsStand}
-use Rattle.moo_world.specs.Requests.{IsFormed}
-use Rattle.moo_world.specs.Rows.{IsSound, IsGood, world_of, world_shown, prop_id, verb_id}
-use Rattle.moo_world.specs.World.{World, Record, Slot, IsWellFormed, is_object, slot_of, chain}
-use Rattle.moo_dump.specs.Dump.{dump}
-use Rattle.moo_load.specs.OneState.{AreTheSame}
-use Rattle.moo_load.specs.RowsOf.{all_properties, all_verbs, at_number, property_row, slot_of_property, verb_on, HasNumbers, AreRowsOf}
+use Rattle.moo_world.specs.Rows.{IsSound, IsGood}
 use Rattle.moo_load.proofs.Shown.Lists.{given, of_number, one_number}
 use Rattle.moo_load.proofs.Shown.Look.{of_property, object_is}
 use Rattle.moo_load.proofs.Shown.Objects.{alike, definers_are, holders_are, properties_differ}

@@ -1,16 +1,7 @@
 -- Lists whose items have numbers, and lists of what objects have.
-use Rattle.std.proofs.Common.{◌≡◌, ℕ, ◌+◌, zero, suc, ◌<◌, Bool, true, false, cond, List, [], ◌∷◌, ◌++◌, length, take, map, Option, Some, None, refl, sym, ap, subst, ◌∙◌, append-nil, arith, inl, inr}
-use Rattle.std.specs.Prelude.{◌||◌, slice_get}
-use Rattle.std.specs.Option.{option_and_then}
-use Rattle.std.specs.List.{flat_map, filter_map, cons_option, list_any, IsDistinct, AllByRecursion}
+use Rattle.moo_load.proofs.Words.{◌≡◌, ℕ, ◌+◌, zero, suc, ◌<◌, Bool, true, false, cond, List, [], ◌∷◌, ◌++◌, length, take, map, Option, Some, None, refl, sym, ap, subst, ◌∙◌, append-nil, arith, inl, inr, ◌||◌, slice_get, option_and_then, flat_map, filter_map, cons_option, list_any, IsDistinct, AllByRecursion, false≢true, cases_lt, filter_map-append, none-some, same_Some, ObjNo, same_object, is_among, same_object-Decides, numbers_below, at_number}
 use Rattle.std.proofs.Math.Seq.{take-length}
-use Rattle.std.proofs.lemmas.Bool.{false≢true, or_parts, cases_lt}
-use Rattle.std.proofs.lemmas.List.Elements.{filter_map-append}
-use Rattle.std.proofs.lemmas.Option.{none-some, same_Some}
-use Rattle.moo_value.specs.declared.value.ObjNo.{ObjNo}
-use Rattle.moo_world.specs.Objects.{same_object, is_among, same_object-Decides}
-use Rattle.moo_world.specs.Rows.{numbers_below}
-use Rattle.moo_load.specs.RowsOf.{at_number}
+use Rattle.std.proofs.lemmas.Bool.{or_parts}
 use Rattle.moo_load.proofs.One.Blocks.{each_made}
 
 -- ---- by numbers

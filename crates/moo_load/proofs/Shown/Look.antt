@@ -1,27 +1,10 @@
 -- The rows of a state show its objects.
-use Rattle.std.proofs.Common.{◌≡◌, ℕ, Bool, true, false, cond, List, [], map, Option, Some, None, refl, sym, ap, subst, ◌∙◌}
-use Rattle.std.specs.Prelude.{is_some, unwrap_or, slice_get}
-use Rattle.std.specs.Option.{option_map, option_and_then}
-use Rattle.std.specs.FinMap.{get}
-use Rattle.std.specs.List.{filter_map, list_any}
-use Rattle.std.proofs.lemmas.Bool.{false≢true}
-use Rattle.std.proofs.lemmas.Option.{none-some, same_Some}
-use Rattle.moo_value.specs.declared.value.ObjNo.{ObjNo}
-use Rattle.moo_rows.specs.declared.row.PropRow.{PropRow}
-use Rattle.moo_rows.specs.declared.row.SlotRow.{SlotRow}
-use Rattle.moo_rows.specs.declared.row.VerbRow.{VerbRow}
-use Rattle.moo_rows.specs.Maps.{Maps}
-use Rattle.moo_world.specs.Judge.{State}
-use Rattle.moo_world.specs.ObjectLists.{objects_of}
-use Rattle.moo_world.specs.Objects.{Name, Pair, same_object, same_text, same_pair, folded, same_object-Decides, same_text-Decides}
-use Rattle.moo_world.specs.Rows.{look_ups, world_of, world_shown, record_of, name_on, slot_on, slot_seen, numbers_below, prop_id, verb_id}
-use Rattle.moo_world.specs.World.{World, Record, Slot, IsWellFormed, Chain, is_object, slot_of, chain, names_of, defined_by, owed_by, pair_named, directory_of}
+use Rattle.moo_load.proofs.Words.{◌≡◌, ℕ, Bool, true, false, cond, List, [], map, Option, Some, None, refl, sym, ap, subst, ◌∙◌, is_some, unwrap_or, slice_get, option_map, option_and_then, get, filter_map, list_any, false≢true, none-some, same_Some, ObjNo, PropRow, SlotRow, VerbRow, Maps, State, objects_of, Name, Pair, same_object, same_text, same_pair, folded, same_object-Decides, same_text-Decides, world_of, world_shown, numbers_below, prop_id, verb_id, World, Record, Slot, IsWellFormed, Chain, is_object, slot_of, chain, names_of, defined_by, owed_by, pair_named, directory_of, Chain-chain, named_so, all_properties, all_verbs, at_number, property_row, dumped_slot, slot_of_property, verb_on, AreRowsOf}
+use Rattle.moo_world.specs.Rows.{look_ups, record_of, name_on, slot_on, slot_seen}
 use Rattle.moo_world.proofs.Ancestry.Subtrees.{object_listed, owed_listed}
-use Rattle.moo_world.proofs.Ancestry.Trees.{Chain-chain}
 use Rattle.moo_world.proofs.Inheritance.Keeping.{same_pair-is}
-use Rattle.moo_world.proofs.Inheritance.Owed.{definer_among, named_owed, named_so}
+use Rattle.moo_world.proofs.Inheritance.Owed.{definer_among, named_owed}
 use Rattle.moo_world.proofs.Shown.ObjectEntries.{same_object-symm}
-use Rattle.moo_load.specs.RowsOf.{all_properties, all_verbs, at_number, property_row, dumped_slot, slot_of_property, verb_on, AreRowsOf}
 use Rattle.moo_load.proofs.Shown.Lists.{all_by_number, first_made, some_made, of_object}
 use Rattle.moo_load.proofs.Shown.Objects.{objects_apart}
 

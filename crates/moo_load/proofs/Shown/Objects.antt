@@ -1,18 +1,6 @@
 -- The objects of a world, each once, and all that they define.
-use Rattle.std.proofs.Common.{◌≡◌, ℕ, Bool, true, false, cond, ◌&&◌, List, [], ◌∷◌, ◌++◌, map, Option, Some, None, refl, sym, ap, subst, ◌∙◌, arith}
-use Rattle.std.specs.Prelude.{is_some}
-use Rattle.std.specs.List.{flat_map, filter, filter_map, cons_option, IsDistinct, AllByRecursion}
-use Rattle.std.proofs.lemmas.Bool.{false≢true}
-use Rattle.std.proofs.lemmas.Option.{none-some, same_Some}
-use Rattle.moo_value.specs.declared.value.ObjNo.{ObjNo}
-use Rattle.moo_rows.specs.declared.row.VerbRow.{VerbRow}
-use Rattle.moo_world.specs.ObjectLists.{objects_of}
-use Rattle.moo_world.specs.Objects.{Name, Pair, object_at, same_object, same_text, folded}
-use Rattle.moo_world.specs.Rows.{numbers_below}
-use Rattle.moo_world.specs.World.{World, Record, IsWellFormed, is_object, names_of, defined_by, owed_by, directory_of, chain, numbers_to, NamesDiffer}
-use Rattle.moo_world.proofs.Ancestry.Trees.{Chain-chain, chain-step}
-use Rattle.moo_damage.proofs.Apart.{all_append, distinct_append, distinct_numbers}
-use Rattle.moo_load.specs.RowsOf.{all_properties, all_verbs}
+use Rattle.moo_load.proofs.Words.{◌≡◌, ℕ, Bool, true, false, cond, ◌&&◌, List, [], ◌∷◌, ◌++◌, map, Option, Some, None, refl, sym, ap, subst, ◌∙◌, arith, is_some, flat_map, filter, filter_map, cons_option, IsDistinct, AllByRecursion, false≢true, none-some, same_Some, ObjNo, VerbRow, objects_of, Name, Pair, object_at, same_object, same_text, folded, numbers_below, World, Record, IsWellFormed, is_object, names_of, defined_by, owed_by, directory_of, chain, numbers_to, NamesDiffer, Chain-chain, chain-step, distinct_append, distinct_numbers, all_properties, all_verbs}
+use Rattle.moo_damage.proofs.Apart.{all_append}
 use Rattle.moo_load.proofs.One.Blocks.{apart}
 use Rattle.moo_load.proofs.One.Fitting.{all_map, all_each}
 

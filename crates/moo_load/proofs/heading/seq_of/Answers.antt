@@ -1,6 +1,4 @@
-use Rattle.std.proofs.Common.{◌≡◌, ℕ, pos, sym, ap, ◌∙◌}
-use Rattle.std.proofs.lemmas.Result.{err_from_is_err_and}
-use Rattle.moo_value.specs.declared.value.Value.TheVariants.{Int}
+use Rattle.moo_load.proofs.Words.{◌≡◌, ℕ, pos, sym, ap, ◌∙◌, err_from_is_err_and, Int}
 use Rattle.moo_load.proofs.Headed.{count_fits}
 use Rattle.moo_load.proofs.OnResults.{if_ok, if_err}
 use Rattle.moo_load.proofs.One.Values.{integer_in, size_in}

@@ -1,7 +1,4 @@
-use Rattle.std.proofs.Common.{◌≡◌, sym, ap, ◌∙◌}
-use Rattle.std.proofs.lemmas.Result.{err_from_is_err_and}
-use Rattle.moo_value.specs.declared.value.ObjNo.{ObjNo}
-use Rattle.moo_value.specs.declared.value.Value.TheVariants.{Obj}
+use Rattle.moo_load.proofs.Words.{◌≡◌, sym, ap, ◌∙◌, err_from_is_err_and, ObjNo, Obj}
 use Rattle.moo_load.proofs.Headed.{assigned_fits}
 use Rattle.moo_load.proofs.OnResults.{if_ok, if_err}
 use Rattle.moo_load.proofs.One.Values.{object_in}

@@ -1,4 +1,4 @@
-use Rattle.moo_world.specs.Judge.{state_of}
+use Rattle.moo_load.proofs.Words.{state_of}
 use Rattle.moo_load.proofs.Shown.Good.{good_rows, same_state, same_dump}
 use Rattle.moo_load.proofs.laws.rows_show_the_state.Goals as goal
 

@@ -1,4 +1,4 @@
-use Rattle.std.proofs.Common.{Option, subst, ◌∙◌}
+use Rattle.moo_load.proofs.Words.{Option, subst, ◌∙◌, state_of}
 use Rattle.std.specs.Prelude.{IfSome}
 use Rattle.std.proofs.lemmas.Result.{IfErr-weaker}
 use Rattle.moo_damage.specs.declared.kind.Key.{Key}
@@ -6,7 +6,6 @@ use Rattle.moo_damage.specs.declared.kind.Kind.{Kind}
 use Rattle.moo_damage.specs.Kinds.{IsFirstInRows}
 use Rattle.moo_damage.proofs.Clean.{clean}
 use Rattle.moo_damage.proofs.Told.{none_told}
-use Rattle.moo_world.specs.Judge.{state_of}
 use Rattle.moo_load.proofs.Shown.Good.{good_rows, same_state, same_dump}
 use Rattle.moo_load.proofs.loading.judge_rows.Goals as goal
 

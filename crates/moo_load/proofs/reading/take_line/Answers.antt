@@ -1,10 +1,5 @@
-use Rattle.std.proofs.Common.{rules, ◌≡◌, sym, ap, ◌∙◌}
-use Rattle.std.proofs.lemmas.Result.{err_from_is_err_and}
-use Rattle.moo_value.specs.Literal.{print}
-use Rattle.moo_rows.specs.Maps.{Held}
-use Rattle.moo_world.specs.Answers.{list_of}
-use Rattle.moo_load.specs.declared.line.Word.TheVariants.{Object, Property, Slot, Verb, Petition}
-use Rattle.moo_load.specs.Entries.{entry_values}
+use Rattle.moo_load.proofs.Words.{rules, ◌≡◌, sym, ap, ◌∙◌, err_from_is_err_and, print, Held, list_of, Object, Property, Verb, Petition, entry_values}
+use Rattle.moo_load.specs.declared.line.Word.TheVariants.{Slot}
 use Rattle.moo_load.proofs.OnResults.{on_ok, if_err}
 use Rattle.moo_load.proofs.Taken.{word_of, line_is, split_is, values_told, none_told, slot_taken, object_taken, property_is_taken, verb_is_taken, petition_is_taken, no_object, no_property, no_verb, no_petition}
 use Rattle.moo_load.proofs.reading.take_line.Goals as goal

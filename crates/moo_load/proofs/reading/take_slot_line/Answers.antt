@@ -1,10 +1,5 @@
-use Rattle.std.proofs.Common.{rules, ◌≡◌, ◌≢◌, sym, ap, ◌∙◌}
-use Rattle.std.proofs.lemmas.Result.{err_from_is_err_and}
-use Rattle.moo_value.specs.Literal.{print}
-use Rattle.moo_rows.specs.Maps.{Held}
-use Rattle.moo_world.specs.Answers.{list_of}
+use Rattle.moo_load.proofs.Words.{rules, ◌≡◌, ◌≢◌, sym, ap, ◌∙◌, err_from_is_err_and, print, Held, list_of, entry_values}
 use Rattle.moo_load.specs.declared.line.Word.TheVariants.{Slot}
-use Rattle.moo_load.specs.Entries.{entry_values}
 use Rattle.moo_load.proofs.OnResults.{if_ok, if_err}
 use Rattle.moo_load.proofs.Taken.{word_of, line_is, split_is, values_told, none_told, slot_is_put, no_slot_line, no_slot_put}
 use Rattle.moo_load.proofs.reading.take_slot_line.Goals as goal
