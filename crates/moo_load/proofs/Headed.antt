@@ -21,8 +21,11 @@ top_line s = codes "top " ++ print (Obj (top_of s))
 pub seq_plain : (s : State) → IsHeld s → IsOneLine (seq_line s)
 seq_plain s held = one_line_append (codes "seq ") (decimal s.seq) refl (integer_plain (pos s.seq) (count_fits s.seq held.limit).0)
 
+pub top_fits : (s : State) → IsHeld s → Fits (Obj (top_of s))
+top_fits s held = assigned_fits (top_of s) held.formed.world.limits.top.0 held.formed.world.limits.top.1
+
 pub top_plain : (s : State) → IsHeld s → IsOneLine (top_line s)
-top_plain s held = one_line_append (codes "top ") (print (Obj (top_of s))) refl (object_plain s.world.top (assigned_fits (top_of s) held.formed.world.limits.top.0 held.formed.world.limits.top.1).0)
+top_plain s held = one_line_append (codes "top ") (print (Obj (top_of s))) refl (object_plain s.world.top (top_fits s held).0)
 
 pub lines_are : (s : State) (rest : List ℕ) → heading s ++ rest ≡ seq_line s ++ 10 ∷ (top_line s ++ 10 ∷ rest)
 lines_are s rest =

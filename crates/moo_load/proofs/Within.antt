@@ -1,15 +1,14 @@
 -- Rows as far as they are read, with one row more.
-use Rattle.moo_load.proofs.Words.{◌≡◌, ◌<◌, ◌≤◌, Bool, true, false, cond, ℕ, ℤ, Some, refl, sym, ap, subst, ◌∙◌, ◌&&◌, ◌^◌, pos, negsuc, ◌≤ℤ◌, IsTotalOrder, CmpEqualImpliesEq, eq_by_cmp, Ordering, FinMap, get, insert, get-insert, get-empty, same_Some, none-some, ObjNo, Head, ObjRow, PetitionId, PetitionRow, PropId, PropRow, SlotRow, VerbId, VerbRow, object_exact, prop_exact, slot_exact, verb_exact, petition_exact, Held, Maps, no_maps, object_cmp, prop_cmp, slot_cmp, verb_cmp, petition_cmp, with_object, with_slot, object_total, prop_total, slot_total, verb_total, petition_total, key-Decides, is_number, petition_fits, row_fits, is_property_name, state_fits, verb_fits, AreRead}
+use Rattle.moo_load.proofs.Words.{◌≡◌, ◌<◌, ◌≤◌, true, false, cond, ℕ, ℤ, Some, refl, sym, ap, subst, ◌∙◌, ◌&&◌, ◌^◌, pos, negsuc, ◌≤ℤ◌, IsTotalOrder, CmpEqualImpliesEq, eq_by_cmp, Ordering, FinMap, get, insert, get-insert, get-empty, same_Some, none-some, ObjNo, Head, ObjRow, PetitionId, PetitionRow, PropId, PropRow, SlotRow, VerbId, VerbRow, object_exact, prop_exact, slot_exact, verb_exact, petition_exact, Held, Maps, no_maps, object_cmp, prop_cmp, slot_cmp, verb_cmp, petition_cmp, with_object, with_slot, object_total, prop_total, slot_total, verb_total, petition_total, key-Decides, is_number, petition_fits, row_fits, is_property_name, state_fits, verb_fits, AreRead}
 use Rattle.moo_rows.specs.Maps.{with_prop, with_verb, with_petition}
 
 -- each row of a map passes, and so does one more
 more : {K X : Type 0} {cmp : K → K → Ordering} (total : IsTotalOrder cmp) (exact : CmpEqualImpliesEq cmp) (P : K → X → Type 0) (m : FinMap cmp X) (k : K) (x : X)
     → ((q : K) (y : X) → get m q ≡ Some y → P q y) → P k x → (q : K) (y : X) → get (insert m k x) q ≡ Some y → P q y
-more {cmp = cmp} total exact P m k x each one q y is = by (eq_by_cmp cmp q k) refl (sym (get-insert total m k x q) ∙ is)
-  where
-    by : (b : Bool) → eq_by_cmp cmp q k ≡ b → cond b (Some x) (get m q) ≡ Some y → P q y
-    by true e g = subst (λ l. P l y) (sym ((key-Decides cmp total exact q k).0 e)) (subst (P k) (same_Some x y g) one)
-    by false e g = each q y g
+more {cmp = cmp} total exact P m k x each one q y is = elim (eq_by_cmp cmp q k) as (λ b. eq_by_cmp cmp q k ≡ b → cond b (Some x) (get m q) ≡ Some y → P q y) [
+  | true ↦ λ e g. subst (λ l. P l y) (sym ((key-Decides cmp total exact q k).0 e)) (subst (P k) (same_Some x y g) one)
+  | false ↦ λ e g. each q y g
+] refl (sym (get-insert total m k x q) ∙ is)
 
 pub object_put : (h : Held) (x : ObjNo) (row : ObjRow) → AreRead h.maps → row_fits row ≡ true → AreRead (with_object h x row).maps
 object_put h x row read fits =

@@ -11,7 +11,7 @@ pub use Rattle.std.specs.Prelude.{codes, is_some, max, nat_le, not, slice_get, u
 pub use Rattle.std.specs.Str.{bytes_eq}
 pub use Rattle.std.specs.declared.cmp.Ordering.{Ordering}
 pub use Rattle.std.specs.declared.cmp.Ordering.TheVariants.{Less}
-pub use Rattle.std.proofs.lemmas.Bool.{and_parts, cases_lt, false≢true, leb-true, lt-ltb}
+pub use Rattle.std.proofs.lemmas.Bool.{and_parts, cases_lt, false≢true, leb-true, lt-ltb, or_cases}
 pub use Rattle.std.proofs.lemmas.Bool.Decides.{Decides-eqb}
 pub use Rattle.std.proofs.lemmas.Int.{ints}
 pub use Rattle.std.proofs.lemmas.List.{append_cancel_left, drop-drop, drop_at, length-map, take_at, take_rest}
@@ -19,7 +19,7 @@ pub use Rattle.std.proofs.lemmas.List.Concat.{flat_map-append}
 pub use Rattle.std.proofs.lemmas.List.Elements.{filter_map-append}
 pub use Rattle.std.proofs.lemmas.Map.Lookups.{CmpEqualImpliesEq}
 pub use Rattle.std.proofs.lemmas.Option.{none-some, same_Some}
-pub use Rattle.std.proofs.lemmas.Result.{err_from_is_err_and}
+pub use Rattle.std.proofs.lemmas.Result.{IfErr-weaker, IfOk-weaker, err_from_is_err_and, on_ok_weaker}
 pub use Rattle.std.proofs.lemmas.Slice.Eq.{bytes_eq-Decides}
 pub use Rattle.moo_value.proofs.Printed.{prepend_printed, printed, spelled}
 pub use Rattle.moo_value.specs.Literal.{Ends, Fits, Front, HoldInside, InRange, print, print_items}
@@ -57,6 +57,7 @@ pub use Rattle.moo_world.proofs.Form.Ranges.{fits_of, range_of}
 pub use Rattle.moo_world.proofs.Inheritance.Owed.{named_so}
 pub use Rattle.moo_world.proofs.Shown.EntriesInOrder.{all_weaker, own_entries}
 pub use Rattle.moo_world.proofs.Shown.MapLaws.{key-Decides}
+pub use Rattle.moo_world.proofs.Shown.PairLists.{some_of}
 pub use Rattle.moo_world.specs.Answers.{flag, list_of}
 pub use Rattle.moo_world.specs.Arguments.{all_within_limits, fits, is_number}
 pub use Rattle.moo_world.specs.Calls.{accept_value}
@@ -71,7 +72,7 @@ pub use Rattle.moo_world.specs.Rows.{numbers_below, prop_id, verb_id, world_of}
 unfoldable pub use Rattle.moo_world.specs.Rows.{world_shown}
 pub use Rattle.moo_world.specs.World.{Chain, Climbs, IsWellFormed, NamesDiffer, Record, Slot, World, accept_fits, defined_by, directory_of, is_object, is_property_name, names_of, numbers_to, owed_by, pair_named, row_fits, slot_of, state_fits, verb_fits, with_slots}
 unfoldable pub use Rattle.moo_world.specs.World.{chain}
-pub use Rattle.moo_damage.proofs.Apart.{distinct_append, distinct_numbers}
+pub use Rattle.moo_damage.proofs.Apart.{all_append, all_map, both_true, distinct_append, distinct_numbers}
 pub use Rattle.moo_dump.specs.Dump.{heading, object_values, state_values, verb_values}
 unfoldable pub use Rattle.moo_dump.specs.Dump.{dump}
 pub use Rattle.moo_load.specs.Entries.{EachHas, Entry, EntryFits, NumberIsLeft, NumbersAreLeft, a_petition, a_property, a_slot, a_verb, an_object, carried, entries_taken, entry_lines, entry_taken, entry_text, entry_values}
