@@ -1,13 +1,5 @@
 -- Accept lists as values.
-use Rattle.std.proofs.Common.{◌≡◌, ◌≤◌, ◌<◌, ℕ, zero, suc, List, [], ◌∷◌, map, length, true, Option, Some, None, get_or, refl, ap, subst, ◌∙◌, arith}
-use Rattle.std.proofs.lemmas.Bool.{and_parts, leb-true}
-use Rattle.moo_value.specs.declared.value.ObjNo.{ObjNo}
-use Rattle.moo_value.specs.declared.value.Value.{Value}
-use Rattle.moo_value.specs.declared.value.Value.TheVariants.{Obj, List as a_list}
-use Rattle.moo_value.specs.Value.{gather, spread}
-use Rattle.moo_value.specs.Values.{Values, no_values}
-use Rattle.moo_world.specs.Calls.{accept_value}
-use Rattle.moo_world.specs.World.{accept_fits}
+use Rattle.moo_load.proofs.Words.{◌≡◌, ◌≤◌, ◌<◌, ℕ, zero, suc, List, [], ◌∷◌, map, length, true, Option, Some, None, get_or, refl, ap, subst, ◌∙◌, arith, and_parts, leb-true, ObjNo, Value, Obj, a_list, gather, spread, Values, no_values, accept_value, accept_fits}
 
 obj_at : (objects : List ObjNo) (i : ℕ) (v : Value) → i < length (map Obj objects) → (x : ObjNo) × (get_or (map Obj objects) i v ≡ Obj x)
 obj_at [] i v h = absurd (omega arith)

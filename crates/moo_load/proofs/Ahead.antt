@@ -1,19 +1,7 @@
 -- The entries that are ahead, as their lines are taken one after another.
-use Rattle.std.proofs.Common.{◌≡◌, ℕ, ◌+◌, List, [], ◌∷◌, ◌++◌, length, get_or, drop, refl, sym, ap, subst, ◌∙◌, append_assoc, length-append}
-use Rattle.std.specs.Prelude.{codes}
-use Rattle.std.specs.List.{flat_map, AllByRecursion}
-use Rattle.std.proofs.lemmas.Bool.{false≢true}
-use Rattle.std.proofs.lemmas.Bool.Decides.{Decides-eqb}
-use Rattle.std.proofs.lemmas.List.{drop_at}
-use Rattle.moo_value.specs.declared.value.Value.{Value}
-use Rattle.moo_value.specs.declared.value.Value.TheVariants.{Int, Obj, Str, Error, List as a_list}
-use Rattle.moo_value.specs.Literal.{Fits, HoldInside, InRange}
-use Rattle.moo_value.specs.Text.{IsText}
-use Rattle.moo_value.specs.Value.{gather}
-use Rattle.moo_load.specs.Entries.{Entry, an_object, a_property, a_slot, a_verb, a_petition, entry_text, entry_values, entry_lines, EntryFits, carried, EachHas}
-use Rattle.moo_load.specs.Printed.{IsOneLine, word_text}
+use Rattle.moo_load.proofs.Words.{◌≡◌, ℕ, ◌+◌, List, [], ◌∷◌, ◌++◌, length, drop, refl, sym, ap, subst, ◌∙◌, append_assoc, length-append, codes, flat_map, AllByRecursion, drop_at, Value, Int, Obj, Str, Error, a_list, Fits, HoldInside, InRange, IsText, gather, Entry, an_object, entry_text, entry_values, entry_lines, EntryFits, carried, EachHas, IsOneLine, word_text, append-nil}
 use Rattle.moo_load.proofs.OneLine.{one_line_append, list_plain}
-use Rattle.moo_load.proofs.Taken.{word_of, line_of, text_is}
+use Rattle.moo_load.proofs.Taken.{word_of, line_of, text_is, no_end}
 
 -- The entries that are ahead: their lines are the rest of the text. What they are sure to have they have, and what they need they have if
 -- all had it.
@@ -45,10 +33,7 @@ held_inside (a_list us ∷ vs) a = (a.0.0, held_inside vs a.1)
 
 word_plain : (e : Entry) → IsOneLine (word_text (word_of e))
 word_plain (an_object x row) = refl
-word_plain (a_property x n) = refl
-word_plain (a_slot x p s) = refl
-word_plain (a_verb x v) = refl
-word_plain (a_petition e) = refl
+word_plain e = refl
 
 -- the line of an entry has no line end
 pub line_plain : (e : Entry) → EntryFits e → IsOneLine (line_of e)
@@ -61,15 +46,8 @@ first_line e es =
     ∙ ap (λ (t : List ℕ). t ++ entry_lines es) (text_is e)
     ∙ append_assoc (line_of e) (10 ∷ []) (entry_lines es)
 
-abbrev mark : List ℕ → ℕ
-mark text = get_or text 0 0 + get_or text 1 0
-
-no_end : (e : Entry) → line_of e ≡ codes "end" → ⊥
-no_end (an_object x row) is = false≢true ((Decides-eqb 209 211).1 (ap mark is))
-no_end (a_property x n) is = false≢true ((Decides-eqb 226 211).1 (ap mark is))
-no_end (a_slot x p s) is = false≢true ((Decides-eqb 223 211).1 (ap mark is))
-no_end (a_verb x v) is = false≢true ((Decides-eqb 219 211).1 (ap mark is))
-no_end (a_petition e) is = false≢true ((Decides-eqb 213 211).1 (ap mark is))
+not_last : (e : Entry) → line_of e ≡ codes "end" → ⊥
+not_last e is = no_end e [] (append-nil (entry_text e) ∙ text_is e ∙ ap (λ (t : List ℕ). t ++ 10 ∷ []) is)
 
 -- the line is the one in front of the text
 abbrev pub IsFirst : List ℕ → List ℕ → Type 0
@@ -78,46 +56,36 @@ IsFirst line rest = (l r : List ℕ) → IsOneLine l → rest ≡ l ++ 10 ∷ r 
 module _ {T : Type 0} {step : Entry → T → T} {Sure Needs : Entry → T → Type 0} {es : List Entry} {first now : T} {rest : List ℕ} (a : Ahead T step Sure Needs es first now rest) where
   -- there is a line
   pub some_line : ((l r : List ℕ) → IsOneLine l → rest ≡ l ++ 10 ∷ r → ⊥) → ⊥
-  some_line none = by a.left a.fit a.printed
-    where
-      by : (left : List Entry) → AllByRecursion EntryFits left → rest ≡ entry_lines left → ⊥
-      by [] fit printed = none (codes "end") [] refl printed
-      by (e ∷ more) fit printed = none (line_of e) (entry_lines more) (line_plain e fit.0) (printed ∙ first_line e more)
+  some_line none = elim a.left as (λ (left : List Entry). AllByRecursion EntryFits left → rest ≡ entry_lines left → ⊥) [ [] ↦ λ fit printed. none (codes "end") [] refl printed | e ∷ more ↦ λ fit printed. none (line_of e) (entry_lines more) (line_plain e fit.0) (printed ∙ first_line e more) ] a.fit a.printed
 
   -- at the last line all are taken
   pub at_end : (line : List ℕ) → IsFirst line rest → line ≡ codes "end" → now ≡ carried step es first
-  at_end line is end = by a.left a.fit a.printed a.same
-    where
-      by : (left : List Entry) → AllByRecursion EntryFits left → rest ≡ entry_lines left → carried step left now ≡ carried step es first → now ≡ carried step es first
-      by [] fit printed same = same
-      by (e ∷ more) fit printed same = absurd (no_end e (sym (is (line_of e) (entry_lines more) (line_plain e fit.0) (printed ∙ first_line e more)) ∙ end))
+  at_end line is end = elim a.left as (λ (left : List Entry). AllByRecursion EntryFits left → rest ≡ entry_lines left → carried step left now ≡ carried step es first → now ≡ carried step es first) [ [] ↦ λ fit printed same. same | e ∷ more ↦ λ fit printed same. absurd (not_last e (sym (is (line_of e) (entry_lines more) (line_plain e fit.0) (printed ∙ first_line e more)) ∙ end)) ] a.fit a.printed a.same
 
   -- another line that isn't taken is that of no entry
   pub not_refused : (line : List ℕ) → IsFirst line rest → (line ≡ codes "end" → ⊥) → ((e : Entry) → EntryFits e → Sure e now → Needs e now → line ++ 10 ∷ [] ≡ entry_text e → ⊥) → EachHas Needs step es first → ⊥
-  not_refused line is on none needs = by a.left a.fit a.printed a.sure (a.needs needs)
-    where
-      by : (left : List Entry) → AllByRecursion EntryFits left → rest ≡ entry_lines left → EachHas Sure step left now → EachHas Needs step left now → ⊥
-      by [] fit printed sure left = on (is (codes "end") [] refl printed)
-      by (e ∷ more) fit printed sure left =
-          let own = is (line_of e) (entry_lines more) (line_plain e fit.0) (printed ∙ first_line e more) in
-          none e fit.0 sure.0 left.0 (ap (λ (t : List ℕ). t ++ 10 ∷ []) own ∙ sym (text_is e))
+  not_refused line is on none needs = elim a.left as (λ (left : List Entry). AllByRecursion EntryFits left → rest ≡ entry_lines left → EachHas Sure step left now → EachHas Needs step left now → ⊥) [
+    | [] ↦ λ fit printed sure left. on (is (codes "end") [] refl printed)
+    | e ∷ more ↦ λ fit printed sure left.
+        let own = is (line_of e) (entry_lines more) (line_plain e fit.0) (printed ∙ first_line e more) in
+        none e fit.0 sure.0 left.0 (ap (λ (t : List ℕ). t ++ 10 ∷ []) own ∙ sym (text_is e))
+  ] a.fit a.printed a.sure (a.needs needs)
 
   -- after another line that is taken
   pub one_taken : (new : T) (line : List ℕ) → IsFirst line rest → (line ≡ codes "end" → ⊥) → ((e : Entry) → EntryFits e → Sure e now → line ++ 10 ∷ [] ≡ entry_text e → new ≡ step e now) → Ahead T step Sure Needs es first new (drop (length line + 1) rest)
-  one_taken new line is on put = by a.left a.fit a.printed a.same a.sure a.needs
-    where
-      by : (left : List Entry) → AllByRecursion EntryFits left → rest ≡ entry_lines left → carried step left now ≡ carried step es first → EachHas Sure step left now → (EachHas Needs step es first → EachHas Needs step left now) → Ahead T step Sure Needs es first new (drop (length line + 1) rest)
-      by [] fit printed same sure needs = absurd (on (is (codes "end") [] refl printed))
-      by (e ∷ more) fit printed same sure needs =
-          let own = is (line_of e) (entry_lines more) (line_plain e fit.0) (printed ∙ first_line e more) in
-          let now_is : new ≡ step e now = put e fit.0 sure.0 (ap (λ (t : List ℕ). t ++ 10 ∷ []) own ∙ sym (text_is e)) in
-          let whole : rest ≡ (line_of e ++ 10 ∷ []) ++ entry_lines more = printed ∙ first_line e more ∙ sym (append_assoc (line_of e) (10 ∷ []) (entry_lines more)) in
-          let count : length line + 1 ≡ length (line_of e ++ 10 ∷ []) = ap (λ (t : List ℕ). length t + 1) own ∙ sym (length-append (line_of e) (10 ∷ [])) in
-          record {
-            left = more;
-            fit = fit.1;
-            printed = ap (drop (length line + 1)) whole ∙ ap (λ (n : ℕ). drop n ((line_of e ++ 10 ∷ []) ++ entry_lines more)) count ∙ drop_at (line_of e ++ 10 ∷ []) (entry_lines more) (length (line_of e ++ 10 ∷ [])) refl;
-            same = ap (carried step more) now_is ∙ same;
-            sure = subst (EachHas Sure step more) (sym now_is) sure.1;
-            needs = λ n. subst (EachHas Needs step more) (sym now_is) (needs n).1;
-          }
+  one_taken new line is on put = elim a.left as (λ (left : List Entry). AllByRecursion EntryFits left → rest ≡ entry_lines left → carried step left now ≡ carried step es first → EachHas Sure step left now → (EachHas Needs step es first → EachHas Needs step left now) → Ahead T step Sure Needs es first new (drop (length line + 1) rest)) [
+    | [] ↦ λ fit printed same sure needs. absurd (on (is (codes "end") [] refl printed))
+    | e ∷ more ↦ λ fit printed same sure needs.
+        let own = is (line_of e) (entry_lines more) (line_plain e fit.0) (printed ∙ first_line e more) in
+        let now_is : new ≡ step e now = put e fit.0 sure.0 (ap (λ (t : List ℕ). t ++ 10 ∷ []) own ∙ sym (text_is e)) in
+        let whole : rest ≡ (line_of e ++ 10 ∷ []) ++ entry_lines more = printed ∙ first_line e more ∙ sym (append_assoc (line_of e) (10 ∷ []) (entry_lines more)) in
+        let count : length line + 1 ≡ length (line_of e ++ 10 ∷ []) = ap (λ (t : List ℕ). length t + 1) own ∙ sym (length-append (line_of e) (10 ∷ [])) in
+        record {
+          left = more;
+          fit = fit.1;
+          printed = ap (drop (length line + 1)) whole ∙ ap (λ (n : ℕ). drop n ((line_of e ++ 10 ∷ []) ++ entry_lines more)) count ∙ drop_at (line_of e ++ 10 ∷ []) (entry_lines more) (length (line_of e ++ 10 ∷ [])) refl;
+          same = ap (carried step more) now_is ∙ same;
+          sure = subst (EachHas Sure step more) (sym now_is) sure.1;
+          needs = λ n. subst (EachHas Needs step more) (sym now_is) (needs n).1;
+        }
+  ] a.fit a.printed a.same a.sure a.needs

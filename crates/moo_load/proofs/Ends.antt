@@ -1,9 +1,5 @@
 -- Where a line ends.
-use Rattle.std.proofs.Common.{◌≡◌, ℕ, ◌+◌, Bool, true, false, cond, Some, List, [], ◌∷◌, ◌++◌, length, refl, ap, ◌∙◌, arith}
-use Rattle.std.specs.Prelude.{◌==◌, not}
-use Rattle.std.specs.List.{list_all, position_from}
-use Rattle.std.proofs.lemmas.Bool.{false≢true, and_parts}
-use Rattle.moo_load.specs.Printed.{IsOneLine}
+use Rattle.moo_load.proofs.Words.{◌≡◌, ℕ, ◌+◌, Bool, true, false, cond, Some, List, [], ◌∷◌, ◌++◌, length, refl, ap, ◌∙◌, arith, ◌==◌, not, list_all, position_from, false≢true, and_parts, IsOneLine}
 
 abbrev is_end : ℕ → Bool
 is_end byte = byte == 10
@@ -13,11 +9,7 @@ end_from [] rest i one = let e : i ≡ i + 0 = omega arith in ap (λ (n : ℕ). 
 end_from (c ∷ line) rest i one =
     let p = and_parts (not (is_end c)) (list_all (λ byte. not (is_end byte)) line) one in
     let e : i + 1 + length line ≡ i + length (c ∷ line) = omega arith in
-    by (is_end c) p.0 ∙ end_from line rest (i + 1) p.1 ∙ ap (λ (n : ℕ). Some n) e
-  where
-    by : (b : Bool) → not b ≡ true → cond b (Some i) (position_from is_end (i + 1) (line ++ 10 ∷ rest)) ≡ position_from is_end (i + 1) (line ++ 10 ∷ rest)
-    by true h = absurd (false≢true h)
-    by false h = refl
+    elim (is_end c) as (λ (b : Bool). not b ≡ true → cond b (Some i) (position_from is_end (i + 1) (line ++ 10 ∷ rest)) ≡ position_from is_end (i + 1) (line ++ 10 ∷ rest)) [ true ↦ λ h. absurd (false≢true h) | false ↦ λ h. refl ] p.0 ∙ end_from line rest (i + 1) p.1 ∙ ap (λ (n : ℕ). Some n) e
 
 -- the first end is after the line
 pub first_end : (bytes line rest : List ℕ) → IsOneLine line → bytes ≡ line ++ 10 ∷ rest → position_from is_end 0 bytes ≡ Some (length line)

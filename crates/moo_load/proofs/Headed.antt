@@ -1,18 +1,5 @@
 -- The two lines of a heading.
-use Rattle.std.proofs.Common.{◌≡◌, ℕ, ◌+◌, ◌<◌, pos, negsuc, ◌≤ℤ◌, List, [], ◌∷◌, ◌++◌, length, drop, refl, sym, ap, ◌∙◌, append_assoc, length-append, arith}
-use Rattle.std.specs.Prelude.{codes, ◌^◌}
-use Rattle.std.specs.Fmt.{decimal}
-use Rattle.std.proofs.lemmas.Bool.{lt-ltb}
-use Rattle.std.proofs.lemmas.Int.{ints}
-use Rattle.std.proofs.lemmas.List.{drop_at, drop-drop}
-use Rattle.moo_value.specs.declared.value.ObjNo.{ObjNo}
-use Rattle.moo_value.specs.declared.value.Value.TheVariants.{Int, Obj}
-use Rattle.moo_value.specs.Literal.{Fits, print}
-use Rattle.moo_world.specs.Judge.{State}
-use Rattle.moo_world.proofs.Form.Ranges.{range_of}
-use Rattle.moo_dump.specs.Dump.{heading}
-use Rattle.moo_load.specs.OneState.{IsHeld}
-use Rattle.moo_load.specs.Printed.{IsOneLine}
+use Rattle.moo_load.proofs.Words.{◌≡◌, ℕ, ◌+◌, ◌<◌, pos, negsuc, ◌≤ℤ◌, List, [], ◌∷◌, ◌++◌, length, drop, refl, sym, ap, ◌∙◌, append_assoc, length-append, arith, codes, ◌^◌, decimal, lt-ltb, ints, drop_at, drop-drop, ObjNo, Int, Obj, Fits, print, State, range_of, heading, IsHeld, IsOneLine}
 use Rattle.moo_load.proofs.One.Fitting.{fit}
 use Rattle.moo_load.proofs.OneLine.{one_line_append, integer_plain, object_plain}
 
@@ -34,8 +21,11 @@ top_line s = codes "top " ++ print (Obj (top_of s))
 pub seq_plain : (s : State) → IsHeld s → IsOneLine (seq_line s)
 seq_plain s held = one_line_append (codes "seq ") (decimal s.seq) refl (integer_plain (pos s.seq) (count_fits s.seq held.limit).0)
 
+pub top_fits : (s : State) → IsHeld s → Fits (Obj (top_of s))
+top_fits s held = assigned_fits (top_of s) held.formed.world.limits.top.0 held.formed.world.limits.top.1
+
 pub top_plain : (s : State) → IsHeld s → IsOneLine (top_line s)
-top_plain s held = one_line_append (codes "top ") (print (Obj (top_of s))) refl (object_plain s.world.top (assigned_fits (top_of s) held.formed.world.limits.top.0 held.formed.world.limits.top.1).0)
+top_plain s held = one_line_append (codes "top ") (print (Obj (top_of s))) refl (object_plain s.world.top (top_fits s held).0)
 
 pub lines_are : (s : State) (rest : List ℕ) → heading s ++ rest ≡ seq_line s ++ 10 ∷ (top_line s ++ 10 ∷ rest)
 lines_are s rest =

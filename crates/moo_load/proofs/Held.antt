@@ -1,15 +1,6 @@
 -- Values within the limits, and the calls of petitions.
-use Rattle.std.proofs.Common.{◌≡◌, true}
-use Rattle.std.specs.Prelude.{◌&&◌, nat_le}
-use Rattle.std.specs.List.{list_all}
-use Rattle.std.proofs.lemmas.Bool.{and_parts, and_from}
-use Rattle.moo_value.specs.declared.value.Value.TheVariants.{List as a_list}
-use Rattle.moo_value.specs.Literal.{Fits}
-use Rattle.moo_value.specs.Value.{nesting, spread}
-use Rattle.moo_value.specs.Values.{Values}
-use Rattle.moo_world.specs.Arguments.{all_within_limits}
-use Rattle.moo_world.specs.Petitions.{is_named, are_few, are_shallow}
-use Rattle.moo_world.proofs.Form.Ranges.{fits_of}
+use Rattle.moo_load.proofs.Words.{◌≡◌, true, ◌&&◌, nat_le, list_all, and_parts, a_list, Fits, nesting, spread, Values, all_within_limits, is_named, are_few, are_shallow, fits_of}
+use Rattle.std.proofs.lemmas.Bool.{and_from}
 
 -- a value within the limits is calls that a petition may hold, if they are named, few and shallow
 pub calls_held : (calls : Values) → Fits (a_list calls) → (list_all is_named (spread calls) && (are_few calls && are_shallow calls)) ≡ true

@@ -1,3 +1,4 @@
+pub mod Words
 pub mod Accepting
 pub mod Ahead
 pub mod Ends
@@ -9,7 +10,6 @@ pub mod NextOne
 pub mod One
 pub mod Shown
 pub mod OneLine
-pub mod OnResults
 pub mod ReadBack
 pub mod Taken
 pub mod Within

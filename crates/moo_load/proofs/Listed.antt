@@ -1,16 +1,7 @@
 -- The printed values of a list, read one after another.
-use Rattle.std.proofs.Common.{◌≡◌, ℕ, true, false, Result, List, [], ◌∷◌, ◌++◌, length, drop, Ok, Err, ◌≢◌, refl, sym, ap, subst, ◌∙◌, append_assoc}
-use Rattle.std.specs.List.{AllByRecursion}
-use Rattle.std.proofs.lemmas.List.{drop_at}
-use Rattle.moo_value.specs.declared.fault.LiteralFault.{LiteralFault}
-use Rattle.moo_value.specs.declared.fault.LiteralFault.TheVariants.{NotALiteral, OutOfRange, BadByte, TooDeep, TooLong, OutOfMemory}
+use Rattle.moo_load.proofs.Words.{◌≡◌, ℕ, true, false, Result, List, [], ◌∷◌, ◌++◌, length, drop, Ok, Err, ◌≢◌, refl, sym, ap, subst, ◌∙◌, append_assoc, AllByRecursion, drop_at, LiteralFault, Value, Str, a_list, gather, Fits, Ends, Front, print, print_items, printed, prepend_printed, ArePrinted, append-nil}
+use Rattle.moo_value.specs.declared.fault.LiteralFault.TheVariants.{OutOfMemory}
 use Rattle.moo_value.specs.Reading.{Fails}
-use Rattle.moo_value.specs.declared.value.Value.{Value}
-use Rattle.moo_value.specs.declared.value.Value.TheVariants.{Int, Obj, Str, Error, List as a_list}
-use Rattle.moo_value.specs.Value.{gather}
-use Rattle.moo_value.specs.Literal.{Fits, Ends, Front, print, print_items}
-use Rattle.moo_value.proofs.Printed.{printed, prepend_printed}
-use Rattle.moo_load.specs.Printed.{ArePrinted}
 
 -- what is printed after a value of a list
 abbrev pub after_value : List Value → List ℕ
@@ -25,17 +16,11 @@ pub record Left (values done : List Value) (rest : List ℕ) : Type 0 where
   pub fit : AllByRecursion Fits more
   pub printed : rest ≡ print next ++ after_value more
 
-pub ends_before : (v : Value) (more : List Value) → Ends v (after_value more)
-ends_before (Int n) [] = refl
-ends_before (Obj o) [] = refl
-ends_before (Str s) [] = tt
-ends_before (Error e) [] = refl
-ends_before (a_list vs) [] = tt
-ends_before (Int n) (v ∷ more) = rw (prepend_printed false v (gather more)) refl
-ends_before (Obj o) (v ∷ more) = rw (prepend_printed false v (gather more)) refl
-ends_before (Str s) (v ∷ more) = tt
-ends_before (Error e) (v ∷ more) = rw (prepend_printed false v (gather more)) refl
-ends_before (a_list vs) (v ∷ more) = tt
+pub ends_before : (v : Value) (more : List Value) (r : List ℕ) → Ends v (after_value more ++ r)
+ends_before (Str s) more r = tt
+ends_before (a_list vs) more r = tt
+ends_before v [] r = refl
+ends_before v (w ∷ more) r = rw (prepend_printed false w (gather more)) refl
 
 -- nothing is read yet
 pub left_first : (v : Value) (vs : List Value) (literal rest : List ℕ) → ArePrinted (v ∷ vs) literal → literal ≡ 123 ∷ rest → Left (v ∷ vs) [] rest
@@ -46,7 +31,7 @@ left_first v vs literal rest are is =
 
 -- the text begins with the next value
 pub next_front : {values done : List Value} {rest : List ℕ} (l : Left values done rest) → Front rest l.next (length (print l.next))
-next_front {rest = rest} l = subst (λ (b : List ℕ). Front b l.next (length (print l.next))) (sym l.printed) (printed l.next (after_value l.more) l.fits (ends_before l.next l.more))
+next_front {rest = rest} l = subst (λ (b : List ℕ). Front b l.next (length (print l.next))) (sym l.printed) (printed l.next (after_value l.more) l.fits (subst (Ends l.next) (append-nil (after_value l.more)) (ends_before l.next l.more [])))
 
 abbrev Read : Value → ℕ → Result (Value × ℕ) LiteralFault
 Read v n = Ok (v, n)
@@ -61,12 +46,8 @@ count_in n (Err e) = n
 
 -- what gives a value has no fault
 pub refused : {Y : Type 0} (f : LiteralFault) (y : Y) → Fails f (Ok y) → f ≢ OutOfMemory → ⊥
-refused NotALiteral y is some = let h : Ok y ≡ Err NotALiteral = is in cc
-refused OutOfRange y is some = let h : Ok y ≡ Err OutOfRange = is in cc
-refused BadByte y is some = let h : Ok y ≡ Err BadByte = is in cc
-refused TooDeep y is some = let h : Ok y ≡ Err TooDeep = is in cc
-refused TooLong y is some = let h : Ok y ≡ Err TooLong = is in cc
 refused OutOfMemory y is some = some refl
+refused f y is some = let h : Ok y ≡ Err f = is in cc
 
 -- the next value is what was read, and the text after it is that of the others
 pub next_read : {values done : List Value} {rest : List ℕ} (l : Left values done rest) (value : Value) (used : ℕ) → Read l.next (length (print l.next)) ≡ Read value used → (l.next ≡ value) × (drop used rest ≡ after_value l.more)
@@ -78,35 +59,30 @@ next_read {rest = rest} l value used read =
 -- it was the last one
 pub last_read : {values done : List Value} {rest : List ℕ} (l : Left values done rest) (value : Value) (used : ℕ) → Read l.next (length (print l.next)) ≡ Read value used → drop used rest ≡ 125 ∷ [] → done ++ (value ∷ []) ≡ values
 last_read {values = values} {done = done} l value used read end =
-    let n = next_read l value used read in by l.more refl (sym n.1 ∙ end) n.0
-  where
-    by : (more : List Value) → l.more ≡ more → after_value l.more ≡ 125 ∷ [] → l.next ≡ value → done ++ (value ∷ []) ≡ values
-    by [] is text same = sym (l.all ∙ ap (λ (m : List Value). done ++ (l.next ∷ m)) is ∙ ap (λ (v : Value). done ++ (v ∷ [])) same)
-    by (w ∷ ws) is text same = absurd (let e : 44 ∷ 32 ∷ (print w ++ after_value ws) ≡ 125 ∷ [] = sym (prepend_printed false w (gather ws)) ∙ sym (ap after_value is) ∙ text in cc)
+    let n = next_read l value used read in
+    elim l.more as (λ more. l.more ≡ more → done ++ (value ∷ []) ≡ values) [
+      | [] ↦ λ is. sym (l.all ∙ ap (λ (m : List Value). done ++ (l.next ∷ m)) is ∙ ap (λ (v : Value). done ++ (v ∷ [])) n.0)
+      | w ∷ ws ↦ λ is. absurd (let e : 44 ∷ 32 ∷ (print w ++ after_value ws) ≡ 125 ∷ [] = sym (prepend_printed false w (gather ws)) ∙ sym (ap after_value is) ∙ sym n.1 ∙ end in cc)
+    ] refl
 
 -- another one follows
 pub one_more : {values done : List Value} {rest : List ℕ} (l : Left values done rest) (value : Value) (used : ℕ) (after : List ℕ) → Read l.next (length (print l.next)) ≡ Read value used → drop used rest ≡ 44 ∷ 32 ∷ after → Left values (done ++ (value ∷ [])) after
 one_more {values = values} {done = done} l value used after read on =
-    let n = next_read l value used read in by l.more refl l.fit (sym n.1 ∙ on) n.0
-  where
-    by : (more : List Value) → l.more ≡ more → AllByRecursion Fits more → after_value l.more ≡ 44 ∷ 32 ∷ after → l.next ≡ value → Left values (done ++ (value ∷ [])) after
-    by [] is fit text same = absurd (let e : 125 ∷ [] ≡ 44 ∷ 32 ∷ after = sym (ap after_value is) ∙ text in cc)
-    by (w ∷ ws) is fit text same =
-        let e : 44 ∷ 32 ∷ (print w ++ after_value ws) ≡ 44 ∷ 32 ∷ after = sym (prepend_printed false w (gather ws)) ∙ sym (ap after_value is) ∙ text in
-        record {
-          next = w;
-          more = ws;
-          all = l.all ∙ ap (λ (m : List Value). done ++ (l.next ∷ m)) is ∙ ap (λ (v : Value). done ++ (v ∷ w ∷ ws)) same ∙ sym (append_assoc done (value ∷ []) (w ∷ ws));
-          fits = fit.0;
-          fit = fit.1;
-          printed = let a : print w ++ after_value ws ≡ after = cc in sym a;
-        }
+    let n = next_read l value used read in
+    elim l.more as (λ more. l.more ≡ more → AllByRecursion Fits more → Left values (done ++ (value ∷ [])) after) [
+      | [] ↦ λ is fit. absurd (let e : 125 ∷ [] ≡ 44 ∷ 32 ∷ after = sym (ap after_value is) ∙ sym n.1 ∙ on in cc)
+      | w ∷ ws ↦ λ is fit. record {
+        next = w;
+        more = ws;
+        all = l.all ∙ ap (λ (m : List Value). done ++ (l.next ∷ m)) is ∙ ap (λ (v : Value). done ++ (v ∷ w ∷ ws)) n.0 ∙ sym (append_assoc done (value ∷ []) (w ∷ ws));
+        fits = fit.0;
+        fit = fit.1;
+        printed = ap (drop 2) (sym (sym (prepend_printed false w (gather ws)) ∙ sym (ap after_value is) ∙ sym n.1 ∙ on));
+      }
+    ] refl l.fit
 
 -- so one of the two follows
 pub no_other : {values done : List Value} {rest : List ℕ} (l : Left values done rest) (value : Value) (used : ℕ) → Read l.next (length (print l.next)) ≡ Read value used → (drop used rest ≡ 125 ∷ [] → ⊥) → ((after : List ℕ) → drop used rest ≡ 44 ∷ 32 ∷ after → ⊥) → ⊥
 no_other {rest = rest} l value used read end on =
-    let n = next_read l value used read in by l.more refl n.1
-  where
-    by : (more : List Value) → l.more ≡ more → drop used rest ≡ after_value l.more → ⊥
-    by [] is text = end (text ∙ ap after_value is)
-    by (w ∷ ws) is text = on (print w ++ after_value ws) (text ∙ ap after_value is ∙ prepend_printed false w (gather ws))
+    let n = next_read l value used read in
+    elim l.more as (λ more. l.more ≡ more → ⊥) [ [] ↦ λ is. end (n.1 ∙ ap after_value is) | w ∷ ws ↦ λ is. on (print w ++ after_value ws) (n.1 ∙ ap after_value is ∙ prepend_printed false w (gather ws)) ] refl

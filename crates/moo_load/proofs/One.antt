@@ -3,6 +3,4 @@ pub mod Entries
 pub mod Values
 pub mod Injective
 pub mod Fitting
-pub mod Blocks
-pub mod Records
 pub mod Told

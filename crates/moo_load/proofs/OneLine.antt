@@ -1,56 +1,39 @@
 -- What is printed has no line end.
-use Rattle.std.proofs.Common.{◌≡◌, ℕ, ℤ, Bool, true, false, cond, List, [], ◌∷◌, ◌++◌, refl, sym, ap, ◌∙◌}
-use Rattle.std.specs.Prelude.{◌==◌, ◌||◌, ◌&&◌, not, IsTrue}
+use Rattle.moo_load.proofs.Words.{◌≡◌, ℕ, ℤ, Bool, true, false, cond, List, [], ◌∷◌, ◌++◌, refl, sym, ap, ◌∙◌, ◌==◌, not, flat_map, list_all, false≢true, and_parts, Decides-eqb, Int, Obj, a_list, IsText, Values, no_values, HoldInside, InRange, print_items, print, spelled, IsOneLine, both_true, ◌||◌}
+use Rattle.std.specs.Prelude.{IsTrue}
 use Rattle.std.specs.Fmt.{signed_decimal}
-use Rattle.std.specs.List.{flat_map, list_all}
-use Rattle.std.proofs.lemmas.Bool.{false≢true, and_parts}
-use Rattle.std.proofs.lemmas.Bool.Decides.{Decides-eqb}
 use Rattle.std.proofs.lemmas.List.Folds.{list_all-append}
 use Rattle.moo_value.specs.declared.code.Code.{Code}
 use Rattle.moo_value.specs.declared.code.Code.TheVariants.{None}
-use Rattle.moo_value.specs.declared.value.Value.TheVariants.{Int, Obj, List as a_list}
-use Rattle.moo_value.specs.Text.{is_allowed, IsText}
-use Rattle.moo_value.specs.Values.{Values, no_values, int, object, string, error, list}
-use Rattle.moo_value.specs.Literal.{is_digit, is_blank, AreDigits, AreBlanks, Spaced, HoldInside, an_integer, an_object, InRange, SpellsNumber, SpellsObject, escape, name, print_string, print_comma, print_items, print}
-use Rattle.moo_value.proofs.Printed.{spelled}
-use Rattle.moo_load.specs.Printed.{IsOneLine}
+use Rattle.moo_value.specs.Text.{is_allowed}
+use Rattle.moo_value.specs.Values.{int, object, string, error, list}
+use Rattle.moo_value.specs.Literal.{is_digit, is_blank, AreDigits, AreBlanks, Spaced, an_integer, an_object, SpellsNumber, SpellsObject, escape, name, print_string, print_comma}
 
 abbrev plain : ℕ → Bool
 plain byte = not (byte == 10)
 
-both : {a b : Bool} → a ≡ true → b ≡ true → (a && b) ≡ true
-both e h = λ i. e i && h i
-
 pub one_line_append : (a b : List ℕ) → IsOneLine a → IsOneLine b → IsOneLine (a ++ b)
-one_line_append a b p q = list_all-append plain a b ∙ both p q
+one_line_append a b p q = list_all-append plain a b ∙ both_true _ _ p q
 
 other : (c : ℕ) → (c ≡ 10 → ⊥) → plain c ≡ true
-other c differ = by (c == 10) refl
-  where
-    by : (b : Bool) → (c == 10) ≡ b → not b ≡ true
-    by true e = absurd (differ ((Decides-eqb c 10).0 e))
-    by false e = refl
+other c differ = elim (c == 10) as (λ b. (c == 10) ≡ b → not b ≡ true) [ true ↦ λ e. absurd (differ ((Decides-eqb c 10).0 e)) | false ↦ λ e. refl ] refl
 
 digit_plain : (c : ℕ) → IsTrue (is_digit c) → plain c ≡ true
 digit_plain c d = other c (λ e. false≢true (ap is_digit (sym e) ∙ d))
 
 digits_plain : (b : List ℕ) → AreDigits b → IsOneLine b
 digits_plain [] a = refl
-digits_plain (c ∷ b) a = both (digit_plain c a.0) (digits_plain b a.1)
+digits_plain (c ∷ b) a = both_true _ _ (digit_plain c a.0) (digits_plain b a.1)
 
 blank_plain : (c : ℕ) → IsTrue (is_blank c) → plain c ≡ true
 blank_plain c d = other c (λ e. false≢true (ap is_blank (sym e) ∙ d))
 
 blanks_plain : (b : List ℕ) → AreBlanks b → IsOneLine b
 blanks_plain [] a = refl
-blanks_plain (c ∷ b) a = both (blank_plain c a.0) (blanks_plain b a.1)
+blanks_plain (c ∷ b) a = both_true _ _ (blank_plain c a.0) (blanks_plain b a.1)
 
 spelled_plain : (z : ℤ) (b : List ℕ) → SpellsNumber z b → IsOneLine b
-spelled_plain z b s = by s.negative s.digits s.each s.whole
-  where
-    by : (negative : Bool) (digits : List ℕ) → AreDigits digits → b ≡ cond negative (45 ∷ digits) digits → IsOneLine b
-    by true digits each whole = ap (list_all plain) whole ∙ digits_plain digits each
-    by false digits each whole = ap (list_all plain) whole ∙ digits_plain digits each
+spelled_plain z b s = ap (list_all plain) s.whole ∙ elim s.negative as (λ (negative : Bool). IsOneLine (cond negative (45 ∷ s.digits) s.digits)) [ true ↦ digits_plain s.digits s.each | false ↦ digits_plain s.digits s.each ]
 
 spaced_plain : (P : List ℕ → Type 0) → ((t : List ℕ) → P t → IsOneLine t) → (b : List ℕ) → Spaced P b → IsOneLine b
 spaced_plain P f b s = ap (list_all plain) s.4 ∙ one_line_append s.0 s.1 (blanks_plain s.0 s.2) (f s.1 s.3)
@@ -62,11 +45,9 @@ pub object_plain : (z : ℤ) → InRange an_object z → IsOneLine (35 ∷ signe
 object_plain z fits = spaced_plain (SpellsObject z) (λ t o. ap (list_all plain) o.1 ∙ spelled_plain z o.0 o.2) (35 ∷ signed_decimal z) (spelled (Obj (record { 0 = z })) fits)
 
 escaped_plain : (c : ℕ) → is_allowed c ≡ true → IsOneLine (escape c)
-escaped_plain c allowed = by ((c == 34) || (c == 92)) (other c (λ e. false≢true (ap is_allowed (sym e) ∙ allowed)))
-  where
-    by : (b : Bool) → plain c ≡ true → IsOneLine (cond b (92 ∷ c ∷ []) (c ∷ []))
-    by true p = both p refl
-    by false p = both p refl
+escaped_plain c allowed =
+    let p = other c (λ e. false≢true (ap is_allowed (sym e) ∙ allowed)) in
+    elim ((c == 34) || (c == 92)) as (λ b. IsOneLine (cond b (92 ∷ c ∷ []) (c ∷ []))) [ true ↦ both_true _ _ p refl | false ↦ both_true _ _ p refl ]
 
 bytes_plain : (s : List ℕ) → list_all is_allowed s ≡ true → IsOneLine (flat_map escape s)
 bytes_plain [] a = refl

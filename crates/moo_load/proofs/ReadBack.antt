@@ -1,8 +1,8 @@
 pub mod Puts
 pub mod Lists
 pub mod Taken
-pub mod Once
 pub mod Numbers
+pub mod Said
 pub mod Finding
 pub mod Fit
 pub mod Whole

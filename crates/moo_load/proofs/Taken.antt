@@ -1,34 +1,9 @@
 -- The line of an entry, split into its word and its values.
-use Rattle.std.proofs.Common.{◌≡◌, ℕ, ◌+◌, true, List, [], ◌∷◌, ◌++◌, get_or, drop, refl, sym, ap, ◌∙◌}
-use Rattle.std.proofs.lemmas.Bool.{false≢true}
-use Rattle.std.proofs.lemmas.Bool.Decides.{Decides-eqb}
+use Rattle.moo_load.proofs.Words.{◌≡◌, ℕ, ◌+◌, List, [], ◌∷◌, ◌++◌, get_or, drop, refl, sym, ap, ◌∙◌, false≢true, Decides-eqb, ObjNo, Value, print, ObjRow, PetitionId, PetitionRow, PropId, VerbRow, Maps, Pair, list_of, Object, Property, Verb, Petition, Entry, an_object, a_property, a_slot, a_verb, a_petition, entry_text, entry_values, EntryFits, ArePrinted, word_text, slot_line_put, LastSlot, Name, codes}
 use Rattle.std.proofs.lemmas.List.{append_cancel_right}
-use Rattle.std.specs.FinMap.{insert}
-use Rattle.std.specs.Prelude.{◌<◌, pos}
-use Rattle.moo_value.specs.declared.value.ObjNo.{ObjNo}
-use Rattle.moo_value.specs.declared.value.Value.{Value}
-use Rattle.moo_value.specs.declared.value.Value.TheVariants.{Int, Obj, Str}
-use Rattle.moo_value.specs.Literal.{print}
-use Rattle.moo_rows.specs.declared.row.ObjRow.{ObjRow}
-use Rattle.moo_rows.specs.declared.row.PetitionId.{PetitionId}
-use Rattle.moo_rows.specs.declared.row.PetitionRow.{PetitionRow}
-use Rattle.moo_rows.specs.declared.row.PropId.{PropId}
-use Rattle.moo_rows.specs.declared.row.PropRow.{PropRow}
-use Rattle.moo_rows.specs.declared.row.VerbRow.{VerbRow}
-use Rattle.moo_rows.specs.Maps.{Maps}
-use Rattle.moo_dump.specs.Dump.{object_values, verb_values}
-use Rattle.moo_world.specs.Objects.{Pair}
-use Rattle.moo_world.specs.Petitions.{petition_fits}
-use Rattle.moo_world.specs.World.{Slot as ASlot, row_fits, state_fits, verb_fits, is_property_name}
-use Rattle.moo_world.specs.Answers.{list_of}
+use Rattle.moo_world.specs.World.{Slot as ASlot}
 use Rattle.moo_load.specs.declared.line.Word.{Word}
-use Rattle.moo_load.specs.declared.line.Word.TheVariants.{Object, Property, Slot, Verb, Petition}
-use Rattle.moo_load.specs.Entries.{Entry, an_object, a_property, a_slot, a_verb, a_petition, entry_text, entry_values, EntryFits, NumberIsLeft, entry_taken}
-use Rattle.moo_load.specs.Printed.{ArePrinted, word_text, petition_values, slot_values}
-use Rattle.moo_load.specs.Rows.{property_taken, verb_taken, petition_taken}
-use Rattle.moo_load.specs.RowsOf.{dumped_slot}
-use Rattle.moo_load.specs.Slots.{IsNextProperty, SlotIsNext, slot_line_put}
-use Rattle.moo_load.specs.declared.taking.LastSlot.{LastSlot}
+use Rattle.moo_load.specs.declared.line.Word.TheVariants.{Slot}
 
 abbrev pub word_of : Entry → Word
 word_of (an_object x row) = Object
@@ -43,16 +18,18 @@ line_of e = word_text (word_of e) ++ 32 ∷ print (list_of (entry_values e))
 
 pub text_is : (e : Entry) → entry_text e ≡ line_of e ++ 10 ∷ []
 text_is (an_object x row) = refl
-text_is (a_property x n) = refl
-text_is (a_slot x p s) = refl
-text_is (a_verb x v) = refl
-text_is (a_petition e) = refl
+text_is e = refl
 
 pub line_is : (line : List ℕ) (e : Entry) → line ++ 10 ∷ [] ≡ entry_text e → line ≡ line_of e
 line_is line e same = append_cancel_right line (line_of e) (10 ∷ []) (same ∙ text_is e)
 
-abbrev mark : List ℕ → ℕ
+-- a number that tells the words of lines, and the end, from one another
+abbrev pub mark : List ℕ → ℕ
 mark text = get_or text 0 0 + get_or text 1 0
+
+pub no_end : (e : Entry) (r : List ℕ) → entry_text e ++ r ≡ codes "end\n" → ⊥
+no_end (an_object x a) r same = false≢true ((Decides-eqb 209 211).1 (ap mark same))
+no_end e r same = false≢true ((Decides-eqb (mark (entry_text e ++ r)) 211).1 (ap mark same))
 
 -- the words of lines tell one another apart
 one_word : (v w : Word) (r q : List ℕ) → word_text v ++ 32 ∷ r ≡ word_text w ++ 32 ∷ q → (v ≡ w) × (r ≡ q)
@@ -71,21 +48,10 @@ split_is line literal word e within split same =
 
 -- ---- what was read of the line
 
--- the values that were read are those of the entry
-pub values_told : (values : List Value) (literal : List ℕ) → ((v : Value) (vs : List Value) → ArePrinted (v ∷ vs) literal → values ≡ v ∷ vs) → (e : Entry) → ArePrinted (entry_values e) literal → values ≡ entry_values e
-values_told values literal read (an_object x row) are = read (Obj x) _ are
-values_told values literal read (a_property x n) are = read (Obj x) _ are
-values_told values literal read (a_slot x p s) are = read (Obj x) _ are
-values_told values literal read (a_verb x v) are = read (Obj x) _ are
-values_told values literal read (a_petition e) are = read (Int (pos e.0.0)) _ are
-
--- and a line whose values can't be read is that of no entry
-pub none_told : (literal : List ℕ) → ((v : Value) (vs : List Value) → ArePrinted (v ∷ vs) literal → ⊥) → (e : Entry) → ArePrinted (entry_values e) literal → ⊥
-none_told literal none (an_object x row) are = none (Obj x) _ are
-none_told literal none (a_property x n) are = none (Obj x) _ are
-none_told literal none (a_slot x p s) are = none (Obj x) _ are
-none_told literal none (a_verb x v) are = none (Obj x) _ are
-none_told literal none (a_petition e) are = none (Int (pos e.0.0)) _ are
+-- what holds of lists of values that are printed so holds of those of an entry
+pub of_values : (Q : List Value → Type 0) (literal : List ℕ) → ((v : Value) (vs : List Value) → ArePrinted (v ∷ vs) literal → Q (v ∷ vs)) → (e : Entry) → ArePrinted (entry_values e) literal → Q (entry_values e)
+of_values Q literal h (an_object x row) are = h _ _ are
+of_values Q literal h e are = h _ _ are
 
 abbrev kind : Word → ℕ
 kind Object = 0
@@ -94,58 +60,29 @@ kind Slot = 2
 kind Verb = 3
 kind Petition = 4
 
-pub slot_taken : (m : Maps) (e : Entry) → Slot ≡ word_of e → m ≡ entry_taken e m
-slot_taken m (a_slot x p s) w = refl
-slot_taken m e w = absurd (false≢true ((Decides-eqb (kind Slot) (kind (word_of e))).1 (ap kind w)))
+-- what is said of each entry of a word
+abbrev pub EachOf : Word → (Entry → Type 0) → Type 0
+EachOf Object Q = (x : ObjNo) (row : ObjRow) → Q (an_object x row)
+EachOf Property Q = (x : ObjNo) (n : Name) → Q (a_property x n)
+EachOf Slot Q = (x : ObjNo) (p : Pair) (k : ASlot) → Q (a_slot x p k)
+EachOf Verb Q = (x : ObjNo) (v : VerbRow) → Q (a_verb x v)
+EachOf Petition Q = (e : PetitionId × PetitionRow) → Q (a_petition e)
 
-pub object_taken : (old new : Maps) (values : List Value) → ((x : ObjNo) (row : ObjRow) → values ≡ object_values x row → new ≡ record old { objects = insert old.objects x row }) → (e : Entry) → Object ≡ word_of e → values ≡ entry_values e → new ≡ entry_taken e old
-object_taken old new values put (an_object x row) w v = put x row v
-object_taken old new values put e w v = absurd (false≢true ((Decides-eqb (kind Object) (kind (word_of e))).1 (ap kind w)))
+pub of_word : (word : Word) (Q : Entry → Type 0) → EachOf word Q → (e : Entry) → word ≡ word_of e → Q e
+of_word Object Q h (an_object x row) w = h x row
+of_word Property Q h (a_property x n) w = h x n
+of_word Slot Q h (a_slot x p k) w = h x p k
+of_word Verb Q h (a_verb x v) w = h x v
+of_word Petition Q h (a_petition e) w = h e
+of_word word Q h e w = absurd (false≢true ((Decides-eqb (kind word) (kind (word_of e))).1 (ap kind w)))
 
-pub property_is_taken : (old new : Maps) (values : List Value) → ((row : PropRow) → values ≡ Obj row.definer ∷ Str row.name ∷ [] → new ≡ property_taken old row) → (e : Entry) → Property ≡ word_of e → values ≡ entry_values e → new ≡ entry_taken e old
-property_is_taken old new values put (a_property x n) w v = put (record { definer = x; name = n }) v
-property_is_taken old new values put e w v = absurd (false≢true ((Decides-eqb (kind Property) (kind (word_of e))).1 (ap kind w)))
-
-pub verb_is_taken : (old new : Maps) (values : List Value) → ((x : ObjNo) (row : VerbRow) → values ≡ verb_values x row → new ≡ verb_taken old x row) → (e : Entry) → Verb ≡ word_of e → values ≡ entry_values e → new ≡ entry_taken e old
-verb_is_taken old new values put (a_verb x v) w is = put x v is
-verb_is_taken old new values put e w v = absurd (false≢true ((Decides-eqb (kind Verb) (kind (word_of e))).1 (ap kind w)))
-
-pub petition_is_taken : (old new : Maps) (values : List Value) → ((id : PetitionId) (row : PetitionRow) → values ≡ petition_values id row → new ≡ petition_taken old id row) → (e : Entry) → Petition ≡ word_of e → values ≡ entry_values e → new ≡ entry_taken e old
-petition_is_taken old new values put (a_petition e) w is = put e.0 e.1 is
-petition_is_taken old new values put e w v = absurd (false≢true ((Decides-eqb (kind Petition) (kind (word_of e))).1 (ap kind w)))
-
--- a row that isn't put is that of no entry
-pub no_object : (values : List Value) → ((x : ObjNo) (row : ObjRow) → row_fits row ≡ true → values ≡ object_values x row → ⊥) → (e : Entry) → EntryFits e → Object ≡ word_of e → values ≡ entry_values e → ⊥
-no_object values none (an_object x row) within w v = none x row within.row v
-no_object values none e within w v = absurd (false≢true ((Decides-eqb (kind Object) (kind (word_of e))).1 (ap kind w)))
-
-pub no_property : (m : Maps) (values : List Value) → (m.head.next_prop < 4294967295 → (row : PropRow) → is_property_name row.name ≡ true → values ≡ Obj row.definer ∷ Str row.name ∷ [] → ⊥) → (e : Entry) → EntryFits e → NumberIsLeft e m → Property ≡ word_of e → values ≡ entry_values e → ⊥
-no_property m values none (a_property x n) within room w v = none room (record { definer = x; name = n }) within.row v
-no_property m values none e within room w v = absurd (false≢true ((Decides-eqb (kind Property) (kind (word_of e))).1 (ap kind w)))
-
-pub no_verb : (m : Maps) (values : List Value) → (m.head.next_verb < 4294967295 → (x : ObjNo) (row : VerbRow) → verb_fits row ≡ true → values ≡ verb_values x row → ⊥) → (e : Entry) → EntryFits e → NumberIsLeft e m → Verb ≡ word_of e → values ≡ entry_values e → ⊥
-no_verb m values none (a_verb x r) within room w v = none room x r within.row v
-no_verb m values none e within room w v = absurd (false≢true ((Decides-eqb (kind Verb) (kind (word_of e))).1 (ap kind w)))
-
-pub no_petition : (values : List Value) → ((id : PetitionId) (row : PetitionRow) → 0 < id.0 → id.0 < 4294967295 → petition_fits row ≡ true → values ≡ petition_values id row → ⊥) → (e : Entry) → EntryFits e → Petition ≡ word_of e → values ≡ entry_values e → ⊥
-no_petition values none (a_petition e) within w v = none e.0 e.1 within.row.0 within.row.1 within.row.2 v
-no_petition values none e within w v = absurd (false≢true ((Decides-eqb (kind Petition) (kind (word_of e))).1 (ap kind w)))
-
--- ---- slots
-
-pub slot_is_put : (old new : Maps) (last put : LastSlot) (values : List Value) → ((x : ObjNo) (p : Pair) (k : ASlot) (id : PropId) → values ≡ slot_values x p.0 p.1 (dumped_slot k) → IsNextProperty old last x p id → (put ≡ record { object = x; definer = p.0; id = id }) × (new ≡ record old { slots = insert old.slots (x, id) (dumped_slot k) }))
-    → (number : Pair → PropId) (e : Entry) → Slot ≡ word_of e → SlotIsNext number e (last, old) → values ≡ entry_values e → (put, new) ≡ slot_line_put number e (last, old)
-slot_is_put old new last put values is number (a_slot x p k) w next v = let o = is x p k (number p) v next in λ i. (o.0 i, o.1 i)
-slot_is_put old new last put values is number e w next v = absurd (false≢true ((Decides-eqb (kind Slot) (kind (word_of e))).1 (ap kind w)))
-
-pub no_slot_line : (m : Maps) (last : LastSlot) (values : List Value) → ((x : ObjNo) (p : Pair) (k : ASlot) (id : PropId) → state_fits k.state ≡ true → IsNextProperty m last x p id → values ≡ slot_values x p.0 p.1 (dumped_slot k) → ⊥)
-    → (number : Pair → PropId) (e : Entry) → EntryFits e → Slot ≡ word_of e → SlotIsNext number e (last, m) → values ≡ entry_values e → ⊥
-no_slot_line m last values none number (a_slot x p k) within w next v = none x p k (number p) within.row next v
-no_slot_line m last values none number e within w next v = absurd (false≢true ((Decides-eqb (kind Slot) (kind (word_of e))).1 (ap kind w)))
+-- what holds of each entry of a word with the values that were read holds of the entry of the line
+pub of_line : (line literal : List ℕ) (word own : Word) (values given : List Value) (Q : Entry → Type 0) → line ≡ word_text word ++ 32 ∷ literal → word ≡ own → given ≡ values → ((v : Value) (vs : List Value) → ArePrinted (v ∷ vs) literal → values ≡ v ∷ vs)
+    → EachOf own (λ e. EntryFits e → given ≡ entry_values e → Q e) → (e : Entry) → EntryFits e → line ++ 10 ∷ [] ≡ entry_text e → Q e
+of_line line literal word own values given Q split is plain read each e within same =
+    let s = split_is line literal word e within split same in
+    of_word own (λ e. EntryFits e → given ≡ entry_values e → Q e) each e (sym is ∙ s.0) within (plain ∙ of_values (λ l. values ≡ l) literal read e s.1)
 
 pub no_slot_put : (t : LastSlot × Maps) (number : Pair → PropId) (e : Entry) → (word_of e ≡ Slot → ⊥) → t ≡ slot_line_put number e t
-no_slot_put t number (an_object x row) other = refl
-no_slot_put t number (a_property x n) other = refl
 no_slot_put t number (a_slot x p k) other = absurd (other refl)
-no_slot_put t number (a_verb x v) other = refl
-no_slot_put t number (a_petition e) other = refl
+no_slot_put t number e other = refl

@@ -1,39 +1,14 @@
 -- Rows as far as they are read, with one row more.
-use Rattle.std.proofs.Common.{◌≡◌, ◌<◌, ◌≤◌, Bool, true, false, cond, ℕ, ℤ, Some, refl, sym, ap, subst, ◌∙◌}
-use Rattle.std.specs.Prelude.{◌&&◌, ◌^◌, pos, negsuc, ◌≤ℤ◌}
-use Rattle.std.specs.Cmp.{IsTotalOrder}
-use Rattle.std.proofs.lemmas.Map.Lookups.{CmpEqualImpliesEq}
-use Rattle.std.specs.Ordering.{eq_by_cmp}
-use Rattle.std.specs.declared.cmp.Ordering.{Ordering}
-use Rattle.std.specs.FinMap.{FinMap, get, insert, get-insert, get-empty}
-use Rattle.std.proofs.lemmas.Option.{same_Some, none-some}
-use Rattle.moo_value.specs.declared.value.ObjNo.{ObjNo}
-use Rattle.moo_rows.specs.declared.row.Head.{Head}
-use Rattle.moo_rows.specs.declared.row.ObjRow.{ObjRow}
-use Rattle.moo_rows.specs.declared.row.PetitionId.{PetitionId}
-use Rattle.moo_rows.specs.declared.row.PetitionRow.{PetitionRow}
-use Rattle.moo_rows.specs.declared.row.PropId.{PropId}
-use Rattle.moo_rows.specs.declared.row.PropRow.{PropRow}
-use Rattle.moo_rows.specs.declared.row.SlotRow.{SlotRow}
-use Rattle.moo_rows.specs.declared.row.VerbId.{VerbId}
-use Rattle.moo_rows.specs.declared.row.VerbRow.{VerbRow}
-use Rattle.moo_rows.specs.Exact.{object_exact, prop_exact, slot_exact, verb_exact, petition_exact}
-use Rattle.moo_rows.specs.Maps.{Held, Maps, no_maps, object_cmp, prop_cmp, slot_cmp, verb_cmp, petition_cmp, with_object, with_prop, with_slot, with_verb, with_petition}
-use Rattle.moo_rows.proofs.Orders.{object_total, prop_total, slot_total, verb_total, petition_total}
-use Rattle.moo_world.proofs.Shown.MapLaws.{key-Decides}
-use Rattle.moo_world.specs.Arguments.{is_number}
-use Rattle.moo_world.specs.Petitions.{petition_fits}
-use Rattle.moo_world.specs.World.{row_fits, is_property_name, state_fits, verb_fits}
-use Rattle.moo_load.specs.Rows.{AreRead}
+use Rattle.moo_load.proofs.Words.{◌≡◌, ◌<◌, ◌≤◌, true, false, cond, ℕ, ℤ, Some, refl, sym, ap, subst, ◌∙◌, ◌&&◌, ◌^◌, pos, negsuc, ◌≤ℤ◌, IsTotalOrder, CmpEqualImpliesEq, eq_by_cmp, Ordering, FinMap, get, insert, get-insert, get-empty, same_Some, none-some, ObjNo, Head, ObjRow, PetitionId, PetitionRow, PropId, PropRow, SlotRow, VerbId, VerbRow, object_exact, prop_exact, slot_exact, verb_exact, petition_exact, Held, Maps, no_maps, object_cmp, prop_cmp, slot_cmp, verb_cmp, petition_cmp, with_object, with_slot, object_total, prop_total, slot_total, verb_total, petition_total, key-Decides, is_number, petition_fits, row_fits, is_property_name, state_fits, verb_fits, AreRead}
+use Rattle.moo_rows.specs.Maps.{with_prop, with_verb, with_petition}
 
 -- each row of a map passes, and so does one more
 more : {K X : Type 0} {cmp : K → K → Ordering} (total : IsTotalOrder cmp) (exact : CmpEqualImpliesEq cmp) (P : K → X → Type 0) (m : FinMap cmp X) (k : K) (x : X)
     → ((q : K) (y : X) → get m q ≡ Some y → P q y) → P k x → (q : K) (y : X) → get (insert m k x) q ≡ Some y → P q y
-more {cmp = cmp} total exact P m k x each one q y is = by (eq_by_cmp cmp q k) refl (sym (get-insert total m k x q) ∙ is)
-  where
-    by : (b : Bool) → eq_by_cmp cmp q k ≡ b → cond b (Some x) (get m q) ≡ Some y → P q y
-    by true e g = subst (λ l. P l y) (sym ((key-Decides cmp total exact q k).0 e)) (subst (P k) (same_Some x y g) one)
-    by false e g = each q y g
+more {cmp = cmp} total exact P m k x each one q y is = elim (eq_by_cmp cmp q k) as (λ b. eq_by_cmp cmp q k ≡ b → cond b (Some x) (get m q) ≡ Some y → P q y) [
+  | true ↦ λ e g. subst (λ l. P l y) (sym ((key-Decides cmp total exact q k).0 e)) (subst (P k) (same_Some x y g) one)
+  | false ↦ λ e g. each q y g
+] refl (sym (get-insert total m k x q) ∙ is)
 
 pub object_put : (h : Held) (x : ObjNo) (row : ObjRow) → AreRead h.maps → row_fits row ≡ true → AreRead (with_object h x row).maps
 object_put h x row read fits =

@@ -1,16 +1,6 @@
 -- The lines of a dump, each with what it tells.
-use Rattle.std.proofs.Common.{◌≡◌, ℕ, List, [], ◌∷◌, ◌++◌, map, Option, Some, None, refl, sym, ap, ◌∙◌, append_assoc, append-nil}
-use Rattle.std.specs.Prelude.{codes}
-use Rattle.std.specs.List.{flat_map}
-use Rattle.std.specs.FinMap.{entries}
-use Rattle.std.proofs.lemmas.List.Concat.{flat_map-append}
-use Rattle.moo_value.specs.declared.value.ObjNo.{ObjNo}
-use Rattle.moo_world.specs.Judge.{State}
-use Rattle.moo_world.specs.ObjectLists.{objects_of}
-use Rattle.moo_world.specs.Objects.{Pair, folded}
-use Rattle.moo_world.specs.World.{World, Record, Slot, slot_of, chain, owed_by}
-use Rattle.moo_load.specs.Entries.{Entry, an_object, a_property, a_slot, a_verb, a_petition, entry_text}
-use Rattle.moo_dump.specs.Dump.{object_line, property_line, slot_line, owed_line, verb_line, petition_line, record_lines, object_lines, heading, dump}
+use Rattle.moo_load.proofs.Words.{◌≡◌, ℕ, List, [], ◌∷◌, ◌++◌, map, Option, Some, None, refl, sym, ap, ◌∙◌, append_assoc, append-nil, codes, flat_map, entries, flat_map-append, ObjNo, State, objects_of, Pair, folded, World, Record, Slot, slot_of, chain, owed_by, Entry, an_object, a_property, a_slot, a_verb, a_petition, entry_text, heading, dump}
+use Rattle.moo_dump.specs.Dump.{object_line, property_line, slot_line, owed_line, verb_line, petition_line, record_lines, object_lines}
 use Rattle.moo_dump.proofs.FlatMaps.{flat_map-map, flat_map-flat_map}
 
 abbrev pub owed_entry : World → ObjNo → Pair → List Entry
@@ -30,11 +20,7 @@ abbrev pub entries_of : State → List Entry
 entries_of s = flat_map (object_entries s.world) (objects_of s.world) ++ map a_petition (entries s.petitions)
 
 owed_text : (w : World) (x : ObjNo) (p : Pair) → flat_map entry_text (owed_entry w x p) ≡ owed_line w x p
-owed_text w x p = by (slot_of w x (folded p.1))
-  where
-    by : (o : Option Slot) → flat_map entry_text (elim o [ None ↦ [] | Some s ↦ a_slot x p s ∷ [] ]) ≡ elim o [ None ↦ [] | Some s ↦ slot_line x p s ]
-    by None = refl
-    by (Some s) = append-nil (slot_line x p s)
+owed_text w x p = elim (slot_of w x (folded p.1)) as (λ (o : Option Slot). flat_map entry_text (elim o [ None ↦ [] | Some s ↦ a_slot x p s ∷ [] ]) ≡ elim o [ None ↦ [] | Some s ↦ slot_line x p s ]) [ None ↦ refl | Some s ↦ append-nil (slot_line x p s) ]
 
 beside_text : (w : World) (x : ObjNo) (r : Record) → flat_map entry_text (beside_row w x r) ≡ flat_map (property_line x) r.defines ++ (flat_map (owed_line w x) (owed_by w (chain w x)) ++ flat_map (verb_line x) r.verbs)
 beside_text w x r =
@@ -48,11 +34,7 @@ beside_text w x r =
     ∙ ap (λ (t : List ℕ). flat_map (owed_line w x) owed ++ t) (flat_map-map entry_text (a_verb x) r.verbs))
 
 object_text : (w : World) (x : ObjNo) → flat_map entry_text (object_entries w x) ≡ object_lines w x
-object_text w x = by (w.object x)
-  where
-    by : (o : Option Record) → flat_map entry_text (elim o [ None ↦ [] | Some r ↦ record_entries w x r ]) ≡ elim o [ None ↦ [] | Some r ↦ record_lines w x r ]
-    by None = refl
-    by (Some r) = ap (λ (t : List ℕ). object_line x r.row ++ t) (beside_text w x r)
+object_text w x = elim (w.object x) as (λ (o : Option Record). flat_map entry_text (elim o [ None ↦ [] | Some r ↦ record_entries w x r ]) ≡ elim o [ None ↦ [] | Some r ↦ record_lines w x r ]) [ None ↦ refl | Some r ↦ ap (λ (t : List ℕ). object_line x r.row ++ t) (beside_text w x r) ]
 
 -- a dump is its heading, the lines of its entries and the end
 pub dump_is : (s : State) → dump s ≡ heading s ++ (flat_map entry_text (entries_of s) ++ codes "end\n")

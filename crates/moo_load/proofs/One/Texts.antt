@@ -1,17 +1,8 @@
 -- A printed value, and a printed list, tell their values and where they end.
-use Rattle.std.proofs.Common.{◌≡◌, ℕ, true, false, List, [], ◌∷◌, ◌++◌, length, get_or, drop, refl, sym, ap, subst, ◌∙◌, append_assoc}
-use Rattle.std.specs.List.{AllByRecursion}
-use Rattle.std.proofs.lemmas.Bool.{false≢true}
-use Rattle.std.proofs.lemmas.Bool.Decides.{Decides-eqb}
-use Rattle.std.proofs.lemmas.List.{drop_at, append_cancel_left}
-use Rattle.moo_value.specs.declared.value.Value.{Value}
-use Rattle.moo_value.specs.declared.value.Value.TheVariants.{Int, Obj, Str, Error, List as a_list}
-use Rattle.moo_value.specs.Value.{gather}
-use Rattle.moo_value.specs.Literal.{Fits, Ends, Front, print}
-use Rattle.moo_value.proofs.Printed.{printed, one, prepend_printed}
-use Rattle.moo_world.specs.Answers.{list_of}
+use Rattle.moo_load.proofs.Words.{◌≡◌, ℕ, true, false, List, [], ◌∷◌, ◌++◌, length, get_or, drop, refl, sym, ap, subst, ◌∙◌, append_assoc, AllByRecursion, false≢true, Decides-eqb, drop_at, append_cancel_left, Value, gather, Fits, Ends, Front, print, printed, prepend_printed, list_of}
+use Rattle.moo_value.proofs.Printed.{one}
 use Rattle.moo_dump.specs.Dump.{line}
-use Rattle.moo_load.proofs.Listed.{after_value}
+use Rattle.moo_load.proofs.Listed.{after_value, ends_before}
 
 -- one printed value, and what follows it
 pub one_print : (v w : Value) (r q : List ℕ) → Fits v → Fits w → Ends v r → Ends w q → print v ++ r ≡ print w ++ q → (v ≡ w) × (r ≡ q)
@@ -43,29 +34,9 @@ first : (v : Value) (vs : List Value) (r : List ℕ) → print (list_of (v ∷ v
 unfolding text_after
 first v vs r = ap (λ (t : List ℕ). 123 ∷ (t ++ r)) (prepend_printed true v (gather vs)) ∙ ap (λ (t : List ℕ). 123 ∷ t) (append_assoc (print v) (after_value vs) r)
 
-ends_at : (v : Value) (t u : List ℕ) → t ≡ 125 ∷ u → Ends v t
-ends_at v t u e = subst (Ends v) (sym e) (by v)
-  where
-    by : (v : Value) → Ends v (125 ∷ u)
-    by (Int n) = refl
-    by (Obj o) = refl
-    by (Str s) = tt
-    by (Error c) = refl
-    by (a_list vs) = tt
-
-ends_comma : (v : Value) (t u : List ℕ) → t ≡ 44 ∷ u → Ends v t
-ends_comma v t u e = subst (Ends v) (sym e) (by v)
-  where
-    by : (v : Value) → Ends v (44 ∷ u)
-    by (Int n) = refl
-    by (Obj o) = refl
-    by (Str s) = tt
-    by (Error c) = refl
-    by (a_list vs) = tt
-
 ends_then : (v : Value) (more : List Value) (r : List ℕ) → Ends v (text_after more r)
-ends_then v [] r = ends_at v (text_after [] r) r (after_none r)
-ends_then v (w ∷ more) r = ends_comma v (text_after (w ∷ more) r) (32 ∷ values_on w more r) (later w more r)
+unfolding text_after
+ends_then v more r = ends_before v more r
 
 abbrev byte_of : List ℕ → ℕ
 byte_of t = get_or t 0 0

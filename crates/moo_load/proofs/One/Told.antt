@@ -1,75 +1,38 @@
 -- A dump names one state.
-use Rattle.std.proofs.Common.{◌≡◌, true, ℕ, ℤ, pos, negsuc, List, [], ◌∷◌, ◌++◌, drop, refl, sym, ap, ◌∙◌, append_assoc, arith}
-use Rattle.std.specs.Prelude.{codes, ◌≤ℤ◌}
-use Rattle.std.specs.Fmt.{decimal}
-use Rattle.std.specs.List.{filter, filter_map, flat_map}
-use Rattle.std.specs.FinMap.{same_entries_map}
-use Rattle.std.proofs.lemmas.Bool.{lt-ltb}
-use Rattle.std.proofs.lemmas.Int.{ints}
-use Rattle.moo_value.specs.declared.value.ObjNo.{ObjNo}
-use Rattle.moo_value.specs.declared.value.Value.{Value}
-use Rattle.moo_value.specs.declared.value.Value.TheVariants.{Int, Obj}
-use Rattle.moo_value.specs.Literal.{Fits, print}
-use Rattle.moo_world.specs.Arguments.{in_range}
-use Rattle.moo_world.specs.Judge.{State}
-use Rattle.moo_world.proofs.Form.Ranges.{range_of}
-use Rattle.moo_dump.specs.Dump.{heading, dump}
-use Rattle.moo_load.specs.OneState.{IsHeld, AreTheSame}
-use Rattle.moo_load.specs.Entries.{entry_text}
+use Rattle.moo_load.proofs.Words.{◌≡◌, ℕ, pos, List, ◌∷◌, ◌++◌, drop, refl, sym, ap, ◌∙◌, decimal, filter_map, Value, Int, Obj, State, heading, dump, IsHeld, AreTheSame, AreRowsOf, all_weaker, entry_lines, subst, all_properties, first_head}
 use Rattle.moo_load.proofs.One.Entries.{entries_of, dump_is}
 use Rattle.moo_load.proofs.One.Texts.{one_print}
 use Rattle.moo_load.proofs.One.Values.{object_in}
-use Rattle.moo_load.proofs.One.Injective.{one_entries}
-use Rattle.moo_load.proofs.One.Fitting.{fit, entries_fit}
-use Rattle.moo_load.proofs.One.Blocks.{is_of, entries_at, petition_in, petitions_of}
-use Rattle.moo_load.proofs.One.Records.{one_object_told}
-
-top_range : (top : ℤ) → negsuc 0 ≤ℤ top → top ≤ℤ pos 2147483647 → in_range top ≡ true
-top_range top low high = range_of top (grind (arith, ints))
-
-seq_fits : (s : State) → IsHeld s → Fits (Int (pos s.seq))
-seq_fits s held = fit (Int (pos s.seq)) (lt-ltb s.seq 9223372036854775808 (omega (arith, held.limit)))
-
-abbrev top_of : State → Value
-top_of s = Obj (record { 0 = s.world.top })
-
-top_fits : (s : State) → IsHeld s → Fits (top_of s)
-top_fits s held = fit (top_of s) (top_range s.world.top held.formed.world.limits.top.0 held.formed.world.limits.top.1)
-
--- what follows the number of batches
-abbrev second : State → List ℕ
-second s = codes "top " ++ (print (top_of s) ++ 10 ∷ [])
+use Rattle.moo_load.proofs.One.Injective.{one_entries, IsFit}
+use Rattle.moo_load.proofs.ReadBack.Said.{Good, all_good}
+use Rattle.moo_load.proofs.Headed.{count_fits, lines_are, top_fits, top_of, top_line}
+use Rattle.moo_load.proofs.ReadBack.Fit.{properties_are}
+use Rattle.moo_load.proofs.ReadBack.Taken.{property_in}
+use Rattle.moo_load.proofs.ReadBack.Whole.{rows_are, made_by}
+use Rattle.moo_load.proofs.Shown.Good.{same_state}
 
 abbrev size_in : Value → ℕ
 size_in (Int (pos n)) = n
 size_in v = 0
 
-spread_seq : (s : State) (a : List ℕ) → heading s ++ a ≡ codes "seq " ++ (decimal s.seq ++ 10 ∷ (second s ++ a))
-spread_seq s a = ap (λ (t : List ℕ). codes "seq " ++ t) (append_assoc (decimal s.seq) (10 ∷ second s) a)
-
-spread_top : (s : State) (a : List ℕ) → second s ++ a ≡ codes "top " ++ (print (top_of s) ++ 10 ∷ a)
-spread_top s a = ap (λ (t : List ℕ). codes "top " ++ t) (append_assoc (print (top_of s)) (10 ∷ []) a)
-
 -- the two lines of the heading, and what follows
 one_heading : (s t : State) → IsHeld s → IsHeld t → (a b : List ℕ) → heading s ++ a ≡ heading t ++ b → (s.seq ≡ t.seq) × (s.world.top ≡ t.world.top) × (a ≡ b)
 one_heading s t held_s held_t a b e =
-    let f : decimal s.seq ++ 10 ∷ (second s ++ a) ≡ decimal t.seq ++ 10 ∷ (second t ++ b) = ap (drop 4) (sym (spread_seq s a) ∙ e ∙ spread_seq t b) in
-    let o = one_print (Int (pos s.seq)) (Int (pos t.seq)) (10 ∷ (second s ++ a)) (10 ∷ (second t ++ b)) (seq_fits s held_s) (seq_fits t held_t) refl refl f in
-    let g : second s ++ a ≡ second t ++ b = ap (drop 1) o.1 in
-    let h : print (top_of s) ++ 10 ∷ a ≡ print (top_of t) ++ 10 ∷ b = ap (drop 4) (sym (spread_top s a) ∙ g ∙ spread_top t b) in
-    let p = one_print (top_of s) (top_of t) (10 ∷ a) (10 ∷ b) (top_fits s held_s) (top_fits t held_t) refl refl h in
+    let f : decimal s.seq ++ 10 ∷ (top_line s ++ 10 ∷ a) ≡ decimal t.seq ++ 10 ∷ (top_line t ++ 10 ∷ b) = ap (drop 4) (sym (lines_are s a) ∙ e ∙ lines_are t b) in
+    let o = one_print (Int (pos s.seq)) (Int (pos t.seq)) (10 ∷ (top_line s ++ 10 ∷ a)) (10 ∷ (top_line t ++ 10 ∷ b)) (count_fits s.seq held_s.limit) (count_fits t.seq held_t.limit) refl refl f in
+    let p = one_print (Obj (top_of s)) (Obj (top_of t)) (10 ∷ a) (10 ∷ b) (top_fits s held_s) (top_fits t held_t) refl refl (ap (drop 5) o.1) in
     (ap size_in o.0, ap (λ (v : Value). (object_in v).0) p.0, ap (drop 1) p.1)
 
+-- the lines are read as the same rows, which show both
 pub told : (s t : State) → IsHeld s → IsHeld t → dump s ≡ dump t → AreTheSame s t
 told s t held_s held_t e =
-    let h = one_heading s t held_s held_t (flat_map entry_text (entries_of s) ++ codes "end\n") (flat_map entry_text (entries_of t) ++ codes "end\n") (sym (dump_is s) ∙ e ∙ dump_is t) in
-    let es : entries_of s ≡ entries_of t = one_entries (entries_of s) (entries_of t) (entries_fit s held_s.formed) (entries_fit t held_t.formed) h.2 in
-    let object : (x : ObjNo) → s.world.object x ≡ t.world.object x = λ x.
-    one_object_told s.world t.world held_s.formed.world held_t.formed.world x
-    (sym (entries_at s held_s.formed.world.tree x) ∙ ap (filter (is_of x)) es ∙ entries_at t held_t.formed.world.tree x) in
-    record {
-      seq = h.0;
-      top = h.1;
-      objects = λ i x. object x i;
-      petitions = same_entries_map s.petitions t.petitions (sym (petitions_of s) ∙ ap (filter_map petition_in) es ∙ petitions_of t);
-    }
+    let h = one_heading s t held_s held_t (entry_lines (entries_of s)) (entry_lines (entries_of t)) (sym (dump_is s) ∙ e ∙ dump_is t) in
+    let fit_s = all_weaker (Good s held_s.formed) IsFit (λ e g. (g.0.0.values, g.0.1)) (entries_of s) (all_good s held_s.formed) in
+    let fit_t = all_weaker (Good t held_t.formed) IsFit (λ e g. (g.0.0.values, g.0.1)) (entries_of t) (all_good t held_t.formed) in
+    let es : entries_of s ≡ entries_of t = one_entries (entries_of s) (entries_of t) fit_s fit_t h.2 in
+    let all : all_properties s.world ≡ all_properties t.world = sym (properties_are s) ∙ ap (filter_map property_in) es ∙ properties_are t in
+    let m = made_by (all_properties s.world) (entries_of s) (first_head s) in
+    let same : m ≡ made_by (all_properties t.world) (entries_of t) (first_head t) = λ i. made_by (all i) (es i) (record { top = h.1 i; next_prop = 1; next_verb = 1; next_petition = 1; seq = h.0 i }) in
+    let a = same_state s held_s.formed m (rows_are s held_s.formed) in
+    let b = same_state t held_t.formed m (subst (AreRowsOf t) (sym same) (rows_are t held_t.formed)) in
+    record { seq = sym a.seq ∙ b.seq; top = sym a.top ∙ b.top; objects = sym a.objects ∙ b.objects; petitions = sym a.petitions ∙ b.petitions }

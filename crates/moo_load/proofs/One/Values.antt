@@ -1,35 +1,9 @@
 -- The values of a line tell the row that they are printed from.
-use Rattle.std.proofs.Common.{◌≡◌, ℕ, ℤ, Bool, true, false, List, [], ◌∷◌, map, get_or, drop, Option, Some, None, refl, sym, ap, ◌∙◌}
-use Rattle.std.specs.Prelude.{pos, not, ◌==◌}
-use Rattle.std.specs.Option.{option_map}
-use Rattle.std.proofs.lemmas.Option.{same_Some}
-use Rattle.moo_value.specs.declared.value.ObjNo.{ObjNo}
-use Rattle.moo_value.specs.declared.value.Value.{Value}
-use Rattle.moo_value.specs.declared.value.Value.TheVariants.{Int, Obj, Str, List as a_list}
-use Rattle.moo_value.specs.Value.{gather, spread}
-use Rattle.moo_value.specs.Values.{Values, no_values}
-use Rattle.moo_rows.specs.declared.row.Bits.{Bits}
-use Rattle.moo_rows.specs.declared.row.ObjRow.{ObjRow}
-use Rattle.moo_rows.specs.declared.row.PetitionId.{PetitionId}
-use Rattle.moo_rows.specs.declared.row.PetitionRow.{PetitionRow}
-use Rattle.moo_rows.specs.declared.row.Place.{Place}
-use Rattle.moo_rows.specs.declared.row.Place.TheVariants.{This, Any as any_object, None as no_object}
-use Rattle.moo_rows.specs.declared.row.Preposition.{Preposition}
-use Rattle.moo_rows.specs.declared.row.SlotState.{SlotState}
-use Rattle.moo_rows.specs.declared.row.SlotState.TheVariants.{Clear, Set}
-use Rattle.moo_rows.specs.declared.row.VerbBits.{VerbBits}
-use Rattle.moo_rows.specs.declared.row.VerbRow.{VerbRow}
-use Rattle.moo_rows.specs.Bits.{letters_of, verb_letters_of, bits_of, verb_bits_of}
-use Rattle.moo_world.specs.Answers.{flag}
+use Rattle.moo_load.proofs.Words.{◌≡◌, ℕ, ℤ, Bool, true, false, List, [], ◌∷◌, map, get_or, drop, Option, Some, None, refl, sym, ap, ◌∙◌, pos, not, ◌==◌, option_map, same_Some, ObjNo, Value, Int, Obj, Str, a_list, gather, spread, Values, no_values, Bits, ObjRow, PetitionId, PetitionRow, Place, This, Preposition, SlotState, Clear, Set, VerbBits, VerbRow, letters_of, verb_letters_of, flag, accept_value, Name, Pair, same_text, folded, prep_text, place_text, Slot, object_values, state_values, verb_values, petition_values}
+use Rattle.moo_rows.specs.Bits.{bits_of, verb_bits_of}
 use Rattle.moo_world.specs.Arguments.{objects_among}
-use Rattle.moo_world.specs.Calls.{accept_value}
-use Rattle.moo_world.specs.Objects.{Name, Pair, same_text, folded}
-use Rattle.moo_world.specs.Prepositions.{prep_text, place_text}
 use Rattle.moo_world.specs.VerbReading.{place_of, prep_of}
-use Rattle.moo_world.specs.World.{Slot}
 use Rattle.moo_verbs.proofs.TableLaw.{prep_read_again}
-use Rattle.moo_dump.specs.Dump.{object_values, state_values, verb_values}
-use Rattle.moo_load.specs.Printed.{petition_values}
 
 -- ---- what a value holds
 
@@ -81,36 +55,23 @@ accept_again (Some l) = objects_again l
 one_accept : (a b : Option (List ObjNo)) → accept_value a ≡ accept_value b → a ≡ b
 one_accept a b e = sym (accept_again a) ∙ ap accept_in e ∙ accept_again b
 
+-- what holds of each way in which bits are given
+pub each_bit : (P : Bool → Type 0) → P true × P false → (a : Bool) → P a
+each_bit P h true = h.0
+each_bit P h false = h.1
+
+pub three_bits : (P : Bool → Bool → Bool → Type 0) → ((P true true true × P true true false) × (P true false true × P true false false)) × ((P false true true × P false true false) × (P false false true × P false false false)) → (a b c : Bool) → P a b c
+three_bits P h a b c = each_bit (P a b) (each_bit (λ y. P a y true × P a y false) (each_bit (λ x. (P x true true × P x true false) × (P x false true × P x false false)) h a) b) c
+
 letters_again : (r w c : Bool) → (let b : Bits = record { r = r; w = w; c = c } in bits_of (letters_of b) ≡ Some b)
-letters_again true true true = refl
-letters_again true true false = refl
-letters_again true false true = refl
-letters_again true false false = refl
-letters_again false true true = refl
-letters_again false true false = refl
-letters_again false false true = refl
-letters_again false false false = refl
+letters_again = three_bits (λ r w c. let b : Bits = record { r = r; w = w; c = c } in bits_of (letters_of b) ≡ Some b) (((refl, refl), (refl, refl)), ((refl, refl), (refl, refl)))
 
 one_bits : (a b : Bits) → letters_of a ≡ letters_of b → a ≡ b
 one_bits a b e = same_Some a b (sym (letters_again a.r a.w a.c) ∙ ap bits_of e ∙ letters_again b.r b.w b.c)
 
 verb_letters_again : (r w x d : Bool) → (let b : VerbBits = record { r = r; w = w; x = x; d = d } in verb_bits_of (verb_letters_of b) ≡ Some b)
-verb_letters_again true true true true = refl
-verb_letters_again true true true false = refl
-verb_letters_again true true false true = refl
-verb_letters_again true true false false = refl
-verb_letters_again true false true true = refl
-verb_letters_again true false true false = refl
-verb_letters_again true false false true = refl
-verb_letters_again true false false false = refl
-verb_letters_again false true true true = refl
-verb_letters_again false true true false = refl
-verb_letters_again false true false true = refl
-verb_letters_again false true false false = refl
-verb_letters_again false false true true = refl
-verb_letters_again false false true false = refl
-verb_letters_again false false false true = refl
-verb_letters_again false false false false = refl
+verb_letters_again true = three_bits (λ w x d. let b : VerbBits = record { r = true; w = w; x = x; d = d } in verb_bits_of (verb_letters_of b) ≡ Some b) (((refl, refl), (refl, refl)), ((refl, refl), (refl, refl)))
+verb_letters_again false = three_bits (λ w x d. let b : VerbBits = record { r = false; w = w; x = x; d = d } in verb_bits_of (verb_letters_of b) ≡ Some b) (((refl, refl), (refl, refl)), ((refl, refl), (refl, refl)))
 
 one_verb_bits : (a b : VerbBits) → verb_letters_of a ≡ verb_letters_of b → a ≡ b
 one_verb_bits a b e = same_Some a b (sym (verb_letters_again a.r a.w a.x a.d) ∙ ap verb_bits_of e ∙ verb_letters_again b.r b.w b.x b.d)
@@ -118,8 +79,7 @@ one_verb_bits a b e = same_Some a b (sym (verb_letters_again a.r a.w a.x a.d) �
 place_again : (p : Place) → place_of (place_text p) ≡ Some p
 unfolding same_text folded
 place_again This = refl
-place_again any_object = refl
-place_again no_object = refl
+place_again _ = refl
 
 one_place : (p q : Place) → place_text p ≡ place_text q → p ≡ q
 one_place p q e = same_Some p q (sym (place_again p) ∙ ap place_of e ∙ place_again q)

@@ -1,19 +1,7 @@
 -- The text of a dump, as it is read.
-use Rattle.std.proofs.Common.{◌≡◌, ℕ, List, ◌++◌, sym, ap, subst, ◌∙◌}
-use Rattle.std.specs.List.{AllByRecursion}
-use Rattle.moo_rows.specs.declared.row.Head.{Head}
-use Rattle.moo_rows.specs.declared.row.PropId.{PropId}
-use Rattle.moo_rows.specs.Maps.{Maps, no_maps}
-use Rattle.moo_dump.specs.Dump.{heading, dump}
-use Rattle.moo_world.specs.Judge.{State}
-use Rattle.moo_world.specs.Objects.{Pair}
-use Rattle.moo_load.specs.Entries.{EntryFits, entry_lines, entries_taken, carried, EachHas, NumbersAreLeft}
-use Rattle.moo_load.specs.OneState.{IsHeld}
-use Rattle.moo_load.specs.Rows.{first_head}
-use Rattle.moo_load.specs.RowsOf.{HasNumbers, AreRowsOf}
-use Rattle.moo_load.specs.Slots.{no_slot, SlotIsNext, slot_line_put}
+use Rattle.moo_load.proofs.Words.{◌≡◌, ℕ, List, ◌++◌, sym, ap, subst, ◌∙◌, AllByRecursion, Head, PropId, Maps, no_maps, heading, dump, State, Pair, EntryFits, entry_lines, entries_taken, carried, EachHas, NumbersAreLeft, IsHeld, first_head, HasNumbers, AreRowsOf, no_slot, SlotIsNext, slot_line_put, all_properties}
 use Rattle.moo_load.proofs.One.Entries.{entries_of, dump_is}
-use Rattle.moo_load.proofs.ReadBack.Fit.{all_fit}
+use Rattle.moo_load.proofs.ReadBack.Said.{all_fit}
 use Rattle.moo_load.proofs.ReadBack.Numbers.{number}
 use Rattle.moo_load.proofs.ReadBack.Whole.{slots_in_turn, rows_are, enough_numbers}
 
@@ -28,7 +16,7 @@ module _ (s : State) (held : IsHeld s) where
   fit = all_fit s held.formed
 
   abbrev pub number_by : Pair → PropId
-  number_by = number s.world held.formed.world
+  number_by = number (all_properties s.world)
 
   -- the maps before the first line of an entry
   module _ (first : Maps) (head : Head) (begun : first ≡ record no_maps { head = head }) (own : head ≡ first_head s) where

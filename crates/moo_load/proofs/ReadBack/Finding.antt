@@ -1,39 +1,20 @@
 -- The lines of slots come in the order in which their properties are found.
-use Rattle.std.proofs.Common.{◌≡◌, ℕ, ◌+◌, ◌<◌, ◌≤◌, Bool, true, false, cond, Option, Some, None, List, [], ◌∷◌, ◌++◌, map, length, refl, sym, ap, subst, ◌∙◌, arith, append_assoc, length-append, append-nil}
-use Rattle.std.specs.Prelude.{◌&&◌, is_some}
-use Rattle.std.specs.Cmp.{nat_cmp_is, ranked}
-use Rattle.std.specs.FinMap.{get, entries}
-use Rattle.std.specs.List.{AllByRecursion, IsDistinct, flat_map, filter}
-use Rattle.std.specs.Option.{option_map}
+use Rattle.moo_load.proofs.Words.{◌≡◌, ℕ, ◌+◌, ◌<◌, ◌≤◌, Bool, true, false, cond, Option, Some, None, List, [], ◌∷◌, ◌++◌, map, length, refl, sym, ap, subst, ◌∙◌, arith, append_assoc, length-append, append-nil, ◌&&◌, is_some, nat_cmp_is, ranked, get, entries, AllByRecursion, IsDistinct, flat_map, option_map, Less, length-map, flat_map-append, ObjNo, PropId, is_definer, Maps, State, objects_of, Name, Pair, folded, same_object, is_among, same_object-Decides, World, Record, Slot, IsWellFormed, Climbs, is_object, slot_of, names_of, defined_by, owed_by, chain, linked, Chain-chain, all_weaker, LastSlot, Entry, an_object, a_property, a_slot, a_verb, a_petition, EachHas, all_properties, at_number, property_row, no_slot, IsNextProperty, SlotIsNext, slot_line_put, false≢true}
 use Rattle.std.specs.Ordering.{int_eq}
-use Rattle.std.specs.declared.cmp.Ordering.TheVariants.{Less}
-use Rattle.std.proofs.lemmas.List.{length-map}
-use Rattle.std.proofs.lemmas.List.Concat.{flat_map-append}
-use Rattle.std.proofs.lemmas.Option.{none-some}
-use Rattle.moo_value.specs.declared.value.ObjNo.{ObjNo}
-use Rattle.moo_rows.specs.declared.row.PropId.{PropId}
-use Rattle.moo_rows.specs.Links.{is_definer, row_defined}
-use Rattle.moo_rows.specs.Maps.{Maps}
-use Rattle.moo_world.specs.Judge.{State}
-use Rattle.moo_world.specs.ObjectLists.{objects_of}
-use Rattle.moo_world.specs.Objects.{Name, Pair, nothing, object_at, folded, same_object, is_among, same_object-Decides}
-use Rattle.moo_world.specs.Rows.{numbers_below}
-use Rattle.moo_world.specs.World.{World, Record, Slot, IsWellFormed, Climbs, is_object, parent_of, slot_of, pair_named, names_of, defined_by, owed_by, chain, numbers_to}
+use Rattle.moo_rows.specs.Links.{row_defined}
+use Rattle.moo_world.specs.Objects.{nothing}
+use Rattle.moo_world.specs.World.{parent_of}
 use Rattle.moo_world.proofs.Ancestry.Chains.{Climbs-once}
-use Rattle.moo_world.proofs.Ancestry.Trees.{linked, no_parent, Chain-chain}
+use Rattle.moo_world.proofs.Ancestry.Trees.{nothing_is_no_object, no_parent}
 use Rattle.moo_world.proofs.Inheritance.Owed.{all_right}
 use Rattle.moo_world.proofs.Inheritance.Reparenting.{all_left}
-use Rattle.moo_world.proofs.Shown.EntriesInOrder.{all_weaker}
+use Rattle.std.proofs.lemmas.List.{map-append}
 use Rattle.moo_damage.proofs.Apart.{none_any}
-use Rattle.moo_load.specs.declared.taking.LastSlot.{LastSlot}
-use Rattle.moo_load.specs.Entries.{Entry, an_object, a_property, a_slot, a_verb, a_petition, EachHas}
-use Rattle.moo_load.specs.RowsOf.{all_properties, at_number, property_row}
-use Rattle.moo_load.specs.Slots.{no_slot, number_before, IsNextProperty, SlotIsNext, slot_line_put}
+use Rattle.moo_load.specs.Slots.{number_before}
 use Rattle.moo_load.proofs.One.Entries.{owed_entry, record_entries, object_entries, entries_of}
-use Rattle.moo_load.proofs.One.Fitting.{own_names}
-use Rattle.moo_load.proofs.ReadBack.Lists.{of_all, number_at}
-use Rattle.moo_load.proofs.ReadBack.Numbers.{place, number, number_is, numbered_front, around}
-use Rattle.moo_load.proofs.ReadBack.Once.{objects_once, object_stands}
+use Rattle.moo_load.proofs.ReadBack.Lists.{of_all, number_at, made_of, numbered_front, all_of}
+use Rattle.moo_load.proofs.ReadBack.Numbers.{place, number, number_is, around, objects_once, objects_are}
+use Rattle.moo_load.proofs.ReadBack.Said.{object_stands, own_name}
 
 -- the slots of this definer on x were put just before
 abbrev goes_on : LastSlot → ObjNo → ObjNo → Bool
@@ -67,15 +48,11 @@ module _ (w : World) (wf : IsWellFormed w) where
   Numbered m = (id : PropId) → get m.props id ≡ option_map property_row (at_number all id.0)
 
   abbrev pub Each : List Entry → LastSlot × Maps → Type 0
-  Each es t = EachHas (SlotIsNext (number w wf)) (slot_line_put (number w wf)) es t
+  Each es t = EachHas (SlotIsNext (number all)) (slot_line_put (number all)) es t
 
   other_definer : (m : Maps) → Numbered m → (d : ObjNo) (id : PropId) → ((p : Pair) → at_number all id.0 ≡ Some p → same_object p.0 d ≡ false) → is_definer m d id ≡ false
   unfolding same_object
-  other_definer m num d id h = ap (row_defined d) (num id) ∙ by (at_number all id.0) refl
-    where
-      by : (o : Option Pair) → at_number all id.0 ≡ o → row_defined d (option_map property_row o) ≡ false
-      by None e = refl
-      by (Some p) e = h p e
+  other_definer m num d id h = ap (row_defined d) (num id) ∙ elim (at_number all id.0) as (λ (o : Option Pair). at_number all id.0 ≡ o → row_defined d (option_map property_row o) ≡ false) [ None ↦ λ e. refl | Some p ↦ λ e. h p e ] refl
 
   own_definer : (m : Maps) → Numbered m → (p : Pair) (id : PropId) → at_number all id.0 ≡ Some p → is_definer m p.0 id ≡ true
   own_definer m num p id e = ap (row_defined p.0) (num id ∙ ap (option_map property_row) e) ∙ same_number p.0
@@ -93,42 +70,35 @@ module _ (w : World) (wf : IsWellFormed w) where
     abbrev named : List Name → List Pair
     named l = map (λ n. let p : Pair = (d, n) in p) l
 
-    named_append : (l m : List Name) → named (l ++ m) ≡ named l ++ named m
-    named_append [] m = refl
-    named_append (k ∷ l) m = ap (λ (r : List Pair). (d, k) ∷ r) (named_append l m)
-
-    named_length : (l : List Name) → length (named l) ≡ length l
-    named_length l = length-map l (λ n. let p : Pair = (d, n) in p)
-
     own_place : (a b : List Name) (n : Name) → names_of w d ≡ a ++ n ∷ b → at_number all (length front + length a + 1) ≡ Some (d, n)
     own_place a b n e =
         let p : Pair = (d, n) in
-        let parts : defined_by w d ≡ named a ++ p ∷ named b = ap named e ∙ named_append a (n ∷ b) in
+        let parts : defined_by w d ≡ named a ++ p ∷ named b = ap named e ∙ map-append (λ n. let p : Pair = (d, n) in p) a (n ∷ b) in
         let all_is : all ≡ (front ++ named a) ++ p ∷ (named b ++ back) =
         whole ∙ ap (λ (l : List Pair). front ++ (l ++ back)) parts ∙ ap (λ (l : List Pair). front ++ l) (append_assoc (named a) (p ∷ named b) back) ∙ sym (append_assoc front (named a) (p ∷ (named b ++ back))) in
-        let count : length (front ++ named a) ≡ length front + length a = length-append front (named a) ∙ ap (λ (k : ℕ). length front + k) (named_length a) in
+        let count : length (front ++ named a) ≡ length front + length a = length-append front (named a) ∙ ap (λ (k : ℕ). length front + k) (length-map a (λ n. let p : Pair = (d, n) in p)) in
         ap (λ (l : List Pair). at_number l (length front + length a + 1)) all_is ∙ number_at (front ++ named a) (named b ++ back) p (length front + length a + 1) (omega arith)
 
-    is_next : (t : LastSlot × Maps) (a b : List Name) (n : Name) → names_of w d ≡ a ++ n ∷ b → Numbered t.1 → Before (length front + length a) t.0 → IsNextProperty t.1 t.0 x (d, n) (number w wf (d, n))
+    is_next : (t : LastSlot × Maps) (a b : List Name) (n : Name) → names_of w d ≡ a ++ n ∷ b → Numbered t.1 → Before (length front + length a) t.0 → IsNextProperty t.1 t.0 x (d, n) (number all (d, n))
     is_next t a b n e num before =
         let at = own_place a b n e in
         let own_number : place (d, n) all ≡ length front + length a + 1 = number_is w wf (length front + length a + 1) (d, n) at in
         let found : at_number all (place (d, n) all) ≡ Some (d, n) = ap (at_number all) own_number ∙ at in
         record {
           next = (
-            own_definer t.1 num (d, n) (number w wf (d, n)) found,
+            own_definer t.1 num (d, n) (number all (d, n)) found,
             sym (nat_cmp_is (number_before t.0 x d).0 (place (d, n) all) Less (let h = before.0 in omega arith)),
             λ q above below. other_definer t.1 num d q (before.1 q.0 (ranked (number_before t.0 x d).0 q.0 Less (sym above)) (let h : q.0 < place (d, n) all = ranked q.0 (place (d, n) all) Less (sym below) in omega arith)),
           );
-          row = num (number w wf (d, n)) ∙ ap (option_map property_row) found;
+          row = num (number all (d, n)) ∙ ap (option_map property_row) found;
         }
 
-    then_before : (a b : List Name) (n : Name) → names_of w d ≡ a ++ n ∷ b → Before (length front + length (a ++ n ∷ [])) (record { object = x; definer = d; id = number w wf (d, n) })
+    then_before : (a b : List Name) (n : Name) → names_of w d ≡ a ++ n ∷ b → Before (length front + length (a ++ n ∷ [])) (record { object = x; definer = d; id = number all (d, n) })
     then_before a b n e =
-        let last : LastSlot = record { object = x; definer = d; id = number w wf (d, n) } in
+        let last : LastSlot = record { object = x; definer = d; id = number all (d, n) } in
         let own_number : place (d, n) all ≡ length front + length a + 1 = number_is w wf (length front + length a + 1) (d, n) (own_place a b n e) in
         let count : length (a ++ n ∷ []) ≡ length a + 1 = length-append a (n ∷ []) in
-        let now : (number_before last x d).0 ≡ place (d, n) all = ap (λ (c : Bool). (let id : PropId = cond c (number w wf (d, n)) (record { 0 = 0 }) in id).0) (own_goes_on x d (number w wf (d, n))) in
+        let now : (number_before last x d).0 ≡ place (d, n) all = ap (λ (c : Bool). (let id : PropId = cond c (number all (d, n)) (record { 0 = 0 }) in id).0) (own_goes_on x d (number all (d, n))) in
         (omega arith, λ q above below. absurd (omega arith))
 
     names_next : (b a : List Name) → names_of w d ≡ a ++ b → (fs : List Entry) (t : LastSlot × Maps) → Numbered t.1 → R t.0 → Before (length front + length a) t.0 → AllByRecursion (λ n. HasSlot x (d, n)) b
@@ -138,9 +108,9 @@ module _ (w : World) (wf : IsWellFormed w) where
         let p : Pair = (d, n) in
         let k = slots.0.0 in
         let rest = flat_map (owed_entry w x) (map (λ n. (d, n)) b) in
-        let u = slot_line_put (number w wf) (a_slot x p k) t in
+        let u = slot_line_put (number all) (a_slot x p k) t in
         let entry : a_slot x p k ∷ (rest ++ fs) ≡ (owed_entry w x p ++ rest) ++ fs = ap (λ (o : Option Slot). (elim o [ None ↦ [] | Some s ↦ a_slot x p s ∷ [] ] ++ rest) ++ fs) (sym slots.0.1) in
-        let more = names_next b (a ++ n ∷ []) (e ∙ sym (append_assoc a (n ∷ []) b)) fs u num (own (number w wf p)) (then_before a b n e) slots.1 on in
+        let more = names_next b (a ++ n ∷ []) (e ∙ sym (append_assoc a (n ∷ []) b)) fs u num (own (number all p)) (then_before a b n e) slots.1 on in
         subst (λ es. Each es t) entry (is_next t a b n e num before, more)
 
     first_before : (last : LastSlot) → goes_on last x d ≡ false → Before (length front + 0) last
@@ -181,11 +151,7 @@ module _ (w : World) (wf : IsWellFormed w) where
   owed_slots x here =
       let c = Chain-chain w wf.tree x here in
       let owed = owed_by w (chain w x) in
-      all_weaker (λ p. pair_named owed (folded p.1) ≡ Some p) (HasSlot x) (λ p e. by p (slot_of w x (folded p.1)) refl (wf.slots x (chain w x) (folded p.1) here c ∙ ap (option_map (λ (k : Pair). k.0)) e)) owed (own_names owed (wf.names x (chain w x) c))
-    where
-      by : (p : Pair) (o : Option Slot) → slot_of w x (folded p.1) ≡ o → option_map (λ (k : Slot). k.definer) (slot_of w x (folded p.1)) ≡ Some p.0 → HasSlot x p
-      by p None e h = absurd (none-some p.0 (sym (ap (option_map (λ (k : Slot). k.definer)) e) ∙ h))
-      by p (Some k) e h = (k, e)
+      all_of (HasSlot x) owed (λ p s. let r = made_of (λ (k : Slot). k.definer) (slot_of w x (folded p.1)) p.0 (wf.slots x (chain w x) (folded p.1) here c ∙ ap (option_map (λ (k : Pair). k.0)) (own_name owed (wf.names x (chain w x) c) p s)) in (r.0, r.1))
 
   abbrev Off : List ObjNo → LastSlot → Type 0
   Off os last = AllByRecursion (λ y. same_object last.object y ≡ false) os
@@ -211,26 +177,16 @@ module _ (w : World) (wf : IsWellFormed w) where
   objects_next : (os : List ObjNo) → IsDistinct same_object os → (fs : List Entry) (t : LastSlot × Maps) → Numbered t.1 → Off os t.0 → ((u : LastSlot × Maps) → Numbered u.1 → Each fs u) → Each (flat_map (object_entries w) os ++ fs) t
   unfolding IsDistinct
   objects_next [] once fs t num off on = on t num
-  objects_next (x ∷ os) once fs t num off on = by (w.object x) refl (λ u num off. objects_next os once.1 fs u num off on)
-    where
-      by : (o : Option Record) → w.object x ≡ o → ((u : LastSlot × Maps) → Numbered u.1 → Off os u.0 → Each (flat_map (object_entries w) os ++ fs) u) → Each ((object_entries w x ++ flat_map (object_entries w) os) ++ fs) t
-      by None e r = subst (λ (o : Option Record). Each ((elim o [ None ↦ [] | Some k ↦ record_entries w x k ] ++ flat_map (object_entries w) os) ++ fs) t) (sym e) (r t num off.1)
-      by (Some k) e r =
-          subst (λ (o : Option Record). Each ((elim o [ None ↦ [] | Some k ↦ record_entries w x k ] ++ flat_map (object_entries w) os) ++ fs) t) (sym e)
-          (subst (λ es. Each es t) (sym (append_assoc (record_entries w x k) (flat_map (object_entries w) os) fs)) (record_next x k e os once.0 (flat_map (object_entries w) os ++ fs) t num off r))
+  objects_next (x ∷ os) once fs t num off on = elim (w.object x) as (λ (o : Option Record). w.object x ≡ o → ((u : LastSlot × Maps) → Numbered u.1 → Off os u.0 → Each (flat_map (object_entries w) os ++ fs) u) → Each ((object_entries w x ++ flat_map (object_entries w) os) ++ fs) t) [
+    | None ↦ λ e r. subst (λ (o : Option Record). Each ((elim o [ None ↦ [] | Some k ↦ record_entries w x k ] ++ flat_map (object_entries w) os) ++ fs) t) (sym e) (r t num off.1)
+    | Some k ↦ λ e r.
+        subst (λ (o : Option Record). Each ((elim o [ None ↦ [] | Some k ↦ record_entries w x k ] ++ flat_map (object_entries w) os) ++ fs) t) (sym e)
+        (subst (λ es. Each es t) (sym (append_assoc (record_entries w x k) (flat_map (object_entries w) os) fs)) (record_next x k e os once.0 (flat_map (object_entries w) os ++ fs) t num off r))
+  ] refl (λ u num off. objects_next os once.1 fs u num off on)
 
   -- no slot is put on an object yet
-  none_yet : (l : List ℕ) → AllByRecursion (λ y. same_object nothing y ≡ false) (filter (is_object w) (map object_at l))
-  unfolding same_object
-  none_yet [] = tt
-  none_yet (n ∷ l) = by (is_object w (object_at n)) (none_yet l)
-    where
-      by : (b : Bool) → AllByRecursion (λ y. same_object nothing y ≡ false) (filter (is_object w) (map object_at l)) → AllByRecursion (λ y. same_object nothing y ≡ false) (cond b (object_at n ∷ filter (is_object w) (map object_at l)) (filter (is_object w) (map object_at l)))
-      by true r = (refl, r)
-      by false r = r
-
   nothing_off : Off (objects_of w) no_slot
-  nothing_off = none_yet (numbers_below (numbers_to w.top))
+  nothing_off = all_weaker (λ y. is_object w y ≡ true) (λ y. same_object nothing y ≡ false) (λ y here. elim (same_object nothing y) as (λ b. same_object nothing y ≡ b → b ≡ false) [ true ↦ λ e. absurd (false≢true (sym (nothing_is_no_object w wf.tree) ∙ ap (is_object w) ((same_object-Decides nothing y).0 e) ∙ here)) | false ↦ λ e. refl ] refl) (objects_of w) (objects_are w)
 
 -- the slots of a state come in the order in which their properties are found
 pub slots_next : (s : State) (wf : IsWellFormed s.world) (m : Maps) → Numbered s.world wf m → Each s.world wf (entries_of s) (no_slot, m)

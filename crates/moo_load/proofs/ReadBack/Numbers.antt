@@ -1,35 +1,79 @@
--- The number of a property in the list of all.
-use Rattle.std.proofs.Common.{◌≡◌, ℕ, zero, suc, ◌+◌, ◌<◌, ◌≤◌, Bool, true, false, cond, Some, List, [], ◌∷◌, ◌++◌, length, refl, sym, ap, subst, ◌∙◌, ◌⊎◌, inl, inr, arith}
-use Rattle.std.specs.Prelude.{◌&&◌, slice_get}
-use Rattle.std.specs.List.{AllByRecursion, IsDistinct}
-use Rattle.std.proofs.lemmas.Bool.{false≢true}
-use Rattle.std.proofs.lemmas.Option.{same_Some, none-some}
-use Rattle.moo_value.specs.declared.value.ObjNo.{ObjNo}
-use Rattle.moo_rows.specs.declared.row.PropId.{PropId}
-use Rattle.moo_world.specs.ObjectLists.{objects_of}
-use Rattle.moo_world.specs.Objects.{Pair, folded, same_object, same_text, same_pair, same_pair-self, same_object-Decides, same_text-Decides}
-use Rattle.moo_world.specs.World.{World, IsWellFormed, defined_by, names_of, owed_by}
+-- Objects and properties stand once in their lists; the number of a property.
+use Rattle.moo_load.proofs.Words.{AllByRecursion, Bool, Chain-chain, IsDistinct, IsWellFormed, Name, NamesDiffer, None, PropId, Some, World, all_properties, ap, arith, at_number, both_true, chain, chain-step, cond, cons_option, defined_by, distinct_append, distinct_numbers, false≢true, filter, filter_map, folded, is_object, map, names_of, none-some, numbers_below, numbers_to, object_at, objects_of, owed_by, refl, same_object, same_object-Decides, same_pair, same_text, same_text-Decides, some_of, subst, sym, ℕ, ◌<◌, ◌≡◌, ◌++◌, ◌∷◌, ◌&&◌, ◌∙◌, ◌+◌, [], pos, List, ObjNo, Pair, false, inl, inr, suc, true, zero}
+use Rattle.std.proofs.lemmas.List.Elements.{filter_passes, recursion_from_All}
+use Rattle.moo_world.specs.Objects.{same_pair-self}
+use Rattle.moo_world.proofs.Inheritance.Keeping.{same_pair-is}
 use Rattle.moo_world.proofs.Inheritance.Owed.{owed_by-append}
-use Rattle.moo_world.proofs.Shown.EntriesInOrder.{all_weaker}
-use Rattle.moo_damage.proofs.Apart.{distinct_append}
-use Rattle.moo_load.specs.RowsOf.{all_properties, at_number}
-use Rattle.moo_load.proofs.One.Fitting.{all_map, all_flat, all_each}
-use Rattle.moo_load.proofs.ReadBack.Lists.{Stands, of_all}
-use Rattle.moo_load.proofs.ReadBack.Once.{split, before_differs, objects_once, own_names_differ, other_pair, distinct_weaker}
+use Rattle.moo_world.proofs.Shown.PairLists.{pairs_left}
+use Rattle.moo_load.proofs.ReadBack.Lists.{Stands, before_differs, distinct_weaker, each_map, numbered_stands, of_all, of_holders, one_number, passed, split}
 
-pub pair_is : (p q : Pair) → same_pair p q ≡ true → p ≡ q
-unfolding same_pair
-pair_is p q e = by (same_object p.0 q.0) (same_text p.1 q.1) refl refl e
-  where
-    by : (a b : Bool) → same_object p.0 q.0 ≡ a → same_text p.1 q.1 ≡ b → (a && b) ≡ true → p ≡ q
-    by true true f g h = λ i. ((same_object-Decides p.0 q.0).0 f i, (same_text-Decides p.1 q.1).0 g i)
-    by true false f g h = absurd (false≢true h)
-    by false b f g h = absurd (false≢true h)
+-- ---- objects
+
+made_filter : {A B : Type 0} (test : B → Bool) (f : A → B) (l : List A) → filter_map (λ a. cond (test (f a)) (Some (f a)) None) l ≡ filter test (map f l)
+made_filter test f [] = refl
+made_filter test f (x ∷ l) = elim (test (f x)) as (λ b. cons_option (cond b (Some (f x)) None) (filter_map (λ a. cond (test (f a)) (Some (f a)) None) l) ≡ cond b (f x ∷ filter test (map f l)) (filter test (map f l))) [ true ↦ ap (λ k. f x ∷ k) (made_filter test f l) | false ↦ made_filter test f l ]
+
+apart : (i j : ℕ) → i < j → same_object (object_at i) (object_at j) ≡ false
+apart i j less =
+    elim (same_object (object_at i) (object_at j)) as (λ b. same_object (object_at i) (object_at j) ≡ b → b ≡ false) [
+      | true ↦ λ e. absurd (let same : pos i ≡ pos j = ap (λ (x : ObjNo). x.0) ((same_object-Decides (object_at i) (object_at j)).0 e) in let number : i ≡ j = cc in omega arith)
+      | false ↦ λ e. refl
+    ] refl
+
+pub objects_once : (w : World) → IsDistinct same_object (objects_of w)
+objects_once w =
+    subst (IsDistinct same_object) (made_filter (is_object w) object_at (numbers_below (numbers_to w.top)))
+    (distinct_numbers same_object (λ n. cond (is_object w (object_at n)) (Some (object_at n)) None) (numbers_to w.top) (λ i j u v less f g. (λ k. same_object (sym (passed (is_object w (object_at i)) (object_at i) u f).1 k) (sym (passed (is_object w (object_at j)) (object_at j) v g).1 k)) ∙ apart i j less))
+
+-- and each is an object
+pub objects_are : (w : World) → AllByRecursion (λ x. is_object w x ≡ true) (objects_of w)
+objects_are w = recursion_from_All (λ x. is_object w x ≡ true) (objects_of w) (filter_passes (is_object w) (map object_at (numbers_below (numbers_to w.top))))
+
+-- ---- properties
+
+-- one object defines both, under one name
+abbrev pub alike : Pair → Pair → Bool
+alike p q = same_object p.0 q.0 && same_text (folded p.1) (folded q.1)
+
+alike_self : (p : Pair) → alike p p ≡ true
+alike_self p = both_true _ _ ((same_object-Decides p.0 p.0).1 refl) ((same_text-Decides (folded p.1) (folded p.1)).1 refl)
+
+not_both : (a b : Bool) → b ≡ false → (a && b) ≡ false
+not_both true b e = e
+not_both false b e = refl
+
+other_pair : (p q : Pair) → alike p q ≡ false → same_pair p q ≡ false
+other_pair p q e = elim (same_pair p q) as (λ b. same_pair p q ≡ b → b ≡ false) [ true ↦ λ h. absurd (false≢true (sym e ∙ ap (alike p) (sym (same_pair-is p q h)) ∙ alike_self p)) | false ↦ λ h. refl ] refl
+
+module _ (w : World) (wf : IsWellFormed w) where
+  own_names : (x : ObjNo) → is_object w x ≡ true → IsDistinct alike (defined_by w x)
+  own_names x there =
+      let r = some_of (w.object x) there in
+      distinct_weaker (λ p q. same_text (folded p.1) (folded q.1)) alike (λ p q e. not_both (same_object p.0 q.0) (same_text (folded p.1) (folded q.1)) e) (defined_by w x)
+      (pairs_left (defined_by w x) (owed_by w (chain w r.0.row.parent)) (subst (λ (l : List ObjNo). NamesDiffer (owed_by w l)) (chain-step w wf.tree x r.0 r.1) (wf.names x (chain w x) (Chain-chain w wf.tree x there))))
+
+  others : (x : ObjNo) (n : Name) (l : List ObjNo) → AllByRecursion (λ y. same_object x y ≡ false) l → AllByRecursion (λ q. alike (x, n) q ≡ false) (owed_by w l)
+  others x n l a = of_holders (names_of w) (λ q. alike (x, n) q ≡ false) l (λ y s k h. ap (λ b. b && same_text (folded n) (folded k)) (of_all (λ y. same_object x y ≡ false) l y a s))
+
+  differ_along : (l : List ObjNo) → IsDistinct same_object l → AllByRecursion (λ x. is_object w x ≡ true) l → IsDistinct alike (owed_by w l)
+  unfolding IsDistinct
+  differ_along [] d a = tt
+  differ_along (x ∷ l) d a =
+      distinct_append alike (defined_by w x) (owed_by w l) (own_names x a.0) (differ_along l d.1 a.1)
+      (each_map (λ p. AllByRecursion (λ q. alike p q ≡ false) (owed_by w l)) (λ n. (x, n)) (names_of w x) (λ n s. others x n l d.0))
+
+  pub properties_differ : IsDistinct alike (all_properties w)
+  properties_differ = differ_along (objects_of w) (objects_once w) (objects_are w)
+
+-- ---- numbers
 
 -- the number of the first pair like this one
 abbrev pub place : Pair → List Pair → ℕ
 place p [] = 0
 place p (q ∷ l) = cond (same_pair p q) 1 (place p l + 1)
+
+abbrev pub number : List Pair → Pair → PropId
+number all p = record { 0 = place p all }
 
 later : {A : Type 0} (x a : A) (l : List A) (n : ℕ) → at_number l n ≡ Some a → at_number (x ∷ l) (n + 1) ≡ Some a
 later x a l zero e = absurd (none-some a e)
@@ -37,77 +81,23 @@ later x a l (suc n) e = let z : suc n + 1 ≡ suc (suc n) = omega arith in ap (a
 
 pub place_found : (p : Pair) (l : List Pair) → Stands p l → at_number l (place p l) ≡ Some p
 place_found p [] s = absurd s
-place_found p (q ∷ l) s = by s (λ k. place_found p l k) (same_pair p q) refl
-  where
-    by : (p ≡ q) ⊎ Stands p l → (Stands p l → at_number l (place p l) ≡ Some p) → (b : Bool) → same_pair p q ≡ b → at_number (q ∷ l) (cond b 1 (place p l + 1)) ≡ Some p
-    by s r true e = λ i. Some (sym (pair_is p q e) i)
-    by (inl same) r false e = absurd (false≢true (sym e ∙ ap (same_pair p) (sym same) ∙ same_pair-self p))
-    by (inr k) r false e = later q p l (place p l) (r k)
-
-stands_at : {A : Type 0} (l : List A) (n : ℕ) (a : A) → slice_get l n ≡ Some a → Stands a l
-stands_at [] n a e = absurd (none-some a e)
-stands_at (x ∷ l) zero a e = inl (same_Some a x (sym e))
-stands_at (x ∷ l) (suc n) a e = inr (stands_at l n a e)
-
-pub numbered_stands : {A : Type 0} (l : List A) (n : ℕ) (a : A) → at_number l n ≡ Some a → Stands a l
-numbered_stands l zero a e = absurd (none-some a e)
-numbered_stands l (suc n) a e = stands_at l n a e
-
-front_at : {A : Type 0} (front back : List A) (n : ℕ) (a : A) → n < length front → slice_get (front ++ back) n ≡ Some a → Stands a front
-front_at [] back n a less e = absurd (omega arith)
-front_at (x ∷ front) back zero a less e = inl (same_Some a x (sym e))
-front_at (x ∷ front) back (suc n) a less e = inr (front_at front back n a (omega arith) e)
-
-pub numbered_front : {A : Type 0} (front back : List A) (n : ℕ) (a : A) → n ≤ length front → at_number (front ++ back) n ≡ Some a → Stands a front
-numbered_front front back zero a less e = absurd (none-some a e)
-numbered_front front back (suc n) a less e = front_at front back n a (omega arith) e
-
-one_place : (l : List Pair) → IsDistinct same_pair l → (i j : ℕ) (p : Pair) → slice_get l i ≡ Some p → slice_get l j ≡ Some p → i ≡ j
-unfolding IsDistinct
-one_place [] d i j p e f = absurd (none-some p e)
-one_place (x ∷ l) d zero zero p e f = refl
-one_place (x ∷ l) d zero (suc j) p e f = absurd (false≢true (sym (of_all (λ y. same_pair x y ≡ false) l p d.0 (stands_at l j p f)) ∙ ap (λ (y : Pair). same_pair y p) (same_Some x p e) ∙ same_pair-self p))
-one_place (x ∷ l) d (suc i) zero p e f = absurd (false≢true (sym (of_all (λ y. same_pair x y ≡ false) l p d.0 (stands_at l i p e)) ∙ ap (λ (y : Pair). same_pair y p) (same_Some x p f) ∙ same_pair-self p))
-one_place (x ∷ l) d (suc i) (suc j) p e f = ap (λ (n : ℕ). suc n) (one_place l d.1 i j p e f)
-
--- a pair has one number
-pub one_number : (l : List Pair) → IsDistinct same_pair l → (i j : ℕ) (p : Pair) → at_number l i ≡ Some p → at_number l j ≡ Some p → i ≡ j
-one_number l d zero j p e f = absurd (none-some p e)
-one_number l d (suc i) zero p e f = absurd (none-some p f)
-one_number l d (suc i) (suc j) p e f = ap (λ (n : ℕ). suc n) (one_place l d i j p e f)
-
--- what is said of objects is said of the definers
-pub all_definers : (w : World) (P : ObjNo → Type 0) (os : List ObjNo) → AllByRecursion P os → AllByRecursion (λ (p : Pair). P p.0) (owed_by w os)
-all_definers w P os a = all_flat (λ (p : Pair). P p.0) (defined_by w) os (all_weaker P (λ d. AllByRecursion (λ (p : Pair). P p.0) (defined_by w d)) (λ d h. all_map (λ (p : Pair). P p.0) (λ n. (d, n)) (names_of w d) (all_each (λ n. P d) (λ n. h) (names_of w d))) os a)
-
-other_definer : (p q : Pair) → same_object p.0 q.0 ≡ false → same_pair p q ≡ false
-unfolding same_pair
-other_definer p q e = ap (λ b. b && same_text p.1 q.1) e
+place_found p (q ∷ l) s =
+    elim (same_pair p q) as (λ b. same_pair p q ≡ b → at_number (q ∷ l) (cond b 1 (place p l + 1)) ≡ Some p) [
+      | true ↦ λ e i. Some (sym (same_pair-is p q e) i)
+      | false ↦ λ e. elim s [ inl same ↦ absurd (false≢true (sym e ∙ ap (same_pair p) (sym same) ∙ same_pair-self p)) | inr k ↦ later q p l (place p l) (place_found p l k) ]
+    ] refl
 
 module _ (w : World) (wf : IsWellFormed w) where
-  owed_once : (os : List ObjNo) → IsDistinct same_object os → IsDistinct same_pair (owed_by w os)
-  unfolding IsDistinct
-  owed_once [] d = tt
-  owed_once (x ∷ os) d =
-      distinct_append same_pair (defined_by w x) (owed_by w os)
-      (distinct_weaker (λ p q. same_text (folded p.1) (folded q.1)) same_pair (λ p q e. other_pair w wf p q e) (defined_by w x) (own_names_differ w wf x))
-      (owed_once os d.1)
-      (all_map (λ p. AllByRecursion (λ q. same_pair p q ≡ false) (owed_by w os)) (λ n. (x, n)) (names_of w x)
-      (all_each (λ n. AllByRecursion (λ q. same_pair (x, n) q ≡ false) (owed_by w os)) (λ n.
-      all_weaker (λ (q : Pair). same_object x q.0 ≡ false) (λ q. same_pair (x, n) q ≡ false) (λ q e. other_definer (x, n) q e) (owed_by w os) (all_definers w (λ y. same_object x y ≡ false) os d.0)) (names_of w x)))
-
-  pub properties_once : IsDistinct same_pair (all_properties w)
-  properties_once = owed_once (objects_of w) (objects_once w)
-
-  abbrev pub number : Pair → PropId
-  number p = record { 0 = place p (all_properties w) }
+  properties_once : IsDistinct same_pair (all_properties w)
+  properties_once = distinct_weaker alike same_pair other_pair (all_properties w) (properties_differ w wf)
 
   -- the number of a property is the one that it has in the list
   pub number_is : (n : ℕ) (p : Pair) → at_number (all_properties w) n ≡ Some p → place p (all_properties w) ≡ n
-  number_is n p e = one_number (all_properties w) properties_once (place p (all_properties w)) n p (place_found p (all_properties w) (numbered_stands (all_properties w) n p e)) e
+  number_is n p e = one_number same_pair (all_properties w) properties_once (place p (all_properties w)) n p p (place_found p (all_properties w) (numbered_stands (all_properties w) n p e)) e (same_pair-self p) (same_pair-self p)
 
   -- the properties of a definer among all of them
   pub around : (d : ObjNo) → Stands d (objects_of w) → (front back : List Pair) × (all_properties w ≡ front ++ (defined_by w d ++ back)) × AllByRecursion (λ (p : Pair). same_object p.0 d ≡ false) front
   around d s =
       let r = split d (objects_of w) s in
-      (owed_by w r.0, owed_by w r.1, ap (owed_by w) r.2 ∙ owed_by-append w r.0 (d ∷ r.1), all_definers w (λ y. same_object y d ≡ false) r.0 (before_differs same_object d r.0 r.1 (subst (IsDistinct same_object) r.2 (objects_once w))))
+      let before = before_differs same_object d r.0 r.1 (subst (IsDistinct same_object) r.2 (objects_once w)) in
+      (owed_by w r.0, owed_by w r.1, ap (owed_by w) r.2 ∙ owed_by-append w r.0 (d ∷ r.1), of_holders (names_of w) (λ (p : Pair). same_object p.0 d ≡ false) r.0 (λ y s n h. of_all (λ y. same_object y d ≡ false) r.0 y before s))

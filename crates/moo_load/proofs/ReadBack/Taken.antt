@@ -1,23 +1,5 @@
 -- What the rows of entries make of maps, map by map.
-use Rattle.std.proofs.Common.{◌≡◌, ℕ, suc, ◌+◌, Option, Some, None, List, [], ◌∷◌, length, refl, arith}
-use Rattle.std.specs.Prelude.{max}
-use Rattle.std.specs.List.{filter_map}
-use Rattle.moo_value.specs.declared.value.ObjNo.{ObjNo}
-use Rattle.moo_rows.specs.declared.row.ObjRow.{ObjRow}
-use Rattle.moo_rows.specs.declared.row.PetitionId.{PetitionId}
-use Rattle.moo_rows.specs.declared.row.PetitionRow.{PetitionRow}
-use Rattle.moo_rows.specs.declared.row.PropId.{PropId}
-use Rattle.moo_rows.specs.declared.row.PropRow.{PropRow}
-use Rattle.moo_rows.specs.declared.row.SlotRow.{SlotRow}
-use Rattle.moo_rows.specs.declared.row.VerbId.{VerbId}
-use Rattle.moo_rows.specs.declared.row.VerbRow.{VerbRow}
-use Rattle.moo_rows.specs.Maps.{Maps}
-use Rattle.moo_world.specs.Objects.{Pair}
-use Rattle.moo_load.specs.declared.taking.LastSlot.{LastSlot}
-use Rattle.moo_load.specs.Entries.{Entry, an_object, a_property, a_slot, a_verb, a_petition, entry_taken, entries_taken, carried}
-use Rattle.moo_load.specs.RowsOf.{property_row, dumped_slot}
-use Rattle.moo_load.specs.Slots.{slot_line_put}
-use Rattle.moo_load.proofs.One.Blocks.{petition_in}
+use Rattle.moo_load.proofs.Words.{◌≡◌, ℕ, ◌+◌, Option, Some, None, List, [], ◌∷◌, length, refl, arith, max, filter_map, ObjNo, ObjRow, PetitionId, PetitionRow, PropId, PropRow, SlotRow, VerbId, VerbRow, Maps, Pair, LastSlot, Entry, an_object, a_property, a_slot, a_verb, a_petition, entry_taken, entries_taken, carried, property_row, dumped_slot, slot_line_put}
 use Rattle.moo_load.proofs.ReadBack.Lists.{counted}
 use Rattle.moo_load.proofs.ReadBack.Puts.{puts}
 
@@ -26,6 +8,10 @@ use Rattle.moo_load.proofs.ReadBack.Puts.{puts}
 abbrev pub row_in : Entry → Option (ObjNo × ObjRow)
 row_in (an_object x row) = Some (x, row)
 row_in e = None
+
+abbrev pub petition_in : Entry → Option (PetitionId × PetitionRow)
+petition_in (a_petition e) = Some e
+petition_in e = None
 
 abbrev pub property_in : Entry → Option Pair
 property_in (a_property x n) = Some (x, n)
@@ -50,86 +36,38 @@ abbrev pub above_all : ℕ → List (PetitionId × PetitionRow) → ℕ
 above_all n [] = n
 above_all n (e ∷ es) = above_all (max n (e.0.0 + 1)) es
 
--- ---- the first lines over
+-- the number after those of a list
+abbrev pub after : {A : Type 0} → ℕ → List A → ℕ
+after n [] = n
+after n (x ∷ l) = after (n + 1) l
 
-pub objects_taken : (es : List Entry) (m : Maps) → (entries_taken es m).objects ≡ puts (filter_map row_in es) m.objects
-objects_taken [] m = refl
-objects_taken (an_object x row ∷ es) m = objects_taken es (entry_taken (an_object x row) m)
-objects_taken (a_property x n ∷ es) m = objects_taken es (entry_taken (a_property x n) m)
-objects_taken (a_slot x p k ∷ es) m = objects_taken es m
-objects_taken (a_verb x v ∷ es) m = objects_taken es (entry_taken (a_verb x v) m)
-objects_taken (a_petition e ∷ es) m = objects_taken es (entry_taken (a_petition e) m)
+after_is : {A : Type 0} (n : ℕ) (l : List A) → after n l ≡ n + length l
+after_is n [] = omega arith
+after_is n (x ∷ l) = let h = after_is (n + 1) l in omega (arith, h)
 
-pub props_taken : (es : List Entry) (m : Maps) → (entries_taken es m).props ≡ puts (counted property_entry m.head.next_prop (filter_map property_in es)) m.props
-props_taken [] m = refl
-props_taken (an_object x row ∷ es) m = props_taken es (entry_taken (an_object x row) m)
-props_taken (a_property x n ∷ es) m = props_taken es (entry_taken (a_property x n) m)
-props_taken (a_slot x p k ∷ es) m = props_taken es m
-props_taken (a_verb x v ∷ es) m = props_taken es (entry_taken (a_verb x v) m)
-props_taken (a_petition e ∷ es) m = props_taken es (entry_taken (a_petition e) m)
+pub after_one : {A : Type 0} (l : List A) → after 1 l ≡ length l + 1
+after_one l = let h = after_is 1 l in omega (arith, h)
 
-pub verbs_taken : (es : List Entry) (m : Maps) → (entries_taken es m).verbs ≡ puts (counted verb_entry m.head.next_verb (filter_map verb_in es)) m.verbs
-verbs_taken [] m = refl
-verbs_taken (an_object x row ∷ es) m = verbs_taken es (entry_taken (an_object x row) m)
-verbs_taken (a_property x n ∷ es) m = verbs_taken es (entry_taken (a_property x n) m)
-verbs_taken (a_slot x p k ∷ es) m = verbs_taken es m
-verbs_taken (a_verb x v ∷ es) m = verbs_taken es (entry_taken (a_verb x v) m)
-verbs_taken (a_petition e ∷ es) m = verbs_taken es (entry_taken (a_petition e) m)
+-- the maps with the rows of entries, but for the slots
+abbrev pub rows_made : List Entry → Maps → Maps
+rows_made es m = record m {
+  head = record (m.head) {
+    next_prop = after m.head.next_prop (filter_map property_in es);
+    next_verb = after m.head.next_verb (filter_map verb_in es);
+    next_petition = above_all m.head.next_petition (filter_map petition_in es);
+  };
+  objects = puts (filter_map row_in es) m.objects;
+  props = puts (counted property_entry m.head.next_prop (filter_map property_in es)) m.props;
+  verbs = puts (counted verb_entry m.head.next_verb (filter_map verb_in es)) m.verbs;
+  petitions = puts (filter_map petition_in es) m.petitions;
+}
 
-pub petitions_taken : (es : List Entry) (m : Maps) → (entries_taken es m).petitions ≡ puts (filter_map petition_in es) m.petitions
-petitions_taken [] m = refl
-petitions_taken (an_object x row ∷ es) m = petitions_taken es (entry_taken (an_object x row) m)
-petitions_taken (a_property x n ∷ es) m = petitions_taken es (entry_taken (a_property x n) m)
-petitions_taken (a_slot x p k ∷ es) m = petitions_taken es m
-petitions_taken (a_verb x v ∷ es) m = petitions_taken es (entry_taken (a_verb x v) m)
-petitions_taken (a_petition e ∷ es) m = petitions_taken es (entry_taken (a_petition e) m)
-
-pub slots_stay : (es : List Entry) (m : Maps) → (entries_taken es m).slots ≡ m.slots
-slots_stay [] m = refl
-slots_stay (an_object x row ∷ es) m = slots_stay es (entry_taken (an_object x row) m)
-slots_stay (a_property x n ∷ es) m = slots_stay es (entry_taken (a_property x n) m)
-slots_stay (a_slot x p k ∷ es) m = slots_stay es m
-slots_stay (a_verb x v ∷ es) m = slots_stay es (entry_taken (a_verb x v) m)
-slots_stay (a_petition e ∷ es) m = slots_stay es (entry_taken (a_petition e) m)
-
--- the head after them
-pub record HeadTaken (es : List Entry) (m : Maps) : Type 0 where
-  pub seq : (entries_taken es m).head.seq ≡ m.head.seq
-  pub top : (entries_taken es m).head.top ≡ m.head.top
-  pub next_prop : (entries_taken es m).head.next_prop ≡ m.head.next_prop + length (filter_map property_in es)
-  pub next_verb : (entries_taken es m).head.next_verb ≡ m.head.next_verb + length (filter_map verb_in es)
-  pub next_petition : (entries_taken es m).head.next_petition ≡ above_all m.head.next_petition (filter_map petition_in es)
-
-one_more : (n m k : ℕ) → n ≡ m + 1 + k → n ≡ m + suc k
-one_more n m k e = omega arith
-
-none_more : (m : ℕ) → m ≡ m + 0
-none_more m = omega arith
-
-pub head_taken : (es : List Entry) (m : Maps) → HeadTaken es m
-head_taken [] m = record { seq = refl; top = refl; next_prop = none_more m.head.next_prop; next_verb = none_more m.head.next_verb; next_petition = refl }
-head_taken (an_object x row ∷ es) m =
-    let h = head_taken es (entry_taken (an_object x row) m) in
-    record { seq = h.seq; top = h.top; next_prop = h.next_prop; next_verb = h.next_verb; next_petition = h.next_petition }
-head_taken (a_property x n ∷ es) m =
-    let h = head_taken es (entry_taken (a_property x n) m) in
-    record { seq = h.seq; top = h.top; next_prop = one_more _ m.head.next_prop (length (filter_map property_in es)) h.next_prop; next_verb = h.next_verb; next_petition = h.next_petition }
-head_taken (a_slot x p k ∷ es) m =
-    let h = head_taken es m in
-    record { seq = h.seq; top = h.top; next_prop = h.next_prop; next_verb = h.next_verb; next_petition = h.next_petition }
-head_taken (a_verb x v ∷ es) m =
-    let h = head_taken es (entry_taken (a_verb x v) m) in
-    record { seq = h.seq; top = h.top; next_prop = h.next_prop; next_verb = one_more _ m.head.next_verb (length (filter_map verb_in es)) h.next_verb; next_petition = h.next_petition }
-head_taken (a_petition e ∷ es) m =
-    let h = head_taken es (entry_taken (a_petition e) m) in
-    record { seq = h.seq; top = h.top; next_prop = h.next_prop; next_verb = h.next_verb; next_petition = h.next_petition }
-
--- ---- the slots
+pub all_taken : (es : List Entry) (m : Maps) → entries_taken es m ≡ rows_made es m
+all_taken [] m = refl
+all_taken (an_object x row ∷ es) m = all_taken es (entry_taken (an_object x row) m)
+all_taken (e ∷ es) m = all_taken es (entry_taken e m)
 
 pub slots_taken : (number : Pair → PropId) (es : List Entry) (t : LastSlot × Maps) → (carried (slot_line_put number) es t).1 ≡ record (t.1) { slots = puts (filter_map (slot_in number) es) t.1.slots }
 slots_taken number [] t = refl
-slots_taken number (an_object x row ∷ es) t = slots_taken number es t
-slots_taken number (a_property x n ∷ es) t = slots_taken number es t
 slots_taken number (a_slot x p k ∷ es) t = slots_taken number es (slot_line_put number (a_slot x p k) t)
-slots_taken number (a_verb x v ∷ es) t = slots_taken number es t
-slots_taken number (a_petition e ∷ es) t = slots_taken number es t
+slots_taken number (e ∷ es) t = slots_taken number es t

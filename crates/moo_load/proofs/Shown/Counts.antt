@@ -1,27 +1,10 @@
 -- A dump has a line for each property and each verb.
-use Rattle.std.proofs.Common.{◌≡◌, ◌<◌, ◌≤◌, List, [], ◌∷◌, ◌++◌, length, map, Option, Some, None, ap, arith}
-use Rattle.std.specs.Prelude.{codes, unwrap_or}
-use Rattle.std.specs.Option.{option_map}
-use Rattle.std.specs.FinMap.{entries}
-use Rattle.std.specs.List.{flat_map}
-use Rattle.std.proofs.lemmas.List.{length-append, length-map}
-use Rattle.moo_value.specs.declared.value.ObjNo.{ObjNo}
-use Rattle.moo_rows.specs.declared.row.VerbRow.{VerbRow}
-use Rattle.moo_dump.specs.Dump.{heading, dump}
-use Rattle.moo_world.specs.Judge.{State}
-use Rattle.moo_world.specs.ObjectLists.{objects_of}
-use Rattle.moo_world.specs.Objects.{Pair}
-use Rattle.moo_world.specs.World.{World, Record, defined_by, owed_by, chain, directory_of}
-use Rattle.moo_load.specs.Entries.{Entry, an_object, a_property, a_slot, a_verb, a_petition, entry_text}
-use Rattle.moo_load.specs.RowsOf.{HasNumbers}
+use Rattle.moo_load.proofs.Words.{◌≡◌, ◌<◌, ◌≤◌, List, [], ◌∷◌, ◌++◌, length, map, Option, Some, None, ap, arith, codes, unwrap_or, option_map, entries, flat_map, length-append, length-map, ObjNo, VerbRow, heading, dump, State, objects_of, Pair, World, Record, defined_by, owed_by, chain, directory_of, Entry, an_object, a_property, a_verb, a_petition, entry_text, HasNumbers}
 use Rattle.moo_load.proofs.One.Entries.{owed_entry, record_entries, object_entries, entries_of, dump_is}
 
 some_text : (e : Entry) → 0 < length (entry_text e)
 some_text (an_object x row) = omega arith
-some_text (a_property x n) = omega arith
-some_text (a_slot x p s) = omega arith
-some_text (a_verb x v) = omega arith
-some_text (a_petition e) = omega arith
+some_text e = omega arith
 
 -- entries are no more than the bytes of their lines
 few_entries : (es : List Entry) → length es ≤ length (flat_map entry_text es)
@@ -37,32 +20,30 @@ no_longer f g each (x ∷ l) =
     omega (arith, one, rest, left, right)
 
 few_properties : (w : World) (x : ObjNo) → length (defined_by w x) ≤ length (object_entries w x)
-few_properties w x = by (w.object x)
-  where
-    by : (o : Option Record) → length {A = Pair} (map (λ n. (x, n)) (unwrap_or (option_map (λ (r : Record). r.defines) o) [])) ≤ length {A = Entry} (elim o [ None ↦ [] | Some r ↦ record_entries w x r ])
-    by None = omega arith
-    by (Some r) =
-        let rest = flat_map (owed_entry w x) (owed_by w (chain w x)) ++ map (a_verb x) r.verbs in
-        let a = length-append (map (a_property x) r.defines) rest in
-        let b = length-map r.defines (a_property x) in
-        let c : length {A = Pair} (map (λ n. (x, n)) r.defines) ≡ length r.defines = length-map r.defines (λ n. (x, n)) in
-        omega (arith, a, b, c)
+few_properties w x = elim (w.object x) as (λ (o : Option Record). length {A = Pair} (map (λ n. (x, n)) (unwrap_or (option_map (λ (r : Record). r.defines) o) [])) ≤ length {A = Entry} (elim o [ None ↦ [] | Some r ↦ record_entries w x r ])) [
+  | None ↦ omega arith
+  | Some r ↦
+      let rest = flat_map (owed_entry w x) (owed_by w (chain w x)) ++ map (a_verb x) r.verbs in
+      let a = length-append (map (a_property x) r.defines) rest in
+      let b = length-map r.defines (a_property x) in
+      let c : length {A = Pair} (map (λ n. (x, n)) r.defines) ≡ length r.defines = length-map r.defines (λ n. (x, n)) in
+      omega (arith, a, b, c)
+]
 
 abbrev verbs_of : World → ObjNo → List (ObjNo × VerbRow)
 verbs_of w x = map (λ v. (x, v)) (directory_of w x)
 
 few_verbs : (w : World) (x : ObjNo) → length (verbs_of w x) ≤ length (object_entries w x)
-few_verbs w x = by (w.object x)
-  where
-    by : (o : Option Record) → length {A = ObjNo × VerbRow} (map (λ v. (x, v)) (unwrap_or (option_map (λ (r : Record). r.verbs) o) [])) ≤ length {A = Entry} (elim o [ None ↦ [] | Some r ↦ record_entries w x r ])
-    by None = omega arith
-    by (Some r) =
-        let owed = flat_map (owed_entry w x) (owed_by w (chain w x)) in
-        let a = length-append (map (a_property x) r.defines) (owed ++ map (a_verb x) r.verbs) in
-        let b = length-append owed (map (a_verb x) r.verbs) in
-        let c = length-map r.verbs (a_verb x) in
-        let d : length {A = ObjNo × VerbRow} (map (λ v. (x, v)) r.verbs) ≡ length r.verbs = length-map r.verbs (λ v. (x, v)) in
-        omega (arith, a, b, c, d)
+few_verbs w x = elim (w.object x) as (λ (o : Option Record). length {A = ObjNo × VerbRow} (map (λ v. (x, v)) (unwrap_or (option_map (λ (r : Record). r.verbs) o) [])) ≤ length {A = Entry} (elim o [ None ↦ [] | Some r ↦ record_entries w x r ])) [
+  | None ↦ omega arith
+  | Some r ↦
+      let owed = flat_map (owed_entry w x) (owed_by w (chain w x)) in
+      let a = length-append (map (a_property x) r.defines) (owed ++ map (a_verb x) r.verbs) in
+      let b = length-append owed (map (a_verb x) r.verbs) in
+      let c = length-map r.verbs (a_verb x) in
+      let d : length {A = ObjNo × VerbRow} (map (λ v. (x, v)) r.verbs) ≡ length r.verbs = length-map r.verbs (λ v. (x, v)) in
+      omega (arith, a, b, c, d)
+]
 
 -- a state whose dump isn't too long has a number left for each property and each verb
 pub has_numbers : (s : State) → length (dump s) < 4294967295 → HasNumbers s

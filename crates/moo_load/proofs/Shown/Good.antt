@@ -1,46 +1,14 @@
 -- The rows of a state are good, and show the same state.
-use Rattle.std.proofs.Common.{◌≡◌, ℕ, ◌<◌, ◌≤◌, Bool, true, false, cond, ◌&&◌, List, Option, Some, None, refl, sym, ap, subst, ◌∙◌, arith}
-use Rattle.std.specs.Prelude.{is_some}
-use Rattle.std.specs.Option.{option_map, option_and_then}
-use Rattle.std.specs.FinMap.{FinMap, get}
-use Rattle.std.proofs.lemmas.Bool.{false≢true}
-use Rattle.std.proofs.lemmas.Option.{none-some, same_Some}
-use Rattle.moo_value.specs.declared.value.ObjNo.{ObjNo}
-use Rattle.moo_rows.specs.declared.row.PetitionRow.{PetitionRow}
-use Rattle.moo_rows.specs.declared.row.PropRow.{PropRow}
-use Rattle.moo_rows.specs.declared.row.SlotRow.{SlotRow}
-use Rattle.moo_rows.specs.declared.row.VerbRow.{VerbRow}
-use Rattle.moo_rows.specs.Maps.{Maps, petition_cmp}
-use Rattle.moo_world.specs.Judge.{State, state_of}
-use Rattle.moo_world.specs.Objects.{Name, Pair, same_object, folded, same_object-Decides, same_text-Decides}
+use Rattle.moo_load.proofs.Words.{◌≡◌, ℕ, ◌<◌, ◌≤◌, true, List, Some, sym, ap, subst, ◌∙◌, arith, is_some, option_map, FinMap, get, same_Some, ObjNo, PetitionRow, PropRow, SlotRow, VerbRow, Maps, petition_cmp, State, state_of, Pair, same_object, folded, same_object-Decides, same_text-Decides, IsFormed, world_of, world_shown, prop_id, verb_id, World, Record, Slot, IsWellFormed, is_object, slot_of, chain, dump, AreTheSame, all_properties, all_verbs, at_number, property_row, slot_of_property, verb_on, HasNumbers, AreRowsOf, both_true, directory_of, names_of, objects_of, some_of}
 use Rattle.moo_world.specs.Petitions.{PetitionsStand}
-use Rattle.moo_world.specs.Requests.{IsFormed}
-use Rattle.moo_world.specs.Rows.{IsSound, IsGood, world_of, world_shown, prop_id, verb_id}
-use Rattle.moo_world.specs.World.{World, Record, Slot, IsWellFormed, is_object, slot_of, chain}
-use Rattle.moo_dump.specs.Dump.{dump}
-use Rattle.moo_load.specs.OneState.{AreTheSame}
-use Rattle.moo_load.specs.RowsOf.{all_properties, all_verbs, at_number, property_row, slot_of_property, verb_on, HasNumbers, AreRowsOf}
-use Rattle.moo_load.proofs.Shown.Lists.{given, of_number, one_number}
-use Rattle.moo_load.proofs.Shown.Look.{of_property, object_is}
-use Rattle.moo_load.proofs.Shown.Objects.{alike, definers_are, holders_are, properties_differ}
+use Rattle.moo_world.specs.Rows.{IsSound, IsGood}
+use Rattle.moo_load.proofs.Shown.Lists.{given}
+use Rattle.moo_load.proofs.ReadBack.Lists.{one_number, found_in, made_of, numbered_stands, of_all, of_holders, passed}
+use Rattle.moo_load.proofs.ReadBack.Said.{of_property, slot_object}
+use Rattle.moo_load.proofs.Shown.Look.{object_is}
+use Rattle.moo_load.proofs.ReadBack.Numbers.{alike, properties_differ, objects_are}
 
--- what is made of something is made of a thing
-made_of : {A B : Type 0} (f : A → B) (o : Option A) (b : B) → option_map f o ≡ Some b → (a : A) × (o ≡ Some a) × (f a ≡ b)
-made_of f None b e = absurd (none-some b e)
-made_of f (Some a) b e = (a, refl, same_Some (f a) b e)
-
-found_in : {A B : Type 0} (f : A → Option B) (o : Option A) (b : B) → option_and_then f o ≡ Some b → (a : A) × (o ≡ Some a) × (f a ≡ Some b)
-found_in f None b e = absurd (none-some b e)
-found_in f (Some a) b e = (a, refl, e)
-
-there_is : {A : Type 0} (o : Option A) → is_some o ≡ true → (a : A) × (o ≡ Some a)
-there_is None e = absurd (false≢true e)
-there_is (Some a) e = (a, refl)
-
-both : {a b : Bool} → a ≡ true → b ≡ true → (a && b) ≡ true
-both e h = λ i. e i && h i
-
-module _ (s : State) (formed : IsFormed s) (numbers : HasNumbers s) (m : Maps) (rows : AreRowsOf s m) where
+module _ (s : State) (formed : IsFormed s) (m : Maps) (rows : AreRowsOf s m) where
   abbrev w : World
   w = s.world
 
@@ -58,62 +26,52 @@ module _ (s : State) (formed : IsFormed s) (numbers : HasNumbers s) (m : Maps) (
   of_row x id row e = found_in (slot_of_property w x) (at_number ps id) row (sym (rows.slots x (prop_id id)) ∙ e)
 
   has_row : (x : ObjNo) → is_object w x ≡ true → is_some (get m.objects x) ≡ true
-  has_row x there = let r = there_is (w.object x) there in ap is_some (rows.objects x ∙ ap (option_map (λ (k : Record). k.row)) r.1)
-
-  holds_slot : (x : ObjNo) (n : Name) (k : Slot) → slot_of w x n ≡ Some k → is_object w x ≡ true
-  holds_slot x n k e = let r = found_in (λ (k : Record). k.slot n) (w.object x) k e in ap is_some r.1
+  has_row x there = let r = some_of (w.object x) there in ap is_some (rows.objects x ∙ ap (option_map (λ (k : Record). k.row)) r.1)
 
   one_name : (x : ObjNo) (i j : ℕ) (p q : PropRow) → is_some (get m.slots (x, prop_id i)) ≡ true → is_some (get m.slots (x, prop_id j)) ≡ true → get m.props (prop_id i) ≡ Some p → get m.props (prop_id j) ≡ Some q → folded p.name ≡ folded q.name → i ≡ j
   one_name x i j p q e f g h same =
-      let a = there_is (get m.slots (x, prop_id i)) e in
-      let b = there_is (get m.slots (x, prop_id j)) f in
+      let a = some_of (get m.slots (x, prop_id i)) e in
+      let b = some_of (get m.slots (x, prop_id j)) f in
       let c = of_row x i a.0 a.1 in
       let d = of_row x j b.0 b.1 in
-      let u = of_property s formed.world m rows x c.0 a.0 c.2 in
-      let v = of_property s formed.world m rows x d.0 b.0 d.2 in
+      let u = of_property w x c.0 a.0 c.2 in
+      let v = of_property w x d.0 b.0 d.2 in
       let first : c.0.1 ≡ p.name = let o = of_prop i p g in ap (λ (r : Pair). r.1) (same_Some c.0 o.0 (sym c.1 ∙ o.1)) ∙ ap (λ (r : PropRow). r.name) o.2 in
       let second : d.0.1 ≡ q.name = let o = of_prop j q h in ap (λ (r : Pair). r.1) (same_Some d.0 o.0 (sym d.1 ∙ o.1)) ∙ ap (λ (r : PropRow). r.name) o.2 in
       let names : folded c.0.1 ≡ folded d.0.1 = ap folded first ∙ same ∙ sym (ap folded second) in
       let one : u.0 ≡ v.0 = same_Some u.0 v.0 (sym u.1 ∙ ap (slot_of w x) names ∙ v.1) in
       let definers : c.0.0 ≡ d.0.0 = sym u.2 ∙ ap (λ (k : Slot). k.definer) one ∙ v.2 in
       one_number alike ps (properties_differ w formed.world) i j c.0 d.0 c.1 d.1
-      (both ((same_object-Decides c.0.0 d.0.0).1 definers) ((same_text-Decides (folded c.0.1) (folded d.0.1)).1 names))
-      (both ((same_object-Decides d.0.0 c.0.0).1 (sym definers)) ((same_text-Decides (folded d.0.1) (folded c.0.1)).1 (sym names)))
+      (both_true _ _ ((same_object-Decides c.0.0 d.0.0).1 definers) ((same_text-Decides (folded c.0.1) (folded d.0.1)).1 names))
+      (both_true _ _ ((same_object-Decides d.0.0 c.0.0).1 (sym definers)) ((same_text-Decides (folded d.0.1) (folded c.0.1)).1 (sym names)))
 
   sound : IsSound m
   sound = record {
     props_below = λ id there.
-        let p = there_is (get m.props (prop_id id)) there in
+        let p = some_of (get m.props (prop_id id)) there in
         let q = of_prop id p.0 p.1 in
         let g = given ps id q.0 q.1 in
         (g.0, subst (λ (n : ℕ). id < n) (sym rows.next_prop) g.1);
     definers = λ id p e.
         let q = of_prop id p e in
-        subst (λ (d : ObjNo). is_some (get m.objects d) ≡ true) (ap (λ (r : PropRow). r.definer) q.2) (has_row q.0.0 (of_number (λ (r : Pair). is_object w r.0 ≡ true) ps (definers_are w) id q.0 q.1));
+        subst (λ (d : ObjNo). is_some (get m.objects d) ≡ true) (ap (λ (r : PropRow). r.definer) q.2) (has_row q.0.0 (of_all (λ (r : Pair). is_object w r.0 ≡ true) ps q.0 (of_holders (names_of w) (λ r. is_object w r.0 ≡ true) (objects_of w) (λ x s n h. of_all (λ x. is_object w x ≡ true) (objects_of w) x (objects_are w) s)) (numbered_stands ps id q.0 q.1)));
     slots = λ x id there.
-        let r = there_is (get m.slots (x, prop_id id)) there in
+        let r = some_of (get m.slots (x, prop_id id)) there in
         let q = of_row x id r.0 r.1 in
-        let k = of_property s formed.world m rows x q.0 r.0 q.2 in
-        (has_row x (holds_slot x (folded q.0.1) k.0 k.1), ap is_some (rows.props (prop_id id) ∙ ap (option_map property_row) q.1));
+        let k = of_property w x q.0 r.0 q.2 in
+        (has_row x (slot_object w x (folded q.0.1) k.0 k.1), ap is_some (rows.props (prop_id id) ∙ ap (option_map property_row) q.1));
     one_name = one_name;
     verbs = λ x id there.
-        let r = there_is (get m.verbs (x, verb_id id)) there in
+        let r = some_of (get m.verbs (x, verb_id id)) there in
         let v = found_in (verb_on x) (at_number (all_verbs w) id) r.0 (sym (rows.verbs x (verb_id id)) ∙ r.1) in
         let g = given (all_verbs w) id v.0 v.1 in
-        (has_row x (holder x v.0 r.0 v.2 (of_number (λ (e : ObjNo × VerbRow). is_object w e.0 ≡ true) (all_verbs w) (holders_are w) id v.0 v.1)), g.0, subst (λ (n : ℕ). id < n) (sym rows.next_verb) g.1);
+        (has_row x (ap (is_object w) ((same_object-Decides x v.0.0).0 (passed (same_object x v.0.0) v.0.1 r.0 v.2).0) ∙ of_all (λ (e : ObjNo × VerbRow). is_object w e.0 ≡ true) (all_verbs w) v.0 (of_holders (directory_of w) (λ e. is_object w e.0 ≡ true) (objects_of w) (λ x s n h. of_all (λ x. is_object w x ≡ true) (objects_of w) x (objects_are w) s)) (numbered_stands (all_verbs w) id v.0 v.1)), g.0, subst (λ (n : ℕ). id < n) (sym rows.next_verb) g.1);
   }
-    where
-      holder : (x : ObjNo) (e : ObjNo × VerbRow) (v : VerbRow) → verb_on x e ≡ Some v → is_object w e.0 ≡ true → is_object w x ≡ true
-      holder x e v on there = by (same_object x e.0) refl on
-        where
-          by : (b : Bool) → same_object x e.0 ≡ b → cond b (Some e.1) None ≡ Some v → is_object w x ≡ true
-          by true h k = ap (is_object w) ((same_object-Decides x e.0).0 h) ∙ there
-          by false h k = absurd (none-some v k)
 
   -- ---- the same state
 
   objects : (world_of m).object ≡ w.object
-  objects = λ i x. object_is s formed.world m rows x i
+  objects = λ i x. object_is s formed m rows x i
 
   pub same_state : AreTheSame (state_of m) s
   unfolding world_shown
@@ -129,8 +87,8 @@ module _ (s : State) (formed : IsFormed s) (numbers : HasNumbers s) (m : Maps) (
   unfolding world_shown
   world_is = λ i. record { object = sym objects i; top = sym rows.top i; next_prop = m.head.next_prop; next_verb = m.head.next_verb }
 
-  still_formed : IsWellFormed counted
-  still_formed =
+  still_formed : HasNumbers s → IsWellFormed counted
+  still_formed numbers =
       let wf = formed.world in
       let some_prop : 0 < m.head.next_prop = omega (arith, rows.next_prop) in
       let last_prop : m.head.next_prop ≤ 4294967295 = omega (arith, rows.next_prop, numbers.properties) in
@@ -165,8 +123,8 @@ module _ (s : State) (formed : IsFormed s) (numbers : HasNumbers s) (m : Maps) (
         counter = (next.some, last);
       })
 
-  pub good_rows : IsGood m
-  good_rows = record { sound = sound; formed = subst IsWellFormed world_is still_formed; petitions = petitions }
+  pub good_rows : HasNumbers s → IsGood m
+  good_rows numbers = record { sound = sound; formed = subst IsWellFormed world_is (still_formed numbers); petitions = petitions }
 
 -- ---- dumps
 

@@ -1,8 +1,6 @@
-use Rattle.std.proofs.Common.{◌≡◌, ◌+◌, ℤ, pos, negsuc, ◌≤ℤ◌, ℕ, List, ◌∷◌, ◌++◌, length, drop, refl, sym, ap, subst, ◌∙◌, w32, to_z, of_z, arith}
+use Rattle.moo_load.proofs.Words.{◌≡◌, ◌+◌, ℤ, pos, negsuc, ◌≤ℤ◌, ℕ, List, ◌∷◌, ◌++◌, length, drop, refl, sym, ap, subst, ◌∙◌, arith, err_from_is_err_and, heading, State}
+use Rattle.std.proofs.Common.{w32, to_z, of_z}
 use Rattle.std.proofs.lemmas.Int.{to_z-of_z}
-use Rattle.std.proofs.lemmas.Result.{err_from_is_err_and}
-use Rattle.moo_dump.specs.Dump.{heading}
-use Rattle.moo_world.specs.Judge.{State}
 use Rattle.moo_load.proofs.Headed.{top_of, seq_line, top_line, seq_plain, top_plain, lines_are, after_line}
 use Rattle.moo_load.proofs.Within.{none_read}
 use Rattle.moo_load.proofs.heading.read_heading.Goals as goal

@@ -1,8 +1,5 @@
-use Rattle.std.proofs.Common.{◌≡◌, ℕ, pos, sym, ap, ◌∙◌}
-use Rattle.std.proofs.lemmas.Result.{err_from_is_err_and}
-use Rattle.moo_value.specs.declared.value.Value.TheVariants.{Int}
+use Rattle.moo_load.proofs.Words.{◌≡◌, ℕ, pos, sym, ap, ◌∙◌, err_from_is_err_and, Int, IfErr-weaker, IfOk-weaker}
 use Rattle.moo_load.proofs.Headed.{count_fits}
-use Rattle.moo_load.proofs.OnResults.{if_ok, if_err}
 use Rattle.moo_load.proofs.One.Values.{integer_in, size_in}
 use Rattle.moo_load.proofs.heading.seq_of.Goals as goal
 
@@ -15,7 +12,7 @@ returns-in_err-value-clause-err c =
     rw p.1 (λ unreadable n limit same. c.in_err-value.ensures.err (sym p.2 ∙ unreadable) (Int (pos n)) (count_fits n limit) same)
 
 pub returns-clause-ok : goal.returns-clause-ok
-returns-clause-ok c = if_ok c.count_of.result (λ seq is n limit same. one_count seq n (sym is ∙ c.in_ok-value.ensures.ok (Int (pos n)) (count_fits n limit) same)) c.count_of.ensures.ok
+returns-clause-ok c = IfOk-weaker c.count_of.result _ _ (λ seq is n limit same. one_count seq n (sym is ∙ c.in_ok-value.ensures.ok (Int (pos n)) (count_fits n limit) same)) c.count_of.ensures.ok
 
 pub returns-clause-err : goal.returns-clause-err
-returns-clause-err c = if_err c.count_of.result (λ fault none unreadable n limit same. none n (c.in_ok-value.ensures.ok (Int (pos n)) (count_fits n limit) same)) c.count_of.ensures.err
+returns-clause-err c = IfErr-weaker c.count_of.result _ _ (λ fault none unreadable n limit same. none n (c.in_ok-value.ensures.ok (Int (pos n)) (count_fits n limit) same)) c.count_of.ensures.err

@@ -1,9 +1,5 @@
-use Rattle.std.proofs.Common.{◌≡◌, sym, ap, ◌∙◌}
-use Rattle.std.proofs.lemmas.Result.{err_from_is_err_and}
-use Rattle.moo_value.specs.declared.value.ObjNo.{ObjNo}
-use Rattle.moo_value.specs.declared.value.Value.TheVariants.{Obj}
+use Rattle.moo_load.proofs.Words.{◌≡◌, sym, ap, ◌∙◌, err_from_is_err_and, ObjNo, Obj, IfErr-weaker, IfOk-weaker}
 use Rattle.moo_load.proofs.Headed.{assigned_fits}
-use Rattle.moo_load.proofs.OnResults.{if_ok, if_err}
 use Rattle.moo_load.proofs.One.Values.{object_in}
 use Rattle.moo_load.proofs.heading.top_of.Goals as goal
 
@@ -16,7 +12,7 @@ returns-in_err-value-clause-err c =
     rw p.1 (λ unreadable x low high same. c.in_err-value.ensures.err (sym p.2 ∙ unreadable) (Obj x) (assigned_fits x low high) same)
 
 pub returns-clause-ok : goal.returns-clause-ok
-returns-clause-ok c = if_ok c.assigned_of.result (λ top is x low high same. one_number (record { 0 = top }) x (sym is ∙ c.in_ok-value.ensures.ok (Obj x) (assigned_fits x low high) same)) c.assigned_of.ensures.ok
+returns-clause-ok c = IfOk-weaker c.assigned_of.result _ _ (λ top is x low high same. one_number (record { 0 = top }) x (sym is ∙ c.in_ok-value.ensures.ok (Obj x) (assigned_fits x low high) same)) c.assigned_of.ensures.ok
 
 pub returns-clause-err : goal.returns-clause-err
-returns-clause-err c = if_err c.assigned_of.result (λ fault none unreadable x low high same. none x low (c.in_ok-value.ensures.ok (Obj x) (assigned_fits x low high) same)) c.assigned_of.ensures.err
+returns-clause-err c = IfErr-weaker c.assigned_of.result _ _ (λ fault none unreadable x low high same. none x low (c.in_ok-value.ensures.ok (Obj x) (assigned_fits x low high) same)) c.assigned_of.ensures.err

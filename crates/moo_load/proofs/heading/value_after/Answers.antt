@@ -1,10 +1,5 @@
-use Rattle.std.proofs.Common.{◌≡◌, ℕ, Result, Ok, Err, List, ◌++◌, sym, ap, subst, ◌∙◌}
-use Rattle.std.proofs.lemmas.List.{append_cancel_left}
-use Rattle.std.proofs.lemmas.Result.{err_from_is_err_and}
-use Rattle.moo_value.specs.declared.fault.LiteralFault.{LiteralFault}
-use Rattle.moo_value.specs.declared.value.Value.{Value}
-use Rattle.moo_value.specs.Literal.{Fits, Spells, print}
-use Rattle.moo_value.proofs.Printed.{spelled}
+use Rattle.moo_load.proofs.Words.{◌≡◌, ℕ, Result, Ok, Err, List, ◌++◌, sym, ap, subst, ◌∙◌, append_cancel_left, err_from_is_err_and, LiteralFault, Value, Fits, print, spelled}
+use Rattle.moo_value.specs.Literal.{Spells}
 use Rattle.moo_load.proofs.Listed.{refused}
 use Rattle.moo_load.proofs.heading.value_after.Goals as goal
 

@@ -1,6 +1,4 @@
-use Rattle.std.proofs.Common.{◌≡◌, ℕ, List, ◌++◌, length, take, drop, refl, sym, ap, ◌∙◌, take-append-drop}
-use Rattle.std.proofs.lemmas.List.{take_at}
-use Rattle.std.proofs.lemmas.Bool.{false≢true}
+use Rattle.moo_load.proofs.Words.{◌≡◌, ℕ, List, ◌++◌, length, take, drop, refl, sym, ap, ◌∙◌, take-append-drop, take_at, false≢true}
 use lib.Pointwise.{bytes_decides}
 use Rattle.moo_load.proofs.line.after.Goals as goal
 

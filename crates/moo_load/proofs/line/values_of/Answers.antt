@@ -1,11 +1,4 @@
-use Rattle.std.proofs.Common.{rules, ◌≡◌, false, ◌∷◌, List, ◌-◌, [], ◌++◌, length, take, drop, sym, ◌∙◌, subst}
-use Rattle.std.proofs.lemmas.Bool.{false≢true}
-use Rattle.std.proofs.lemmas.List.{take_rest}
-use Rattle.std.specs.Str.{bytes_eq}
-use Rattle.std.proofs.lemmas.Result.{err_from_is_err_and}
-use Rattle.std.proofs.lemmas.Slice.Eq.{bytes_eq-Decides}
-use Rattle.moo_value.specs.Literal.{print}
-use Rattle.moo_value.specs.declared.value.Value.{Value}
+use Rattle.moo_load.proofs.Words.{rules, ◌≡◌, false, ◌∷◌, List, ◌-◌, [], ◌++◌, length, take, drop, sym, ◌∙◌, subst, false≢true, take_rest, bytes_eq, err_from_is_err_and, bytes_eq-Decides, print, Value}
 use Rattle.moo_load.proofs.Listed.{next_front, refused, last_read, one_more, no_other, left_first, Left}
 use Rattle.moo_load.proofs.line.values_of.Goals as goal
 

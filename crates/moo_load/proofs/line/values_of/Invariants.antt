@@ -1,6 +1,5 @@
-use Rattle.std.proofs.Common.{List, ◌∷◌, length}
+use Rattle.moo_load.proofs.Words.{List, ◌∷◌, length, ArePrinted}
 use Rattle.moo_value.specs.declared.value.Value.{Value as A}
-use Rattle.moo_load.specs.Printed.{ArePrinted}
 use Rattle.moo_load.proofs.Listed.{Left}
 use Rattle.moo_load.proofs.line.values_of.Given as goal
 

@@ -1,6 +1,4 @@
-use Rattle.std.proofs.Common.{List, ℕ, ◌<◌, length, sym, subst, ◌∙◌}
-use Rattle.std.proofs.lemmas.Result.{err_from_is_err_and}
-use Rattle.moo_world.specs.Judge.{state_of}
+use Rattle.moo_load.proofs.Words.{List, ℕ, ◌<◌, length, sym, subst, ◌∙◌, err_from_is_err_and, state_of}
 use Rattle.moo_load.proofs.Shown.Counts.{has_numbers}
 use Rattle.moo_load.proofs.loading.read_dump.Goals as goal
 

@@ -1,12 +1,4 @@
-use Rattle.std.proofs.Common.{◌≡◌, true, sym, ◌∙◌, subst, rules}
-use Rattle.std.specs.Prelude.{◌&&◌}
-use Rattle.std.specs.List.{list_all}
-use Rattle.moo_value.specs.declared.value.Value.TheVariants.{List as a_list}
-use Rattle.moo_value.specs.Literal.{Fits}
-use Rattle.moo_value.specs.Value.{spread}
-use Rattle.moo_value.specs.Values.{Values}
-use Rattle.moo_world.specs.Arguments.{all_within_limits}
-use Rattle.moo_world.specs.Petitions.{is_named, are_few, are_shallow}
+use Rattle.moo_load.proofs.Words.{◌≡◌, true, sym, ◌∙◌, subst, rules, ◌&&◌, list_all, a_list, Fits, spread, Values, all_within_limits, is_named, are_few, are_shallow}
 use Rattle.moo_load.proofs.Held.{calls_held}
 use Rattle.moo_load.proofs.petition.calls_of.Goals as goal
 

@@ -1,5 +1,4 @@
-use Rattle.std.proofs.Common.{◌≡◌, ◌+◌, take}
-use Rattle.moo_load.specs.Lines.{line_ends}
+use Rattle.moo_load.proofs.Words.{◌≡◌, ◌+◌, take, line_ends}
 use Rattle.moo_load.proofs.place.line_at.Given as goal
 
 abbrev pub invariant-loop-byte : goal.invariant-loop-byte

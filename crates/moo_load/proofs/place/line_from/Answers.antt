@@ -1,8 +1,4 @@
-use Rattle.std.proofs.Common.{rules, ◌≡◌, ◌-◌, ◌∷◌, ℕ, Some, None, length, take, drop, refl, sym, ap, ◌∙◌}
-use Rattle.std.specs.Prelude.{◌==◌}
-use Rattle.std.specs.List.{position_from}
-use Rattle.std.proofs.lemmas.List.{take_at, take_rest}
-use Rattle.std.proofs.lemmas.Option.{none-some, same_Some}
+use Rattle.moo_load.proofs.Words.{rules, ◌≡◌, ◌-◌, ◌∷◌, ℕ, Some, None, length, take, drop, refl, sym, ap, ◌∙◌, ◌==◌, position_from, take_at, take_rest, none-some, same_Some}
 use Rattle.moo_load.proofs.Ends.{first_end}
 use Rattle.moo_load.proofs.place.line_from.Goals as goal
 

@@ -1,6 +1,4 @@
-use Rattle.std.proofs.Common.{◌≡◌, ap, ◌∙◌}
-use Rattle.std.proofs.lemmas.Result.{err_from_is_err_and}
-use Rattle.moo_rows.specs.Maps.{Held, Maps, no_maps}
+use Rattle.moo_load.proofs.Words.{◌≡◌, ap, ◌∙◌, err_from_is_err_and, Held, Maps, no_maps}
 use Rattle.moo_load.proofs.One.Entries.{entries_of}
 use Rattle.moo_load.proofs.ReadBack.Dumped.{lines, text_is, fit, number_by, numbers_are, slots_are_next, all_read}
 use Rattle.moo_load.proofs.reading.read_rows.Goals as goal

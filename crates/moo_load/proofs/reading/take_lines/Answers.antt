@@ -1,9 +1,4 @@
-use Rattle.std.proofs.Common.{◌+◌, List, ℕ, length, drop, sym, subst, ◌∙◌, arith}
-use Rattle.std.proofs.lemmas.Bool.{false≢true}
-use Rattle.std.proofs.lemmas.List.{drop-drop}
-use Rattle.std.proofs.lemmas.Result.{err_from_is_err_and}
-use Rattle.moo_rows.specs.Maps.{Maps}
-use Rattle.moo_load.specs.Entries.{NumberIsLeft, entry_taken}
+use Rattle.moo_load.proofs.Words.{◌+◌, List, ℕ, length, drop, sym, subst, ◌∙◌, arith, false≢true, drop-drop, err_from_is_err_and, Maps, NumberIsLeft, entry_taken}
 use Rattle.moo_load.proofs.Ahead.{Ahead, Nothing, nothing_needed, all_ahead, some_line, at_end, not_refused, one_taken}
 use Rattle.moo_load.proofs.reading.take_lines.Goals as goal
 

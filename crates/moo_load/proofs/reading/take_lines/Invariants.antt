@@ -1,8 +1,4 @@
-use Rattle.std.proofs.Common.{◌≡◌, ◌≤◌, ◌-◌, List, length, drop}
-use Rattle.std.specs.List.{AllByRecursion}
-use Rattle.moo_rows.specs.Maps.{Maps}
-use Rattle.moo_load.specs.Entries.{Entry, EntryFits, NumberIsLeft, entry_lines, entry_taken}
-use Rattle.moo_load.specs.Rows.{AreRead}
+use Rattle.moo_load.proofs.Words.{◌≡◌, ◌≤◌, ◌-◌, List, length, drop, AllByRecursion, Maps, Entry, EntryFits, NumberIsLeft, entry_lines, entry_taken, AreRead}
 use Rattle.moo_load.proofs.Ahead.{Ahead, Nothing}
 use Rattle.moo_load.proofs.reading.take_lines.Given as goal
 

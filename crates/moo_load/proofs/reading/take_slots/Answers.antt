@@ -1,10 +1,4 @@
-use Rattle.std.proofs.Common.{◌+◌, List, ℕ, length, drop, sym, ap, subst, ◌∙◌, arith}
-use Rattle.std.proofs.lemmas.Bool.{false≢true}
-use Rattle.std.proofs.lemmas.List.{drop-drop}
-use Rattle.std.proofs.lemmas.Result.{err_from_is_err_and}
-use Rattle.moo_rows.specs.Maps.{Maps}
-use Rattle.moo_load.specs.declared.taking.LastSlot.{LastSlot}
-use Rattle.moo_load.specs.Slots.{no_slot, SlotIsNext, slot_line_put}
+use Rattle.moo_load.proofs.Words.{◌+◌, List, ℕ, length, drop, sym, ap, subst, ◌∙◌, arith, false≢true, drop-drop, err_from_is_err_and, Maps, LastSlot, no_slot, SlotIsNext, slot_line_put}
 use Rattle.moo_load.proofs.Ahead.{Ahead, Nothing, nothing_needed, all_ahead, some_line, at_end, not_refused, one_taken}
 use Rattle.moo_load.proofs.reading.take_slots.Goals as goal
 

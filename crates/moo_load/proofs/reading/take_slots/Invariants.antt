@@ -1,12 +1,4 @@
-use Rattle.std.proofs.Common.{◌≡◌, ◌≤◌, ◌-◌, List, length, drop}
-use Rattle.std.specs.List.{AllByRecursion}
-use Rattle.moo_rows.specs.declared.row.PropId.{PropId}
-use Rattle.moo_rows.specs.Maps.{Maps}
-use Rattle.moo_world.specs.Objects.{Pair}
-use Rattle.moo_load.specs.declared.taking.LastSlot.{LastSlot}
-use Rattle.moo_load.specs.Entries.{Entry, EntryFits, EachHas, entry_lines}
-use Rattle.moo_load.specs.Rows.{AreRead}
-use Rattle.moo_load.specs.Slots.{no_slot, SlotIsNext, slot_line_put}
+use Rattle.moo_load.proofs.Words.{◌≡◌, ◌≤◌, ◌-◌, List, length, drop, AllByRecursion, PropId, Maps, Pair, LastSlot, Entry, EntryFits, EachHas, entry_lines, AreRead, no_slot, SlotIsNext, slot_line_put}
 use Rattle.moo_load.proofs.Ahead.{Ahead, Nothing}
 use Rattle.moo_load.proofs.reading.take_slots.Given as goal
 

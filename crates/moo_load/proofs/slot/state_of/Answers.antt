@@ -1,7 +1,4 @@
-use Rattle.std.proofs.Common.{ap, ◌∙◌, rules}
-use Rattle.moo_value.specs.Literal.{Fits}
-use Rattle.moo_world.specs.Arguments.{fits}
-use Rattle.moo_world.proofs.Form.Ranges.{fits_of}
+use Rattle.moo_load.proofs.Words.{ap, ◌∙◌, rules, Fits, fits, fits_of}
 use Rattle.moo_load.proofs.slot.state_of.Goals as goal
 
 pub returns-in_ok-value-in-Int-2-clause-fits : goal.returns-in_ok-value-in-Int-2-clause-fits

@@ -1,14 +1,4 @@
-use Rattle.std.proofs.Common.{rules, ◌≡◌, false, Some, None, sym, ap, subst, ◌∙◌}
-use Rattle.std.specs.FinMap.{get}
-use Rattle.std.specs.Str.{bytes_eq}
-use Rattle.std.proofs.lemmas.Bool.{false≢true}
-use Rattle.std.proofs.lemmas.Option.{none-some, same_Some}
-use Rattle.std.proofs.lemmas.Slice.Eq.{bytes_eq-Decides}
-use Rattle.moo_rows.specs.declared.row.PropId.{PropId}
-use Rattle.moo_rows.specs.declared.row.PropRow.{PropRow}
-use Rattle.moo_rows.specs.Links.{IsFirst, is_definer}
-use Rattle.moo_rows.specs.Maps.{prop_cmp}
-use Rattle.moo_load.specs.RowsOf.{property_row}
+use Rattle.moo_load.proofs.Words.{rules, ◌≡◌, false, Some, None, sym, ap, subst, ◌∙◌, get, bytes_eq, false≢true, none-some, same_Some, bytes_eq-Decides, PropId, PropRow, IsFirst, is_definer, prop_cmp, property_row}
 use Rattle.moo_load.proofs.NextOne.{one_first}
 use Rattle.moo_load.proofs.taking.property_of.Goals as goal
 

@@ -1,8 +1,5 @@
-use Rattle.std.proofs.Common.{sym, subst, ◌∙◌}
-use Rattle.moo_rows.specs.Maps.{Held}
-use Rattle.moo_load.specs.Rows.{AreRead}
+use Rattle.moo_load.proofs.Words.{sym, subst, ◌∙◌, Held, AreRead, with_object}
 use Rattle.moo_load.proofs.Within.{object_put}
-use Rattle.moo_rows.specs.Maps.{with_object}
 use Rattle.moo_load.proofs.One.Values.{one_object}
 use Rattle.moo_load.proofs.taking.take_object.Goals as goal
 

@@ -1,9 +1,5 @@
-use Rattle.std.proofs.Common.{◌≡◌, ◌+◌, ap, sym, subst, ◌∙◌, refl, arith}
-use Rattle.moo_rows.specs.declared.row.Head.{Head}
-use Rattle.moo_rows.specs.Maps.{Held}
-use Rattle.moo_load.specs.Rows.{AreRead}
+use Rattle.moo_load.proofs.Words.{◌≡◌, ◌+◌, ap, sym, subst, ◌∙◌, refl, arith, Head, Held, AreRead, insert}
 use Rattle.moo_load.proofs.Within.{property_put, counted, IsNext}
-use Rattle.std.specs.FinMap.{insert}
 use Rattle.moo_load.proofs.One.Values.{one_property}
 use Rattle.moo_load.proofs.taking.take_property.Goals as goal
 

@@ -1,17 +1,4 @@
-use Rattle.std.proofs.Common.{◌≡◌, refl, sym, ap, subst, ◌∙◌}
-use Rattle.std.proofs.lemmas.Option.{none-some, same_Some}
-use Rattle.std.proofs.lemmas.Result.{err_from_is_err_and}
-use Rattle.moo_value.specs.declared.value.ObjNo.{ObjNo}
-use Rattle.moo_rows.specs.declared.row.PropId.{PropId}
-use Rattle.moo_rows.specs.declared.row.SlotRow.{SlotRow}
-use Rattle.moo_rows.specs.Maps.{Held, Maps, with_slot}
-use Rattle.moo_world.specs.Objects.{Name, Pair}
-use Rattle.moo_world.specs.World.{Slot}
-use Rattle.moo_load.specs.declared.taking.LastSlot.{LastSlot}
-use Rattle.moo_load.specs.Printed.{slot_values}
-use Rattle.moo_load.specs.Rows.{AreRead}
-use Rattle.moo_load.specs.RowsOf.{dumped_slot}
-use Rattle.moo_load.specs.Slots.{IsNextProperty}
+use Rattle.moo_load.proofs.Words.{◌≡◌, refl, sym, ap, subst, ◌∙◌, none-some, same_Some, err_from_is_err_and, ObjNo, PropId, SlotRow, Held, Maps, with_slot, Name, Pair, Slot, LastSlot, slot_values, AreRead, dumped_slot, IsNextProperty}
 use Rattle.moo_load.proofs.One.Values.{one_slot}
 use Rattle.moo_load.proofs.Within.{slot_put}
 use Rattle.moo_load.proofs.taking.take_slot.Goals as goal

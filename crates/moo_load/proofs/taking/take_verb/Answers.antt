@@ -1,10 +1,5 @@
-use Rattle.std.proofs.Common.{◌≡◌, ◌+◌, ap, sym, subst, ◌∙◌, refl, arith}
-use Rattle.moo_rows.specs.declared.row.Head.{Head}
-use Rattle.moo_rows.specs.Maps.{Held}
-use Rattle.moo_load.specs.Rows.{AreRead}
+use Rattle.moo_load.proofs.Words.{◌≡◌, ◌+◌, ap, sym, subst, ◌∙◌, refl, arith, Head, Held, AreRead, insert, err_from_is_err_and}
 use Rattle.moo_load.proofs.Within.{verb_put, counted, IsNext}
-use Rattle.std.specs.FinMap.{insert}
-use Rattle.std.proofs.lemmas.Result.{err_from_is_err_and}
 use Rattle.moo_load.proofs.One.Values.{one_verb}
 use Rattle.moo_load.proofs.taking.take_verb.Goals as goal
 

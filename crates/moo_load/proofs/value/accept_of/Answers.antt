@@ -1,5 +1,4 @@
-use Rattle.std.proofs.Common.{sym, ◌∙◌}
-use Rattle.std.proofs.lemmas.Result.{err_from_is_err_and}
+use Rattle.moo_load.proofs.Words.{sym, ◌∙◌, err_from_is_err_and}
 use Rattle.moo_load.proofs.Accepting.{not_accept}
 use Rattle.moo_load.proofs.value.accept_of.Goals as goal
 

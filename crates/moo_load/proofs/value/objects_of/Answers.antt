@@ -1,5 +1,4 @@
-use Rattle.std.proofs.Common.{◌<◌, length, arith}
-use Rattle.std.proofs.lemmas.Result.{err_from_is_err_and}
+use Rattle.moo_load.proofs.Words.{◌<◌, length, arith, err_from_is_err_and}
 use Rattle.moo_load.proofs.Accepting.{not_objects}
 use Rattle.moo_load.proofs.value.objects_of.Goals as goal
 

@@ -1,7 +1,4 @@
-use Rattle.std.proofs.Common.{◌≡◌, true, map, take}
-use Rattle.std.specs.List.{list_all}
-use Rattle.moo_value.specs.declared.value.Value.TheVariants.{Obj}
-use Rattle.moo_world.specs.Arguments.{is_number}
+use Rattle.moo_load.proofs.Words.{◌≡◌, true, map, take, list_all, Obj, is_number}
 use Rattle.moo_load.proofs.value.objects_of.Given as goal
 
 abbrev pub invariant-loop-value : goal.invariant-loop-value

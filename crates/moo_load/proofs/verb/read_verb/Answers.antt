@@ -1,5 +1,4 @@
-use Rattle.std.proofs.Common.{◌≤◌, length, ap, sym, ◌∙◌, arith}
-use Rattle.moo_value.specs.declared.value.Value.TheVariants.{Str}
+use Rattle.moo_load.proofs.Words.{◌≤◌, length, ap, sym, ◌∙◌, arith, Str}
 use Rattle.moo_load.proofs.Items.{item, no_item}
 use Rattle.moo_load.proofs.verb.read_verb.Goals as goal
 
