@@ -1,16 +1,10 @@
 -- A text that is compared with what it is to be, piece by piece.
-use Rattle.std.proofs.Common.{◌≡◌, ◌≢◌, ℕ, ◌+◌, ◌<◌, ◌≤◌, List, [], ◌++◌, length, take, drop, get_or, Some, refl, sym, ap, subst, ◌∙◌, append_assoc, append-nil, arith, inl, inr}
-use Rattle.std.specs.Prelude.{slice_get, codes}
+use Rattle.moo_dump.proofs.Words.{◌≡◌, ℕ, ◌+◌, ◌<◌, ◌≤◌, List, ◌++◌, length, take, drop, get_or, Some, refl, sym, ap, subst, ◌∙◌, append_assoc, arith, slice_get, codes, take-append-le, take-append-drop, take-take, CompareFault, PartAt, TellsDifference, heading, dump, objects_text, petitions_text, Maps, state_of}
+use Rattle.std.proofs.Common.{◌≢◌, inl, inr}
 use Rattle.std.proofs.Math.Seq.{take-append-add}
 use Rattle.std.proofs.lemmas.Bool.{cases_lt}
-use Rattle.std.proofs.lemmas.List.{length-take-le, length-append, take-append-le, take-append-drop, take-take, get_or-append-add, get_or_append_left}
+use Rattle.std.proofs.lemmas.List.{length-take-le, length-append, get_or-append-add, get_or_append_left}
 use Rattle.std.proofs.lemmas.Option.{slice_get_past, slice_get-get_or, none-some}
-use Rattle.moo_dump.specs.declared.comparing.CompareFault.{CompareFault}
-use Rattle.moo_dump.specs.Difference.{PartAt, TellsDifference}
-use Rattle.moo_dump.specs.Dump.{heading, dump}
-use Rattle.moo_dump.specs.Lines.{objects_text, petitions_text}
-use Rattle.moo_rows.specs.Maps.{Maps}
-use Rattle.moo_world.specs.Judge.{state_of}
 
 get_first : (xs ys : List ℕ) (n : ℕ) → n < length xs → slice_get (xs ++ ys) n ≡ slice_get xs n
 get_first xs ys n less =
@@ -71,17 +65,24 @@ parts t = refl
 abbrev pub IsComparedTo : List ℕ → List ℕ → List ℕ → List ℕ → Type 0
 IsComparedTo before all now left = before ++ all ≡ now ++ left
 
--- one more piece
-pub one_more : (before all now piece left next : List ℕ) → IsComparedTo before all now (piece ++ left) → next ≡ now ++ piece → IsComparedTo before all next left
-one_more before all now piece left next compared is = compared ∙ sym (append_assoc now piece left) ∙ ap (λ (t : List ℕ). t ++ left) (sym is)
-
--- at the end of the pieces
-pub all_compared : (before all now : List ℕ) → IsComparedTo before all now [] → now ≡ before ++ all
-all_compared before all now compared = sym (append-nil now) ∙ sym compared
-
 -- a fault at one of them is a fault at all of them
-pub fault_at : (before all now piece left text : List ℕ) (fault : CompareFault) → IsComparedTo before all now (piece ++ left) → ((rest : List ℕ) → TellsDifference (now ++ (piece ++ rest)) text fault) → (rest : List ℕ) → TellsDifference (before ++ (all ++ rest)) text fault
-fault_at before all now piece left text fault compared tells rest =
-    subst (λ (t : List ℕ). TellsDifference t text fault)
-    (ap (λ (t : List ℕ). now ++ t) (sym (append_assoc piece left rest)) ∙ sym (append_assoc now (piece ++ left) rest) ∙ ap (λ (t : List ℕ). t ++ rest) (sym compared) ∙ append_assoc before all rest)
-    (tells (left ++ rest))
+pub fault_at : (before all now ahead piece left text shown : List ℕ) (fault new : CompareFault) → IsComparedTo before all now ahead → ahead ≡ piece ++ left → shown ≡ piece → new ≡ fault → ((rest : List ℕ) → TellsDifference (now ++ (shown ++ rest)) text fault) → (rest : List ℕ) → TellsDifference (before ++ (all ++ rest)) text new
+fault_at before all now ahead piece left text shown fault new compared is own same tells rest =
+    subst (λ (f : CompareFault). TellsDifference (before ++ (all ++ rest)) text f) (sym same) (subst (λ (t : List ℕ). TellsDifference t text fault)
+    ((λ i. now ++ (own i ++ (left ++ rest))) ∙ ap (λ (t : List ℕ). now ++ t) (sym (append_assoc piece left rest) ∙ ap (λ (t : List ℕ). t ++ rest) (sym is)) ∙ sym (append_assoc now ahead rest) ∙ ap (λ (t : List ℕ). t ++ rest) (sym compared) ∙ append_assoc before all rest)
+    (tells (left ++ rest)))
+
+-- ---- the parts of a dump, of which so much is compared
+
+module _ (t : Maps) (read one two three : List ℕ) (heading_read : read ≡ heading (state_of t)) where
+  pub headed : read ++ (objects_text t ++ (petitions_text t ++ codes "end\n")) ≡ dump (state_of t)
+  headed = ap (λ (h : List ℕ). h ++ (objects_text t ++ (petitions_text t ++ codes "end\n"))) heading_read ∙ parts t
+
+  pub with_objects : one ≡ read ++ objects_text t → one ++ (petitions_text t ++ codes "end\n") ≡ dump (state_of t)
+  with_objects e = ap (λ (h : List ℕ). h ++ (petitions_text t ++ codes "end\n")) e ∙ append_assoc read (objects_text t) (petitions_text t ++ codes "end\n") ∙ headed
+
+  pub with_petitions : one ≡ read ++ objects_text t → two ≡ one ++ petitions_text t → two ++ codes "end\n" ≡ dump (state_of t)
+  with_petitions e f = ap (λ (h : List ℕ). h ++ codes "end\n") f ∙ append_assoc one (petitions_text t) (codes "end\n") ∙ with_objects e
+
+  pub with_end : one ≡ read ++ objects_text t → two ≡ one ++ petitions_text t → three ≡ two ++ codes "end\n" → three ≡ dump (state_of t)
+  with_end e f g = g ∙ with_petitions e f

@@ -1,3 +1,4 @@
+pub mod Words
 pub mod FlatMaps
 pub mod Listing
 pub mod Writing

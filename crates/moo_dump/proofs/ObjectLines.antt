@@ -1,20 +1,15 @@
 -- The lines that are printed from the rows are those of the world.
-use Rattle.std.proofs.Common.{◌≡◌, ℕ, Bool, true, false, ◌||◌, Option, Some, None, List, [], ◌∷◌, ◌++◌, refl, sym, ap, ◌∙◌}
-use Rattle.std.specs.Prelude.{is_some, unwrap_or}
-use Rattle.std.specs.Option.{option_map}
-use Rattle.std.specs.List.{filter, flat_map, AllByRecursion}
-use Rattle.std.specs.FinMap.{get, entries, get-entries, entries_sorted, find}
+use Rattle.moo_dump.proofs.Words.{◌||◌, ◌≡◌, ℕ, Bool, true, false, Option, Some, None, List, [], ◌∷◌, ◌++◌, refl, sym, ap, ◌∙◌, unwrap_or, option_map, filter, flat_map, AllByRecursion, entries, ObjNo, ObjRow, PropId, Maps, same_object, same_object-Decides, world_of, Entry, walk, verb_line, object_lines, ids_defined, property_line_of, slot_line_of, slot_lines_over, objects_text}
+use Rattle.std.specs.Prelude.{is_some}
+use Rattle.std.specs.FinMap.{get-entries, entries_sorted, find, get}
 use Rattle.std.proofs.lemmas.Bool.{or_right, false≢true}
-use Rattle.moo_value.specs.declared.value.ObjNo.{ObjNo}
-use Rattle.moo_rows.specs.declared.row.ObjRow.{ObjRow}
-use Rattle.moo_rows.specs.declared.row.PropId.{PropId}
 use Rattle.moo_rows.specs.declared.row.PropRow.{PropRow}
 use Rattle.moo_rows.specs.declared.row.SlotRow.{SlotRow}
-use Rattle.moo_rows.specs.Maps.{Maps, prop_cmp}
+use Rattle.moo_rows.specs.Maps.{prop_cmp}
 use Rattle.moo_rows.proofs.Orders.{prop_total}
-use Rattle.moo_world.specs.Objects.{Name, same_object, folded, is_among, same_object-Decides}
+use Rattle.moo_world.specs.Objects.{Name, folded, is_among}
 use Rattle.moo_world.specs.World.{World, Record, Slot, is_object, chain, names_of, defined_by, owed_by, directory_of, slot_of}
-use Rattle.moo_world.specs.Rows.{IsSound, IsGood, look_ups, world_of, world_shown, record_of, slot_seen}
+use Rattle.moo_world.specs.Rows.{IsSound, IsGood, look_ups, world_shown, record_of, slot_seen}
 use Rattle.moo_world.proofs.Shown.EntriesInOrder.{own_entries, all_weaker}
 use Rattle.moo_world.proofs.Shown.ObjectEntries.{objects_listed}
 use Rattle.moo_world.proofs.Shown.PairLists.{some_of}
@@ -22,20 +17,15 @@ use Rattle.moo_world.proofs.Shown.Seen.{object_seen}
 use Rattle.moo_props.proofs.DefinedNames.{names_listed}
 use Rattle.moo_props.proofs.Gains.{slot_on_heir}
 use Rattle.moo_props.proofs.Walked.{here_seen}
-use Rattle.moo_verbs.proofs.Entries.{Entry}
-use Rattle.moo_verbs.proofs.Found.{walk, walked_rows}
-use Rattle.moo_dump.specs.Dump.{object_line, property_line, slot_line, owed_line, verb_line, record_lines, object_lines}
-use Rattle.moo_dump.specs.Lines.{ids_defined, property_line_of, slot_line_by, slot_line_of, slot_lines_over, objects_text}
+use Rattle.moo_verbs.proofs.Found.{walked_rows}
+use Rattle.moo_dump.specs.Dump.{object_line, property_line, slot_line, owed_line, record_lines}
+use Rattle.moo_dump.specs.Lines.{slot_line_by}
 use Rattle.moo_dump.proofs.FlatMaps.{flat_map-map, flat_map-flat_map, flat_map-alike, all_passing}
 
 -- each object of a list is among them
 each_among : (l : List ObjNo) → AllByRecursion (λ d. is_among d l ≡ true) l
 each_among [] = tt
-each_among (y ∷ l) = (first (same_object y y) ((same_object-Decides y y).1 refl), all_weaker (λ d. is_among d l ≡ true) (λ d. is_among d (y ∷ l) ≡ true) (λ d h. or_right (same_object d y) (is_among d l) h) l (each_among l))
-  where
-    first : (b : Bool) → b ≡ true → (b || is_among y l) ≡ true
-    first true e = refl
-    first false e = absurd (false≢true e)
+each_among (y ∷ l) = (elim (same_object y y) as (λ (b : Bool). b ≡ true → (b || is_among y l) ≡ true) [ true ↦ λ e. refl | false ↦ λ e. absurd (false≢true e) ] ((same_object-Decides y y).1 refl), all_weaker (λ d. is_among d l ≡ true) (λ d. is_among d (y ∷ l) ≡ true) (λ d h. or_right (same_object d y) (is_among d l) h) l (each_among l))
 
 module _ (t : Maps) where
   abbrev w : World

@@ -1,9 +1,8 @@
 -- What is written, piece by piece.
-use Rattle.std.proofs.Common.{◌≡◌, ℕ, ◌+◌, List, [], ◌++◌, length, take, drop, Option, Some, None, refl, sym, ap, subst, ◌∙◌, append_assoc, arith}
+use Rattle.moo_dump.proofs.Words.{◌≡◌, ℕ, ◌+◌, List, [], ◌++◌, length, take, drop, Option, Some, None, refl, sym, ap, subst, ◌∙◌, append_assoc, arith, Appends, append-nil, take-take, take-append-drop, AppendsFront, Maps, codes, dump, heading, objects_text, petitions_text, state_of, take_at}
 use Rattle.std.specs.Prelude.{Result, Ok, Err, OnErr}
-use Rattle.std.specs.Io.KnownBytes.{Appends}
-use Rattle.std.proofs.lemmas.List.{append-nil, take-take, drop-take, take-append-drop, take-append-le, take_all}
-use Rattle.moo_dump.specs.Written.{AppendsFront}
+use Rattle.std.proofs.lemmas.List.{drop-take}
+use Rattle.moo_dump.proofs.Compared.{parts}
 
 pub Appends-then : (a b c : Option (List ℕ)) (xs ys : List ℕ) → Appends a b xs → Appends b c ys → Appends a c (xs ++ ys)
 Appends-then None b c xs ys p q = tt
@@ -17,15 +16,12 @@ Appends-nothing (Some a) = sym (append-nil a)
 
 -- a write more of the same bytes
 pub take_then : (a b c : Option (List ℕ)) (at n : ℕ) (bytes : List ℕ) → Appends a b (take at bytes) → Appends b c (take n (drop at bytes)) → Appends a c (take (at + n) bytes)
-take_then a b c at n bytes p q = subst (Appends a c) (joined at n bytes) (Appends-then a b c (take at bytes) (take n (drop at bytes)) p q)
-  where
-    joined : (at n : ℕ) (bytes : List ℕ) → take at bytes ++ take n (drop at bytes) ≡ take (at + n) bytes
-    joined at n bytes = ap (λ (t : List ℕ). t ++ take n (drop at bytes)) (sym (take-take at (at + n) bytes (omega arith))) ∙ ap (λ (t : List ℕ). take at (take (at + n) bytes) ++ t) (sym (drop-take at n bytes)) ∙ take-append-drop at (take (at + n) bytes)
+take_then a b c at n bytes p q =
+    let joined : take at bytes ++ take n (drop at bytes) ≡ take (at + n) bytes =
+    ap (λ (t : List ℕ). t ++ take n (drop at bytes)) (sym (take-take at (at + n) bytes (omega arith))) ∙ ap (λ (t : List ℕ). take at (take (at + n) bytes) ++ t) (sym (drop-take at n bytes)) ∙ take-append-drop at (take (at + n) bytes) in
+    subst (Appends a c) joined (Appends-then a b c (take at bytes) (take n (drop at bytes)) p q)
 
 -- ---- fronts of a text
-
-pub front_nothing : (a : Option (List ℕ)) (text : List ℕ) → AppendsFront a a text
-front_nothing a text = record { front = []; rest = text; whole = refl; wrote = Appends-nothing a }
 
 -- the first bytes are a front
 pub front_taken : (a b : Option (List ℕ)) (text : List ℕ) → (count : ℕ) × Appends a b (take count text) → AppendsFront a b text
@@ -33,10 +29,7 @@ front_taken a b text h = record { front = take h.0 text; rest = drop h.0 text; w
 
 -- and the other way round
 pub taken_front : (a b : Option (List ℕ)) (text : List ℕ) → AppendsFront a b text → (count : ℕ) × Appends a b (take count text)
-taken_front a b text h = (length h.front, subst (Appends a b) (sym (ap (take (length h.front)) h.whole ∙ first h.front h.rest)) h.wrote)
-  where
-    first : (xs ys : List ℕ) → take (length xs) (xs ++ ys) ≡ xs
-    first xs ys = take-append-le (length xs) xs ys (omega arith) ∙ take_all (length xs) xs (omega arith)
+taken_front a b text h = (length h.front, subst (Appends a b) (sym (ap (take (length h.front)) h.whole ∙ take_at h.front h.rest (length h.front) refl)) h.wrote)
 
 -- a front of the first of two texts is one of both
 pub front_before : (a b : Option (List ℕ)) (xs ys : List ℕ) → AppendsFront a b xs → AppendsFront a b (xs ++ ys)
@@ -68,13 +61,49 @@ written_more a b c xs left text h p = record { done = h.done ++ xs; whole = h.wh
 pub written_all : (a b : Option (List ℕ)) (text : List ℕ) → HasWritten a b [] text → Appends a b text
 written_all a b text h = subst (Appends a b) (sym (h.whole ∙ append-nil h.done)) h.wrote
 
-pub written_front : (a b : Option (List ℕ)) (left text : List ℕ) → HasWritten a b left text → AppendsFront a b text
-written_front a b left text h = record { front = h.done; rest = left; whole = h.whole; wrote = h.wrote }
-
 pub written_part : (a b c : Option (List ℕ)) (xs left text : List ℕ) → HasWritten a b (xs ++ left) text → AppendsFront b c xs → AppendsFront a c text
 written_part a b c xs left text h p = subst (AppendsFront a c) (sym h.whole) (front_then a b c h.done (xs ++ left) h.wrote (front_before b c xs left p))
+
+-- ---- pieces, as they are written
+
+module _ (a b c : Option (List ℕ)) (piece left shown : List ℕ) (own : shown ≡ piece) {ahead text : List ℕ} (h : HasWritten a b ahead text) (is : ahead ≡ piece ++ left) where
+  pub next_written : Appends b c shown → HasWritten a c left text
+  next_written p = written_more a b c piece left text (subst (λ l. HasWritten a b l text) is h) (subst (Appends b c) own p)
+
+  pub next_part : (count : ℕ) × Appends b c (take count shown) → AppendsFront a c text
+  next_part p = written_part a b c piece left text (subst (λ l. HasWritten a b l text) is h) (subst (AppendsFront b c) own (front_taken b c shown p))
 
 -- what holds in any case holds at an error
 pub on_err : {T E P : Type 0} (r : Result T E) → P → OnErr r P
 on_err (Ok x) p = tt
 on_err (Err e) p = p
+
+-- ---- the parts of a dump, one after another: what is written of it at a fault in each, and at the end
+
+module _ (t : Maps) (a b : Option (List ℕ)) (shown : List ℕ) (own : shown ≡ heading (state_of t)) where
+  pub at_heading : (count : ℕ) × Appends a b (take count shown) → (count : ℕ) × Appends a b (take count (dump (state_of t)))
+  at_heading p = taken_front a b (dump (state_of t)) (next_part a a b (heading (state_of t)) (objects_text t ++ (petitions_text t ++ codes "end\n")) shown own (written_none a (dump (state_of t))) (sym (parts t)) p)
+
+  module _ (first : Appends a b shown) where
+    wrote_heading : HasWritten a b (objects_text t ++ (petitions_text t ++ codes "end\n")) (dump (state_of t))
+    wrote_heading = record { done = heading (state_of t); whole = sym (parts t); wrote = subst (Appends a b) own first }
+
+    pub at_objects : (d : Option (List ℕ)) → AppendsFront b d (objects_text t) → (count : ℕ) × Appends a d (take count (dump (state_of t)))
+    at_objects d p = taken_front a d (dump (state_of t)) (written_part a b d (objects_text t) (petitions_text t ++ codes "end\n") (dump (state_of t)) wrote_heading p)
+
+    module _ (d : Option (List ℕ)) (second : Appends b d (objects_text t)) where
+      wrote_objects : HasWritten a d (petitions_text t ++ codes "end\n") (dump (state_of t))
+      wrote_objects = written_more a b d (objects_text t) (petitions_text t ++ codes "end\n") (dump (state_of t)) wrote_heading second
+
+      pub at_petitions : (e : Option (List ℕ)) → AppendsFront d e (petitions_text t) → (count : ℕ) × Appends a e (take count (dump (state_of t)))
+      at_petitions e p = taken_front a e (dump (state_of t)) (written_part a d e (petitions_text t) (codes "end\n") (dump (state_of t)) wrote_objects p)
+
+      module _ (e : Option (List ℕ)) (third : Appends d e (petitions_text t)) (f : Option (List ℕ)) where
+        wrote_petitions : HasWritten a e (codes "end\n" ++ []) (dump (state_of t))
+        wrote_petitions = written_more a d e (petitions_text t) (codes "end\n") (dump (state_of t)) wrote_objects third
+
+        pub at_end : (count : ℕ) × Appends e f (take count (codes "end\n")) → (count : ℕ) × Appends a f (take count (dump (state_of t)))
+        at_end p = taken_front a f (dump (state_of t)) (written_part a e f (codes "end\n") [] (dump (state_of t)) wrote_petitions (front_taken e f (codes "end\n") p))
+
+        pub all_written : Appends e f (codes "end\n") → Appends a f (dump (state_of t))
+        all_written p = written_all a f (dump (state_of t)) (written_more a e f (codes "end\n") [] (dump (state_of t)) wrote_petitions p)

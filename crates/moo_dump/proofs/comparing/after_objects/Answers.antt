@@ -1,16 +1,5 @@
-use Rattle.std.proofs.Common.{◌≡◌, ◌++◌, List, ℕ, take, sym, ap, subst, ◌∙◌, rules}
-use Rattle.std.specs.FinMap.{entries}
-use Rattle.std.specs.List.{flat_map}
-use Rattle.std.proofs.lemmas.Result.{err_from_is_err_and}
-use Rattle.moo_value.specs.declared.value.ObjNo.{ObjNo}
-use Rattle.moo_rows.specs.declared.row.ObjRow.{ObjRow}
-use Rattle.moo_rows.specs.Walk.{objects_left}
-use Rattle.moo_world.specs.Rows.{world_of}
-use Rattle.moo_dump.specs.declared.comparing.CompareFault.{CompareFault}
-use Rattle.moo_dump.specs.Difference.{TellsDifference}
-use Rattle.moo_dump.specs.Dump.{object_lines}
-use Rattle.moo_dump.specs.Lines.{objects_text}
-use Rattle.moo_dump.proofs.Compared.{IsComparedTo, fault_at}
+use Rattle.moo_dump.proofs.Words.{◌≡◌, ◌++◌, List, ℕ, take, sym, ap, ◌∙◌, rules, entries, flat_map, err_from_is_err_and, ObjNo, ObjRow, objects_left, world_of, object_lines, objects_text}
+use Rattle.moo_dump.proofs.Compared.{fault_at}
 use Rattle.moo_dump.proofs.ObjectLines.{objects_printed}
 use Rattle.moo_dump.proofs.comparing.after_objects.Goals as goal
 
@@ -27,14 +16,6 @@ pub returns-in_err-at-clause-err : goal.returns-in_err-at-clause-err
 returns-in_err-at-clause-err g c =
     let t = (g.R.Rows.held c.args.rows.now).maps in
     let lines : ObjNo × ObjRow → List ℕ = λ e. object_lines (world_of t) e.0 in
-    let text = c.args.text.now in
-    let before = take c.args.start text in
-    let now = take c.loop-x.at text in
-    let line = object_lines (world_of t) c.in-Some.x in
-    let left = objects_left c.next.new.self.last (g.R.Rows.held c.next.new.self.rows.now).maps in
-    let piece : c.deref.result.now ≡ object_lines (world_of t) c.in-Some.x = c.deref.ensures.value ∙ c.in_ok-piece.ensures in
     let p = err_from_is_err_and c.from_residual-in_err-at.result c.from_residual-in_err-at.ensures.1 in
-    rw p.1 (fault_at before (objects_text t) now line (flat_map lines left) text p.0
-    (subst (λ left. IsComparedTo before (objects_text t) now left) (ap (flat_map lines) c.in-Some.ensures.steps) c.loop-x.invariant.compared)
-    (subst (λ (f : CompareFault). (rest : List ℕ) → TellsDifference (now ++ (line ++ rest)) text f) (sym p.2)
-    (subst (λ (l : List ℕ). (rest : List ℕ) → TellsDifference (now ++ (l ++ rest)) text c.in_err-at.field-0.0) piece c.in_err-at.ensures.err)))
+    rw p.1 (fault_at (take c.args.start c.args.text.now) (objects_text t) (take c.loop-x.at c.args.text.now) _ (object_lines (world_of t) c.in-Some.x) (flat_map lines (objects_left c.next.new.self.last (g.R.Rows.held c.next.new.self.rows.now).maps)) c.args.text.now c.deref.result.now c.in_err-at.field-0.0 p.0
+    c.loop-x.invariant.compared (ap (flat_map lines) c.in-Some.ensures.steps) (c.deref.ensures.value ∙ c.in_ok-piece.ensures) p.2 c.in_err-at.ensures.err)

@@ -1,9 +1,4 @@
-use Rattle.std.proofs.Common.{◌≤◌, length, take}
-use Rattle.std.specs.List.{flat_map}
-use Rattle.moo_rows.specs.Walk.{objects_left}
-use Rattle.moo_world.specs.Rows.{world_of}
-use Rattle.moo_dump.specs.Dump.{object_lines}
-use Rattle.moo_dump.specs.Lines.{objects_text}
+use Rattle.moo_dump.proofs.Words.{◌≤◌, length, take, flat_map, objects_left, world_of, object_lines, objects_text}
 use Rattle.moo_dump.proofs.Compared.{IsComparedTo}
 use Rattle.moo_dump.proofs.comparing.after_objects.Given as goal
 

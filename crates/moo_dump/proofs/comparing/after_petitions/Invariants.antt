@@ -1,8 +1,4 @@
-use Rattle.std.proofs.Common.{◌≤◌, length, take}
-use Rattle.std.specs.List.{flat_map}
-use Rattle.moo_rows.specs.Walk.{petitions_left}
-use Rattle.moo_dump.specs.Dump.{petition_line}
-use Rattle.moo_dump.specs.Lines.{petitions_text}
+use Rattle.moo_dump.proofs.Words.{◌≤◌, length, take, flat_map, petitions_left, petition_line, petitions_text}
 use Rattle.moo_dump.proofs.Compared.{IsComparedTo}
 use Rattle.moo_dump.proofs.comparing.after_petitions.Given as goal
 

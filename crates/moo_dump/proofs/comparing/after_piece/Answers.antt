@@ -1,6 +1,4 @@
-use Rattle.std.proofs.Common.{◌≡◌, ◌≤◌, ◌<◌, ◌+◌, ◌-◌, ◌++◌, ℕ, List, length, take, drop, sym, ap, ◌∙◌, arith}
-use Rattle.std.specs.Prelude.{slice_get}
-use Rattle.std.proofs.lemmas.List.{take_rest, length-drop, take_all}
+use Rattle.moo_dump.proofs.Words.{◌≡◌, ◌≤◌, ◌<◌, ◌+◌, ◌-◌, ◌++◌, ℕ, List, length, take, drop, sym, ap, ◌∙◌, arith, slice_get, take_rest, length-drop, take_all}
 use Rattle.moo_dump.proofs.Compared.{taken_to, departs}
 use Rattle.moo_dump.proofs.comparing.after_piece.Goals as goal
 

@@ -1,4 +1,4 @@
-use Rattle.std.proofs.Common.{◌≡◌, ◌≤◌, ◌-◌, length, take}
+use Rattle.moo_dump.proofs.Words.{◌≡◌, ◌≤◌, ◌-◌, length, take}
 use Rattle.moo_dump.proofs.comparing.shared_length.Given as goal
 
 abbrev pub invariant-loop-count : goal.invariant-loop-count

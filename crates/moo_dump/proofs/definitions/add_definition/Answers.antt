@@ -1,10 +1,5 @@
-use Rattle.std.proofs.Common.{rules, ◌++◌, [], ◌∷◌, Option, Some, cond, ap, ◌∙◌}
-use Rattle.std.specs.Prelude.{unwrap_or}
-use Rattle.std.specs.Option.{option_map}
-use Rattle.std.specs.BTreeMap.{get, is_at}
-use Rattle.std.specs.Global.{Vec}
-use Rattle.moo_rows.specs.declared.row.PropId.{PropId}
-use Rattle.moo_rows.specs.Maps.{object_cmp}
+use Rattle.moo_dump.proofs.Words.{rules, ◌++◌, [], ◌∷◌, Option, Some, cond, ap, ◌∙◌, unwrap_or, option_map, is_at, Vec, PropId, object_cmp}
+use Rattle.std.specs.BTreeMap.{get}
 use Rattle.moo_dump.proofs.Listing.{listed_more}
 use Rattle.moo_dump.proofs.definitions.add_definition.Goals as goal
 

@@ -1,7 +1,6 @@
-use Rattle.std.proofs.Common.{◌≡◌, ◌++◌}
-use Rattle.moo_value.specs.declared.value.ObjNo.{ObjNo}
+use Rattle.moo_dump.proofs.Words.{◌≡◌, ◌++◌, ObjNo, ids_listed, ids_defined}
 use Rattle.moo_rows.specs.Walk.{props_left}
-use Rattle.moo_dump.specs.Lines.{ids_defined_by, ids_listed, ids_defined}
+use Rattle.moo_dump.specs.Lines.{ids_defined_by}
 use Rattle.moo_dump.proofs.definitions.all_definitions.Given as goal
 
 -- those so far, and those of the properties that are left

@@ -1,8 +1,4 @@
-use Rattle.std.specs.List.{flat_map}
-use Rattle.moo_rows.specs.Walk.{objects_left}
-use Rattle.moo_world.specs.Rows.{world_of}
-use Rattle.moo_dump.specs.Dump.{object_lines}
-use Rattle.moo_dump.specs.Lines.{objects_text}
+use Rattle.moo_dump.proofs.Words.{flat_map, objects_left, world_of, object_lines, objects_text}
 use Rattle.moo_dump.proofs.Writing.{HasWritten}
 use Rattle.moo_dump.proofs.dumping.put_objects.Given as goal
 

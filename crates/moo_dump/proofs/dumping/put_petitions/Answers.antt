@@ -1,12 +1,5 @@
-use Rattle.std.proofs.Common.{◌≡◌, sym, ap, subst, ◌∙◌, rules}
-use Rattle.std.specs.FinMap.{entries}
-use Rattle.std.specs.Io.KnownBytes.{Appends}
-use Rattle.std.specs.List.{flat_map}
-use Rattle.moo_rows.specs.Walk.{petitions_left}
-use Rattle.moo_dump.specs.Dump.{petition_line}
-use Rattle.moo_dump.specs.Lines.{petitions_text}
-use Rattle.moo_dump.specs.Written.{AppendsFront}
-use Rattle.moo_dump.proofs.Writing.{HasWritten, written_none, written_more, written_part, front_taken, on_err}
+use Rattle.moo_dump.proofs.Words.{◌≡◌, sym, ap, subst, ◌∙◌, rules, entries, flat_map, petitions_left, petition_line, petitions_text}
+use Rattle.moo_dump.proofs.Writing.{HasWritten, written_none, on_err, next_part, next_written}
 use Rattle.moo_dump.proofs.dumping.put_petitions.Goals as goal
 
 pub loop-id-init : goal.loop-id-init
@@ -18,27 +11,8 @@ loop-id-init g c =
 
 pub returns-in_err-put_all-clause-err : goal.returns-in_err-put_all-clause-err
 returns-in_err-put_all-clause-err g c =
-    let t = (g.R.Rows.held c.args.rows.now).maps in
-    let a = g.W.Write.contents c.args.output.now in
-    let b = g.W.Write.contents c.loop-id.output in
-    let d = g.W.Write.contents c.put_all.new.writer in
-    let left = petitions_left c.next.new.self.last (g.R.Rows.held c.next.new.self.rows.now).maps in
-    let now = petition_line (c.in-Some.id, c.in-Some.row.now) in
-    let text : c.deref.result.now ≡ petition_line (c.in-Some.id, c.in-Some.row.now) = c.deref.ensures.value ∙ c.in_ok-text.ensures in
-    on_err c.from_residual-in_err-put_all.result
-    (written_part a b d now (flat_map petition_line left) (petitions_text t)
-    (subst (λ left. HasWritten a b left (petitions_text t)) (ap (flat_map petition_line) c.in-Some.ensures.steps) c.loop-id.invariant)
-    (subst (AppendsFront b d) text (front_taken b d c.deref.result.now c.in_err-put_all.ensures.err)))
+    on_err c.from_residual-in_err-put_all.result (next_part (g.W.Write.contents c.args.output.now) (g.W.Write.contents c.loop-id.output) (g.W.Write.contents c.put_all.new.writer) (petition_line (c.in-Some.id, c.in-Some.row.now)) (flat_map petition_line (petitions_left c.next.new.self.last (g.R.Rows.held c.next.new.self.rows.now).maps)) c.deref.result.now (c.deref.ensures.value ∙ c.in_ok-text.ensures) c.loop-id.invariant (ap (flat_map petition_line) c.in-Some.ensures.steps) c.in_err-put_all.ensures.err)
 
 pub loop-id-preserved : goal.loop-id-preserved
 loop-id-preserved g c =
-    let t = (g.R.Rows.held c.args.rows.now).maps in
-    let a = g.W.Write.contents c.args.output.now in
-    let b = g.W.Write.contents c.loop-id.output in
-    let d = g.W.Write.contents c.put_all.new.writer in
-    let left = petitions_left c.next.new.self.last (g.R.Rows.held c.next.new.self.rows.now).maps in
-    let now = petition_line (c.in-Some.id, c.in-Some.row.now) in
-    let text : c.deref.result.now ≡ petition_line (c.in-Some.id, c.in-Some.row.now) = c.deref.ensures.value ∙ c.in_ok-text.ensures in
-    written_more a b d now (flat_map petition_line left) (petitions_text t)
-    (subst (λ left. HasWritten a b left (petitions_text t)) (ap (flat_map petition_line) c.in-Some.ensures.steps) c.loop-id.invariant)
-    (subst (Appends b d) text c.in_ok-put_all.ensures.ok)
+    next_written (g.W.Write.contents c.args.output.now) (g.W.Write.contents c.loop-id.output) (g.W.Write.contents c.put_all.new.writer) (petition_line (c.in-Some.id, c.in-Some.row.now)) (flat_map petition_line (petitions_left c.next.new.self.last (g.R.Rows.held c.next.new.self.rows.now).maps)) c.deref.result.now (c.deref.ensures.value ∙ c.in_ok-text.ensures) c.loop-id.invariant (ap (flat_map petition_line) c.in-Some.ensures.steps) c.in_ok-put_all.ensures.ok

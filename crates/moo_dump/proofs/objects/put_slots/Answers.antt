@@ -1,8 +1,6 @@
-use Rattle.std.proofs.Common.{◌≡◌, ◌++◌, List, ℕ, pos, take, get_or, sym, ap, ◌∙◌, arith}
-use Rattle.std.specs.List.{flat_map}
+use Rattle.moo_dump.proofs.Words.{◌≡◌, ◌++◌, List, ℕ, take, get_or, sym, ap, ◌∙◌, arith, flat_map, ObjNo, ids_defined, slot_line_of}
+use Rattle.std.proofs.Common.{pos}
 use Rattle.std.proofs.lemmas.List.{take_more, flat_map_more}
-use Rattle.moo_value.specs.declared.value.ObjNo.{ObjNo}
-use Rattle.moo_dump.specs.Lines.{ids_defined, slot_line_of}
 use Rattle.moo_dump.proofs.objects.put_slots.Goals as goal
 
 pub loop-definer-preserved : goal.loop-definer-preserved

@@ -1,5 +1,4 @@
-use Rattle.std.proofs.Common.{◌≡◌, ◌++◌, take}
-use Rattle.moo_dump.specs.Lines.{slot_lines_over}
+use Rattle.moo_dump.proofs.Words.{◌≡◌, ◌++◌, take, slot_lines_over}
 use Rattle.moo_dump.proofs.objects.put_slots.Given as goal
 
 abbrev pub invariant-loop-definer : goal.invariant-loop-definer

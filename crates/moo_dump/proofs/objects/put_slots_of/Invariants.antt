@@ -1,6 +1,4 @@
-use Rattle.std.proofs.Common.{◌≡◌, ◌++◌, take}
-use Rattle.std.specs.List.{flat_map}
-use Rattle.moo_dump.specs.Lines.{slot_line_of}
+use Rattle.moo_dump.proofs.Words.{◌≡◌, ◌++◌, take, flat_map, slot_line_of}
 use Rattle.moo_dump.proofs.objects.put_slots_of.Given as goal
 
 abbrev pub invariant-loop-id : goal.invariant-loop-id

@@ -1,8 +1,4 @@
-use Rattle.std.proofs.Common.{rules, ◌≡◌, ◌++◌, ap, ◌∙◌}
-use Rattle.std.specs.List.{flat_map}
-use Rattle.moo_verbs.proofs.Entries.{Entry}
-use Rattle.moo_verbs.proofs.Found.{walk}
-use Rattle.moo_dump.specs.Dump.{verb_line}
+use Rattle.moo_dump.proofs.Words.{rules, ◌≡◌, ◌++◌, ap, ◌∙◌, flat_map, Entry, walk, verb_line}
 use Rattle.moo_dump.proofs.ObjectLines.{verbs_walked}
 use Rattle.moo_dump.proofs.objects.put_verbs.Goals as goal
 

@@ -1,9 +1,5 @@
-use Rattle.std.proofs.Common.{◌≡◌, ◌++◌}
-use Rattle.std.specs.List.{flat_map}
+use Rattle.moo_dump.proofs.Words.{◌≡◌, ◌++◌, flat_map, Entry, walk, verb_line}
 use Rattle.moo_rows.specs.Walk.{verbs_of_left}
-use Rattle.moo_verbs.proofs.Entries.{Entry}
-use Rattle.moo_verbs.proofs.Found.{walk}
-use Rattle.moo_dump.specs.Dump.{verb_line}
 use Rattle.moo_dump.proofs.objects.put_verbs.Given as goal
 
 -- the lines so far, and those of the verbs that are left

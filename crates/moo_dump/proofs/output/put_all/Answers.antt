@@ -1,6 +1,4 @@
-use Rattle.std.proofs.Common.{◌≡◌, ◌-◌, ℕ, List, length, take, drop, arith, subst, ap}
-use Rattle.std.specs.Io.KnownBytes.{Appends}
-use Rattle.std.proofs.lemmas.List.{take_rest, length-drop}
+use Rattle.moo_dump.proofs.Words.{◌≡◌, ◌-◌, ℕ, List, length, take, drop, arith, subst, ap, Appends, take_rest, length-drop}
 use Rattle.moo_dump.proofs.Writing.{take_then}
 use Rattle.moo_dump.proofs.output.put_all.Goals as goal
 
