@@ -25,7 +25,7 @@ use Rattle.moo_files.specs.Remains.{ExcusesMalformed, IsUnopened, TakesForOurs, 
 use Rattle.moo_files.specs.declared.remains.Remains.{Remains}
 use Rattle.moo_files.specs.declared.remains.Remains.TheVariants as remains
 
-code_of : Error → ErrorCode
+abbrev code_of : Error → ErrorCode
 code_of (SqliteFailure code) = code
 code_of other = codes.OutOfMemory
 

@@ -62,7 +62,7 @@ module _ {T D : Type 0} {g : Ghosts D} where
   IfNotOpened (remains.Leftover left) P = ⊤
   IfNotOpened (remains.Connection conn) P = ⊤
 
-  -- The fault doesn't say that the files are no database of moo. Before they are opened nothing is said: an empty file is refused so.
+  -- The fault doesn't say that the files aren't a database of moo. Before they are opened nothing is said: an empty file is refused so.
   abbrev pub TakesForOurs : StoreFault → Remains T D g → Type 0
   TakesForOurs fault (remains.Untouched start) = ⊤
   TakesForOurs fault (remains.NotOpened seal) = fault ≢ not_ours
