@@ -1,11 +1,9 @@
 -- What is left of files that held an image.
-use Rattle.std.proofs.Common.{◌≡◌, ◌⊎◌, inl, inr, ℕ, ◌≤◌, Bool, true, false, cond, IsTrue, List, [], ◌∷◌, length, take, slice_index, unwrap_or, get_or-take, length-take, ◌<◌, refl, Option, Some, arith, sym, ap, subst, subst₂, ◌∙◌}
+use Rattle.std.proofs.Common.{◌≡◌, ◌⊎◌, inl, inr, ℕ, ◌≤◌, true, false, IsTrue, List, [], length, take, slice_index, unwrap_or, get_or-take, length-take, ◌<◌, refl, Option, Some, arith, sym, ap, subst, ◌∙◌}
 use Rattle.std.proofs.Math.Logic.{∥∥₁_elim, ∥∥₁_map}
 use Rattle.std.proofs.lemmas.Bool.{cases_eq, cases_Bool}
 use Rattle.sqlite_disk.specs.declared.Disk.{Ghosts}
 use Rattle.sqlite_disk.specs.declared.Files.{Files}
-use Rattle.sqlite_disk.specs.Events.{Event, replay, settled}
-use Rattle.sqlite_disk.specs.History.{MayLeave}
 use Rattle.sqlite_wal.specs.Recovery as raw
 use Rattle.sqlite_wal.specs.Recovery.{Image, Pages, IsIgnored}
 use Rattle.sqlite_wal.specs.Files.{outcomes}
