@@ -3,7 +3,7 @@ pub use Rattle.std.proofs.Common.{Bool, Err, List, None, Ok, Option, Result, Som
 pub use Rattle.std.specs.Cmp.{IsTotalOrder, nat_cmp_is, ranked}
 pub use Rattle.std.specs.FinMap.{FinMap, empty, entries, entries_sorted, find as find_key, get, get-empty, get-entries, get-insert, insert}
 pub use Rattle.std.specs.Fmt.{decimal}
-pub use Rattle.std.specs.List.{AllByRecursion, cons_option, filter, filter_map, find, flat_map, list_all, list_any, position_from}
+pub use Rattle.std.specs.List.{AllByRecursion, cons_option, filter, filter_map, find, flat_map, list_all, position_from}
 unfoldable pub use Rattle.std.specs.List.{IsDistinct}
 pub use Rattle.std.specs.Option.{option_and_then, option_map}
 pub use Rattle.std.specs.Ordering.{eq_by_cmp}
@@ -11,7 +11,7 @@ pub use Rattle.std.specs.Prelude.{codes, is_some, max, nat_le, not, slice_get, u
 pub use Rattle.std.specs.Str.{bytes_eq}
 pub use Rattle.std.specs.declared.cmp.Ordering.{Ordering}
 pub use Rattle.std.specs.declared.cmp.Ordering.TheVariants.{Less}
-pub use Rattle.std.proofs.lemmas.Bool.{and_parts, cases_lt, false≢true, leb-true, lt-ltb, or_cases}
+pub use Rattle.std.proofs.lemmas.Bool.{and_parts, false≢true, leb-true, lt-ltb, or_cases}
 pub use Rattle.std.proofs.lemmas.Bool.Decides.{Decides-eqb}
 pub use Rattle.std.proofs.lemmas.Int.{ints}
 pub use Rattle.std.proofs.lemmas.List.{append_cancel_left, drop-drop, drop_at, length-map, take_at, take_rest}
@@ -41,7 +41,7 @@ pub use Rattle.moo_rows.specs.declared.row.ObjRow.{ObjRow}
 pub use Rattle.moo_rows.specs.declared.row.PetitionId.{PetitionId}
 pub use Rattle.moo_rows.specs.declared.row.PetitionRow.{PetitionRow}
 pub use Rattle.moo_rows.specs.declared.row.Place.{Place}
-pub use Rattle.moo_rows.specs.declared.row.Place.TheVariants.{Any as any_object, None as no_object, This}
+pub use Rattle.moo_rows.specs.declared.row.Place.TheVariants.{This}
 pub use Rattle.moo_rows.specs.declared.row.Preposition.{Preposition}
 pub use Rattle.moo_rows.specs.declared.row.PropId.{PropId}
 pub use Rattle.moo_rows.specs.declared.row.PropRow.{PropRow}
@@ -51,7 +51,7 @@ pub use Rattle.moo_rows.specs.declared.row.SlotState.TheVariants.{Clear, Set}
 pub use Rattle.moo_rows.specs.declared.row.VerbBits.{VerbBits}
 pub use Rattle.moo_rows.specs.declared.row.VerbId.{VerbId}
 pub use Rattle.moo_rows.specs.declared.row.VerbRow.{VerbRow}
-pub use Rattle.moo_world.proofs.Ancestry.Trees.{Chain-chain, assigned, chain-step, linked}
+pub use Rattle.moo_world.proofs.Ancestry.Trees.{Chain-chain, chain-step, linked}
 pub use Rattle.moo_world.proofs.Form.Limits.{row_fitting, slot_state}
 pub use Rattle.moo_world.proofs.Form.Ranges.{fits_of, range_of}
 pub use Rattle.moo_world.proofs.Inheritance.Owed.{named_so}
@@ -70,7 +70,7 @@ pub use Rattle.moo_world.specs.Prepositions.{place_text, prep_text}
 pub use Rattle.moo_world.specs.Requests.{IsFormed}
 pub use Rattle.moo_world.specs.Rows.{numbers_below, prop_id, verb_id, world_of}
 unfoldable pub use Rattle.moo_world.specs.Rows.{world_shown}
-pub use Rattle.moo_world.specs.World.{Chain, Climbs, IsWellFormed, NamesDiffer, Record, Slot, World, accept_fits, defined_by, directory_of, is_object, is_property_name, names_of, numbers_to, owed_by, pair_named, row_fits, slot_of, state_fits, verb_fits, with_slots}
+pub use Rattle.moo_world.specs.World.{Climbs, IsWellFormed, NamesDiffer, Record, Slot, World, accept_fits, defined_by, directory_of, is_object, is_property_name, names_of, numbers_to, owed_by, pair_named, row_fits, slot_of, state_fits, verb_fits, with_slots}
 unfoldable pub use Rattle.moo_world.specs.World.{chain}
 pub use Rattle.moo_damage.proofs.Apart.{all_append, all_map, both_true, distinct_append, distinct_numbers}
 pub use Rattle.moo_dump.specs.Dump.{heading, object_values, state_values, verb_values}
