@@ -22,7 +22,8 @@ use Rattle.moo_files.specs.declared.remains.Remains.TheVariants as remains
 use Rattle.moo_files.proofs.AgainLemmas.{held_after}
 use Rattle.moo_words.specs.declared.task.Task.{Task}
 use Rattle.moo_words.specs.declared.task.Task.TheVariants.{Init, Apply, Ask, Dump, Load, Check, Serve}
-use Rattle.moo_commands.specs.Run.{Given, begins_anew, file_of}
+use Rattle.moo_commands.specs.Given.{Given}
+use Rattle.moo_commands.specs.Run.{begins_anew, file_of}
 use Rattle.moo_commands.specs.Ends.{MatchFile, RunsFile, EndsWith, RunsOver, IsClosedEnd, RunsClosed}
 use Rattle.moo_commands.specs.Again.{Started, RanFrom, TakesUp, IsLeftAfter, CrashesTo, IsFoundIn, ClosesTo}
 use Rattle.moo_commands.specs.declared.ends.Ends.{Ends}

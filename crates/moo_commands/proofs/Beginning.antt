@@ -1,5 +1,6 @@
 -- The world that a task begins with.
-use Rattle.std.proofs.Common.{◌≡◌, ◌⊎◌, inl, inr, ℕ, List, Option, refl, sym, subst, ◌∙◌, ◌<◌, ◌^◌, true, false, IsTrue}
+use Rattle.std.proofs.Common.{◌≡◌, ◌⊎◌, inl, inr, ℕ, List, Option, Some, codes, refl, sym, ap, subst, ◌∙◌, ◌<◌, ◌^◌, true, false, IsTrue}
+use Rattle.std.specs.Str.{bytes_eq}
 use Rattle.std.specs.Bool.{⊤}
 use Rattle.std.proofs.lemmas.Bool.{true≢false}
 use Rattle.moo_rows.specs.Maps.{Maps}
@@ -17,7 +18,8 @@ use Rattle.moo_files.specs.declared.remains.Remains.{Remains}
 use Rattle.moo_files.proofs.RemainsLemmas.{keeps_more, blank_more}
 use Rattle.moo_words.specs.declared.task.Task.{Task}
 use Rattle.moo_words.specs.declared.task.Task.TheVariants.{Init, Apply, Ask, Dump, Load, Check, Serve}
-use Rattle.moo_commands.specs.Run.{Given, begins_anew, is_load, dump_word, IsDumpedAs, BeginsWith, RunsFrom, RunsUnseen, FailsAtOnce, FailsToBegin, RunsNew}
+use Rattle.moo_commands.specs.Given.{Given}
+use Rattle.moo_commands.specs.Run.{begins_anew, is_load, dump_word, reads_input, ReadsFile, IsDumpedAs, BeginsWith, RunsFrom, RunsUnseen, FailsAtOnce, FailsToBegin, RunsNew}
 use Rattle.moo_commands.proofs.Connections.{unseen}
 
 pub begins_opening : (task : Task) (given : Given) → is_load task ≡ false → BeginsWith task given (state_of opening_maps)
@@ -50,6 +52,25 @@ load_begins (Dump file) loads = absurd (true≢false (sym loads))
 load_begins (Load file dump) loads = refl
 load_begins (Check file) loads = absurd (true≢false (sym loads))
 load_begins (Serve file port count) loads = absurd (true≢false (sym loads))
+
+-- what it reads besides its file is the word for its dump
+pub reads_dump : (task : Task) (dump : List ℕ) → is_load task ≡ true → dump_word task ≡ dump → bytes_eq dump (codes "-") ≡ false → ReadsFile task dump
+reads_dump (Init file) dump loads is other = absurd (true≢false (sym loads))
+reads_dump (Apply file batches) dump loads is other = absurd (true≢false (sym loads))
+reads_dump (Ask file batches) dump loads is other = absurd (true≢false (sym loads))
+reads_dump (Dump file) dump loads is other = absurd (true≢false (sym loads))
+reads_dump (Load file word) dump loads is other = (ap Some is, other)
+reads_dump (Check file) dump loads is other = absurd (true≢false (sym loads))
+reads_dump (Serve file port count) dump loads is other = absurd (true≢false (sym loads))
+
+pub keeps_input : (task : Task) (dump : List ℕ) → is_load task ≡ true → dump_word task ≡ dump → reads_input task ≡ false → bytes_eq dump (codes "-") ≡ false
+keeps_input (Init file) dump loads is other = absurd (true≢false (sym loads))
+keeps_input (Apply file batches) dump loads is other = absurd (true≢false (sym loads))
+keeps_input (Ask file batches) dump loads is other = absurd (true≢false (sym loads))
+keeps_input (Dump file) dump loads is other = absurd (true≢false (sym loads))
+keeps_input (Load file word) dump loads is other = subst (λ w. bytes_eq w (codes "-") ≡ false) is other
+keeps_input (Check file) dump loads is other = absurd (true≢false (sym loads))
+keeps_input (Serve file port count) dump loads is other = absurd (true≢false (sym loads))
 
 -- what comes after a load reads no text
 pub of_other_texts : (task : Task) → is_load task ≡ true → (s : State) (given others : Given) (old new : Option (List ℕ)) (status : ℕ) (Clean : Type 0) (Crash : Stand → Type 0) (Shown : Type 0)

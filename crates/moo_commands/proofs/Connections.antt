@@ -11,7 +11,8 @@ use Rattle.moo_commands.specs.declared.failure.Failure.{Failure}
 use Rattle.moo_commands.specs.declared.failure.Failure.TheVariants.{Usage, NoFile, Store, Damaged, NewerVersion, NotADump, NoBatches, Read, Write, TooLong, Port, NoMemory}
 use Rattle.sqlite.specs.declared.error.Error.{Error}
 use Rattle.moo_commands.specs.Lines.{Reports, store_failure}
-use Rattle.moo_commands.specs.Run.{Given, Done, StopsTask, ShowsTables, EndsTask, RunsFrom, RunsUnseen, IsOpening, MayRefuse, FailsAtOnce, LeavesAsBefore, serves}
+use Rattle.moo_commands.specs.Given.{Given}
+use Rattle.moo_commands.specs.Run.{Done, StopsTask, ShowsTables, EndsTask, RunsFrom, RunsUnseen, IsOpening, MayRefuse, FailsAtOnce, LeavesAsBefore, serves}
 use Rattle.moo_world.specs.Judge.{State}
 use Rattle.moo_store.specs.Kept.{World}
 use Rattle.moo_store.specs.World.{store_of, CrashLeaves}

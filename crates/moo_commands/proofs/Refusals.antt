@@ -6,7 +6,8 @@ use Rattle.moo_store.specs.Opening.{IsOfStore}
 use Rattle.moo_store.specs.declared.fault.StoreFault.{StoreFault}
 use Rattle.moo_words.specs.declared.task.Task.{Task}
 use Rattle.moo_commands.specs.Lines.{Reports, Tells, store_failure}
-use Rattle.moo_commands.specs.Run.{Given, RunsTask, FailsAtOnce, RefusesFile}
+use Rattle.moo_commands.specs.Given.{Given}
+use Rattle.moo_commands.specs.Run.{RunsTask, FailsAtOnce, RefusesFile}
 use Rattle.moo_commands.specs.Ends.{RunsFile}
 use Rattle.moo_commands.specs.declared.ends.Ends.{Ends}
 use Rattle.moo_commands.specs.declared.ends.Ends.TheVariants as variant

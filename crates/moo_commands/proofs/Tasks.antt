@@ -12,7 +12,8 @@ use Rattle.moo_store.specs.Turns.{Halts}
 use Rattle.moo_store.specs.Text.{Applies, StopsRun}
 use Rattle.moo_store.specs.World.{store_of, CrashLeaves}
 use Rattle.moo_commands.specs.Lines.{text_failure}
-use Rattle.moo_commands.specs.Run.{Texts, texts_by, lost_status, RunsText, StopsText, EndsTask}
+use Rattle.moo_commands.specs.Given.{Texts, texts_by}
+use Rattle.moo_commands.specs.Run.{lost_status, RunsText, StopsText, EndsTask}
 use Rattle.moo_commands.specs.declared.failure.Failure.{Failure}
 
 pub given_input : (batches : List ℕ) (input : Option (List ℕ)) (files : Texts) → bytes_eq batches (codes "-") ≡ true → texts_by input files batches ≡ input

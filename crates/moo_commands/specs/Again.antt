@@ -20,7 +20,8 @@ use Rattle.moo_files.specs.declared.remains.Remains.{Remains}
 use Rattle.moo_files.specs.declared.remains.Remains.TheVariants as remains
 use Rattle.moo_words.specs.declared.task.Task.{Task}
 use Rattle.moo_words.specs.Tasks.{NamesTask, mistakes}
-use Rattle.moo_commands.specs.Run.{Given, begins_anew, BeginsWith, RunsFrom, FailsAtOnce, EndsUsage}
+use Rattle.moo_commands.specs.Given.{Given}
+use Rattle.moo_commands.specs.Run.{begins_anew, BeginsWith, RunsFrom, FailsAtOnce, EndsUsage}
 use Rattle.moo_commands.specs.Ends.{MatchFile, HasNoFile, RunsOver, IsClosedEnd}
 use Rattle.moo_commands.specs.declared.ends.Ends.{Ends}
 use Rattle.moo_commands.specs.declared.ends.Ends.TheVariants as variant

@@ -1,5 +1,5 @@
 -- What a run of the program writes, the status that it ends with, and what a crash then leaves.
-use Rattle.std.specs.Prelude.{◌≡◌, ◌<◌, ◌⊎◌, ◌==◌, ℕ, Bool, true, List, [], take, length, Option, IfSome, codes, if◌then◌else◌, ⊤, IsTrue, false}
+use Rattle.std.specs.Prelude.{◌≡◌, ◌<◌, ◌⊎◌, ◌==◌, ℕ, Bool, true, List, [], take, length, Option, Some, None, IfSome, codes, if◌then◌else◌, ⊤, IsTrue, false}
 use Rattle.std.specs.Str.{bytes_eq}
 use Rattle.std.specs.Io.KnownBytes.{Appends}
 use Rattle.clap.specs.Kinds.{Kinds, IsAmong}
@@ -31,6 +31,7 @@ use Rattle.moo_store.specs.World.{store_of, CrashLeaves}
 use Rattle.moo_words.specs.declared.task.Task.{Task}
 use Rattle.moo_http.specs.Lines.{listening_line}
 use Rattle.moo_http.specs.Turns.{Attendance, SaysAttended}
+use Rattle.moo_commands.specs.Given.{Given}
 use Rattle.moo_words.specs.declared.task.Task.TheVariants.{Init, Apply, Ask, Dump, Load, Check, Serve}
 use Rattle.moo_words.specs.Tasks.{NamesTask, NamesAlone, mistakes}
 use Rattle.moo_commands.specs.Lines.{Reports, WritesLine, text_failure, store_failure, created_line, loaded_line, checked_line}
@@ -79,6 +80,33 @@ dump_word (Load file dump) = dump.now
 dump_word (Check file) = []
 dump_word (Serve file port count) = []
 
+-- the word for the batches or the dump that a task reads
+abbrev pub text_word : Task → Option (List ℕ)
+text_word (Init file) = None
+text_word (Apply file batches) = Some batches.now
+text_word (Ask file batches) = Some batches.now
+text_word (Dump file) = None
+text_word (Load file dump) = Some dump.now
+text_word (Check file) = None
+text_word (Serve file port count) = None
+
+-- the word names the input
+abbrev pub is_input : Option (List ℕ) → Bool
+is_input None = false
+is_input (Some word) = bytes_eq word (codes "-")
+
+-- the task reads the input
+abbrev pub reads_input : Task → Bool
+reads_input task = is_input (text_word task)
+
+-- the task reads the file of this path
+abbrev pub ReadsFile : Task → List ℕ → Type 0
+ReadsFile task path = (text_word task ≡ Some path) × (bytes_eq path (codes "-") ≡ false)
+
+-- the input is as it was, unless the words name a task that reads it
+abbrev pub KeepsInput : {R : Type 0} → List (List ℕ) → R → R → Type 0
+KeepsInput words old new = ((task : Task) → NamesTask words task → reads_input task ≡ false) → new ≡ old
+
 -- Once its world is open or made, the task only reads it: all but `apply` and `serve`.
 abbrev pub only_reads : Task → Bool
 only_reads (Init file) = true
@@ -98,23 +126,6 @@ serves (Dump file) = false
 serves (Load file dump) = false
 serves (Check file) = false
 serves (Serve file port count) = true
-
--- the text of each word for batches or a dump, if it is known
-abbrev pub Texts : Type 0
-Texts = List ℕ → Option (List ℕ)
-
--- `-` names the input, and any other word the file of that path
-abbrev pub texts_by : Option (List ℕ) → Texts → Texts
-texts_by input files batches = if bytes_eq batches (codes "-") then input else files batches
-
--- what a run is given beside its words and their file: the texts, and what comes of the ports
-pub record Given : Type 1 where
-  pub text : Texts
-  pub ports : Attendance
-
--- by the input, the files of batches and the ports
-abbrev pub given_by : Option (List ℕ) → Texts → Attendance → Given
-given_by input files ports = record { text = texts_by input files; ports = ports }
 
 -- the dump of this state is the text, byte for byte, if it is known
 abbrev pub IsDumpedAs : Option (List ℕ) → State → Type 0

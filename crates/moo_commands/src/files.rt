@@ -1,6 +1,6 @@
 //! The file of a task.
 
-ghost use Rattle.std.specs.Prelude.{◌≡◌, Bool, IsTrue, ◌⊎◌, true, false, IfOk, IfErr};
+ghost use Rattle.std.specs.Prelude.{◌≡◌, ℕ, List, Bool, IsTrue, ◌⊎◌, true, false, IfOk, IfErr};
 ghost use Rattle.sqlite.specs.State.{HasCleanDisk};
 ghost use Rattle.sqlite.specs.Tree.{Trees};
 ghost use Rattle.sqlite.specs.Files.{over_files, file_state, IsNothing};
@@ -15,10 +15,10 @@ ghost use Rattle.moo_store.specs.States.{LeavesState};
 ghost use Rattle.moo_store.specs.World.{store_of, CrashLeaves, StandsFor};
 ghost use Rattle.moo_files.specs.Contents.{HoldsTrees, HoldsTables, HoldsState, HasOtherTables, HasAnyTable, IsKept, ReadsAsOurs, HoldsNoTable};
 ghost use Rattle.moo_files.specs.Remains.{IsCleanRemains, MayStopAs, Spares, KeepsSuch, KeepsNothingBut, StillHolds, StillHoldsTrees};
-ghost use Rattle.moo_http.specs.Turns.{attended_between};
 ghost use Rattle.moo_files.specs.Blank.{IsBlank};
+ghost use Rattle.moo_commands.specs.Given.{given_to};
 ghost use Rattle.moo_commands.specs.Lines.{Tells, store_failure};
-ghost use Rattle.moo_commands.specs.Run.{begins_anew, file_of, is_load, dump_word, given_by, only_reads, LeavesNothingNew, RunsFrom, RunsTask, ShowsTables};
+ghost use Rattle.moo_commands.specs.Run.{begins_anew, file_of, is_load, dump_word, reads_input, ReadsFile, only_reads, LeavesNothingNew, RunsFrom, RunsTask, ShowsTables};
 ghost use Rattle.moo_commands.specs.Ends.{RunsFile, EndsWith};
 
 use crate::ends::Ends;
@@ -26,7 +26,7 @@ use crate::failure::Failure;
 use crate::host::BatchFiles;
 use crate::loading::{dump_word, read_world};
 use crate::output::report;
-use crate::over::{NO_INPUT, begins_anew, run_in, run_over};
+use crate::over::{begins_anew, run_in, run_over};
 use moo_files::{Remains, WorldFiles, create_from, load_from, open_from};
 use moo_http::Ports;
 use moo_store::{StoreFault, World};
@@ -62,13 +62,15 @@ fn run_in_files<H: BatchFiles + Ports, C: Clock + Eprint, R: Read + Drop, W: Wri
     world: World<FileStore<D>>,
     task: Task<'_>,
     host: &mut H,
-    input: R,
+    input: &mut R,
     output: &mut W,
     status: &mut u8,
 ) -> Connection<FileStore<D>>
-    ensures runs { (known : Bool) (s : State) → StandsFor over_files known world s → RunsFrom task.entry s (given_by (R.remaining input) (H.text host.old) (attended_between H.Source.hands_out H.Source.takes_back H.Source.Reader.remaining H.Source.Writer.contents H.listens H.closes host.old host.new)) (W.contents output.old) (W.contents output.new) status.new (IsTrue known × HasCleanDisk (file_state result)) (CrashLeaves (file_state result)) (ShowsTables over_files world (file_state result)) }
+    requires read { (path : List ℕ) → ReadsFile task path → H.may_read host.old path }
+    ensures runs { (known : Bool) (s : State) → StandsFor over_files known world s → RunsFrom task.entry s (given_to R.Read H.BatchFiles H.Ports H.Source.Arrivals H.Source.Reader.Read H.Source.Writer.Write input.old host.old host.new) (W.contents output.old) (W.contents output.new) status.new (IsTrue known × HasCleanDisk (file_state result)) (CrashLeaves (file_state result)) (ShowsTables over_files world (file_state result)) }
     ensures clean { (known : Bool) (s : State) → StandsFor over_files known world s → HasCleanDisk (file_state result) → HasCleanDisk (store_of over_files world) }
     ensures still { only_reads task.entry ≡ true → LeavesNothingNew (store_of over_files world) (file_state result) }
+    ensures input { reads_input task.entry ≡ false → input.new ≡ input.old }
 {
     run_in(alloc, console, world, task, host, input, output, status)
 }
@@ -152,13 +154,15 @@ fn run_loaded<
     dump: &str,
     task: Task<'_>,
     host: &mut H,
-    input: R,
+    input: &mut R,
     output: &mut W,
     status: &mut u8,
 ) -> Ends<T, FileFrom<T>>
+    requires read { (path : List ℕ) → ReadsFile task path → H.may_read host.old path }
     requires load { is_load task ≡ true }
     requires word { dump_word task ≡ dump.now }
-    ensures { RunsFile task.entry (image_at T.Start) result (given_by (R.remaining input) (H.text host.old) (attended_between H.Source.hands_out H.Source.takes_back H.Source.Reader.remaining H.Source.Writer.contents H.listens H.closes host.old host.new)) (W.contents output.old) (W.contents output.new) status.new }
+    ensures runs { RunsFile task.entry (image_at T.Start) result (given_to R.Read H.BatchFiles H.Ports H.Source.Arrivals H.Source.Reader.Read H.Source.Writer.Write input.old host.old host.new) (W.contents output.old) (W.contents output.new) status.new }
+    ensures input { reads_input task.entry ≡ false → input.new ≡ input.old }
 {
     let rows = match read_world(alloc, dump, host, input) {
         Ok(rows) => rows,
@@ -169,7 +173,7 @@ fn run_loaded<
     };
     match load_from(alloc, host, file, start, rows) {
         Ok(world) => Ends::Ran(run_in_files(
-            alloc, console, world, task, host, NO_INPUT, output, status,
+            alloc, console, world, task, host, input, output, status,
         )),
         Err((fault, remains)) => {
             *status = report(alloc, console, refusal(fault), output);
@@ -192,12 +196,14 @@ fn run_begun<
     start: T,
     task: Task<'_>,
     host: &mut H,
-    input: R,
+    input: &mut R,
     output: &mut W,
     status: &mut u8,
 ) -> Ends<T, FileFrom<T>>
+    requires read { (path : List ℕ) → ReadsFile task path → H.may_read host.old path }
     requires load { is_load task ≡ false }
-    ensures { RunsFile task.entry (image_at T.Start) result (given_by (R.remaining input) (H.text host.old) (attended_between H.Source.hands_out H.Source.takes_back H.Source.Reader.remaining H.Source.Writer.contents H.listens H.closes host.old host.new)) (W.contents output.old) (W.contents output.new) status.new }
+    ensures runs { RunsFile task.entry (image_at T.Start) result (given_to R.Read H.BatchFiles H.Ports H.Source.Arrivals H.Source.Reader.Read H.Source.Writer.Write input.old host.old host.new) (W.contents output.old) (W.contents output.new) status.new }
+    ensures input { reads_input task.entry ≡ false → input.new ≡ input.old }
 {
     match world_of(alloc, host, file, start, task) {
         Ok(world) => Ends::Ran(run_in_files(
@@ -228,11 +234,13 @@ pub fn run_from<
     start: T,
     task: Task<'_>,
     host: &mut H,
-    input: R,
+    input: &mut R,
     output: &mut W,
     status: &mut u8,
 ) -> Ends<T, FileFrom<T>>
-    ensures { RunsFile task.entry (image_at T.Start) result (given_by (R.remaining input) (H.text host.old) (attended_between H.Source.hands_out H.Source.takes_back H.Source.Reader.remaining H.Source.Writer.contents H.listens H.closes host.old host.new)) (W.contents output.old) (W.contents output.new) status.new }
+    requires read { (path : List ℕ) → ReadsFile task path → H.may_read host.old path }
+    ensures runs { RunsFile task.entry (image_at T.Start) result (given_to R.Read H.BatchFiles H.Ports H.Source.Arrivals H.Source.Reader.Read H.Source.Writer.Write input.old host.old host.new) (W.contents output.old) (W.contents output.new) status.new }
+    ensures input { reads_input task.entry ≡ false → input.new ≡ input.old }
 {
     match dump_word(task) {
         Some(dump) => run_loaded(
@@ -250,10 +258,12 @@ fn run_in_memory<H: BatchFiles + Ports, C: Clock + Eprint, R: Read + Drop, W: Wr
     console: &C,
     task: Task<'_>,
     host: &mut H,
-    input: R,
+    input: &mut R,
     output: &mut W,
 ) -> u8
-    ensures { RunsTask task.entry (given_by (R.remaining input) (H.text host.old) (attended_between H.Source.hands_out H.Source.takes_back H.Source.Reader.remaining H.Source.Writer.contents H.listens H.closes host.old host.new)) (W.contents output.old) (W.contents output.new) result }
+    requires read { (path : List ℕ) → ReadsFile task path → H.may_read host.old path }
+    ensures runs { RunsTask task.entry (given_to R.Read H.BatchFiles H.Ports H.Source.Arrivals H.Source.Reader.Read H.Source.Writer.Write input.old host.old host.new) (W.contents output.old) (W.contents output.new) result }
+    ensures input { reads_input task.entry ≡ false → input.new ≡ input.old }
 {
     let Ok(conn) = Connection::open_in_memory(alloc) else {
         return report(alloc, console, Failure::NoMemory, output);
@@ -276,12 +286,14 @@ pub(crate) fn run_task<
     task: Task<'_>,
     start: T,
     host: &mut H,
-    input: R,
+    input: &mut R,
     output: &mut W,
     status: &mut u8,
 ) -> Ends<T, FileFrom<T>>
-    ensures runs { RunsTask task.entry (given_by (R.remaining input) (H.text host.old) (attended_between H.Source.hands_out H.Source.takes_back H.Source.Reader.remaining H.Source.Writer.contents H.listens H.closes host.old host.new)) (W.contents output.old) (W.contents output.new) status.new }
-    ensures ends { EndsWith task.entry (image_at T.Start) result (given_by (R.remaining input) (H.text host.old) (attended_between H.Source.hands_out H.Source.takes_back H.Source.Reader.remaining H.Source.Writer.contents H.listens H.closes host.old host.new)) (W.contents output.old) (W.contents output.new) status.new }
+    requires read { (path : List ℕ) → ReadsFile task path → H.may_read host.old path }
+    ensures runs { RunsTask task.entry (given_to R.Read H.BatchFiles H.Ports H.Source.Arrivals H.Source.Reader.Read H.Source.Writer.Write input.old host.old host.new) (W.contents output.old) (W.contents output.new) status.new }
+    ensures ends { EndsWith task.entry (image_at T.Start) result (given_to R.Read H.BatchFiles H.Ports H.Source.Arrivals H.Source.Reader.Read H.Source.Writer.Write input.old host.old host.new) (W.contents output.old) (W.contents output.new) status.new }
+    ensures input { reads_input task.entry ≡ false → input.new ≡ input.old }
 {
     let file = file_of(task);
     if file == ":memory:" {

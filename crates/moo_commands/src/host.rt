@@ -12,15 +12,19 @@ use std::io::{Read, Result};
 
 /// Files of batches, by their paths.
 ///
-/// A function over `B: BatchFiles` is proved for all texts that they may hold.
+/// A function over `B: BatchFiles` is proved for all texts that they may hold, and opens no file but those that may be read.
 pub trait BatchFiles {
     type Text: Read + Drop;
 
     /// The text of the file of a path, if it is known.
     ghost text: { Self → List ℕ → Option (List ℕ) };
 
+    /// The file of this path may be read.
+    ghost may_read: { Self → List ℕ → Type 0 } = { λ _ _. ⊤ };
+
     /// Opens the file of a path. An error if there is none, or it can't be opened.
     fn open(&self, path: &str) -> Result<Self::Text>
+        requires { may_read self.now path.now }
         ensures { IfOk result (λ file. Self.Text.remaining file ≡ text self.now path.now) };
 }
 

@@ -7,8 +7,8 @@ use Rattle.moo_commands.proofs.Connections.{surely, unseen}
 use Rattle.moo_commands.proofs.Refusals.{fails_at_once, refuses_file, tells_fault}
 use Rattle.moo_commands.proofs.files.run_begun.Goals as goal
 
-pub returns-in-Ok : goal.returns-in-Ok
-returns-in-Ok g c =
+pub returns-in-Ok-clause-runs : goal.returns-in-Ok-clause-runs
+returns-in-Ok-clause-runs g c =
     let world = c.in-Ok.world in
     let here = state_of world.rows.maps in
     let ran = c.run_in_files.ensures in
@@ -44,8 +44,8 @@ returns-in-Ok g c =
       told = tt;
     }
 
-pub returns-in-Err : goal.returns-in-Err
-returns-in-Err g c =
+pub returns-in-Err-clause-runs : goal.returns-in-Err-clause-runs
+returns-in-Err-clause-runs g c =
     let fault = c.in-Err.fault in
     let old = g.W.Write.contents c.args.output.now in
     let new = g.W.Write.contents c.report.new.output in

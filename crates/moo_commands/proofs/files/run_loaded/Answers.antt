@@ -1,16 +1,15 @@
-use Rattle.std.proofs.Common.{inl, inr, refl, true}
+use Rattle.std.proofs.Common.{inl, inr, refl, true, ◌∙◌}
 use Rattle.sqlite.specs.WalFiles.{image_at}
 use Rattle.moo_world.specs.Judge.{state_of}
-use Rattle.moo_http.specs.Turns.{attended_between}
-use Rattle.moo_commands.specs.Run.{given_by}
-use Rattle.moo_commands.proofs.Beginning.{begins_dumped, held_rows, of_other_texts, fails_to_begin, unmade_begins, fresh_begins, load_begins, never_other}
+use Rattle.moo_commands.specs.Given.{given_to}
+use Rattle.moo_commands.proofs.Beginning.{begins_dumped, held_rows, reads_dump, keeps_input, of_other_texts, fails_to_begin, unmade_begins, fresh_begins, load_begins, never_other}
 use Rattle.moo_commands.proofs.Connections.{surely}
 use Rattle.moo_commands.proofs.Refusals.{fails_at_once, tells_fault}
 use Rattle.moo_commands.proofs.files.run_loaded.Goals as goal
 
 -- the dump shows no world, and the file isn't opened
-pub returns-in-Err : goal.returns-in-Err
-returns-in-Err g c =
+pub returns-in-Err-clause-runs : goal.returns-in-Err-clause-runs
+returns-in-Err-clause-runs g c =
     record {
       anew = λ anew. (c.in-Err.failure, inr (c.requires.load, c.in-Err.ensures.failure), c.report.ensures);
       taken = λ s anew holds. tt;
@@ -37,9 +36,9 @@ returns-in-Err g c =
       told = inr (c.requires.load, (c.args.start, refl), c.in-Err.failure, c.in-Err.ensures.failure, c.report.ensures);
     }
 
-pub returns-in-Ok-load_from : goal.returns-in-Ok-load_from
-returns-in-Ok-load_from g c =
-    let given = given_by (g.R.Read.remaining c.args.input) (g.H.BatchFiles.text c.args.host.now) (attended_between g.H.Source.Arrivals.hands_out g.H.Source.Arrivals.takes_back g.H.Source.Reader.Read.remaining g.H.Source.Writer.Write.contents g.H.Ports.listens g.H.Ports.closes c.args.host.now c.run_in_files.new.host) in
+pub returns-in-Ok-load_from-clause-runs : goal.returns-in-Ok-load_from-clause-runs
+returns-in-Ok-load_from-clause-runs g c =
+    let given = given_to g.R.Read g.H.BatchFiles g.H.Ports g.H.Source.Arrivals g.H.Source.Reader.Read g.H.Source.Writer.Write c.args.input.now c.args.host.now c.run_in_files.new.host in
     let s = state_of c.in-Ok.rows.maps in
     let stands = c.in-Ok-load_from.ensures.stands in
     let ran = c.run_in_files.ensures in
@@ -73,11 +72,11 @@ returns-in-Ok-load_from g c =
       told = tt;
     }
 
-pub returns-in-Err-load_from : goal.returns-in-Err-load_from
-returns-in-Err-load_from g c =
+pub returns-in-Err-load_from-clause-runs : goal.returns-in-Err-load_from-clause-runs
+returns-in-Err-load_from-clause-runs g c =
     let fault = c.in-Err-load_from.fault in
     let image = image_at g.T.Start in
-    let given = given_by (g.R.Read.remaining c.args.input) (g.H.BatchFiles.text c.args.host.now) (attended_between g.H.Source.Arrivals.hands_out g.H.Source.Arrivals.takes_back g.H.Source.Reader.Read.remaining g.H.Source.Writer.Write.contents g.H.Ports.listens g.H.Ports.closes c.args.host.now c.args.host.now) in
+    let given = given_to g.R.Read g.H.BatchFiles g.H.Ports g.H.Source.Arrivals g.H.Source.Reader.Read g.H.Source.Writer.Write c.args.input.now c.args.host.now c.args.host.now in
     let s = state_of c.in-Ok.rows.maps in
     let begins = begins_dumped c.args.task given c.args.dump.now s c.requires.load c.requires.word c.in-Ok.ensures.dumped (held_rows c.in-Ok.rows.maps c.in-Ok.ensures.good c.in-Ok.ensures.limit) in
     let old = g.W.Write.contents c.args.output.now in
@@ -109,3 +108,15 @@ returns-in-Err-load_from g c =
       rests = refl;
       told = inl (fault, c.in-Err-load_from.ensures.stopped, reports);
     }
+
+pub read_world-requires-clause-read : goal.read_world-requires-clause-read
+read_world-requires-clause-read g c other = c.requires.read c.args.dump.now (reads_dump c.args.task c.args.dump.now c.requires.load c.requires.word other)
+
+pub returns-in-Err-clause-input : goal.returns-in-Err-clause-input
+returns-in-Err-clause-input g c other = c.in-Err.ensures.input (keeps_input c.args.task c.args.dump.now c.requires.load c.requires.word other)
+
+pub returns-in-Ok-load_from-clause-input : goal.returns-in-Ok-load_from-clause-input
+returns-in-Ok-load_from-clause-input g c other = c.run_in_files.ensures.input other ∙ c.in-Ok.ensures.input (keeps_input c.args.task c.args.dump.now c.requires.load c.requires.word other)
+
+pub returns-in-Err-load_from-clause-input : goal.returns-in-Err-load_from-clause-input
+returns-in-Err-load_from-clause-input g c other = c.in-Ok.ensures.input (keeps_input c.args.task c.args.dump.now c.requires.load c.requires.word other)
