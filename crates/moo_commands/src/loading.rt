@@ -5,7 +5,7 @@ ghost use Rattle.std.specs.Str.{bytes_eq};
 ghost use Rattle.moo_world.specs.Rows.{IsGood};
 ghost use Rattle.moo_world.specs.Judge.{state_of};
 ghost use Rattle.moo_commands.specs.Given.{texts_by};
-ghost use Rattle.moo_commands.specs.Run.{IsDumpedAs, IsOfDump, is_load, dump_word};
+ghost use Rattle.moo_commands.specs.Run.{IsDumpedAs, RefusesDump, is_load, dump_word};
 
 use crate::failure::Failure;
 use crate::host::BatchFiles;
@@ -35,7 +35,7 @@ fn rows_of<R: Read + Drop>(alloc: Global, mut text: R) -> Result<Flat, Failure>
     ensures good { IfOk result (λ rows. IsGood rows.maps) }
     ensures limit { IfOk result (λ rows. rows.maps.head.seq < 2 ^ 63) }
     ensures dumped { IfOk result (λ rows. IsDumpedAs (R.remaining text) (state_of rows.maps)) }
-    ensures failure { IfErr result IsOfDump }
+    ensures failure { IfErr result (RefusesDump (R.remaining text)) }
 {
     let bytes = read_text(alloc, &mut text)?;
     let rows = read_dump(alloc, &bytes)?;
@@ -53,7 +53,7 @@ pub(crate) fn read_world<H: BatchFiles, R: Read + Drop>(
     ensures good { IfOk result (λ rows. IsGood rows.maps) }
     ensures limit { IfOk result (λ rows. rows.maps.head.seq < 2 ^ 63) }
     ensures dumped { IfOk result (λ rows. IsDumpedAs (texts_by (R.remaining input.old) (H.text host.now) dump.now) (state_of rows.maps)) }
-    ensures failure { IfErr result IsOfDump }
+    ensures failure { IfErr result (RefusesDump (texts_by (R.remaining input.old) (H.text host.now) dump.now)) }
     ensures input { bytes_eq dump.now (codes "-") ≡ false → input.new ≡ input.old }
 {
     if dump == "-" {

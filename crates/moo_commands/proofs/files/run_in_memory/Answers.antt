@@ -9,7 +9,7 @@ returns-in_default-clause-runs g c = record { anew = λ anew. inl (refl, (NoMemo
 
 pub returns-clause-runs : goal.returns-clause-runs
 returns-clause-runs g c = record {
-  anew = λ anew. new_unseen c.args.task (given_to g.R.Read g.H.BatchFiles g.H.Ports g.H.Source.Arrivals g.H.Source.Reader.Read g.H.Source.Writer.Write c.args.input.now c.args.host.now c.run_over-conn.new.host) (g.W.Write.contents c.args.output.now) (g.W.Write.contents c.run_over-conn.new.output) c.run_over-conn.new.status _ _ _
+  anew = λ anew. new_unseen c.args.task (given_to g.R.Read g.H.BatchFiles g.H.Ports g.H.Source.Arrivals g.H.Source.Reader.Read g.H.Source.Writer.Write c.args.input.now c.args.host.now c.run_over-conn.new.host) (g.W.Write.contents c.args.output.now) (g.W.Write.contents c.run_over-conn.new.output) c.run_over-conn.new.status _ _ _ _
       (c.run_over-conn.ensures.anew anew);
   opened = c.run_over-conn.ensures.opened;
 }

@@ -1,8 +1,11 @@
-use Rattle.std.proofs.Common.{inl, inr, refl, true, ◌∙◌}
+use Rattle.std.proofs.Common.{inl, inr, refl, true, sym, subst, ◌∙◌}
+use Rattle.sqlite.specs.Files.{over_files}
 use Rattle.sqlite.specs.WalFiles.{image_at}
 use Rattle.moo_world.specs.Judge.{state_of}
 use Rattle.moo_commands.specs.Given.{given_to}
-use Rattle.moo_commands.proofs.Beginning.{begins_dumped, held_rows, reads_dump, keeps_input, of_other_texts, fails_to_begin, unmade_begins, fresh_begins, load_begins, never_other}
+use Rattle.moo_store.specs.World.{StandsFor}
+use Rattle.moo_commands.specs.Run.{BeginsWith}
+use Rattle.moo_commands.proofs.Beginning.{begins_dumped, held_rows, refuses_dump, reads_dump, keeps_input, of_other_texts, fails_to_begin, unmade_begins, fresh_begins, load_begins, never_other}
 use Rattle.moo_commands.proofs.Connections.{surely}
 use Rattle.moo_commands.proofs.Refusals.{fails_at_once, tells_fault}
 use Rattle.moo_commands.proofs.files.run_loaded.Goals as goal
@@ -11,9 +14,10 @@ use Rattle.moo_commands.proofs.files.run_loaded.Goals as goal
 pub returns-in-Err-clause-runs : goal.returns-in-Err-clause-runs
 returns-in-Err-clause-runs g c =
     record {
-      anew = λ anew. (c.in-Err.failure, inr (c.requires.load, c.in-Err.ensures.failure), c.report.ensures);
+      anew = λ anew. (c.in-Err.failure, inr (c.requires.load, refuses_dump c.args.task _ c.args.dump.now c.in-Err.failure c.requires.word c.in-Err.ensures.failure), c.report.ensures);
       taken = λ s anew holds. tt;
       kept = λ s other holds. never_other c.args.task c.requires.load other;
+      led = λ rows other holds. never_other c.args.task c.requires.load other;
       only = λ tables other holds. never_other c.args.task c.requires.load other;
       nothing = λ other none. tt;
       other = λ trees other holds others. tt;
@@ -33,7 +37,7 @@ returns-in-Err-clause-runs g c =
       begun = λ anew half clean. inr (inl half);
       blank = λ other none. never_other c.args.task c.requires.load other;
       rests = refl;
-      told = inr (c.requires.load, (c.args.start, refl), c.in-Err.failure, c.in-Err.ensures.failure, c.report.ensures);
+      told = inr (c.requires.load, (c.args.start, refl), c.in-Err.failure, refuses_dump c.args.task _ c.args.dump.now c.in-Err.failure c.requires.word c.in-Err.ensures.failure, c.report.ensures);
     }
 
 pub returns-in-Ok-load_from-clause-runs : goal.returns-in-Ok-load_from-clause-runs
@@ -41,15 +45,19 @@ returns-in-Ok-load_from-clause-runs g c =
     let given = given_to g.R.Read g.H.BatchFiles g.H.Ports g.H.Source.Arrivals g.H.Source.Reader.Read g.H.Source.Writer.Write c.args.input.now c.args.host.now c.run_in_files.new.host in
     let s = state_of c.in-Ok.rows.maps in
     let stands = c.in-Ok-load_from.ensures.stands in
+    let world = c.in-Ok-load_from.world in
+    let same = stands.is_at.rows stands.works in
     let ran = c.run_in_files.ensures in
     record {
       anew = λ anew. (
-        s,
-        begins_dumped c.args.task given c.args.dump.now s c.requires.load c.requires.word c.in-Ok.ensures.dumped (held_rows c.in-Ok.rows.maps c.in-Ok.ensures.good c.in-Ok.ensures.limit),
-        of_other_texts c.args.task c.requires.load s _ given _ _ _ _ _ _ (surely _ _ _ _ _ _ _ _ _ (ran.runs true s stands)) (λ rests. rests),
+        world.rows.maps,
+        ran.good stands.works,
+        subst (BeginsWith c.args.task given) (sym same) (begins_dumped c.args.task given c.args.dump.now s c.requires.load c.requires.word c.in-Ok.ensures.dumped (held_rows c.in-Ok.rows.maps c.in-Ok.ensures.good c.in-Ok.ensures.limit)),
+        of_other_texts c.args.task c.requires.load (state_of world.rows.maps) _ given _ _ _ _ _ _ _ (surely _ _ _ _ _ _ _ _ _ _ (ran.runs true (state_of world.rows.maps) (subst (StandsFor over_files true world) (sym same) stands))) (λ rests. rests),
       );
       taken = λ t anew holds clean. c.in-Ok-load_from.ensures.taken t holds (ran.clean true s stands clean);
       kept = λ s other holds. never_other c.args.task c.requires.load other;
+      led = λ rows other holds. never_other c.args.task c.requires.load other;
       only = λ tables other holds. never_other c.args.task c.requires.load other;
       nothing = λ other none. never_other c.args.task c.requires.load other;
       other = λ trees other holds others. never_other c.args.task c.requires.load other;
@@ -84,9 +92,10 @@ returns-in-Err-load_from-clause-runs g c =
     let status = c.report-in-Err-load_from.result in
     let reports = tells_fault fault c.refusal.result old new status (inl c.refusal.ensures) c.report-in-Err-load_from.ensures in
     record {
-      anew = λ anew. fails_to_begin c.args.task old new status (fails_at_once fault old new status c.in-Err-load_from.ensures.fault reports);
+      anew = λ anew. fails_to_begin c.args.task _ old new status (fails_at_once fault old new status c.in-Err-load_from.ensures.fault reports);
       taken = λ s anew holds. tt;
       kept = λ s other holds. never_other c.args.task c.requires.load other;
+      led = λ rows other holds. never_other c.args.task c.requires.load other;
       only = λ tables other holds. never_other c.args.task c.requires.load other;
       nothing = λ other none. tt;
       other = λ trees other holds others. tt;
