@@ -38,6 +38,12 @@ use Rattle.moo_commands.specs.declared.ends.Ends.TheVariants as variant
 abbrev pub HoldsRows : Image → Maps → Type 0
 HoldsRows image rows = IsGood rows × HoldsSuch (λ trees. LeavesRows trees rows) image
 
+module _ {D : Type 0} {g : Ghosts D} where
+  -- A task ran over its file from these rows. If the disk is clean, a crash leaves rows to which its batches lead, with all numbers kept.
+  abbrev pub RunsRows : Task → Maps → Held (FileStore D g) → Given → Option (List ℕ) → Option (List ℕ) → ℕ → Type 0
+  RunsRows task rows conn given old new status =
+      RunsFrom task (state_of rows) given old new status (HasCleanDisk (file_state conn)) (CrashLeaves (file_state conn)) (LeavesLed (file_state conn) rows) ⊤
+
 module _ {T D : Type 0} {g : Ghosts D} where
   -- there is a file: the task ran over its world, or no world was opened or made
   abbrev pub MatchFile : Ends T D g → (Held (FileStore D g) → Type 0) → (Remains T D g → Type 0) → Type 0
@@ -54,11 +60,6 @@ module _ {T D : Type 0} {g : Ghosts D} where
   -- files that were never opened: the start is unspent
   abbrev pub IsUntouched : Remains T D g → Type 0
   IsUntouched left = (start : T) × (left ≡ remains.Untouched start)
-
-  -- A task ran over its file from these rows. If the disk is clean, a crash leaves rows to which its batches lead, with all numbers kept.
-  abbrev pub RunsRows : Task → Maps → Held (FileStore D g) → Given → Option (List ℕ) → Option (List ℕ) → ℕ → Type 0
-  RunsRows task rows conn given old new status =
-      RunsFrom task (state_of rows) given old new status (HasCleanDisk (file_state conn)) (CrashLeaves (file_state conn)) (LeavesLed (file_state conn) rows) ⊤
 
   -- A task over the file that held this image, on a disk that returns what was written.
   pub record RunsFile (task : Task) (image : Image) (ends : Ends T D g) (given : Given) (old new : Option (List ℕ)) (status : ℕ) : Type 0 where
