@@ -101,7 +101,7 @@ stops_when (Dump file) s end failure Led Then lead Clean More on given old new i
 stops_when (Load file dump) s end failure Led Then lead Clean More on given old new it = it
 stops_when (Check file) s end failure Led Then lead Clean More on given old new (e, inl (fault, is, of_store, same)) = (e, inl (fault, is, (λ more. of_store (on more)), same))
 stops_when (Check file) s end failure Led Then lead Clean More on given old new (e, inr front) = (e, inr front)
-stops_when (Serve file port count) s end failure Led Then lead Clean More on given old new (stops, batches, others, led) = (stops, batches, others, lead batches others led)
+stops_when (Serve file port count) s end failure Led Then lead Clean More on given old new (stops, (batches, others, led)) = (stops, (batches, others, lead batches others led))
 
 done_when : (task : Task) (s : State) (end : Stand) (Led Then : Leads) → ((batches others : List Batch) → Led batches others → Then batches others) → (Shown Less : Type 0) → (Shown → Less) → (given : Given) (old new : Option (List ℕ)) (status : ℕ)
     → Done task s end Led Shown given old new status → Done task s end Then Less given old new status
@@ -111,7 +111,7 @@ done_when (Ask file texts) s end Led Then lead Shown Less on given old new statu
 done_when (Dump file) s end Led Then lead Shown Less on given old new status it = it
 done_when (Load file dump) s end Led Then lead Shown Less on given old new status it = it
 done_when (Check file) s end Led Then lead Shown Less on given old new status (e, shown, written, zero) = (e, on shown, written, zero)
-done_when (Serve file port count) s end Led Then lead Shown Less on given old new status (serving, batches, others, led) = (serving, batches, others, lead batches others led)
+done_when (Serve file port count) s end Led Then lead Shown Less on given old new status (serving, (batches, others, led)) = (serving, (batches, others, lead batches others led))
 
 -- what is known if less is known of the disk, and nothing of what a check found
 pub runs_when : (task : Task) (s : State) (given : Given) (old new : Option (List ℕ)) (status : ℕ) (Clean More : Type 0) (Crash Then : Stand → Type 0) (Led Lead : Leads) (Shown : Type 0) → (More → Clean) → ((end : Stand) → More → Crash end → Then end)

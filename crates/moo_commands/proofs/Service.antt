@@ -29,8 +29,8 @@ module _ {S : Type 0} (g : Ghosts S) (known : Bool) (was world : World S) (clean
     (batches others : List Batch) (led : Led batches others) where
   pub service_done : (done : Unit {0}) → StandsAtEnd g known world (λ end. ServesOn ports (Ok done) port count (Works s) end old new)
       → EndsTask g known was world (λ end. Serving ports port count s end old new 0 × ((batches others : List Batch) × Led batches others))
-  service_done done it = record { end = it.end; clean = clean; crash = it.crash; ends = ((it.ends.0, it.ends.1, it.ends.2, refl), batches, others, led) }
+  service_done done it = record { end = it.end; clean = clean; crash = it.crash; ends = ((it.ends.0, it.ends.1, it.ends.2, refl), (batches, others, led)) }
 
   pub service_stops : (fault : ServiceFault) (failure : Failure) → failure ≡ service_failure fault → StandsAtEnd g known world (λ end. ServesOn ports (Err fault) port count (Works s) end old new)
       → EndsTask g known was world (λ end. StopsServing ports port count s end failure old new × ((batches others : List Batch) × Led batches others))
-  service_stops fault failure is it = record { end = it.end; clean = clean; crash = it.crash; ends = (stopped ports port count s it.end fault failure old new is it.ends, batches, others, led) }
+  service_stops fault failure is it = record { end = it.end; clean = clean; crash = it.crash; ends = (stopped ports port count s it.end fault failure old new is it.ends, (batches, others, led)) }

@@ -20,8 +20,8 @@ returns-in-Ok-clause-done g c known s stands =
     subst (λ text. IfOk c.run_text-in-Ok.result (λ status. EndsTask g.S.Store known c.args.world.now c.run_text-in-Ok.new.world (λ end. AppliesText (MayLead g.S.Store known c.args.world.now c.run_text-in-Ok.new.world) s end text (g.W.Write.contents c.args.output.now) (g.W.Write.contents c.run_text-in-Ok.new.output) status)))
     (c.in-Ok.ensures ∙ sym (given_file c.args.batches.now input files (sym c.eq.ensures ∙ c.if-eq.false))) (c.run_text-in-Ok.ensures.done known s stands)
 
-pub returns-clause-stops : goal.returns-clause-stops
-returns-clause-stops g c known s stands =
+pub returns-in-Err-clause-stops : goal.returns-in-Err-clause-stops
+returns-in-Err-clause-stops g c known s stands =
     let output = g.W.Write.contents c.args.output.now in
     unchanged g.S.Store known c.args.world.now s (λ end. StopsApplying (MayLead g.S.Store known c.args.world.now c.args.world.now) s end NoBatches (texts_by (g.R.Read.remaining c.args.input.now) (g.H.BatchFiles.text c.args.host.now) c.args.batches.now) output output)
     (c.leaves.ensures known (Works s) stands)

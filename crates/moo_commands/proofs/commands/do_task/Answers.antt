@@ -67,8 +67,8 @@ returns-in-Serve g c = record {
   input = λ other. refl;
 }
 
-pub requires-read-apply : goal.requires-read-apply
-requires-read-apply g c = λ other. c.requires.read c.in-Apply.batches.now (rw c.in-Apply.is (refl, other))
+pub apply-requires : goal.apply-requires
+apply-requires g c = λ other. c.requires.read c.in-Apply.batches.now (rw c.in-Apply.is (refl, other))
 
-pub requires-read-ask : goal.requires-read-ask
-requires-read-ask g c = λ other. c.requires.read c.in-Ask.batches.now (rw c.in-Ask.is (refl, other))
+pub ask-requires : goal.ask-requires
+ask-requires g c = λ other. c.requires.read c.in-Ask.batches.now (rw c.in-Ask.is (refl, other))

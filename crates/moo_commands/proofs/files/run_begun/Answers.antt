@@ -4,6 +4,7 @@ use Rattle.sqlite.specs.WalFiles.{image_at}
 use Rattle.moo_rows.specs.Opening.{opening_maps}
 use Rattle.moo_world.specs.Judge.{state_of}
 use Rattle.moo_store.specs.World.{StandsFor}
+use Rattle.moo_commands.specs.Given.{given_to}
 use Rattle.moo_commands.specs.Run.{BeginsWith}
 use Rattle.moo_commands.proofs.Held.{rows_are, rows_state, runs_rows}
 use Rattle.moo_commands.proofs.Beginning.{begins_opening, fails_to_begin, unmade_begins, fresh_begins}
@@ -64,11 +65,12 @@ returns-in-Ok-clause-runs g c =
 pub returns-in-Err-clause-runs : goal.returns-in-Err-clause-runs
 returns-in-Err-clause-runs g c =
     let fault = c.in-Err.fault in
+    let given = given_to g.R.Read g.H.BatchFiles g.H.Ports g.H.Source.Arrivals g.H.Source.Reader.Read g.H.Source.Writer.Write c.args.input.now c.args.host.now c.args.host.now in
     let old = g.W.Write.contents c.args.output.now in
     let new = g.W.Write.contents c.report.new.output in
     let reports = tells_fault fault c.refusal_of.result old new c.report.result c.refusal_of.ensures c.report.ensures in
     record {
-      anew = λ anew. fails_to_begin c.args.task _ old new c.report.result (fails_at_once fault old new c.report.result (c.in-Err.ensures.made anew) reports);
+      anew = λ anew. fails_to_begin c.args.task given old new c.report.result (fails_at_once fault old new c.report.result (c.in-Err.ensures.made anew) reports);
       taken = λ s anew holds. tt;
       kept = λ s other holds clean. fails_at_once fault old new c.report.result (c.in-Err.ensures.whole other s holds clean) reports;
       led = λ rows other holds. tt;
@@ -86,12 +88,12 @@ returns-in-Err-clause-runs g c =
       trees = λ trees other holds. c.in-Err.ensures.trees other trees holds;
       spared = λ trees anew holds any. c.in-Err.ensures.spared anew trees holds any;
       unmade = λ trees anew holds clean.
-          unmade_begins c.args.task _ (state_of opening_maps) (begins_opening c.args.task _ c.requires.load) trees (image_at g.T.Start) c.in-Err.remains (c.in-Err.ensures.unmade anew trees holds clean);
+          unmade_begins c.args.task given (state_of opening_maps) (begins_opening c.args.task given c.requires.load) trees (image_at g.T.Start) c.in-Err.remains (c.in-Err.ensures.unmade anew trees holds clean);
       spares = c.in-Err.ensures.spares;
       fresh = λ anew none clean.
-          fresh_begins c.args.task _ (state_of opening_maps) (begins_opening c.args.task _ c.requires.load) (image_at g.T.Start) c.in-Err.remains (c.in-Err.ensures.fresh anew none clean);
+          fresh_begins c.args.task given (state_of opening_maps) (begins_opening c.args.task given c.requires.load) (image_at g.T.Start) c.in-Err.remains (c.in-Err.ensures.fresh anew none clean);
       begun = λ anew half clean.
-          fresh_begins c.args.task _ (state_of opening_maps) (begins_opening c.args.task _ c.requires.load) (image_at g.T.Start) c.in-Err.remains (c.in-Err.ensures.begun anew half clean);
+          fresh_begins c.args.task given (state_of opening_maps) (begins_opening c.args.task given c.requires.load) (image_at g.T.Start) c.in-Err.remains (c.in-Err.ensures.begun anew half clean);
       blank = λ other none. c.in-Err.ensures.blank other none;
       rests = refl;
       told = inl (fault, c.in-Err.ensures.stopped, reports);

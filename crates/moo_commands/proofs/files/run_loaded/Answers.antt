@@ -13,8 +13,10 @@ use Rattle.moo_commands.proofs.files.run_loaded.Goals as goal
 -- the dump shows no world, and the file isn't opened
 pub returns-in-Err-clause-runs : goal.returns-in-Err-clause-runs
 returns-in-Err-clause-runs g c =
+    let given = given_to g.R.Read g.H.BatchFiles g.H.Ports g.H.Source.Arrivals g.H.Source.Reader.Read g.H.Source.Writer.Write c.args.input.now c.args.host.now c.args.host.now in
+    let told = refuses_dump c.args.task given c.args.dump.now c.in-Err.failure c.requires.word c.in-Err.ensures.failure in
     record {
-      anew = λ anew. (c.in-Err.failure, inr (c.requires.load, refuses_dump c.args.task _ c.args.dump.now c.in-Err.failure c.requires.word c.in-Err.ensures.failure), c.report.ensures);
+      anew = λ anew. (c.in-Err.failure, inr (c.requires.load, told), c.report.ensures);
       taken = λ s anew holds. tt;
       kept = λ s other holds. never_other c.args.task c.requires.load other;
       led = λ rows other holds. never_other c.args.task c.requires.load other;
@@ -37,7 +39,7 @@ returns-in-Err-clause-runs g c =
       begun = λ anew half clean. inr (inl half);
       blank = λ other none. never_other c.args.task c.requires.load other;
       rests = refl;
-      told = inr (c.requires.load, (c.args.start, refl), c.in-Err.failure, refuses_dump c.args.task _ c.args.dump.now c.in-Err.failure c.requires.word c.in-Err.ensures.failure, c.report.ensures);
+      told = inr (c.requires.load, (c.args.start, refl), c.in-Err.failure, told, c.report.ensures);
     }
 
 pub returns-in-Ok-load_from-clause-runs : goal.returns-in-Ok-load_from-clause-runs
@@ -92,7 +94,7 @@ returns-in-Err-load_from-clause-runs g c =
     let status = c.report-in-Err-load_from.result in
     let reports = tells_fault fault c.refusal.result old new status (inl c.refusal.ensures) c.report-in-Err-load_from.ensures in
     record {
-      anew = λ anew. fails_to_begin c.args.task _ old new status (fails_at_once fault old new status c.in-Err-load_from.ensures.fault reports);
+      anew = λ anew. fails_to_begin c.args.task given old new status (fails_at_once fault old new status c.in-Err-load_from.ensures.fault reports);
       taken = λ s anew holds. tt;
       kept = λ s other holds. never_other c.args.task c.requires.load other;
       led = λ rows other holds. never_other c.args.task c.requires.load other;
@@ -118,8 +120,8 @@ returns-in-Err-load_from-clause-runs g c =
       told = inl (fault, c.in-Err-load_from.ensures.stopped, reports);
     }
 
-pub read_world-requires-clause-read : goal.read_world-requires-clause-read
-read_world-requires-clause-read g c other = c.requires.read c.args.dump.now (reads_dump c.args.task c.args.dump.now c.requires.load c.requires.word other)
+pub read_world-requires : goal.read_world-requires
+read_world-requires g c other = c.requires.read c.args.dump.now (reads_dump c.args.task c.args.dump.now c.requires.load c.requires.word other)
 
 pub returns-in-Err-clause-input : goal.returns-in-Err-clause-input
 returns-in-Err-clause-input g c other = c.in-Err.ensures.input (keeps_input c.args.task c.args.dump.now c.requires.load c.requires.word other)

@@ -7,8 +7,8 @@ use Rattle.moo_commands.specs.Run.{ReadsFile, KeepsInput}
 use Rattle.moo_commands.specs.Ends.{RunsClosed}
 use Rattle.moo_commands.proofs.standard.run_given.Goals as goal
 
-pub run_to_end-requires-clause-read : goal.run_to_end-requires-clause-read
-run_to_end-requires-clause-read g c task path names reads =
+pub run_to_end-closed-requires : goal.run_to_end-closed-requires
+run_to_end-closed-requires g c task path names reads =
     let same = ap (λ (words : List (Bor (List ℕ))). map (λ word. word.now) words) c.deref-2.ensures.value ∙ (c.in-Ok-borrowed.ensures ∙ ap (map string_bytes) c.deref.ensures.value) in
     let may = subst (λ r. IfOk r (λ words. (task : Task) (path : List ℕ) → NamesTask (map string_bytes words.items) task → ReadsFile task path → g.H.BatchFiles.may_read c.args.host.now path)) c.in-Ok.is c.requires.read in
     may task path (subst (λ words. NamesTask words task) same names) reads
@@ -16,10 +16,10 @@ run_to_end-requires-clause-read g c task path names reads =
 pub returns-clause-read : goal.returns-clause-read
 returns-clause-read g c =
     let same = ap (λ (words : List (Bor (List ℕ))). map (λ word. word.now) words) c.deref-2.ensures.value ∙ (c.in-Ok-borrowed.ensures ∙ ap (map string_bytes) c.deref.ensures.value) in
-    let given = given_to g.R.Read g.H.BatchFiles g.H.Ports g.H.Source.Arrivals g.H.Source.Reader.Read g.H.Source.Writer.Write c.args.input.now c.args.host.now c.run_to_end.new.host in
-    rw c.in-Ok.is (inr (subst (λ words. RunsClosed words (image_at g.T.Start) c.run_to_end.result given (g.W.Write.contents c.args.output.now) (g.W.Write.contents c.run_to_end.new.output) c.run_to_end.new.status) same c.run_to_end.ensures.closed))
+    let given = given_to g.R.Read g.H.BatchFiles g.H.Ports g.H.Source.Arrivals g.H.Source.Reader.Read g.H.Source.Writer.Write c.args.input.now c.args.host.now c.run_to_end-closed.new.host in
+    rw c.in-Ok.is (inr (subst (λ words. RunsClosed words (image_at g.T.Start) c.run_to_end-closed.result given (g.W.Write.contents c.args.output.now) (g.W.Write.contents c.run_to_end-closed.new.output) c.run_to_end-closed.new.status) same c.run_to_end-closed.ensures.closed))
 
 pub returns-clause-input : goal.returns-clause-input
 returns-clause-input g c =
     let same = ap (λ (words : List (Bor (List ℕ))). map (λ word. word.now) words) c.deref-2.ensures.value ∙ (c.in-Ok-borrowed.ensures ∙ ap (map string_bytes) c.deref.ensures.value) in
-    rw c.in-Ok.is (subst (λ words. KeepsInput words c.args.input.now c.run_to_end.new.input) same c.run_to_end.ensures.input)
+    rw c.in-Ok.is (subst (λ words. KeepsInput words c.args.input.now c.run_to_end-closed.new.input) same c.run_to_end-closed.ensures.input)
