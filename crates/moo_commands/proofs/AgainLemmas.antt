@@ -1,6 +1,5 @@
 -- From what a crash left of a run to the next run.
 use Rattle.std.proofs.Common.{◌≡◌, ◌≢◌, ◌⊎◌, inl, inr, ℕ, zero, suc, Bool, true, false, List, length, Option, codes, refl, sym, ap, subst}
-use Rattle.std.specs.Bool.{⊤}
 use Rattle.std.proofs.lemmas.Bool.{true≢false, false_from_ne_true}
 use Rattle.std.specs.Str.{bytes_eq}
 use Rattle.sqlite_disk.specs.declared.Disk.{Ghosts}
@@ -37,7 +36,7 @@ use Rattle.moo_words.specs.declared.task.Task.{Task}
 use Rattle.moo_words.specs.declared.task.Task.TheVariants.{Init, Apply, Ask, Dump, Load, Check, Serve}
 use Rattle.moo_commands.specs.Given.{Given}
 use Rattle.moo_commands.specs.Run.{begins_anew, file_of}
-use Rattle.moo_commands.specs.Ends.{MatchFile, HoldsRows, RunsRows, RunsFile, EndsWith, RunsOver, IsClosedEnd, RunsClosed}
+use Rattle.moo_commands.specs.Ends.{HoldsRows, RunsRows, RunsFile, EndsWith, RunsOver, IsClosedEnd, RunsClosed}
 use Rattle.moo_commands.specs.Again.{Started, StartedRows, LeadTo, RanFrom, TakesUp, TakesRows, IsLeftAfter, CrashesTo, LeadsOn, ClosesOn, IsFoundIn, ClosesTo}
 use Rattle.moo_commands.proofs.Connections.{runs_when, unled}
 use Rattle.moo_commands.specs.declared.ends.Ends.{Ends}

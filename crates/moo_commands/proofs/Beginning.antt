@@ -1,7 +1,6 @@
 -- The world that a task begins with.
-use Rattle.std.proofs.Common.{◌≡◌, ◌⊎◌, inl, inr, ℕ, List, Option, Some, codes, refl, sym, ap, subst, ◌∙◌, ◌<◌, ◌^◌, true, false, IsTrue}
+use Rattle.std.proofs.Common.{◌≡◌, ◌⊎◌, inl, inr, ℕ, List, Option, Some, codes, refl, sym, ap, subst, ◌∙◌, ◌<◌, ◌^◌, true, false}
 use Rattle.std.specs.Str.{bytes_eq}
-use Rattle.std.specs.Bool.{⊤}
 use Rattle.std.proofs.lemmas.Bool.{true≢false}
 use Rattle.moo_rows.specs.Maps.{Maps}
 use Rattle.moo_rows.specs.Opening.{opening_maps}
@@ -19,7 +18,7 @@ use Rattle.moo_files.proofs.RemainsLemmas.{keeps_more, blank_more}
 use Rattle.moo_words.specs.declared.task.Task.{Task}
 use Rattle.moo_words.specs.declared.task.Task.TheVariants.{Init, Apply, Ask, Dump, Load, Check, Serve}
 use Rattle.moo_commands.specs.Given.{Given}
-use Rattle.moo_commands.specs.Run.{Leads, begins_anew, is_load, dump_word, reads_input, ReadsFile, IsDumpedAs, BeginsWith, RunsFrom, RunsUnseen, FailsAtOnce, RefusesDump, FailsToBegin, RunsNew}
+use Rattle.moo_commands.specs.Run.{Leads, begins_anew, is_load, dump_word, reads_input, ReadsFile, IsDumpedAs, BeginsWith, RunsFrom, FailsAtOnce, RefusesDump, FailsToBegin, RunsNew}
 use Rattle.moo_commands.specs.declared.failure.Failure.{Failure}
 use Rattle.moo_commands.proofs.Connections.{unseen}
 

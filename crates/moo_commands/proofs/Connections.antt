@@ -12,7 +12,7 @@ use Rattle.moo_commands.specs.declared.failure.Failure.TheVariants.{Usage, NoFil
 use Rattle.sqlite.specs.declared.error.Error.{Error}
 use Rattle.moo_commands.specs.Lines.{Reports, store_failure}
 use Rattle.moo_commands.specs.Given.{Given}
-use Rattle.moo_commands.specs.Run.{Leads, MayLead, Done, StopsTask, ShowsTables, EndsTask, RunsFrom, RunsUnseen, IsOpening, MayRefuse, FailsAtOnce, LeavesAsBefore, LeavesNothingNew, only_reads, serves}
+use Rattle.moo_commands.specs.Run.{Leads, MayLead, Done, StopsTask, ShowsTables, EndsTask, RunsFrom, RunsUnseen, IsOpening, MayRefuse, LeavesAsBefore, LeavesNothingNew, only_reads, serves}
 use Rattle.moo_world.specs.declared.call.Batch.{Batch}
 use Rattle.moo_world.specs.Judge.{State}
 use Rattle.moo_store.specs.Led.{LeavesLed}

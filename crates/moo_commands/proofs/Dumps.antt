@@ -10,7 +10,7 @@ use Rattle.moo_load.specs.declared.fault.LoadFault.TheVariants as load_fault
 use Rattle.moo_commands.specs.Lines.{read_failure, load_failure}
 use Rattle.moo_commands.specs.Run.{RefusesDump}
 use Rattle.moo_commands.specs.declared.failure.Failure.{Failure}
-use Rattle.moo_commands.specs.declared.failure.Failure.TheVariants.{NotADump, Damaged, NoBatches, Read, TooLong, NoMemory}
+use Rattle.moo_commands.specs.declared.failure.Failure.TheVariants.{NoBatches}
 
 -- what is said of any text
 of_any : (text : Option (List ℕ)) (P : List ℕ → Type 0) → ((bytes : List ℕ) → P bytes) → IfSome text P

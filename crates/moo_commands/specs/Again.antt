@@ -11,7 +11,6 @@ use Rattle.sqlite.specs.Held.{Held}
 use Rattle.sqlite.specs.Files.{file_state, image_of}
 use Rattle.sqlite.specs.declared.file.Leftover.TheVariants as left
 use Rattle.moo_rows.specs.Maps.{Maps}
-use Rattle.moo_rows.specs.Opening.{opening_maps}
 use Rattle.moo_world.specs.declared.call.Batch.{Batch}
 use Rattle.moo_world.specs.Rows.{IsGood}
 use Rattle.moo_world.specs.Judge.{State, state_of}

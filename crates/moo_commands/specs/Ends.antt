@@ -9,7 +9,6 @@ use Rattle.sqlite.specs.State.{HasCleanDisk}
 use Rattle.sqlite.specs.Held.{Held}
 use Rattle.sqlite.specs.Files.{IsNothing, file_state}
 use Rattle.moo_rows.specs.Maps.{Maps}
-use Rattle.moo_rows.specs.Opening.{opening_maps}
 use Rattle.moo_world.specs.Rows.{IsGood}
 use Rattle.moo_world.specs.Judge.{State, state_of}
 use Rattle.moo_tables.specs.Tables.{Tables}

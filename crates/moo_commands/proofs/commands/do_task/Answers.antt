@@ -68,7 +68,7 @@ returns-in-Serve g c = record {
 }
 
 pub apply-requires : goal.apply-requires
-apply-requires g c = λ other. c.requires.read c.in-Apply.batches.now (rw c.in-Apply.is (refl, other))
+apply-requires g c = record { read = λ other. c.requires.read c.in-Apply.batches.now (rw c.in-Apply.is (refl, other)) }
 
 pub ask-requires : goal.ask-requires
-ask-requires g c = λ other. c.requires.read c.in-Ask.batches.now (rw c.in-Ask.is (refl, other))
+ask-requires g c = record { read = λ other. c.requires.read c.in-Ask.batches.now (rw c.in-Ask.is (refl, other)) }

@@ -17,6 +17,7 @@ returns-in-Ok-clause-runs g c =
     let world = c.in-Ok.world in
     let here = state_of world.rows.maps in
     let ran = c.run_in_files.ensures in
+    let given = given_to g.R.Read g.H.BatchFiles g.H.Ports g.H.Source.Arrivals g.H.Source.Reader.Read g.H.Source.Writer.Write c.args.input.now c.args.host.now c.run_in_files.new.host in
     record {
       anew = λ anew.
           let stands = c.in-Ok.ensures.anew anew in
@@ -35,7 +36,7 @@ returns-in-Ok-clause-runs g c =
           let early = ran.clean false here found.1 clean in
           let same = rows_are (image_at g.T.Start) rows world.rows.maps holds (λ tables holds. c.in-Ok.ensures.only other tables holds early) found.0 in
           let stands = c.in-Ok.ensures.kept other (state_of rows) (rows_state (image_at g.T.Start) rows holds) early in
-          runs_rows _ rows world.rows.maps _ _ _ _ _ same (surely _ _ _ _ _ _ _ _ _ _ (ran.runs true (state_of rows) stands));
+          runs_rows c.args.task rows world.rows.maps c.run_in_files.result given (g.W.Write.contents c.args.output.now) (g.W.Write.contents c.run_in_files.new.output) c.run_in_files.new.status same (surely _ _ _ _ _ _ _ _ _ _ (ran.runs true (state_of rows) stands));
       only = λ tables other holds clean.
           let found = c.in-Ok.ensures.opened other in
           (world.rows.maps, found.0, c.in-Ok.ensures.only other tables holds (ran.clean false here found.1 clean), unseen _ _ _ _ _ _ _ _ _ _ (ran.runs false here found.1));

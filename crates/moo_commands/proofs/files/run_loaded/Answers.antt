@@ -121,7 +121,7 @@ returns-in-Err-load_from-clause-runs g c =
     }
 
 pub read_world-requires : goal.read_world-requires
-read_world-requires g c other = c.requires.read c.args.dump.now (reads_dump c.args.task c.args.dump.now c.requires.load c.requires.word other)
+read_world-requires g c = record { read = λ other. c.requires.read c.args.dump.now (reads_dump c.args.task c.args.dump.now c.requires.load c.requires.word other) }
 
 pub returns-in-Err-clause-input : goal.returns-in-Err-clause-input
 returns-in-Err-clause-input g c other = c.in-Err.ensures.input (keeps_input c.args.task c.args.dump.now c.requires.load c.requires.word other)

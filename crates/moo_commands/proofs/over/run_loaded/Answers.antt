@@ -20,7 +20,7 @@ returns-in-Err-load_in-clause-runs g c =
     inl (refl, (c.from.result, inl (of_making c.in-Err-load_in.fault c.from.result c.from.ensures c.in-Err-load_in.ensures.fault), c.report-in-Err-load_in.ensures))
 
 pub read_world-requires : goal.read_world-requires
-read_world-requires g c other = c.requires.read c.args.dump.now (reads_dump c.args.task c.args.dump.now c.requires.load c.requires.word other)
+read_world-requires g c = record { read = λ other. c.requires.read c.args.dump.now (reads_dump c.args.task c.args.dump.now c.requires.load c.requires.word other) }
 
 pub returns-in-Err-clause-runs : goal.returns-in-Err-clause-runs
 returns-in-Err-clause-runs g c =

@@ -1,4 +1,4 @@
-use Rattle.std.proofs.Common.{List, ℕ, Bor, map, string_bytes, inr, IfOk, ap, sym, subst, ◌∙◌}
+use Rattle.std.proofs.Common.{List, ℕ, Bor, map, string_bytes, inr, IfOk, ap, subst, ◌∙◌}
 use Rattle.sqlite.specs.WalFiles.{image_at}
 use Rattle.moo_words.specs.declared.task.Task.{Task}
 use Rattle.moo_words.specs.Tasks.{NamesTask}
@@ -8,10 +8,10 @@ use Rattle.moo_commands.specs.Ends.{RunsClosed}
 use Rattle.moo_commands.proofs.standard.run_given.Goals as goal
 
 pub run_to_end-closed-requires : goal.run_to_end-closed-requires
-run_to_end-closed-requires g c task path names reads =
+run_to_end-closed-requires g c =
     let same = ap (λ (words : List (Bor (List ℕ))). map (λ word. word.now) words) c.deref-2.ensures.value ∙ (c.in-Ok-borrowed.ensures ∙ ap (map string_bytes) c.deref.ensures.value) in
     let may = subst (λ r. IfOk r (λ words. (task : Task) (path : List ℕ) → NamesTask (map string_bytes words.items) task → ReadsFile task path → g.H.BatchFiles.may_read c.args.host.now path)) c.in-Ok.is c.requires.read in
-    may task path (subst (λ words. NamesTask words task) same names) reads
+    record { read = λ task path names reads. may task path (subst (λ words. NamesTask words task) same names) reads }
 
 pub returns-clause-read : goal.returns-clause-read
 returns-clause-read g c =
