@@ -132,6 +132,11 @@ is_database image store trees schema opens live found holds is =
 pub foreign_other : (image : Image) (store : Database) (trees : Trees) → Opens store → IsLive store → FindsIn image store → HoldsTrees image trees → HasOtherTables trees → (version : Version) → store.now.schema ≢ schema_of version
 foreign_other image store trees opens live found holds others version is = others version (is_database image store trees (schema_of version) opens live found holds is)
 
+-- files that hold tables of ours have them as they are opened
+pub own_tables : (image : Image) (store : Database) (trees : Trees) → Opens store → IsLive store → FindsIn image store → HoldsTrees image trees → (¬ HasOtherTables trees) → ¬ ((version : Version) → store.now.schema ≢ schema_of version)
+own_tables image store trees opens live found holds ours others = ours (λ version is.
+    others version (one_schema version trees store.now.schema is (subst (IsSound store.now.schema) (shows_trees image store trees opens found holds) (live opens.is_open).0)))
+
 pub any_table : (image : Image) (store : Database) (trees : Trees) → Opens store → IsLive store → FindsIn image store → HoldsTrees image trees → HasAnyTable trees → store.now.schema ≢ no_schema
 any_table image store trees opens live found holds any is = any (is_database image store trees no_schema opens live found holds is)
 

@@ -1,11 +1,9 @@
 -- What is left of files that held an image.
-use Rattle.std.proofs.Common.{◌≡◌, ◌⊎◌, inl, inr, ℕ, ◌≤◌, Bool, true, false, cond, IsTrue, List, [], ◌∷◌, length, take, slice_index, unwrap_or, get_or-take, length-take, ◌<◌, refl, Option, Some, arith, sym, ap, subst, subst₂, ◌∙◌}
+use Rattle.std.proofs.Common.{◌≡◌, ◌⊎◌, inl, inr, ℕ, ◌≤◌, true, false, IsTrue, List, [], length, take, slice_index, unwrap_or, get_or-take, length-take, ◌<◌, refl, Option, Some, arith, sym, ap, subst, ◌∙◌}
 use Rattle.std.proofs.Math.Logic.{∥∥₁_elim, ∥∥₁_map}
 use Rattle.std.proofs.lemmas.Bool.{cases_eq, cases_Bool}
 use Rattle.sqlite_disk.specs.declared.Disk.{Ghosts}
 use Rattle.sqlite_disk.specs.declared.Files.{Files}
-use Rattle.sqlite_disk.specs.Events.{Event, replay, settled}
-use Rattle.sqlite_disk.specs.History.{MayLeave}
 use Rattle.sqlite_wal.specs.Recovery as raw
 use Rattle.sqlite_wal.specs.Recovery.{Image, Pages, IsIgnored}
 use Rattle.sqlite_wal.specs.Files.{outcomes}
@@ -34,18 +32,6 @@ use Rattle.moo_files.specs.declared.remains.Remains.{Remains}
 use Rattle.moo_files.specs.declared.remains.Remains.TheVariants as remains
 use Rattle.moo_files.specs.Closing.{IsLeftOf, IsClosedFrom}
 use Rattle.moo_files.specs.Remains.{IsCleanRemains, IsUnopened, LeftoverKeeps, LeftoverBlank, LeftoverSpares, KeepsSuch, KeepsNothingBut, Spares}
-
--- ---- the two files, as they were settled
-
--- a file that was settled, and no more, is left as it is
-left_settled : (mixes : Bool) (file : List ℕ) (key : ℕ) (c : List ℕ) → (let m = replay file (settled key ∷ []) in MayLeave mixes m.seen m.synced m.steps c) → c ≡ file
-left_settled mixes file key c (inl is) = is
-left_settled mixes file key c (inr is) = is
-
-pub left_fresh : (mixes : Bool) (log db : List ℕ) (which is_log : Bool) (history : List Event) (key : ℕ) (c : List ℕ) → which ≡ is_log → history ≡ settled key ∷ []
-    → (let m = replay (cond which log db) history in MayLeave mixes m.seen m.synced m.steps c) → c ≡ cond is_log log db
-left_fresh mixes log db which is_log history key c same fresh it =
-    left_settled mixes (cond is_log log db) key c (subst₂ (λ b h. let m = replay (cond b log db) h in MayLeave mixes m.seen m.synced m.steps c) same fresh it)
 
 -- ---- the page size of a database without sums
 

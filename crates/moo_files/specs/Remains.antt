@@ -1,5 +1,5 @@
 -- What a refusal leaves of the files.
-use Rattle.std.specs.Prelude.{◌≡◌, ◌⊎◌, ⊤}
+use Rattle.std.specs.Prelude.{◌≡◌, ◌≢◌, ◌⊎◌, ◌<◌, ⊤}
 use Rattle.sqlite_disk.specs.declared.Disk.{Ghosts}
 use Rattle.sqlite_wal.specs.Recovery.{Image}
 use Rattle.sqlite_wal.specs.Files.{outcomes}
@@ -9,11 +9,11 @@ use Rattle.sqlite_store.specs.Unopened.{state_of}
 use Rattle.sqlite_store.specs.declared.store.open.Unopened.{Unopened}
 use Rattle.sqlite.specs.Tree.{Trees}
 use Rattle.sqlite.specs.State.{HasCleanDisk}
-use Rattle.sqlite.specs.Files.{AreFoundIn, IsCleanLeft, IsEmpty, IsNothing, NamesSize, file_state}
+use Rattle.sqlite.specs.Files.{AreFoundIn, IsCleanLeft, IsEmpty, IsNothing, NamesSize, faults_left, file_state}
 use Rattle.sqlite.specs.declared.file.Leftover.{Leftover}
 use Rattle.sqlite.specs.declared.file.Leftover.TheVariants as left
 use Rattle.sqlite.specs.declared.error.Error.TheVariants.{SqliteFailure}
-use Rattle.sqlite.specs.declared.error.ErrorCode.TheVariants.{CannotOpen, DatabaseBusy}
+use Rattle.sqlite.specs.declared.error.ErrorCode.TheVariants.{CannotOpen, DatabaseBusy, DatabaseCorrupt}
 use Rattle.moo_world.specs.Judge.{State}
 use Rattle.moo_store.specs.States.{LeavesState}
 use Rattle.moo_store.specs.Opening.{not_ours}
@@ -28,6 +28,9 @@ cannot_open = Store (SqliteFailure CannotOpen)
 
 abbrev pub busy : StoreFault
 busy = Store (SqliteFailure DatabaseBusy)
+
+abbrev pub malformed : StoreFault
+malformed = Store (SqliteFailure DatabaseCorrupt)
 
 module _ {T D : Type 0} {g : Ghosts D} where
   -- the disk returned what was written, as long as the files were open
@@ -51,6 +54,27 @@ module _ {T D : Type 0} {g : Ghosts D} where
   MayStopAs fault (remains.NotOpened seal) = (fault ≡ cannot_open) ⊎ ((fault ≡ OutOfMemory) ⊎ (fault ≡ busy))
   MayStopAs fault (remains.Leftover left) = ⊤
   MayStopAs fault (remains.Connection conn) = ⊤
+
+  -- if the host couldn't open the files, this is so
+  abbrev pub IfNotOpened : Remains T D g → Type 0 → Type 0
+  IfNotOpened (remains.Untouched start) P = ⊤
+  IfNotOpened (remains.NotOpened seal) P = P
+  IfNotOpened (remains.Leftover left) P = ⊤
+  IfNotOpened (remains.Connection conn) P = ⊤
+
+  -- The fault doesn't say that the files aren't a database of moo. Before they are opened nothing is said: an empty file is refused so.
+  abbrev pub TakesForOurs : StoreFault → Remains T D g → Type 0
+  TakesForOurs fault (remains.Untouched start) = ⊤
+  TakesForOurs fault (remains.NotOpened seal) = fault ≢ not_ours
+  TakesForOurs fault (remains.Leftover left) = fault ≢ not_ours
+  TakesForOurs fault (remains.Connection conn) = fault ≢ not_ours
+
+  -- If `sqlite`, as it opens the files, calls them malformed, a call of the disk failed.
+  abbrev pub ExcusesMalformed : StoreFault → Remains T D g → Type 0
+  ExcusesMalformed fault (remains.Untouched start) = fault ≢ malformed
+  ExcusesMalformed fault (remains.NotOpened seal) = fault ≢ malformed
+  ExcusesMalformed fault (remains.Leftover left) = fault ≡ malformed → 0 < faults_left left
+  ExcusesMalformed fault (remains.Connection conn) = ⊤
 
 module _ {D : Type 0} {g : Ghosts D} where
   -- the pages that this image has, of the size that it names, with the sums that they lacked

@@ -10,6 +10,7 @@ mod opening;
 mod pair;
 mod paths;
 mod remains;
+mod start;
 
 pub use again::open_again;
 pub use blank::open_or_make;
@@ -20,3 +21,4 @@ pub use opening::{open_at, open_from};
 pub use pair::NotOpened;
 pub use paths::WorldFiles;
 pub use remains::Remains;
+pub use start::fresh_files_hold_start;

@@ -13,14 +13,15 @@ ghost use Rattle.moo_store.specs.Opening.{IsOfStore};
 ghost use Rattle.moo_store.specs.World.{store_of, StandsFor, Left};
 ghost use Rattle.moo_files.specs.Blank.{IsBlank};
 ghost use Rattle.moo_files.specs.Contents.{HoldsTrees, HoldsState, HasAnyTable, HoldsNoTable};
-ghost use Rattle.moo_files.specs.Remains.{IsCleanRemains, MayStopAs, KeepsSuch, StillHolds, KeepsNothingBut, Spares};
+ghost use Rattle.sqlite_std_file.specs.declared.pair.OpenError.{OpenError as Refusal};
+ghost use Rattle.moo_files.specs.Remains.{IfNotOpened, IsCleanRemains, MayStopAs, KeepsSuch, StillHolds, KeepsNothingBut, Spares};
 
 use crate::making::leaves_its_state;
 use crate::paths::WorldFiles;
 use crate::remains::{Remains, open_new};
 use moo_flat::Flat;
 use moo_store::{StoreFault, World, load_in};
-use sqlite::{Connection, Error, ErrorCode, FileFrom, FileStore, Start};
+use sqlite::{Connection, Error, ErrorCode, FileStore, Start};
 use sqlite_disk::Disk;
 use std::alloc::Global;
 
@@ -55,7 +56,8 @@ pub fn load_from<T: Start, H: WorldFiles<T>>(
     path: &str,
     start: T,
     rows: Flat,
-) -> Result<World<FileStore<FileFrom<T>>>, (StoreFault, Remains<T, FileFrom<T>>)>
+) -> Result<World<FileStore<H::Disk>>, (StoreFault, Remains<T, H::Disk>)>
+    requires may { H.may_open host.now path.now }
     requires good { IsGood rows.maps }
     requires limit { rows.maps.head.seq < 2 ^ 63 }
     ensures stands { IfOk result (λ world. StandsFor over_files true world (state_of rows.maps)) }
@@ -74,8 +76,9 @@ pub fn load_from<T: Start, H: WorldFiles<T>>(
     ensures begun { IsBlank (image_at T.Start) → IfErr result (λ e. IsCleanRemains e.1 → KeepsNothingBut (λ found. LeavesState found (state_of rows.maps)) (image_at T.Start) e.1) }
     // Files that held anything else, sound or not, are spared.
     ensures spared { ¬ IsNothing (image_at T.Start) → ¬ IsBlank (image_at T.Start) → IfErr result (λ e. IsCleanRemains e.1 → Spares (image_at T.Start) e.1) }
-    // A file that wasn't opened is refused for one of few reasons.
+    // A file that wasn't opened is refused for one of few reasons. That it couldn't be opened the host said.
     ensures stopped { IfErr result (λ e. MayStopAs e.0 e.1) }
+    ensures refusing { IfErr result (λ e. IfNotOpened e.1 ((error : Refusal) × H.refuses host.now path.now error)) }
     // So a state that they held is still there.
     ensures refused { (s : State) → HoldsState (image_at T.Start) s → IfErr result (λ e. IsCleanRemains e.1 → StillHolds (image_at T.Start) e.1 s) }
     // A crash of a new World leaves it as it was made.

@@ -13,12 +13,13 @@ ghost use Rattle.moo_store.specs.Opening.{IsOfStore};
 ghost use Rattle.moo_store.specs.World.{store_of, StandsFor, Left};
 ghost use Rattle.moo_files.specs.Blank.{IsBlank};
 ghost use Rattle.moo_files.specs.Contents.{HoldsTrees, HoldsState, HasAnyTable, HoldsNoTable};
-ghost use Rattle.moo_files.specs.Remains.{IsCleanRemains, MayStopAs, KeepsSuch, StillHolds, KeepsNothingBut, Spares};
+ghost use Rattle.sqlite_std_file.specs.declared.pair.OpenError.{OpenError as Refusal};
+ghost use Rattle.moo_files.specs.Remains.{IfNotOpened, IsCleanRemains, MayStopAs, KeepsSuch, StillHolds, KeepsNothingBut, Spares};
 
 use crate::paths::WorldFiles;
 use crate::remains::{Remains, open_new};
 use moo_store::{StoreFault, World, create_in};
-use sqlite::{Connection, Error, ErrorCode, File, FileFrom, FileStore, Start, Unknown};
+use sqlite::{Connection, Error, ErrorCode, FileStore, Start, Unknown};
 use sqlite_disk::Disk;
 use std::alloc::Global;
 
@@ -51,7 +52,8 @@ pub fn create_from<T: Start, H: WorldFiles<T>>(
     host: &H,
     path: &str,
     start: T,
-) -> Result<World<FileStore<FileFrom<T>>>, (StoreFault, Remains<T, FileFrom<T>>)>
+) -> Result<World<FileStore<H::Disk>>, (StoreFault, Remains<T, H::Disk>)>
+    requires may { H.may_open host.now path.now }
     ensures stands { IfOk result (λ world. StandsFor over_files true world (state_of opening_maps)) }
     // A file that holds a world takes no other.
     ensures taken { (s : State) → HoldsState (image_at T.Start) s → IfOk result (λ world. HasCleanDisk (store_of over_files world) → ⊥) }
@@ -68,8 +70,9 @@ pub fn create_from<T: Start, H: WorldFiles<T>>(
     ensures begun { IsBlank (image_at T.Start) → IfErr result (λ e. IsCleanRemains e.1 → KeepsNothingBut (λ found. LeavesState found (state_of opening_maps)) (image_at T.Start) e.1) }
     // Files that held anything else, sound or not, are spared.
     ensures spared { ¬ IsNothing (image_at T.Start) → ¬ IsBlank (image_at T.Start) → IfErr result (λ e. IsCleanRemains e.1 → Spares (image_at T.Start) e.1) }
-    // A file that wasn't opened is refused for one of few reasons.
+    // A file that wasn't opened is refused for one of few reasons. That it couldn't be opened the host said.
     ensures stopped { IfErr result (λ e. MayStopAs e.0 e.1) }
+    ensures refusing { IfErr result (λ e. IfNotOpened e.1 ((error : Refusal) × H.refuses host.now path.now error)) }
     // So a state that they held is there still.
     ensures refused { (s : State) → HoldsState (image_at T.Start) s → IfErr result (λ e. IsCleanRemains e.1 → StillHolds (image_at T.Start) e.1 s) }
     // A crash of a new World leaves it as it was made.
@@ -98,7 +101,8 @@ pub fn create_at<H: WorldFiles<Unknown>>(
     alloc: Global,
     host: &H,
     path: &str,
-) -> Result<World<FileStore<File>>, StoreFault>
+) -> Result<World<FileStore<H::Disk>>, StoreFault>
+    requires may { H.may_open host.now path.now }
     ensures stands { IfOk result (λ world. StandsFor over_files true world (state_of opening_maps)) }
     ensures fault { IfErr result IsOfStore }
 {

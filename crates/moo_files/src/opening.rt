@@ -10,19 +10,20 @@ ghost use Rattle.moo_world.specs.Judge.{State, state_of};
 ghost use Rattle.moo_tables.specs.Tables.{Tables, schema_of};
 ghost use Rattle.moo_tables.specs.declared.version.Version.{Version};
 ghost use Rattle.sqlite.specs.Tree.{Trees};
-ghost use Rattle.moo_tables.specs.Inside.{Rests, RestsAt};
+ghost use Rattle.moo_tables.specs.Inside.{Rests, RestsAt, HasTables};
 ghost use Rattle.moo_cells.specs.Shows.{ShowsRows};
 ghost use Rattle.moo_store.specs.States.{ShowsState};
 ghost use Rattle.moo_store.specs.Opening.{Says, IsOfStore, Adopts, not_ours};
 ghost use Rattle.moo_store.specs.World.{store_of, StandsFor, Left};
 ghost use Rattle.moo_files.specs.Contents.{HoldsTrees, HoldsTables, HoldsState, HasOtherTables, ReadsAsOurs, IsKept};
 ghost use Rattle.moo_files.specs.Opened.{OpensHeld, RefusesHeld, OpensTables, OpensGood};
-ghost use Rattle.moo_files.specs.Remains.{cannot_open, IsCleanRemains, MayStopAs, StillHolds, StillHoldsTrees, KeepsNothingBut, Spares};
+ghost use Rattle.sqlite_std_file.specs.declared.pair.OpenError.{OpenError as Refusal};
+ghost use Rattle.moo_files.specs.Remains.{cannot_open, ExcusesMalformed, IfNotOpened, IsCleanRemains, MayStopAs, TakesForOurs, StillHolds, StillHoldsTrees, KeepsNothingBut, Spares};
 
 use crate::paths::WorldFiles;
 use crate::remains::{Remains, open_connection};
 use moo_store::{StoreFault, World, adopt};
-use sqlite::{Connection, Error, ErrorCode, File, FileFrom, FileStore, Start, Unknown};
+use sqlite::{Connection, Error, ErrorCode, FileStore, Start, Unknown};
 use sqlite_disk::Disk;
 use std::alloc::Global;
 use std::fs::Metadata;
@@ -62,6 +63,8 @@ pub fn adopt_files<D: Disk + Drop>(
     ensures fault { IfErr result (λ e. HasCleanDisk (file_state e.1) → (tables : Tables) → Rests (file_state conn) tables → Says tables e.0) }
     // Other tables than ours are refused, and so is a database without tables.
     ensures other { ((version : Version) → (file_state conn).now.schema ≢ schema_of version) → IsErrAnd result (λ e. IsOfStore e.0 × (e.1 ≡ conn)) }
+    // Of tables of ours it never says that they aren't.
+    ensures own { IfErr result (λ e. (version : Version) → HasTables (schema_of version) (file_state conn) → e.0 ≢ not_ours) }
     // Whatever is opened, its rows are good, and what is said of rows alone is said of them.
     ensures rows { IfOk result (λ world. IsGood world.rows.maps × StandsFor over_files false world (state_of world.rows.maps)) }
     ensures works { IfOk result (λ world. world.failed ≡ false) }
@@ -82,7 +85,8 @@ pub fn open_from<T: Start, H: WorldFiles<T>>(
     host: &H,
     path: &str,
     start: T,
-) -> Result<World<FileStore<FileFrom<T>>>, (StoreFault, Remains<T, FileFrom<T>>)>
+) -> Result<World<FileStore<H::Disk>>, (StoreFault, Remains<T, H::Disk>)>
+    requires may { H.may_open host.now path.now }
     // If they hold a state, a World that is opened stands for it, on a disk that returns what was written.
     ensures kept { OpensHeld (image_at T.Start) result }
     // If they hold tables that show no world, none is opened: the rows are those that the tables show.
@@ -101,6 +105,10 @@ pub fn open_from<T: Start, H: WorldFiles<T>>(
     // If they hold other tables than ours, nothing, or no sound database, no refusal tells of damage or of a newer version.
     ensures foreign { (trees : Trees) → HoldsTrees (image_at T.Start) trees → HasOtherTables trees → IfErr result (λ e. IsCleanRemains e.1 → IsOfStore e.0) }
     ensures unsound { ¬ ReadsAsOurs (image_at T.Start) → IfErr result (λ e. IsCleanRemains e.1 → IsOfStore e.0) }
+    // If they hold tables of ours, no refusal after they were opened says that they don't. `sqlite` calls a database malformed only if a
+    // call of the disk failed.
+    ensures own { (trees : Trees) → HoldsTrees (image_at T.Start) trees → (¬ HasOtherTables trees) → IfErr result (λ e. IsCleanRemains e.1 → TakesForOurs e.0 e.1) }
+    ensures malformed { (trees : Trees) → HoldsTrees (image_at T.Start) trees → IfErr result (λ e. IsCleanRemains e.1 → ExcusesMalformed e.0 e.1) }
     // After a refusal they hold the database that they held, whatever its tables are, or what these were migrated to, and so does
     // what a crash leaves. Files that held nothing hold nothing, or a database without rows.
     ensures trees { (trees : Trees) → HoldsTrees (image_at T.Start) trees → IfErr result (λ e. IsCleanRemains e.1 → StillHoldsTrees (image_at T.Start) e.1 trees) }
@@ -109,8 +117,9 @@ pub fn open_from<T: Start, H: WorldFiles<T>>(
     ensures spared { ¬ IsNothing (image_at T.Start) → IfErr result (λ e. IsCleanRemains e.1 → Spares (image_at T.Start) e.1) }
     // While a World is open a crash leaves the database that they held, or what that was migrated to.
     ensures held { (trees : Trees) → HoldsTrees (image_at T.Start) trees → IfOk result (λ world. HasCleanDisk (store_of over_files world) → (found : Trees) → (store_of over_files world).may_leave found → IsKept trees found) }
-    // A file that wasn't opened is refused for one of few reasons.
+    // A file that wasn't opened is refused for one of few reasons. That it couldn't be opened the host said.
     ensures stopped { IfErr result (λ e. MayStopAs e.0 e.1) }
+    ensures refusing { IfErr result (λ e. IfNotOpened e.1 ((error : Refusal) × H.refuses host.now path.now error)) }
     // So a state that they held is there after a refusal, and so it is after a crash, then and of a World that was opened.
     ensures refused { (s : State) → HoldsState (image_at T.Start) s → IfErr result (λ e. IsCleanRemains e.1 → StillHolds (image_at T.Start) e.1 s) }
     ensures crash { (s : State) → HoldsState (image_at T.Start) s → IfOk result (λ world. HasCleanDisk (store_of over_files world) → Left (store_of over_files world) s) }
@@ -140,7 +149,8 @@ pub fn open_at<H: WorldFiles<Unknown>>(
     alloc: Global,
     host: &H,
     path: &str,
-) -> Result<World<FileStore<File>>, StoreFault>
+) -> Result<World<FileStore<H::Disk>>, StoreFault>
+    requires may { H.may_open host.now path.now }
     // Whatever the file holds, the World works, its rows are good, and what is said of rows alone is said of them.
     ensures rows { IfOk result (λ world. IsGood world.rows.maps × StandsFor over_files false world (state_of world.rows.maps)) }
     ensures works { IfOk result (λ world. world.failed ≡ false) }

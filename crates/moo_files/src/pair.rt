@@ -1,10 +1,10 @@
 //! The two files at a path, and the seal of a start that was spent on them in vain.
 
-ghost use Rattle.std.specs.Prelude.{true, false, IsTrue, IfOk};
-ghost use Rattle.sqlite_std_file.specs.File.{file_is_usable, IsFresh};
+ghost use Rattle.std.specs.Prelude.{IsTrue, IfOk, IfErr};
+ghost use Rattle.moo_files.specs.Start.{HoldStart};
 
 use crate::paths::WorldFiles;
-use sqlite::{FileFrom, Files, Start};
+use sqlite::{Files, Start};
 use sqlite_std_file::OpenError;
 use std::marker::PhantomData;
 
@@ -18,9 +18,11 @@ pub(crate) fn open_files<T: Start, H: WorldFiles<T>>(
     host: &H,
     path: &str,
     start: T,
-) -> Result<Files<FileFrom<T>>, (OpenError, NotOpened<T>)>
-    ensures usable { IfOk result (λ files. IsTrue (file_is_usable T.Start files.log) × IsTrue (file_is_usable T.Start files.db)) }
-    ensures fresh { IfOk result (λ files. IsFresh true files.log × IsFresh false files.db) }
+) -> Result<Files<H::Disk>, (OpenError, NotOpened<T>)>
+    requires may { H.may_open host.now path.now }
+    ensures usable { IfOk result (λ files. IsTrue (H.Disk.Disk.is_usable files.log) × IsTrue (H.Disk.Disk.is_usable files.db)) }
+    ensures start { IfOk result (HoldStart T.Start H.Disk.Disk) }
+    ensures refused { IfErr result (λ e. H.refuses host.now path.now e.0) }
 {
     match host.open_database(path, start) {
         Ok(files) => Ok(files),

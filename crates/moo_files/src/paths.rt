@@ -1,9 +1,11 @@
 //! Where the files of a world are.
 
-ghost use Rattle.std.specs.Prelude.{true, false, IsTrue, IfOk};
-ghost use Rattle.sqlite_std_file.specs.File.{file_is_usable, IsFresh};
+ghost use Rattle.std.specs.Prelude.{IsTrue, IfOk, IfErr, ℕ, List};
+ghost use Rattle.sqlite_std_file.specs.declared.pair.OpenError.{OpenError as Refusal};
+ghost use Rattle.moo_files.specs.Start.{HoldStart};
 
-use sqlite::{FileFrom, Files, Start};
+use sqlite::{Files, Start};
+use sqlite_disk::Disk;
 use sqlite_std_file::OpenError;
 use std::fs::Metadata;
 use std::io::Result as IoResult;
@@ -13,14 +15,27 @@ use std::io::Result as IoResult;
 /// A file is opened by spending a `T`, which can't be copied or made. So code over any `T` opens no more files than it was given starts,
 /// and no file for anything else.
 pub trait WorldFiles<T: Start> {
+    /// A file that is open.
+    type Disk: Disk + Drop;
+
+    /// The paths that may be looked at and opened. So code over any host opens no path but those of which its caller says this.
+    ghost may_open: { Self → List ℕ → Type 0 };
+
+    /// The files of a path couldn't be opened, and why. So code over any host says of no files that they couldn't, unless the host said it.
+    ghost refuses: { Self → List ℕ → Refusal → Type 0 };
+
     /// What the system knows of the file of a path. An error if there is none, or it can't be looked at.
-    fn metadata(&self, path: &str) -> IoResult<Metadata>;
+    fn metadata(&self, path: &str) -> IoResult<Metadata>
+        requires { may_open self.now path.now };
 
     /// A random number, for the salts of a log. An error if there is none.
     fn seed(&self) -> IoResult<u64>;
 
-    /// Opens the database file of a path and its log, and makes those that are missing. The errors are those of `sqlite_std_file::open`.
-    fn open_database(&self, path: &str, start: T) -> Result<Files<FileFrom<T>>, OpenError>
-        ensures usable { IfOk result (λ files. IsTrue (file_is_usable T.Start files.log) × IsTrue (file_is_usable T.Start files.db)) }
-        ensures fresh { IfOk result (λ files. IsFresh true files.log × IsFresh false files.db) };
+    /// Opens the database file of a path and its log, and makes those that are missing. They hold what the start says of them. The errors
+    /// are those of `sqlite_std_file::open`.
+    fn open_database(&self, path: &str, start: T) -> Result<Files<Self::Disk>, OpenError>
+        requires { may_open self.now path.now }
+        ensures usable { IfOk result (λ files. IsTrue (Self.Disk.Disk.is_usable files.log) × IsTrue (Self.Disk.Disk.is_usable files.db)) }
+        ensures start { IfOk result (HoldStart T.Start Self.Disk.Disk) }
+        ensures refused { IfErr result (refuses self.now path.now) };
 }

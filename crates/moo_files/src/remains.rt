@@ -3,15 +3,16 @@
 ghost use Rattle.std.specs.Prelude.{◌≡◌, ◌≢◌, ◌⊎◌, true, false, IfOk, IfErr, IsTrue};
 ghost use Rattle.sqlite.specs.Tree.{Trees};
 ghost use Rattle.sqlite.specs.State.{HasCleanDisk};
-ghost use Rattle.sqlite_std_file.specs.File.{file_is_usable, IsFresh};
 ghost use Rattle.sqlite.specs.Files.{file_state, IsOpened, IsNothing, IsEmpty};
+ghost use Rattle.sqlite_std_file.specs.declared.pair.OpenError.{OpenError as Refusal};
+ghost use Rattle.moo_files.specs.Start.{HoldStart};
 ghost use Rattle.moo_files.specs.Blank.{IsBlank};
 ghost use Rattle.sqlite.specs.Start.{FindsIn};
 ghost use Rattle.sqlite.specs.WalFiles.{image_at};
 ghost use Rattle.sqlite_wal.specs.Recovery.{Image};
-ghost use Rattle.moo_store.specs.Opening.{IsOfStore};
+ghost use Rattle.moo_store.specs.Opening.{IsOfStore, not_ours};
 ghost use Rattle.moo_files.specs.Contents.{HoldsTrees, ReadsAs};
-ghost use Rattle.moo_files.specs.Remains.{cannot_open, busy, IsCleanRemains, IsUnopened, MayStopAs, KeepsSuch, StillHolds, StillHoldsTrees, KeepsNothingBut, Spares};
+ghost use Rattle.moo_files.specs.Remains.{cannot_open, busy, malformed, ExcusesMalformed, IfNotOpened, IsCleanRemains, IsUnopened, MayStopAs, KeepsSuch, StillHolds, StillHoldsTrees, KeepsNothingBut, Spares};
 ghost use Rattle.moo_world.specs.Judge.{State};
 ghost use Rattle.moo_files.specs.Closing.{IsClosedFrom};
 
@@ -20,7 +21,7 @@ use crate::closing::{close_connection, leave_commit};
 use crate::pair::{NotOpened, open_files};
 use crate::paths::WorldFiles;
 use moo_store::StoreFault;
-use sqlite::{Connection, Error, ErrorCode, FileFrom, FileStore, Files, Leftover, Options, Start};
+use sqlite::{Connection, Error, ErrorCode, FileStore, Files, Leftover, Options, Start};
 use sqlite_disk::Disk;
 use sqlite_std_file::OpenError as PathError;
 use std::alloc::Global;
@@ -90,12 +91,15 @@ fn open_pair<T: Start, H: WorldFiles<T>>(
     host: &H,
     path: &str,
     start: T,
-) -> Result<(Files<FileFrom<T>>, Options), (StoreFault, Remains<T, FileFrom<T>>)>
-    ensures usable { IfOk result (λ pair. IsTrue (file_is_usable T.Start pair.0.log) × IsTrue (file_is_usable T.Start pair.0.db)) }
-    ensures fresh { IfOk result (λ pair. IsFresh true pair.0.log × IsFresh false pair.0.db) }
+) -> Result<(Files<H::Disk>, Options), (StoreFault, Remains<T, H::Disk>)>
+    requires may { H.may_open host.now path.now }
+    ensures usable { IfOk result (λ pair. IsTrue (H.Disk.Disk.is_usable pair.0.log) × IsTrue (H.Disk.Disk.is_usable pair.0.db)) }
+    ensures start { IfOk result (λ pair. HoldStart T.Start H.Disk.Disk pair.0) }
     ensures fault { IfErr result (λ e. IsOfStore e.0) }
+    ensures own { IfErr result (λ e. (e.0 ≢ not_ours) × (e.0 ≢ malformed)) }
     ensures stopped { IfErr result (λ e. MayStopAs e.0 e.1) }
     ensures unopened { IfErr result (λ e. IsUnopened e.1) }
+    ensures refused { IfErr result (λ e. IfNotOpened e.1 ((error : Refusal) × H.refuses host.now path.now error)) }
 {
     if path == ":memory:" || path.starts_with("file:") {
         return Err((CANNOT_OPEN, Remains::Untouched(start)));
@@ -116,13 +120,15 @@ pub(crate) fn open_new<T: Start, H: WorldFiles<T>>(
     host: &H,
     path: &str,
     start: T,
-) -> Result<Connection<FileStore<FileFrom<T>>>, (StoreFault, Remains<T, FileFrom<T>>)>
+) -> Result<Connection<FileStore<H::Disk>>, (StoreFault, Remains<T, H::Disk>)>
+    requires may { H.may_open host.now path.now }
     ensures opened { IfOk result (λ conn. HasCleanDisk (file_state conn) → IsOpened conn) }
     ensures found { IfOk result (λ conn. HasCleanDisk (file_state conn) → (IsBlank (image_at T.Start) × IsEmpty (file_state conn).committed.trees) ⊎ FindsIn (image_at T.Start) (file_state conn)) }
     ensures outside { IfOk result (λ conn. conn.in_transaction ≡ false) }
     ensures left { IfOk result (λ conn. IsTrue (file_state conn).is_open → (trees : Trees) → (file_state conn).may_leave trees → trees ≡ (file_state conn).committed.trees) }
     ensures fault { IfErr result (λ e. IsOfStore e.0) }
     ensures stopped { IfErr result (λ e. MayStopAs e.0 e.1) }
+    ensures refused { IfErr result (λ e. IfNotOpened e.1 ((error : Refusal) × H.refuses host.now path.now error)) }
     ensures kept { (trees : Trees) → HoldsTrees (image_at T.Start) trees → IfErr result (λ e. IsCleanRemains e.1 → KeepsSuch (λ found. found ≡ trees) (image_at T.Start) e.1) }
     ensures blank { IsNothing (image_at T.Start) → IfErr result (λ e. IsCleanRemains e.1 → KeepsNothingBut (λ _. ⊥) (image_at T.Start) e.1) }
     ensures begun { IsBlank (image_at T.Start) → IfErr result (λ e. IsCleanRemains e.1 → KeepsNothingBut (λ _. ⊥) (image_at T.Start) e.1) }
@@ -147,13 +153,17 @@ pub(crate) fn open_connection<T: Start, H: WorldFiles<T>>(
     host: &H,
     path: &str,
     start: T,
-) -> Result<Connection<FileStore<FileFrom<T>>>, (StoreFault, Remains<T, FileFrom<T>>)>
+) -> Result<Connection<FileStore<H::Disk>>, (StoreFault, Remains<T, H::Disk>)>
+    requires may { H.may_open host.now path.now }
     ensures opened { IfOk result (λ conn. HasCleanDisk (file_state conn) → IsOpened conn) }
     ensures found { IfOk result (λ conn. HasCleanDisk (file_state conn) → FindsIn (image_at T.Start) (file_state conn)) }
     ensures outside { IfOk result (λ conn. conn.in_transaction ≡ false) }
     ensures left { IfOk result (λ conn. IsTrue (file_state conn).is_open → (trees : Trees) → (file_state conn).may_leave trees → trees ≡ (file_state conn).committed.trees) }
     ensures fault { IfErr result (λ e. IsOfStore e.0) }
     ensures stopped { IfErr result (λ e. MayStopAs e.0 e.1) }
+    ensures refused { IfErr result (λ e. IfNotOpened e.1 ((error : Refusal) × H.refuses host.now path.now error)) }
+    ensures own { (trees : Trees) → HoldsTrees (image_at T.Start) trees → IfErr result (λ e. IsCleanRemains e.1 → e.0 ≢ not_ours) }
+    ensures malformed { (trees : Trees) → HoldsTrees (image_at T.Start) trees → IfErr result (λ e. IsCleanRemains e.1 → ExcusesMalformed e.0 e.1) }
     ensures kept { (trees : Trees) → HoldsTrees (image_at T.Start) trees → IfErr result (λ e. IsCleanRemains e.1 → KeepsSuch (λ found. found ≡ trees) (image_at T.Start) e.1) }
     ensures blank { IsNothing (image_at T.Start) → IfErr result (λ e. IsCleanRemains e.1 → KeepsNothingBut (λ _. ⊥) (image_at T.Start) e.1) }
     ensures spared { ¬ IsNothing (image_at T.Start) → IfErr result (λ e. IsCleanRemains e.1 → Spares (image_at T.Start) e.1) }

@@ -5,7 +5,8 @@ use Rattle.moo_store.specs.Opening.{Adopts}
 use Rattle.moo_store.specs.States.{LeavesState}
 use Rattle.moo_store.specs.World.{store_of}
 use Rattle.moo_files.specs.Contents.{IsKept}
-use Rattle.moo_files.proofs.ContentsLemmas.{was_clean, rests_held, shows_held, left_held, left_none, empty_other, foreign_other, unsound_other, reads_ours, reads_something, kept_or_migrated, kept_state}
+use Rattle.moo_files.proofs.ContentsLemmas.{was_clean, rests_held, shows_held, left_held, left_none, empty_other, foreign_other, unsound_other, reads_ours, reads_something, own_tables, kept_or_migrated, kept_state}
+use Rattle.moo_files.proofs.RefusalLemmas.{takes_for_ours, unfit_sound}
 use Rattle.moo_files.proofs.RemainsLemmas.{keeps_more}
 use Rattle.moo_files.proofs.opening.open_from.Goals as goal
 
@@ -124,7 +125,17 @@ returns-in-Err-adopt_files-clause-spared g c some clean =
     let opened = c.in-Ok.ensures.opened early in
     reads_something (image_at g.T.Start) (file_state conn) opened.0 opened.1 (c.in-Ok.ensures.found early) some
 
+pub returns-in-Err-adopt_files-clause-own : goal.returns-in-Err-adopt_files-clause-own
+returns-in-Err-adopt_files-clause-own g c trees holds ours clean = λ other.
+    let conn = c.in-Ok.conn in
+    let early = was_clean (file_state conn) (file_state c.in-Err-adopt_files.conn) (Adopts (file_state conn)) c.in-Err-adopt_files.ensures.crash_refused clean in
+    let opened = c.in-Ok.ensures.opened early in
+    own_tables (image_at g.T.Start) (file_state conn) trees opened.0 opened.1 (c.in-Ok.ensures.found early) holds ours (λ version is. c.in-Err-adopt_files.ensures.own version is other)
+
 -- ---- no connection was opened
+
+pub returns-in-Err-clause-own : goal.returns-in-Err-clause-own
+returns-in-Err-clause-own g c trees holds ours clean = takes_for_ours c.in-Err.fault c.in-Err.remains (c.in-Err.ensures.own trees holds clean)
 
 pub returns-in-Err-clause-trees : goal.returns-in-Err-clause-trees
 returns-in-Err-clause-trees g c trees holds clean =
@@ -145,3 +156,6 @@ returns-in-Some-clause-refused g c s holds clean = holds
 
 pub returns-in-Some-clause-blank : goal.returns-in-Some-clause-blank
 returns-in-Some-clause-blank g c nothing clean = inl nothing
+
+pub returns-in-Some-clause-malformed : goal.returns-in-Some-clause-malformed
+returns-in-Some-clause-malformed g c trees holds clean = unfit_sound c.in-Some.fault c.in-Some.ensures.fault

@@ -1,71 +1,40 @@
-use Rattle.std.proofs.Common.{ℕ, List, Bool, cond, ap₂, sym, subst, inl, inr}
-use Rattle.sqlite_disk.specs.Events.{Event, replay}
-use Rattle.sqlite_wal.specs.Recovery.{Image}
+use Rattle.std.proofs.Common.{sym, subst, inl, inr}
 use Rattle.sqlite.specs.Files.{HoldsDatabase, AreFoundIn, file_state}
 use Rattle.sqlite.specs.WalFiles.{image_at}
 use Rattle.moo_files.specs.Blank.{IsBlank}
-use Rattle.moo_files.proofs.RemainsLemmas.{left_fresh, spared_keeps, spared_blank, spared_begun, spared_spares, unopened_keeps, unopened_blank, unopened_spares}
+use Rattle.moo_files.proofs.RemainsLemmas.{spared_keeps, spared_blank, spared_begun, spared_spares, unopened_keeps, unopened_blank, unopened_spares}
 use Rattle.moo_files.proofs.remains.open_new.Goals as goal
-
-abbrev image : List ℕ → List ℕ → Image
-image log db = record { log = log; db = db }
-
-abbrev seen : List ℕ → List ℕ → Bool → List Event → List ℕ
-seen log db is_log history = (replay (cond is_log log db) history).seen
 
 pub returns-in-Ok-open_or_make-clause-found : goal.returns-in-Ok-open_or_make-clause-found
 returns-in-Ok-open_or_make-clause-found g c clean =
-    let start = g.T.Start in
-    let log = c.in-Ok.ensures.fresh.0 in
-    let db = c.in-Ok.ensures.fresh.1 in
-    let same = ap₂ image (ap₂ (seen start.log start.db) log.0 log.1) (ap₂ (seen start.log start.db) db.0 db.1) in
+    let start = c.in-Ok.ensures.start in
     elim (c.in-Ok-open_or_make.ensures.found clean) [
-      | inl made ↦ inl (subst IsBlank same made.0, made.1)
+      | inl made ↦ inl (subst IsBlank start.seen made.0, made.1)
       | inr found ↦ inr (record {
-        holds = λ trees held. found.holds trees (subst (λ i. HoldsDatabase i trees) (sym same) held);
-        reads = subst (λ i. AreFoundIn i (file_state c.in-Ok-open_or_make.made).committed.trees) same found.reads;
+        holds = λ trees held. found.holds trees (subst (λ i. HoldsDatabase i trees) (sym start.seen) held);
+        reads = subst (λ i. AreFoundIn i (file_state c.in-Ok-open_or_make.made).committed.trees) start.seen found.reads;
       })
     ]
 
 pub returns-in-Err-open_or_make-clause-kept : goal.returns-in-Err-open_or_make-clause-kept
 returns-in-Err-open_or_make-clause-kept g c trees holds clean =
-    let start = g.T.Start in
-    let log = c.in-Ok.ensures.fresh.0 in
-    let db = c.in-Ok.ensures.fresh.1 in
-    let same = ap₂ image (ap₂ (seen start.log start.db) log.0 log.1) (ap₂ (seen start.log start.db) db.0 db.1) in
-    spared_keeps (image_at start) c.in-Ok.pair.0 same
-    (λ now out. ap₂ image (left_fresh start.is_mixing start.log start.db _ _ _ _ now.log log.0 log.1 out.0) (left_fresh start.is_mixing start.log start.db _ _ _ _ now.db db.0 db.1 out.1))
-    c.in-Err-open_or_make.left trees (c.in-Err-open_or_make.ensures.spared clean) holds
+    let start = c.in-Ok.ensures.start in
+    spared_keeps (image_at g.T.Start) c.in-Ok.pair.0 start.seen start.left c.in-Err-open_or_make.left trees (c.in-Err-open_or_make.ensures.spared clean) holds
 
 pub returns-in-Err-open_or_make-clause-blank : goal.returns-in-Err-open_or_make-clause-blank
 returns-in-Err-open_or_make-clause-blank g c nothing clean =
-    let start = g.T.Start in
-    let log = c.in-Ok.ensures.fresh.0 in
-    let db = c.in-Ok.ensures.fresh.1 in
-    let same = ap₂ image (ap₂ (seen start.log start.db) log.0 log.1) (ap₂ (seen start.log start.db) db.0 db.1) in
-    spared_blank (image_at start) c.in-Ok.pair.0 same
-    (λ now out. ap₂ image (left_fresh start.is_mixing start.log start.db _ _ _ _ now.log log.0 log.1 out.0) (left_fresh start.is_mixing start.log start.db _ _ _ _ now.db db.0 db.1 out.1))
-    c.in-Err-open_or_make.left (c.in-Err-open_or_make.ensures.spared clean) nothing
+    let start = c.in-Ok.ensures.start in
+    spared_blank (image_at g.T.Start) c.in-Ok.pair.0 start.seen start.left c.in-Err-open_or_make.left (c.in-Err-open_or_make.ensures.spared clean) nothing
 
 pub returns-in-Err-open_or_make-clause-begun : goal.returns-in-Err-open_or_make-clause-begun
 returns-in-Err-open_or_make-clause-begun g c begun clean =
-    let start = g.T.Start in
-    let log = c.in-Ok.ensures.fresh.0 in
-    let db = c.in-Ok.ensures.fresh.1 in
-    let same = ap₂ image (ap₂ (seen start.log start.db) log.0 log.1) (ap₂ (seen start.log start.db) db.0 db.1) in
-    spared_begun (image_at start) c.in-Ok.pair.0 same
-    (λ now out. ap₂ image (left_fresh start.is_mixing start.log start.db _ _ _ _ now.log log.0 log.1 out.0) (left_fresh start.is_mixing start.log start.db _ _ _ _ now.db db.0 db.1 out.1))
-    c.in-Err-open_or_make.left (c.in-Err-open_or_make.ensures.spared clean) begun
+    let start = c.in-Ok.ensures.start in
+    spared_begun (image_at g.T.Start) c.in-Ok.pair.0 start.seen start.left c.in-Err-open_or_make.left (c.in-Err-open_or_make.ensures.spared clean) begun
 
 pub returns-in-Err-open_or_make-clause-spared : goal.returns-in-Err-open_or_make-clause-spared
 returns-in-Err-open_or_make-clause-spared g c some begun clean =
-    let start = g.T.Start in
-    let log = c.in-Ok.ensures.fresh.0 in
-    let db = c.in-Ok.ensures.fresh.1 in
-    let same = ap₂ image (ap₂ (seen start.log start.db) log.0 log.1) (ap₂ (seen start.log start.db) db.0 db.1) in
-    spared_spares (image_at start) c.in-Ok.pair.0 same
-    (λ now out. ap₂ image (left_fresh start.is_mixing start.log start.db _ _ _ _ now.log log.0 log.1 out.0) (left_fresh start.is_mixing start.log start.db _ _ _ _ now.db db.0 db.1 out.1))
-    c.in-Err-open_or_make.left (c.in-Err-open_or_make.ensures.spared clean) some begun
+    let start = c.in-Ok.ensures.start in
+    spared_spares (image_at g.T.Start) c.in-Ok.pair.0 start.seen start.left c.in-Err-open_or_make.left (c.in-Err-open_or_make.ensures.spared clean) some begun
 
 -- ---- no file was opened
 

@@ -1,0 +1,84 @@
+-- What the fault of an open that failed says of the files.
+use Rattle.std.proofs.Common.{◌≡◌, ◌≢◌, ◌⊎◌, inl, inr, ℕ, ◌<◌, arith, ap, sym, subst, ◌∙◌}
+use Rattle.std.proofs.Math.Logic.{∥∥₁_elim}
+use Rattle.sqlite_disk.specs.declared.Disk.{Ghosts}
+use Rattle.sqlite_disk.specs.declared.Files.{Files}
+use Rattle.sqlite_disk.specs.Disk.{MoreFaults}
+use Rattle.sqlite_wal.specs.Recovery.{Image}
+use Rattle.sqlite_wal.specs.Reads.{tally_of_files}
+use Rattle.sqlite_trees.specs.declared.error.StoreError.{StoreError}
+use Rattle.sqlite_trees.specs.declared.error.StoreError.TheVariants as kinds
+use Rattle.sqlite_store.specs.Report.{named}
+use Rattle.sqlite.specs.Tree.{Trees}
+use Rattle.sqlite.specs.State.{store_error}
+use Rattle.sqlite.specs.Files.{FailsToOpenFiles, HoldsDatabase, faults_left, image_of, tally_left}
+use Rattle.sqlite.specs.declared.error.Error.{Error}
+use Rattle.sqlite.specs.declared.error.Error.TheVariants.{SqliteFailure}
+use Rattle.sqlite.specs.declared.error.ErrorCode.{ErrorCode}
+use Rattle.sqlite.specs.declared.error.ErrorCode.TheVariants as codes
+use Rattle.sqlite.specs.declared.file.Leftover.{Leftover}
+use Rattle.moo_store.specs.Opening.{not_ours}
+use Rattle.moo_store.specs.declared.fault.StoreFault.{StoreFault}
+use Rattle.moo_store.specs.declared.fault.StoreFault.TheVariants as faults
+use Rattle.moo_files.specs.Contents.{HoldsTrees}
+use Rattle.moo_files.specs.Remains.{ExcusesMalformed, IsUnopened, TakesForOurs, cannot_open, malformed}
+use Rattle.moo_files.specs.declared.remains.Remains.{Remains}
+use Rattle.moo_files.specs.declared.remains.Remains.TheVariants as remains
+
+abbrev code_of : Error → ErrorCode
+code_of (SqliteFailure code) = code
+code_of other = codes.OutOfMemory
+
+-- which fault an error of `sqlite` is told as
+abbrev IsToldAs : Error → StoreFault → Type 0
+IsToldAs error fault = (error ≡ SqliteFailure codes.OutOfMemory → fault ≡ faults.OutOfMemory) × (error ≢ SqliteFailure codes.OutOfMemory → fault ≡ faults.Store error)
+
+some_faults : (old new : ℕ) → MoreFaults old new → 0 < new
+some_faults old new more = omega (arith, more)
+
+module _ (error : Error) (fault : StoreFault) (told : IsToldAs error fault) where
+  by_code : (code : ErrorCode) → error ≡ SqliteFailure code → code ≢ codes.OutOfMemory → fault ≡ faults.Store (SqliteFailure code)
+  by_code code is other = told.1 (λ no. other (ap code_of (sym is ∙ no))) ∙ ap faults.Store is
+
+  -- a fault of the disk isn't told as files that aren't ours
+  own_kind : (kind : StoreError) → error ≡ store_error kind → fault ≢ not_ours
+  own_kind kinds.OutOfMemory is ours = let both : faults.OutOfMemory ≡ not_ours = sym (told.0 is) ∙ ours in cc
+  own_kind kinds.Io is ours = let both : faults.Store (SqliteFailure codes.SystemIoFailure) ≡ not_ours = sym (by_code codes.SystemIoFailure is (λ no. cc)) ∙ ours in cc
+  own_kind kinds.Corrupt is ours = let both : malformed ≡ not_ours = sym (by_code codes.DatabaseCorrupt is (λ no. cc)) ∙ ours in cc
+  own_kind kinds.Full is ours = let both : faults.Store (SqliteFailure codes.DiskFull) ≡ not_ours = sym (by_code codes.DiskFull is (λ no. cc)) ∙ ours in cc
+  own_kind kinds.Broken is ours = let both : faults.Store (SqliteFailure codes.Closed) ≡ not_ours = sym (by_code codes.Closed is (λ no. cc)) ∙ ours in cc
+  own_kind kinds.Unstorable is ours = let both : faults.Store (SqliteFailure codes.TooBig) ≡ not_ours = sym (by_code codes.TooBig is (λ no. cc)) ∙ ours in cc
+
+  module _ {D : Type 0} {g : Ghosts D} (files : Files D) (image : Image) (same : image_of g files ≡ image) (trees : Trees) (holds : HoldsTrees image trees) (left : Leftover D g) where
+    no_database : ¬ ¬ ((db : Trees) × HoldsDatabase (image_of g files) db)
+    no_database none = ∥∥₁_elim holds (λ x y. absurd x) (λ held. none (trees, subst (λ i. HoldsDatabase i trees) (sym same) held))
+
+    pub opened_own : FailsToOpenFiles files left error → fault ≢ not_ours
+    opened_own (inl memory) ours = let both : faults.OutOfMemory ≡ not_ours = sym (told.0 memory) ∙ ours in cc
+    opened_own (inr (inl it)) ours = no_database (λ some. it.1 (inl some))
+    opened_own (inr (inr (inl it))) ours = own_kind (named (tally_of_files g (files.log, files.db)) (tally_left left)) it.0 ours
+    opened_own (inr (inr (inr it))) ours = own_kind kinds.Full it.0 ours
+
+    pub opened_malformed : FailsToOpenFiles files left error → fault ≡ malformed → 0 < faults_left left
+    opened_malformed (inl memory) is = absurd (let both : faults.OutOfMemory ≡ malformed = sym (told.0 memory) ∙ is in cc)
+    opened_malformed (inr (inl it)) is = absurd (no_database (λ some. it.1 (inl some)))
+    opened_malformed (inr (inr (inl it))) is = some_faults _ _ it.1
+    opened_malformed (inr (inr (inr it))) is = absurd (let both : faults.Store (SqliteFailure codes.DiskFull) ≡ malformed = sym (by_code codes.DiskFull it.0 (λ no. cc)) ∙ is in cc)
+
+-- before `sqlite` was asked
+pub unfit_sound : (fault : StoreFault) → (fault ≡ cannot_open) ⊎ (fault ≡ not_ours) → fault ≢ malformed
+unfit_sound fault (inl is) both = let same : cannot_open ≡ malformed = sym is ∙ both in cc
+unfit_sound fault (inr is) both = let same : not_ours ≡ malformed = sym is ∙ both in cc
+
+module _ {T D : Type 0} {g : Ghosts D} where
+  pub unopened_malformed : (fault : StoreFault) (r : Remains T D g) → IsUnopened r → fault ≢ malformed → ExcusesMalformed fault r
+  unopened_malformed fault (remains.Untouched start) unopened other = other
+  unopened_malformed fault (remains.NotOpened seal) unopened other = other
+  unopened_malformed fault (remains.Leftover left) unopened other = absurd unopened
+  unopened_malformed fault (remains.Connection conn) unopened other = absurd unopened
+
+  pub takes_for_ours : (fault : StoreFault) (r : Remains T D g) → fault ≢ not_ours → TakesForOurs fault r
+  takes_for_ours fault (remains.Untouched start) other = tt
+  takes_for_ours fault (remains.NotOpened seal) other = other
+  takes_for_ours fault (remains.Leftover left) other = other
+  takes_for_ours fault (remains.Connection conn) other = other
