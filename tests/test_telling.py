@@ -33,7 +33,7 @@ def make_large(file):
 
 
 def bytes_read(process):
-    """How many bytes the process has read, which it has to be alive for."""
+    """How many bytes the process has read."""
     return int(re.search(r"rchar: (\d+)", Path(f"/proc/{process.pid}/io").read_text()).group(1))
 
 
@@ -51,7 +51,7 @@ class Telling(ProgramTest):
         began = time.monotonic()
         process = processes.start([MOO, "check", file], stdout=subprocess.PIPE, stderr=subprocess.PIPE)
         for place in places:
-            while bytes_read(process) < place:
+            while process.poll() is None and bytes_read(process) < place:
                 time.sleep(0.001)
             process.send_signal(signal.SIGSTOP)
             time.sleep(PAUSE)
