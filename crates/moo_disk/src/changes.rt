@@ -1,0 +1,29 @@
+//! What the disks of one world know of each other.
+
+use std::cell::Cell;
+
+/// How often the files of a world were changed. Their disks share it, since a commit writes the log alone and reads the database file: a
+/// change of one file ends the reading of the other too.
+#[derive(Drop)]
+pub struct Changes {
+    count: Cell<u64>,
+}
+
+impl Changes {
+    /// Before the first change.
+    pub fn new() -> Changes {
+        Changes {
+            count: Cell::new(0),
+        }
+    }
+
+    /// One more change.
+    pub(crate) fn note(&self) {
+        self.count.set(self.count.get().wrapping_add(1));
+    }
+
+    /// How many there were.
+    pub(crate) fn count(&self) -> u64 {
+        self.count.get()
+    }
+}

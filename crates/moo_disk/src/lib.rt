@@ -1,0 +1,13 @@
+//! Disks that tell of long reading.
+#![tactic(auto)]
+
+mod changes;
+mod line;
+mod reading;
+mod teller;
+mod telling;
+#[cfg(test)]
+mod tests;
+
+pub use changes::Changes;
+pub use telling::{Telling, telling_files};

@@ -1,0 +1,72 @@
+//! Who tells of what is read of one file.
+
+use crate::changes::Changes;
+use crate::line::{Line, Subject};
+use crate::reading::Reading;
+use std::io::Eprint;
+use std::time::{Clock, Instant};
+
+/// The clock is read at the first of so many reads.
+const STEP: u32 = 64;
+
+/// Tells of the reading of one file on standard error.
+#[derive(Drop)]
+pub(crate) struct Teller<'a, C> {
+    console: &'a C,
+    changes: &'a Changes,
+    subject: Subject,
+    /// The length of the file in bytes, if it was asked for after the last change.
+    length: Option<u64>,
+    reading: Reading,
+    /// How many reads come before the clock is read again.
+    reads_left: u32,
+}
+
+impl<'a, C: Clock + Eprint> Teller<'a, C> {
+    pub(crate) fn new(console: &'a C, changes: &'a Changes, subject: Subject) -> Teller<'a, C> {
+        Teller {
+            console,
+            changes,
+            subject,
+            length: None,
+            reading: Reading::new(),
+            reads_left: 0,
+        }
+    }
+
+    /// Notes how long the file is.
+    pub(crate) fn note_length(&mut self, bytes: usize) {
+        self.length = Some(bytes as u64);
+    }
+
+    /// Notes that the file is changed.
+    pub(crate) fn note_change(&mut self) {
+        self.changes.note();
+        self.length = None;
+    }
+
+    /// Notes that so many bytes are read, and tells of it if it is time.
+    pub(crate) fn note_read(&mut self, bytes: usize) {
+        if self.reads_left == 0 {
+            self.look();
+            self.reads_left = STEP;
+        }
+        self.reads_left -= 1;
+        self.reading.add(bytes);
+    }
+
+    /// Looks at the clock, and tells of what was read until now if it is time.
+    fn look(&mut self) {
+        let Ok(now) = Instant::now(self.console) else {
+            return;
+        };
+        if let Some(read) = self.reading.step(now, self.changes.count()) {
+            let line = Line {
+                subject: self.subject,
+                read,
+                length: self.length,
+            };
+            let _said = eprintln!(self.console; "{line}");
+        }
+    }
+}
