@@ -32,7 +32,7 @@ use moo_files::{Remains, WorldFiles, create_from, load_from, open_from};
 use moo_http::Ports;
 use moo_store::{StoreFault, World};
 use moo_words::Task;
-use sqlite::{Connection, Error, ErrorCode, FileFrom, FileStore, Start};
+use sqlite::{Connection, Error, ErrorCode, FileStore, Start};
 use sqlite_disk::Disk;
 use std::alloc::Global;
 use std::io::{Eprint, Read, Write};
@@ -91,6 +91,7 @@ fn refusal_of<T: Start, H: WorldFiles<T>>(
     task: Task<'_>,
     fault: StoreFault,
 ) -> Failure
+    requires may { H.may_open host.now file.now }
     ensures { Tells fault result }
 {
     let failure = refusal(fault);
@@ -107,7 +108,8 @@ fn world_of<T: Start, H: WorldFiles<T>>(
     file: &str,
     start: T,
     task: Task<'_>,
-) -> Result<World<FileStore<FileFrom<T>>>, (StoreFault, Remains<T, FileFrom<T>>)>
+) -> Result<World<FileStore<H::Disk>>, (StoreFault, Remains<T, H::Disk>)>
+    requires may { H.may_open host.now file.now }
     ensures anew { begins_anew task.entry ≡ true → IfOk result (λ world. StandsFor over_files true world (state_of opening_maps)) }
     ensures made { begins_anew task.entry ≡ true → IfErr result (λ e. IsOfStore e.0) }
     ensures taken { begins_anew task.entry ≡ true → (s : State) → HoldsState (image_at T.Start) s → IfOk result (λ world. HasCleanDisk (store_of over_files world) → ⊥) }
@@ -159,7 +161,8 @@ fn run_loaded<
     input: &mut R,
     output: &mut W,
     status: &mut u8,
-) -> Ends<T, FileFrom<T>>
+) -> Ends<T, H::Disk>
+    requires may { H.may_open host.old file.now }
     requires read { (path : List ℕ) → ReadsFile task path → H.may_read host.old path }
     requires load { is_load task ≡ true }
     requires word { dump_word task ≡ dump.now }
@@ -201,7 +204,8 @@ fn run_begun<
     input: &mut R,
     output: &mut W,
     status: &mut u8,
-) -> Ends<T, FileFrom<T>>
+) -> Ends<T, H::Disk>
+    requires may { H.may_open host.old file.now }
     requires read { (path : List ℕ) → ReadsFile task path → H.may_read host.old path }
     requires load { is_load task ≡ false }
     ensures runs { RunsFile task.entry (image_at T.Start) result (given_to R.Read H.BatchFiles H.Ports H.Source.Arrivals H.Source.Reader.Read H.Source.Writer.Write input.old host.old host.new) (W.contents output.old) (W.contents output.new) status.new }
@@ -222,7 +226,7 @@ fn run_begun<
 /// of `run_words`.
 ///
 /// `T` is what the file of the words holds, and `H` the host, with its files and its ports: it is proved for all contents and all connections, and
-/// no code looks at them. The program calls it for files that nobody has read.
+/// no code looks at them. No other path is looked at or opened. The program calls it for files that nobody has read.
 pub fn run_from<
     T: Start,
     H: WorldFiles<T> + BatchFiles + Ports,
@@ -239,7 +243,8 @@ pub fn run_from<
     input: &mut R,
     output: &mut W,
     status: &mut u8,
-) -> Ends<T, FileFrom<T>>
+) -> Ends<T, H::Disk>
+    requires may { H.may_open host.old file.now }
     requires read { (path : List ℕ) → ReadsFile task path → H.may_read host.old path }
     ensures runs { RunsFile task.entry (image_at T.Start) result (given_to R.Read H.BatchFiles H.Ports H.Source.Arrivals H.Source.Reader.Read H.Source.Writer.Write input.old host.old host.new) (W.contents output.old) (W.contents output.new) status.new }
     ensures input { reads_input task.entry ≡ false → input.new ≡ input.old }
@@ -291,7 +296,8 @@ pub(crate) fn run_task<
     input: &mut R,
     output: &mut W,
     status: &mut u8,
-) -> Ends<T, FileFrom<T>>
+) -> Ends<T, H::Disk>
+    requires may { H.may_open host.old (file_of task) }
     requires read { (path : List ℕ) → ReadsFile task path → H.may_read host.old path }
     ensures runs { RunsTask task.entry (given_to R.Read H.BatchFiles H.Ports H.Source.Arrivals H.Source.Reader.Read H.Source.Writer.Write input.old host.old host.new) (W.contents output.old) (W.contents output.new) status.new }
     ensures ends { EndsWith task.entry (image_at T.Start) result (given_to R.Read H.BatchFiles H.Ports H.Source.Arrivals H.Source.Reader.Read H.Source.Writer.Write input.old host.old host.new) (W.contents output.old) (W.contents output.new) status.new }

@@ -6,7 +6,7 @@ ghost use Rattle.moo_words.specs.declared.task.Task.{Task};
 ghost use Rattle.moo_words.specs.Tasks.{NamesTask, IsRefusal, mistakes};
 ghost use Rattle.sqlite.specs.WalFiles.{image_at};
 ghost use Rattle.moo_commands.specs.Given.{given_to};
-ghost use Rattle.moo_commands.specs.Run.{mistake_status, EndsUsage, ReadsFile, KeepsInput, RunsWords};
+ghost use Rattle.moo_commands.specs.Run.{mistake_status, file_of, EndsUsage, ReadsFile, KeepsInput, RunsWords};
 ghost use Rattle.moo_commands.specs.Ends.{RunsOver, RunsClosed};
 
 use crate::ends::Ends;
@@ -18,7 +18,7 @@ use clap::error::ErrorKind;
 use moo_files::{Remains, WorldFiles};
 use moo_http::Ports;
 use moo_words::{Usage, read_words};
-use sqlite::{FileFrom, Start};
+use sqlite::Start;
 use std::alloc::Global;
 use std::io::{Eprint, Read, Write};
 use std::time::Clock;
@@ -78,7 +78,8 @@ fn report_usage<C: Eprint, W: Write>(
 /// failure of `serve`.
 ///
 /// `T` is what the file of the words holds, and `H` the host, with its files and its ports: it is proved for all contents and all connections, and
-/// no code looks at them. It reads no file of batches and no dump but that of the words. What is left of the file is handed back, to be closed: if the
+/// no code looks at them. It looks at and opens no file of a world but that of the words, and reads no file of batches
+/// and no dump but theirs. What is left of the file is handed back, to be closed: if the
 /// words have none, the unspent start.
 pub fn run_words<
     T: Start,
@@ -95,7 +96,8 @@ pub fn run_words<
     input: &mut R,
     output: &mut W,
     status: &mut u8,
-) -> Ends<T, FileFrom<T>>
+) -> Ends<T, H::Disk>
+    requires may { (task : Task) → NamesTask (map (λ word. word.now) words.now) task → H.may_open host.old (file_of task) }
     requires read { (task : Task) (path : List ℕ) → NamesTask (map (λ word. word.now) words.now) task → ReadsFile task path → H.may_read host.old path }
     // What is written, whatever the file holds.
     ensures words { RunsWords (map (λ word. word.now) words.now) (given_to R.Read H.BatchFiles H.Ports H.Source.Arrivals H.Source.Reader.Read H.Source.Writer.Write input.old host.old host.new) (W.contents output.old) (W.contents output.new) status.new }
@@ -132,7 +134,8 @@ pub fn run_to_end<
     input: &mut R,
     output: &mut W,
     status: &mut u8,
-) -> Remains<T, FileFrom<T>>
+) -> Remains<T, H::Disk>
+    requires may { (task : Task) → NamesTask (map (λ word. word.now) words.now) task → H.may_open host.old (file_of task) }
     requires read { (task : Task) (path : List ℕ) → NamesTask (map (λ word. word.now) words.now) task → ReadsFile task path → H.may_read host.old path }
     ensures words { RunsWords (map (λ word. word.now) words.now) (given_to R.Read H.BatchFiles H.Ports H.Source.Arrivals H.Source.Reader.Read H.Source.Writer.Write input.old host.old host.new) (W.contents output.old) (W.contents output.new) status.new }
     // The file is closed after a run over what it held.

@@ -7,16 +7,17 @@ ghost use Rattle.moo_commands.specs.Lines.{Reports};
 ghost use Rattle.sqlite.specs.WalFiles.{image_at};
 ghost use Rattle.moo_words.specs.declared.task.Task.{Task};
 ghost use Rattle.moo_words.specs.Tasks.{NamesTask};
-ghost use Rattle.moo_commands.specs.Run.{ReadsFile, KeepsInput};
+ghost use Rattle.moo_commands.specs.Run.{file_of, ReadsFile, KeepsInput};
 ghost use Rattle.moo_commands.specs.Ends.{IsUntouched, RunsClosed};
 
 use crate::failure::Failure;
 use crate::host::{BatchFiles, System};
 use crate::output::report;
 use crate::run::run_to_end;
+use moo_disk::Changes;
 use moo_files::{Remains, WorldFiles};
 use moo_http::Ports;
-use sqlite::{FileFrom, Start, Unknown};
+use sqlite::{Start, Unknown};
 use std::alloc::{AllocError, Global};
 use std::env::args;
 use std::io;
@@ -74,7 +75,8 @@ pub fn run_given<
     host: &mut H,
     input: &mut R,
     output: &mut W,
-) -> (u8, Remains<T, FileFrom<T>>)
+) -> (u8, Remains<T, H::Disk>)
+    requires may { IfOk words (λ words. (task : Task) → NamesTask (map string_bytes words.items) task → H.may_open host.old (file_of task)) }
     requires read { IfOk words (λ words. (task : Task) (path : List ℕ) → NamesTask (map string_bytes words.items) task → ReadsFile task path → H.may_read host.old path) }
     // What the words come to, as `run_to_end` says it; or memory runs out before that, and their file isn't opened.
     ensures read { IfOk words (λ words. (Reports Failure.NoMemory (W.contents output.old) (W.contents output.new) result.0 × IsUntouched result.1 × (host.new ≡ host.old))
@@ -118,14 +120,15 @@ fn command_words(rt: &HostRuntime) -> io::Result<Vec<String>> {
 /// The whole program: `run_given` over the words of the command line, the files and ports of the system and the standard streams. It has no type
 /// parameter, so that the check of `main` needn't know what streams are.
 pub fn run_command(rt: &HostRuntime) -> u8 {
-    let (status, _closed) = run_given(
+    let changes = Changes::new();
+    run_given(
         rt.alloc(),
         rt,
         command_words(rt),
         Unknown,
-        &mut System::new(rt),
+        &mut System::new(rt, &changes),
         &mut rt.stdin(),
         &mut rt.stdout(),
-    );
-    status
+    )
+    .0
 }

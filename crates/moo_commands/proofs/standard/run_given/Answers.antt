@@ -3,15 +3,15 @@ use Rattle.sqlite.specs.WalFiles.{image_at}
 use Rattle.moo_words.specs.declared.task.Task.{Task}
 use Rattle.moo_words.specs.Tasks.{NamesTask}
 use Rattle.moo_commands.specs.Given.{given_to}
-use Rattle.moo_commands.specs.Run.{ReadsFile, KeepsInput}
+use Rattle.moo_commands.specs.Run.{file_of, ReadsFile, KeepsInput}
 use Rattle.moo_commands.specs.Ends.{RunsClosed}
 use Rattle.moo_commands.proofs.standard.run_given.Goals as goal
 
-pub run_to_end-closed-requires : goal.run_to_end-closed-requires
-run_to_end-closed-requires g c =
+pub run_to_end-closed-requires-clause-read : goal.run_to_end-closed-requires-clause-read
+run_to_end-closed-requires-clause-read g c task path names reads =
     let same = ap (λ (words : List (Bor (List ℕ))). map (λ word. word.now) words) c.deref-2.ensures.value ∙ (c.in-Ok-borrowed.ensures ∙ ap (map string_bytes) c.deref.ensures.value) in
     let may = subst (λ r. IfOk r (λ words. (task : Task) (path : List ℕ) → NamesTask (map string_bytes words.items) task → ReadsFile task path → g.H.BatchFiles.may_read c.args.host.now path)) c.in-Ok.is c.requires.read in
-    record { read = λ task path names reads. may task path (subst (λ words. NamesTask words task) same names) reads }
+    may task path (subst (λ words. NamesTask words task) same names) reads
 
 pub returns-clause-read : goal.returns-clause-read
 returns-clause-read g c =
@@ -23,3 +23,9 @@ pub returns-clause-input : goal.returns-clause-input
 returns-clause-input g c =
     let same = ap (λ (words : List (Bor (List ℕ))). map (λ word. word.now) words) c.deref-2.ensures.value ∙ (c.in-Ok-borrowed.ensures ∙ ap (map string_bytes) c.deref.ensures.value) in
     rw c.in-Ok.is (subst (λ words. KeepsInput words c.args.input.now c.run_to_end-closed.new.input) same c.run_to_end-closed.ensures.input)
+
+pub run_to_end-closed-requires-clause-may : goal.run_to_end-closed-requires-clause-may
+run_to_end-closed-requires-clause-may g c task names =
+    let same = ap (λ (words : List (Bor (List ℕ))). map (λ word. word.now) words) c.deref-2.ensures.value ∙ (c.in-Ok-borrowed.ensures ∙ ap (map string_bytes) c.deref.ensures.value) in
+    let may = subst (λ r. IfOk r (λ words. (task : Task) → NamesTask (map string_bytes words.items) task → g.H.WorldFiles.may_open c.args.host.now (file_of task))) c.in-Ok.is c.requires.may in
+    may task (subst (λ words. NamesTask words task) same names)
