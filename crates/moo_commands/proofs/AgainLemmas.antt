@@ -1,6 +1,5 @@
 -- From what a crash left of a run to the next run.
-use Rattle.std.proofs.Common.{◌≡◌, inl, inr, ℕ, false, List, Option, codes, sym, subst}
-use Rattle.std.specs.Bool.{⊤}
+use Rattle.std.proofs.Common.{◌≡◌, ◌≢◌, ◌⊎◌, inl, inr, ℕ, zero, suc, Bool, true, false, List, length, Option, codes, refl, sym, ap, subst}
 use Rattle.std.proofs.lemmas.Bool.{true≢false, false_from_ne_true}
 use Rattle.std.specs.Str.{bytes_eq}
 use Rattle.sqlite_disk.specs.declared.Disk.{Ghosts}
@@ -9,22 +8,37 @@ use Rattle.sqlite_wal.specs.Recovery.{Image}
 use Rattle.sqlite.specs.State.{State as Database, HasCleanDisk}
 use Rattle.sqlite.specs.Held.{Held}
 use Rattle.sqlite.specs.Files.{file_state}
-use Rattle.moo_world.specs.Judge.{State}
+use Rattle.sqlite.specs.Schema.{Schema}
 use Rattle.sqlite.specs.Tree.{Trees}
+use Rattle.moo_rows.specs.Maps.{Maps}
+use Rattle.moo_world.specs.declared.call.Batch.{Batch}
+use Rattle.moo_world.specs.Rows.{IsGood}
+use Rattle.moo_world.specs.Judge.{State, state_of}
+use Rattle.moo_tables.specs.declared.version.Version.{Version}
+use Rattle.moo_tables.specs.declared.version.Version.TheVariants.{First, Second}
+use Rattle.moo_tables.specs.Tables.{Tables, schema_of, no_schema}
+use Rattle.moo_tables.specs.Inside.{Leaves}
+use Rattle.moo_tables.proofs.SchemaLemmas.{one_schema}
+use Rattle.moo_cells.proofs.CellsLemmas.{one_good}
+use Rattle.moo_cells.proofs.GoodRows.{good_within}
+use Rattle.moo_store.specs.Led.{LeavesLed}
 use Rattle.sqlite.specs.declared.file.Leftover.{Leftover}
 use Rattle.sqlite.specs.declared.file.Leftover.TheVariants as left
-use Rattle.moo_store.specs.States.{LeavesState}
-use Rattle.moo_files.specs.Contents.{HoldsSuch, HoldsState, IsLeftBy}
+use Rattle.moo_store.specs.States.{LeavesRows, LeavesState}
+use Rattle.moo_files.specs.Contents.{HoldsSuch, HoldsState, HasAnyTable, IsKept, IsLeftBy}
 use Rattle.moo_files.specs.Remains.{IsCleanRemains, LeftoverKeeps, KeepsSuch, StillHolds}
 use Rattle.moo_files.specs.Closing.{IsLeftOf, IsClosedFrom}
 use Rattle.moo_files.specs.declared.remains.Remains.{Remains}
 use Rattle.moo_files.specs.declared.remains.Remains.TheVariants as remains
 use Rattle.moo_files.proofs.AgainLemmas.{held_after}
+use Rattle.moo_files.proofs.RemainsLemmas.{keeps_more}
 use Rattle.moo_words.specs.declared.task.Task.{Task}
 use Rattle.moo_words.specs.declared.task.Task.TheVariants.{Init, Apply, Ask, Dump, Load, Check, Serve}
-use Rattle.moo_commands.specs.Run.{Given, begins_anew, file_of}
-use Rattle.moo_commands.specs.Ends.{MatchFile, RunsFile, EndsWith, RunsOver, IsClosedEnd, RunsClosed}
-use Rattle.moo_commands.specs.Again.{Started, RanFrom, TakesUp, IsLeftAfter, CrashesTo, IsFoundIn, ClosesTo}
+use Rattle.moo_commands.specs.Given.{Given}
+use Rattle.moo_commands.specs.Run.{begins_anew, file_of}
+use Rattle.moo_commands.specs.Ends.{HoldsRows, RunsRows, RunsFile, EndsWith, RunsOver, IsClosedEnd, RunsClosed}
+use Rattle.moo_commands.specs.Again.{Started, StartedRows, LeadTo, RanFrom, TakesUp, TakesRows, IsLeftAfter, CrashesTo, LeadsOn, ClosesOn, IsFoundIn, ClosesTo}
+use Rattle.moo_commands.proofs.Connections.{runs_when, unled}
 use Rattle.moo_commands.specs.declared.ends.Ends.{Ends}
 use Rattle.moo_commands.specs.declared.ends.Ends.TheVariants as variant
 
@@ -41,6 +55,9 @@ on_file (Serve file port count) other = other
 started_map : (task : Task) (image : Image) (given : Given) (From Then : State → Type 0) → ((s : State) → From s → Then s) → Started task image given From → Started task image given Then
 started_map task image given From Then on it = ((λ other s holds. on s (it.0 other s holds)), (λ anew. let begun = it.1 anew in (begun.0, begun.1, on begun.0 begun.2)))
 
+started_rows_map : (task : Task) (image : Image) (given : Given) (From Then : Maps → Type 0) → ((rows : Maps) → From rows → Then rows) → StartedRows task image given From → StartedRows task image given Then
+started_rows_map task image given From Then on it = ((λ other rows holds. on rows (it.0 other rows holds)), (λ anew. let begun = it.1 anew in (begun.0, begun.1, begun.2, on begun.0 begun.3)))
+
 module _ {D : Type 0} {g : Ghosts D} where
   -- what is found after a connection was closed is what a crash might have left before
   found_left : (T : Type 0) (store : Database) (left_over : Leftover D g) (next : Image) → IsLeftOf store left_over → IsFoundIn {T = T} (remains.Leftover left_over) next → IsLeftBy store next
@@ -48,6 +65,35 @@ module _ {D : Type 0} {g : Ghosts D} where
   found_left T store (left.Files now) next of (inr out) = of.1 next out
   found_left T store (left.Unopened now) next of found = absurd of
   found_left T store (left.Store now) next of found = record { trees = found.trees; holds = found.holds; such = of found.trees found.such }
+
+-- ---- rows
+
+begins_or_not : (b : Bool) → (b ≡ true) ⊎ (b ≡ false)
+begins_or_not true = inl refl
+begins_or_not false = inr refl
+
+-- tables of ours are tables
+some_tables : (version : Version) → no_schema ≢ schema_of version
+some_tables First none = let odd : zero ≡ suc 4 = ap (λ (schema : Schema). length schema.tables) none in absurd cc
+some_tables Second none = let odd : zero ≡ suc 7 = ap (λ (schema : Schema). length schema.tables) none in absurd cc
+
+any_of_ours : (trees : Trees) (tables : Tables) → Leaves trees tables → HasAnyTable trees
+any_of_ours trees tables it none = some_tables tables.version (one_schema tables.version trees no_schema it.sound none)
+
+-- a database that was kept, or migrated, shows the rows that it showed
+kept_rows : (rows : Maps) → IsGood rows → (old new : Trees) → LeavesRows old rows → IsKept old new → LeavesRows new rows
+kept_rows rows good old new shown (inl same) = subst (λ trees. LeavesRows trees rows) (sym same) shown
+kept_rows rows good old new shown (inr moved) =
+    let found = moved.sound shown.tables shown.leaves in
+    subst (LeavesRows new) (one_good shown.tables found.0 rows found.2 (good_within found.0 found.1) shown.shows good) found.3
+
+-- what a crash left of a store holds rows that its batches lead to
+led_on : (store : Database) (rows : Maps) (next : Image) (Next : Maps → Type 0) → ((end : Maps) → HoldsRows next end → Next end) → (batches others : List Batch) → LeavesLed store rows batches others
+    → IsLeftBy store next → (end : Maps) × LeadTo rows end batches others × HoldsRows next end × Next end
+led_on store rows next Next goes batches others led left =
+    let it = led left.trees left.such in
+    let holds : HoldsRows next it.2 = (it.3, record { trees = left.trees; holds = left.holds; such = it.5 }) in
+    (it.2, (it.0, it.1, it.4), holds, goes it.2 holds)
 
 module _ {T D : Type 0} {g : Ghosts D} where
   -- a task that ran over a file is on a file, and this is its run
@@ -58,7 +104,18 @@ module _ {T D : Type 0} {g : Ghosts D} where
   -- it started from the state that the file held, or from one that it may begin with
   ran_from : (task : Task) (image : Image) (conn : Held (FileStore D g)) (given : Given) (old new : Option (List ℕ)) (status : ℕ) (After : State → Type 0)
       → HasCleanDisk (file_state conn) → RunsFile {T = T} task image (variant.Ran conn) given old new status → ((s : State) → RanFrom task s conn given old new status → After s) → Started task image given After
-  ran_from task image conn given old new status After clean it after = ((λ other s holds. after s (it.kept s other holds clean)), (λ anew. let begun = it.anew anew in (begun.0, begun.1, after begun.0 begun.2)))
+  ran_from task image conn given old new status After clean it after = ((λ other s holds. after s (it.kept s other holds clean)), (λ anew. let begun = it.anew anew in (state_of begun.0, begun.2, after (state_of begun.0) (unled _ _ _ _ _ _ _ _ _ _ begun.3))))
+
+  -- the same of rows
+  rows_from : (task : Task) (image : Image) (conn : Held (FileStore D g)) (given : Given) (old new : Option (List ℕ)) (status : ℕ) (After : Maps → Type 0)
+      → HasCleanDisk (file_state conn) → RunsFile {T = T} task image (variant.Ran conn) given old new status → ((rows : Maps) → RunsRows task rows conn given old new status → After rows) → StartedRows task image given After
+  rows_from task image conn given old new status After clean it after = ((λ other rows holds. after rows (it.led rows other holds clean)), (λ anew. let begun = it.anew anew in (begun.0, begun.1, begun.2, after begun.0 begun.3)))
+
+  -- words over a file whose tables show rows run from these
+  pub takes_rows : (words : List (List ℕ)) (image : Image) (ends : Ends T D g) (given : Given) (old new : Option (List ℕ)) (status : ℕ)
+      → RunsOver words image ends given old new status → (rows : Maps) → HoldsRows image rows → TakesRows words rows ends given old new status
+  takes_rows words image ends given old new status (inl (task, named, alone, runs, it)) rows holds = inl (task, named, λ other. (it.file (on_file task other)).led rows other holds)
+  takes_rows words image ends given old new status (inr (some, rests, usage, none)) rows holds = inr (some, none)
 
   -- words over a file that holds a state take it up
   pub takes_up : (words : List (List ℕ)) (image : Image) (ends : Ends T D g) (given : Given) (old new : Option (List ℕ)) (status : ℕ)
@@ -105,6 +162,39 @@ module _ {T D : Type 0} {g : Ghosts D} where
   crashes_to words image (variant.NoFile start) given old new status next Next over goes = λ clean s holds same.
       let still = subst (λ it. HoldsState it s) (sym same) holds in
       (still, goes s still)
+
+  -- files whose words were refused keep their rows
+  refused_rows : (words : List (List ℕ)) (image : Image) (rest : Remains T D g) (given : Given) (old new : Option (List ℕ)) (status : ℕ)
+      → RunsOver words image (variant.Refused rest) given old new status → (rows : Maps) (holds : HoldsRows image rows) → IsCleanRemains rest → KeepsSuch (IsKept holds.1.trees) image rest
+  refused_rows words image rest given old new status (inl (task, named, alone, runs, it)) rows holds clean = elim (begins_or_not (begins_anew task)) [
+    | inl anew ↦
+        keeps_more (λ found. found ≡ holds.1.trees) (IsKept holds.1.trees) (λ found same. inl same) image rest
+        ((refused_file task image rest given old new status it).spared holds.1.trees anew holds.1.holds (any_of_ours holds.1.trees holds.1.such.tables holds.1.such.leaves) clean)
+    | inr other ↦ (refused_file task image rest given old new status it).trees holds.1.trees other holds.1.holds clean
+  ]
+  refused_rows words image rest given old new status (inr (some, rests, usage, none)) rows holds clean = absurd none
+
+  -- what a crash left of files that kept their database holds the rows
+  still_rows : (image : Image) (rest : Remains T D g) (next : Image) (rows : Maps) (holds : HoldsRows image rows) → KeepsSuch (IsKept holds.1.trees) image rest → IsLeftAfter image rest next → HoldsRows next rows
+  still_rows image rest next rows holds keeps left =
+      let still = still_such (IsKept holds.1.trees) image rest next keeps (record { trees = holds.1.trees; holds = holds.1.holds; such = inl refl }) left in
+      (holds.0, record { trees = still.trees; holds = still.holds; such = kept_rows rows holds.0 holds.1.trees still.trees holds.1.such still.such })
+
+  pub leads_on : (words : List (List ℕ)) (image : Image) (ends : Ends T D g) (given : Given) (old new : Option (List ℕ)) (status : ℕ) (next : Image) (Next : Maps → Type 0)
+      → RunsOver words image ends given old new status → ((rows : Maps) → HoldsRows next rows → Next rows) → LeadsOn words image ends given old new status next Next
+  leads_on words image (variant.Ran conn) given old new status next Next (inl (task, named, alone, runs, it)) goes = λ clean. (
+    task,
+    named,
+    rows_from task image conn given old new status _ clean (ran_file task image conn given old new status it)
+        (λ rows run. runs_when _ _ _ _ _ _ _ _ _ _ _ _ _ (λ clean. clean) (λ end clean crash. crash) (λ batches others clean led. led_on (file_state conn) rows next Next goes batches others led) run),
+  )
+  leads_on words image (variant.Ran conn) given old new status next Next (inr (some, rests, usage, none)) goes = absurd none
+  leads_on words image (variant.Refused rest) given old new status next Next over goes = λ clean rows holds left.
+      let still = still_rows image rest next rows holds (refused_rows words image rest given old new status over rows holds clean) left in
+      (still, goes rows still)
+  leads_on words image (variant.NoFile start) given old new status next Next over goes = λ clean rows holds same.
+      let still = subst (λ it. HoldsRows it rows) (sym same) holds in
+      (still, goes rows still)
 
   -- what is closed keeps what it kept
   kept_closed : (P : Trees → Type 0) (image : Image) (was now : Remains T D g) → IsClosedFrom was now → IsCleanRemains now → (IsCleanRemains was → KeepsSuch P image was) → KeepsSuch P image now
@@ -156,6 +246,45 @@ module _ {T D : Type 0} {g : Ghosts D} where
       → RunsClosed words image closed given old new status → ((t : State) → HoldsState next t → Next t) → ClosesTo words image closed given old new status next Next
   closes_to words image closed given old new status next Next it goes = closes_by words image it.0 closed given old new status next Next it.1 it.2 goes
 
+  closes_by_rows : (words : List (List ℕ)) (image : Image) (ends : Ends T D g) (closed : Remains T D g) (given : Given) (old new : Option (List ℕ)) (status : ℕ) (next : Image) (Next : Maps → Type 0)
+      → RunsOver words image ends given old new status → IsClosedEnd ends closed → ((rows : Maps) → HoldsRows next rows → Next rows) → ClosesOn words image closed given old new status next Next
+  closes_by_rows words image (variant.Ran conn) closed given old new status next Next over (rest, is, copied, closes) goes = (
+    variant.Ran conn,
+    over,
+    (rest, is, copied, closes),
+    λ clean.
+        let both = closes (subst IsCleanRemains is clean) in
+        let ran = leads_on words image (variant.Ran conn) given old new status next Next over goes both.0 in (
+          ran.0,
+          ran.1,
+          started_rows_map ran.0 image given _ _
+              (λ rows run. runs_when _ _ _ _ _ _ _ _ _ _ _ _ _ (λ clean. clean) (λ end clean crash. crash)
+              (λ batches others clean led found. led (found_left T (file_state conn) rest next both.1 (subst (λ it. IsFoundIn it next) is found))) run)
+              ran.2,
+        ),
+  )
+  closes_by_rows words image (variant.Refused was) closed given old new status next Next over from goes = (
+    variant.Refused was,
+    over,
+    from,
+    λ clean rows holds found.
+        let kept = kept_closed (IsKept holds.1.trees) image was closed from clean (λ early. refused_rows words image was given old new status over rows holds early) in
+        let still = still_rows image closed next rows holds kept found in
+        (still, goes rows still),
+  )
+  closes_by_rows words image (variant.NoFile start) closed given old new status next Next over is goes = (
+    variant.NoFile start,
+    over,
+    is,
+    λ clean rows holds found.
+        let still = subst (λ it. HoldsRows it rows) (sym (subst (λ it. IsLeftAfter image it next) is found)) holds in
+        (still, goes rows still),
+  )
+
+  pub closes_on : (words : List (List ℕ)) (image : Image) (closed : Remains T D g) (given : Given) (old new : Option (List ℕ)) (status : ℕ) (next : Image) (Next : Maps → Type 0)
+      → RunsClosed words image closed given old new status → ((rows : Maps) → HoldsRows next rows → Next rows) → ClosesOn words image closed given old new status next Next
+  closes_on words image closed given old new status next Next it goes = closes_by_rows words image it.0 closed given old new status next Next it.1 it.2 goes
+
 -- ---- two runs, by what each is given
 
 pub crash_run : {T D U E R H Q G : Type 0} {d : Ghosts D} {e : Ghosts E} (given : R → H → H → Given) (next_given : Q → G → G → Given)
@@ -165,9 +294,23 @@ pub crash_run : {T D U E R H Q G : Type 0} {d : Ghosts D} {e : Ghosts E} (given 
 crash_run given next_given words next_words input host after next_input next_host next_after image next_image ends next_ends old new next_old next_new status next_status over next =
     crashes_to words image ends (given input host after) old new status next_image _ over (takes_up next_words next_image next_ends (next_given next_input next_host next_after) next_old next_new next_status next)
 
+pub crash_rows : {T D U E R H Q G : Type 0} {d : Ghosts D} {e : Ghosts E} (given : R → H → H → Given) (next_given : Q → G → G → Given)
+    (words next_words : List (List ℕ)) (input : R) (host after : H) (next_input : Q) (next_host next_after : G) (image next_image : Image) (ends : Ends T D d) (next_ends : Ends U E e)
+    (old new next_old next_new : Option (List ℕ)) (status next_status : ℕ) → RunsOver words image ends (given input host after) old new status → RunsOver next_words next_image next_ends (next_given next_input next_host next_after) next_old next_new next_status
+    → LeadsOn words image ends (given input host after) old new status next_image (λ rows. TakesRows next_words rows next_ends (next_given next_input next_host next_after) next_old next_new next_status)
+crash_rows given next_given words next_words input host after next_input next_host next_after image next_image ends next_ends old new next_old next_new status next_status over next =
+    leads_on words image ends (given input host after) old new status next_image _ over (takes_rows next_words next_image next_ends (next_given next_input next_host next_after) next_old next_new next_status next)
+
 pub close_run : {T D U E R H Q G : Type 0} {d : Ghosts D} {e : Ghosts E} (given : R → H → H → Given) (next_given : Q → G → G → Given)
     (words next_words : List (List ℕ)) (input : R) (host after : H) (next_input : Q) (next_host next_after : G) (image next_image : Image) (closed : Remains T D d) (next_ends : Ends U E e)
     (old new next_old next_new : Option (List ℕ)) (status next_status : ℕ) → RunsClosed words image closed (given input host after) old new status → RunsOver next_words next_image next_ends (next_given next_input next_host next_after) next_old next_new next_status
     → ClosesTo words image closed (given input host after) old new status next_image (λ t. TakesUp next_words t next_ends (next_given next_input next_host next_after) next_old next_new next_status)
 close_run given next_given words next_words input host after next_input next_host next_after image next_image closed next_ends old new next_old next_new status next_status over next =
     closes_to words image closed (given input host after) old new status next_image _ over (takes_up next_words next_image next_ends (next_given next_input next_host next_after) next_old next_new next_status next)
+
+pub close_rows : {T D U E R H Q G : Type 0} {d : Ghosts D} {e : Ghosts E} (given : R → H → H → Given) (next_given : Q → G → G → Given)
+    (words next_words : List (List ℕ)) (input : R) (host after : H) (next_input : Q) (next_host next_after : G) (image next_image : Image) (closed : Remains T D d) (next_ends : Ends U E e)
+    (old new next_old next_new : Option (List ℕ)) (status next_status : ℕ) → RunsClosed words image closed (given input host after) old new status → RunsOver next_words next_image next_ends (next_given next_input next_host next_after) next_old next_new next_status
+    → ClosesOn words image closed (given input host after) old new status next_image (λ rows. TakesRows next_words rows next_ends (next_given next_input next_host next_after) next_old next_new next_status)
+close_rows given next_given words next_words input host after next_input next_host next_after image next_image closed next_ends old new next_old next_new status next_status over next =
+    closes_on words image closed (given input host after) old new status next_image _ over (takes_rows next_words next_image next_ends (next_given next_input next_host next_after) next_old next_new next_status next)

@@ -1,6 +1,6 @@
 -- The world that a task begins with.
-use Rattle.std.proofs.Common.{◌≡◌, ◌⊎◌, inl, inr, ℕ, List, Option, refl, sym, subst, ◌∙◌, ◌<◌, ◌^◌, true, false, IsTrue}
-use Rattle.std.specs.Bool.{⊤}
+use Rattle.std.proofs.Common.{◌≡◌, ◌⊎◌, inl, inr, ℕ, List, Option, Some, codes, refl, sym, ap, subst, ◌∙◌, ◌<◌, ◌^◌, true, false}
+use Rattle.std.specs.Str.{bytes_eq}
 use Rattle.std.proofs.lemmas.Bool.{true≢false}
 use Rattle.moo_rows.specs.Maps.{Maps}
 use Rattle.moo_rows.specs.Opening.{opening_maps}
@@ -17,7 +17,9 @@ use Rattle.moo_files.specs.declared.remains.Remains.{Remains}
 use Rattle.moo_files.proofs.RemainsLemmas.{keeps_more, blank_more}
 use Rattle.moo_words.specs.declared.task.Task.{Task}
 use Rattle.moo_words.specs.declared.task.Task.TheVariants.{Init, Apply, Ask, Dump, Load, Check, Serve}
-use Rattle.moo_commands.specs.Run.{Given, begins_anew, is_load, dump_word, IsDumpedAs, BeginsWith, RunsFrom, RunsUnseen, FailsAtOnce, FailsToBegin, RunsNew}
+use Rattle.moo_commands.specs.Given.{Given}
+use Rattle.moo_commands.specs.Run.{Leads, begins_anew, is_load, dump_word, reads_input, ReadsFile, IsDumpedAs, BeginsWith, RunsFrom, FailsAtOnce, RefusesDump, FailsToBegin, RunsNew}
+use Rattle.moo_commands.specs.declared.failure.Failure.{Failure}
 use Rattle.moo_commands.proofs.Connections.{unseen}
 
 pub begins_opening : (task : Task) (given : Given) → is_load task ≡ false → BeginsWith task given (state_of opening_maps)
@@ -42,6 +44,10 @@ begins_dumped (Load file word) given dump s loads is it held = (subst (λ w. IsD
 begins_dumped (Check file) given dump s loads is it held = absurd (true≢false (sym loads))
 begins_dumped (Serve file port count) given dump s loads is it held = absurd (true≢false (sym loads))
 
+-- why its dump gives no world
+pub refuses_dump : (task : Task) (given : Given) (dump : List ℕ) (failure : Failure) → dump_word task ≡ dump → RefusesDump (given.text dump) failure → RefusesDump (given.text (dump_word task)) failure
+refuses_dump task given dump failure is it = subst (λ word. RefusesDump (given.text word) failure) (sym is) it
+
 pub load_begins : (task : Task) → is_load task ≡ true → begins_anew task ≡ true
 load_begins (Init file) loads = refl
 load_begins (Apply file batches) loads = absurd (true≢false (sym loads))
@@ -51,25 +57,44 @@ load_begins (Load file dump) loads = refl
 load_begins (Check file) loads = absurd (true≢false (sym loads))
 load_begins (Serve file port count) loads = absurd (true≢false (sym loads))
 
--- what comes after a load reads no text
-pub of_other_texts : (task : Task) → is_load task ≡ true → (s : State) (given others : Given) (old new : Option (List ℕ)) (status : ℕ) (Clean : Type 0) (Crash : Stand → Type 0) (Shown : Type 0)
-    → RunsFrom task s given old new status Clean Crash Shown → (given.ports.rests → others.ports.rests) → RunsFrom task s others old new status Clean Crash Shown
-of_other_texts (Init file) loads s given others old new status Clean Crash Shown it on = absurd (true≢false (sym loads))
-of_other_texts (Apply file batches) loads s given others old new status Clean Crash Shown it on = absurd (true≢false (sym loads))
-of_other_texts (Ask file batches) loads s given others old new status Clean Crash Shown it on = absurd (true≢false (sym loads))
-of_other_texts (Dump file) loads s given others old new status Clean Crash Shown it on = absurd (true≢false (sym loads))
-of_other_texts (Load file dump) loads s given others old new status Clean Crash Shown it on = record { end = it.end; crash = it.crash; rests = λ other. on (it.rests other); writes = it.writes }
-of_other_texts (Check file) loads s given others old new status Clean Crash Shown it on = absurd (true≢false (sym loads))
-of_other_texts (Serve file port count) loads s given others old new status Clean Crash Shown it on = absurd (true≢false (sym loads))
+-- what it reads besides its file is the word for its dump
+pub reads_dump : (task : Task) (dump : List ℕ) → is_load task ≡ true → dump_word task ≡ dump → bytes_eq dump (codes "-") ≡ false → ReadsFile task dump
+reads_dump (Init file) dump loads is other = absurd (true≢false (sym loads))
+reads_dump (Apply file batches) dump loads is other = absurd (true≢false (sym loads))
+reads_dump (Ask file batches) dump loads is other = absurd (true≢false (sym loads))
+reads_dump (Dump file) dump loads is other = absurd (true≢false (sym loads))
+reads_dump (Load file word) dump loads is other = (ap Some is, other)
+reads_dump (Check file) dump loads is other = absurd (true≢false (sym loads))
+reads_dump (Serve file port count) dump loads is other = absurd (true≢false (sym loads))
 
-pub fails_to_begin : (task : Task) (old new : Option (List ℕ)) (status : ℕ) → FailsAtOnce old new status → FailsToBegin task old new status
-fails_to_begin task old new status (failure, opening, reports) = (failure, inl opening, reports)
+pub keeps_input : (task : Task) (dump : List ℕ) → is_load task ≡ true → dump_word task ≡ dump → reads_input task ≡ false → bytes_eq dump (codes "-") ≡ false
+keeps_input (Init file) dump loads is other = absurd (true≢false (sym loads))
+keeps_input (Apply file batches) dump loads is other = absurd (true≢false (sym loads))
+keeps_input (Ask file batches) dump loads is other = absurd (true≢false (sym loads))
+keeps_input (Dump file) dump loads is other = absurd (true≢false (sym loads))
+keeps_input (Load file word) dump loads is other = subst (λ w. bytes_eq w (codes "-") ≡ false) is other
+keeps_input (Check file) dump loads is other = absurd (true≢false (sym loads))
+keeps_input (Serve file port count) dump loads is other = absurd (true≢false (sym loads))
+
+-- what comes after a load reads no text
+pub of_other_texts : (task : Task) → is_load task ≡ true → (s : State) (given others : Given) (old new : Option (List ℕ)) (status : ℕ) (Clean : Type 0) (Crash : Stand → Type 0) (Led : Leads) (Shown : Type 0)
+    → RunsFrom task s given old new status Clean Crash Led Shown → (given.ports.rests → others.ports.rests) → RunsFrom task s others old new status Clean Crash Led Shown
+of_other_texts (Init file) loads s given others old new status Clean Crash Led Shown it on = absurd (true≢false (sym loads))
+of_other_texts (Apply file batches) loads s given others old new status Clean Crash Led Shown it on = absurd (true≢false (sym loads))
+of_other_texts (Ask file batches) loads s given others old new status Clean Crash Led Shown it on = absurd (true≢false (sym loads))
+of_other_texts (Dump file) loads s given others old new status Clean Crash Led Shown it on = absurd (true≢false (sym loads))
+of_other_texts (Load file dump) loads s given others old new status Clean Crash Led Shown it on = record { end = it.end; crash = it.crash; still = it.still; rests = λ other. on (it.rests other); writes = it.writes }
+of_other_texts (Check file) loads s given others old new status Clean Crash Led Shown it on = absurd (true≢false (sym loads))
+of_other_texts (Serve file port count) loads s given others old new status Clean Crash Led Shown it on = absurd (true≢false (sym loads))
+
+pub fails_to_begin : (task : Task) (given : Given) (old new : Option (List ℕ)) (status : ℕ) → FailsAtOnce old new status → FailsToBegin task given old new status
+fails_to_begin task given old new status (failure, opening, reports) = (failure, inl opening, reports)
 
 -- a run from the world that a task begins with, of which nothing more is said than what is written
-pub new_unseen : (task : Task) (given : Given) (old new : Option (List ℕ)) (status : ℕ) (Clean : Type 0) (Crash : Stand → Type 0) (Shown : Type 0)
-    → (given.ports.rests × FailsToBegin task old new status) ⊎ ((s : State) × BeginsWith task given s × RunsFrom task s given old new status Clean Crash Shown) → RunsNew task given old new status
-new_unseen task given old new status Clean Crash Shown (inl fails) = inl fails
-new_unseen task given old new status Clean Crash Shown (inr (s, begins, it)) = inr (s, begins, unseen task s given old new status Clean Crash Shown it)
+pub new_unseen : (task : Task) (given : Given) (old new : Option (List ℕ)) (status : ℕ) (Clean : Type 0) (Crash : Stand → Type 0) (Led : Leads) (Shown : Type 0)
+    → (given.ports.rests × FailsToBegin task given old new status) ⊎ ((s : State) × BeginsWith task given s × RunsFrom task s given old new status Clean Crash Led Shown) → RunsNew task given old new status
+new_unseen task given old new status Clean Crash Led Shown (inl fails) = inl fails
+new_unseen task given old new status Clean Crash Led Shown (inr (s, begins, it)) = inr (s, begins, unseen task s given old new status Clean Crash Led Shown it)
 
 -- what a refused making of that world leaves
 pub unmade_begins : {T D : Type 0} {g : Ghosts D} (task : Task) (given : Given) (s : State) → BeginsWith task given s → (trees : Trees) (image : Image) (remains : Remains T D g)

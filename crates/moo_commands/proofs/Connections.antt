@@ -1,5 +1,5 @@
 -- A task over a connection.
-use Rattle.std.proofs.Common.{◌≡◌, ◌⊎◌, inl, inr, ℕ, List, Option, Result, Ok, Err, IfOk, IfErr, refl, sym, subst, subst₂, ap, ◌∙◌, Bool, true, false, IsTrue}
+use Rattle.std.proofs.Common.{◌≡◌, ◌⊎◌, inl, inr, ℕ, List, [], Option, Result, Ok, Err, IfOk, IfErr, refl, sym, subst, subst₂, ap, ◌∙◌, Bool, true, false, IsTrue}
 use Rattle.std.specs.Prelude.{MatchResult, ⊤}
 use Rattle.sqlite.specs.State.{State as Database, HasCleanDisk, Survives}
 use Rattle.sqlite.specs.Store.{Ghosts}
@@ -11,8 +11,11 @@ use Rattle.moo_commands.specs.declared.failure.Failure.{Failure}
 use Rattle.moo_commands.specs.declared.failure.Failure.TheVariants.{Usage, NoFile, Store, Damaged, NewerVersion, NotADump, NoBatches, Read, Write, TooLong, Port, NoMemory}
 use Rattle.sqlite.specs.declared.error.Error.{Error}
 use Rattle.moo_commands.specs.Lines.{Reports, store_failure}
-use Rattle.moo_commands.specs.Run.{Given, Done, StopsTask, ShowsTables, EndsTask, RunsFrom, RunsUnseen, IsOpening, MayRefuse, FailsAtOnce, LeavesAsBefore, serves}
+use Rattle.moo_commands.specs.Given.{Given}
+use Rattle.moo_commands.specs.Run.{Leads, MayLead, Done, StopsTask, ShowsTables, EndsTask, RunsFrom, RunsUnseen, IsOpening, MayRefuse, LeavesAsBefore, LeavesNothingNew, only_reads, serves}
+use Rattle.moo_world.specs.declared.call.Batch.{Batch}
 use Rattle.moo_world.specs.Judge.{State}
+use Rattle.moo_store.specs.Led.{LeavesLed}
 use Rattle.moo_store.specs.Kept.{World}
 use Rattle.moo_store.specs.World.{store_of, CrashLeaves}
 use Rattle.moo_store.specs.declared.fault.StoreFault.{StoreFault}
@@ -37,79 +40,108 @@ of_opening fault failure of it = subst IsOpening (sym of) (of_store fault it)
 
 module _ {S : Type 0} (g : Ghosts S) (known : Bool) (was world : World S) (conn : Held S) (is : conn ≡ world.connection) (task : Task) (s : State) (given : Given) (old : Option (List ℕ)) where
   abbrev pub RunsTo : Option (List ℕ) → ℕ → Type 0
-  RunsTo new status = RunsFrom task s given old new status (IsTrue known × HasCleanDisk (state g conn)) (CrashLeaves (state g conn)) (ShowsTables g was (state g conn))
+  RunsTo new status = RunsFrom task s given old new status (IsTrue known × HasCleanDisk (state g conn)) (CrashLeaves (state g conn)) (LeavesLed (state g conn) was.rows.maps) (ShowsTables g was (state g conn))
 
-  pub runs_done : (new : Option (List ℕ)) (status : ℕ) → (serves task ≡ false → given.ports.rests) → EndsTask g known was world (λ end. Done task s end (ShowsTables g was (store_of g world)) given old new status) → RunsTo new status
-  runs_done new status rests it = record {
-    end = it.end;
-    rests = rests;
-    crash = λ both. subst (λ h. HasCleanDisk (state g h) → CrashLeaves (state g h) it.end) (sym is) (it.crash both.0) both.1;
-    writes = inl (subst (λ h. Done task s it.end (ShowsTables g was (state g h)) given old new status) (sym is) it.ends);
-  }
-
-  pub runs_stops : (between new : Option (List ℕ)) (failure : Failure) (status : ℕ) → (serves task ≡ false → given.ports.rests) → EndsTask g known was world (λ end. StopsTask task s end failure (IsTrue known × HasCleanDisk (store_of g world)) given old between) → Reports failure between new status
-      → RunsTo new status
-  runs_stops between new failure status rests it reports = record {
-    end = it.end;
-    rests = rests;
-    crash = λ both. subst (λ h. HasCleanDisk (state g h) → CrashLeaves (state g h) it.end) (sym is) (it.crash both.0) both.1;
-    writes = inr (failure, between, subst (λ h. StopsTask task s it.end failure (IsTrue known × HasCleanDisk (state g h)) given old between) (sym is) it.ends, reports);
-  }
+  -- what a task that only reads leaves, and whether the ports rest
+  pub record Keeps : Type 0 where
+    pub rests : serves task ≡ false → given.ports.rests
+    pub quiet : only_reads task ≡ true → LeavesNothingNew (store_of g was) (store_of g world)
+    pub before : MayLead g known was was [] []
 
   pub late_clean : (End : Stand → Type 0) → EndsTask g known was world End → HasCleanDisk (state g conn) → HasCleanDisk (store_of g was)
   late_clean End it clean = it.clean (subst (λ h. HasCleanDisk (state g h)) is clean)
 
-  pub runs_to : (r : Result ℕ Failure) (mid new : Option (List ℕ)) (status : ℕ) → (serves task ≡ false → given.ports.rests) → IfOk r (λ value. EndsTask g known was world (λ end. Done task s end (ShowsTables g was (store_of g world)) given old mid value))
-      → IfErr r (λ failure. EndsTask g known was world (λ end. StopsTask task s end failure (IsTrue known × HasCleanDisk (store_of g world)) given old mid))
+  still_led : (End : Stand → Type 0) → EndsTask g known was world End → Keeps → only_reads task ≡ true → IsTrue known × HasCleanDisk (state g conn) → LeavesLed (state g conn) was.rows.maps [] []
+  still_led End it keeps reads both trees may =
+      keeps.before (both.0, late_clean End it both.1) trees (subst (λ h. LeavesNothingNew (store_of g was) (state g h)) (sym is) (keeps.quiet reads) both.1 trees may)
+
+  pub runs_done : (new : Option (List ℕ)) (status : ℕ) → Keeps → EndsTask g known was world (λ end. Done task s end (MayLead g known was world) (ShowsTables g was (store_of g world)) given old new status) → RunsTo new status
+  runs_done new status keeps it = record {
+    end = it.end;
+    rests = keeps.rests;
+    still = still_led (λ end. Done task s end (MayLead g known was world) (ShowsTables g was (store_of g world)) given old new status) it keeps;
+    crash = λ both. subst (λ h. HasCleanDisk (state g h) → CrashLeaves (state g h) it.end) (sym is) (it.crash both.0) both.1;
+    writes = inl (subst (λ h. Done task s it.end (λ batches others. IsTrue known × HasCleanDisk (state g h) → LeavesLed (state g h) was.rows.maps batches others) (ShowsTables g was (state g h)) given old new status) (sym is) it.ends);
+  }
+
+  pub runs_stops : (between new : Option (List ℕ)) (failure : Failure) (status : ℕ) → Keeps → EndsTask g known was world (λ end. StopsTask task s end failure (MayLead g known was world) (IsTrue known × HasCleanDisk (store_of g world)) given old between) → Reports failure between new status
+      → RunsTo new status
+  runs_stops between new failure status keeps it reports = record {
+    end = it.end;
+    rests = keeps.rests;
+    still = still_led (λ end. StopsTask task s end failure (MayLead g known was world) (IsTrue known × HasCleanDisk (store_of g world)) given old between) it keeps;
+    crash = λ both. subst (λ h. HasCleanDisk (state g h) → CrashLeaves (state g h) it.end) (sym is) (it.crash both.0) both.1;
+    writes = inr (
+      failure,
+      between,
+      subst (λ h. StopsTask task s it.end failure (λ batches others. IsTrue known × HasCleanDisk (state g h) → LeavesLed (state g h) was.rows.maps batches others) (IsTrue known × HasCleanDisk (state g h)) given old between) (sym is) it.ends,
+      reports,
+    );
+  }
+
+  pub runs_to : (r : Result ℕ Failure) (mid new : Option (List ℕ)) (status : ℕ) → Keeps → IfOk r (λ value. EndsTask g known was world (λ end. Done task s end (MayLead g known was world) (ShowsTables g was (store_of g world)) given old mid value))
+      → IfErr r (λ failure. EndsTask g known was world (λ end. StopsTask task s end failure (MayLead g known was world) (IsTrue known × HasCleanDisk (store_of g world)) given old mid))
       → MatchResult r (λ value. (status ≡ value) × (new ≡ mid)) (λ failure. Reports failure mid new status) → RunsTo new status
-  runs_to (Ok value) mid new status rests done stops (same, unwritten) = subst₂ RunsTo (sym unwritten) (sym same) (runs_done mid value rests done)
-  runs_to (Err failure) mid new status rests done stops reports = runs_stops mid new failure status rests stops reports
+  runs_to (Ok value) mid new status keeps done stops (same, unwritten) = subst₂ RunsTo (sym unwritten) (sym same) (runs_done mid value keeps done)
+  runs_to (Err failure) mid new status keeps done stops reports = runs_stops mid new failure status keeps stops reports
 
-  pub late_clean_of : (r : Result ℕ Failure) (mid : Option (List ℕ)) → IfOk r (λ value. EndsTask g known was world (λ end. Done task s end (ShowsTables g was (store_of g world)) given old mid value))
-      → IfErr r (λ failure. EndsTask g known was world (λ end. StopsTask task s end failure (IsTrue known × HasCleanDisk (store_of g world)) given old mid)) → HasCleanDisk (state g conn) → HasCleanDisk (store_of g was)
-  late_clean_of (Ok value) mid done stops = late_clean (λ end. Done task s end (ShowsTables g was (store_of g world)) given old mid value) done
-  late_clean_of (Err failure) mid done stops = late_clean (λ end. StopsTask task s end failure (IsTrue known × HasCleanDisk (store_of g world)) given old mid) stops
+  pub late_clean_of : (r : Result ℕ Failure) (mid : Option (List ℕ)) → IfOk r (λ value. EndsTask g known was world (λ end. Done task s end (MayLead g known was world) (ShowsTables g was (store_of g world)) given old mid value))
+      → IfErr r (λ failure. EndsTask g known was world (λ end. StopsTask task s end failure (MayLead g known was world) (IsTrue known × HasCleanDisk (store_of g world)) given old mid)) → HasCleanDisk (state g conn) → HasCleanDisk (store_of g was)
+  late_clean_of (Ok value) mid done stops = late_clean (λ end. Done task s end (MayLead g known was world) (ShowsTables g was (store_of g world)) given old mid value) done
+  late_clean_of (Err failure) mid done stops = late_clean (λ end. StopsTask task s end failure (MayLead g known was world) (IsTrue known × HasCleanDisk (store_of g world)) given old mid) stops
 
--- what is known if more is known of the disk
-stops_when : (task : Task) (s : State) (end : Stand) (failure : Failure) (Clean More : Type 0) → (More → Clean) → (given : Given) (old new : Option (List ℕ)) → StopsTask task s end failure Clean given old new → StopsTask task s end failure More given old new
-stops_when (Init file) s end failure Clean More on given old new it = it
-stops_when (Apply file batches) s end failure Clean More on given old new it = it
-stops_when (Ask file batches) s end failure Clean More on given old new it = it
-stops_when (Dump file) s end failure Clean More on given old new it = it
-stops_when (Load file dump) s end failure Clean More on given old new it = it
-stops_when (Check file) s end failure Clean More on given old new (e, inl (fault, is, of_store, same)) = (e, inl (fault, is, (λ more. of_store (on more)), same))
-stops_when (Check file) s end failure Clean More on given old new (e, inr front) = (e, inr front)
-stops_when (Serve file port count) s end failure Clean More on given old new it = it
+-- what is known if more is known of the disk, and less is said of the batches
+stops_when : (task : Task) (s : State) (end : Stand) (failure : Failure) (Led Then : Leads) → ((batches others : List Batch) → Led batches others → Then batches others) → (Clean More : Type 0) → (More → Clean) → (given : Given) (old new : Option (List ℕ))
+    → StopsTask task s end failure Led Clean given old new → StopsTask task s end failure Then More given old new
+stops_when (Init file) s end failure Led Then lead Clean More on given old new it = it
+stops_when (Apply file texts) s end failure Led Then lead Clean More on given old new (inl (fault, is, run, led)) = inl (fault, is, run, lead _ _ led)
+stops_when (Apply file texts) s end failure Led Then lead Clean More on given old new (inr (is, same, unwritten, led)) = inr (is, same, unwritten, lead _ _ led)
+stops_when (Ask file texts) s end failure Led Then lead Clean More on given old new it = it
+stops_when (Dump file) s end failure Led Then lead Clean More on given old new it = it
+stops_when (Load file dump) s end failure Led Then lead Clean More on given old new it = it
+stops_when (Check file) s end failure Led Then lead Clean More on given old new (e, inl (fault, is, of_store, same)) = (e, inl (fault, is, (λ more. of_store (on more)), same))
+stops_when (Check file) s end failure Led Then lead Clean More on given old new (e, inr front) = (e, inr front)
+stops_when (Serve file port count) s end failure Led Then lead Clean More on given old new (stops, (batches, others, led)) = (stops, (batches, others, lead batches others led))
 
-done_when : (task : Task) (s : State) (end : Stand) (Shown Less : Type 0) → (Shown → Less) → (given : Given) (old new : Option (List ℕ)) (status : ℕ) → Done task s end Shown given old new status → Done task s end Less given old new status
-done_when (Init file) s end Shown Less on given old new status it = it
-done_when (Apply file batches) s end Shown Less on given old new status it = it
-done_when (Ask file batches) s end Shown Less on given old new status it = it
-done_when (Dump file) s end Shown Less on given old new status it = it
-done_when (Load file dump) s end Shown Less on given old new status it = it
-done_when (Check file) s end Shown Less on given old new status (e, shown, written, zero) = (e, on shown, written, zero)
-done_when (Serve file port count) s end Shown Less on given old new status it = it
+done_when : (task : Task) (s : State) (end : Stand) (Led Then : Leads) → ((batches others : List Batch) → Led batches others → Then batches others) → (Shown Less : Type 0) → (Shown → Less) → (given : Given) (old new : Option (List ℕ)) (status : ℕ)
+    → Done task s end Led Shown given old new status → Done task s end Then Less given old new status
+done_when (Init file) s end Led Then lead Shown Less on given old new status it = it
+done_when (Apply file texts) s end Led Then lead Shown Less on given old new status (count, lost, run, is, led) = (count, lost, run, is, lead _ _ led)
+done_when (Ask file texts) s end Led Then lead Shown Less on given old new status it = it
+done_when (Dump file) s end Led Then lead Shown Less on given old new status it = it
+done_when (Load file dump) s end Led Then lead Shown Less on given old new status it = it
+done_when (Check file) s end Led Then lead Shown Less on given old new status (e, shown, written, zero) = (e, on shown, written, zero)
+done_when (Serve file port count) s end Led Then lead Shown Less on given old new status (serving, (batches, others, led)) = (serving, (batches, others, lead batches others led))
 
 -- what is known if less is known of the disk, and nothing of what a check found
-runs_when : (task : Task) (s : State) (given : Given) (old new : Option (List ℕ)) (status : ℕ) (Clean More : Type 0) (Crash Then : Stand → Type 0) (Shown : Type 0) → (More → Clean) → ((end : Stand) → More → Crash end → Then end)
-    → RunsFrom task s given old new status Clean Crash Shown → RunsFrom task s given old new status More Then ⊤
-runs_when task s given old new status Clean More Crash Then Shown on leaves it = record {
-  end = it.end;
-  rests = it.rests;
-  crash = λ more. leaves it.end more (it.crash (on more));
-  writes = elim it.writes [
-    | inl done ↦ inl (done_when task s it.end Shown ⊤ (λ _. tt) given old new status done)
-    | inr stops ↦ inr (stops.0, stops.1, stops_when task s it.end stops.0 Clean More on given old stops.1 stops.2, stops.3)
-  ];
-}
+pub runs_when : (task : Task) (s : State) (given : Given) (old new : Option (List ℕ)) (status : ℕ) (Clean More : Type 0) (Crash Then : Stand → Type 0) (Led Lead : Leads) (Shown : Type 0) → (More → Clean) → ((end : Stand) → More → Crash end → Then end)
+    → ((batches others : List Batch) → More → Led batches others → Lead batches others) → RunsFrom task s given old new status Clean Crash Led Shown → RunsFrom task s given old new status More Then Lead ⊤
+runs_when task s given old new status Clean More Crash Then Led Lead Shown on leaves leads it =
+    let lead : (batches others : List Batch) → (Clean → Led batches others) → More → Lead batches others = λ batches others led more. leads batches others more (led (on more)) in
+    record {
+      end = it.end;
+      rests = it.rests;
+      still = λ reads. lead [] [] (it.still reads);
+      crash = λ more. leaves it.end more (it.crash (on more));
+      writes = elim it.writes [
+        | inl done ↦ inl (done_when task s it.end (λ batches others. Clean → Led batches others) (λ batches others. More → Lead batches others) lead Shown ⊤ (λ _. tt) given old new status done)
+        | inr stops ↦ inr (
+          stops.0,
+          stops.1,
+          stops_when task s it.end stops.0 (λ batches others. Clean → Led batches others) (λ batches others. More → Lead batches others) lead Clean More on given old stops.1 stops.2,
+          stops.3,
+        )
+      ];
+    }
 
-pub unseen : (task : Task) (s : State) (given : Given) (old new : Option (List ℕ)) (status : ℕ) (Clean : Type 0) (Crash : Stand → Type 0) (Shown : Type 0) → RunsFrom task s given old new status Clean Crash Shown → RunsUnseen task s given old new status
-unseen task s given old new status Clean Crash Shown it = runs_when task s given old new status Clean ⊥ Crash (λ _. ⊥) Shown (λ none. absurd none) (λ end none crash. none) it
+pub unseen : (task : Task) (s : State) (given : Given) (old new : Option (List ℕ)) (status : ℕ) (Clean : Type 0) (Crash : Stand → Type 0) (Led : Leads) (Shown : Type 0) → RunsFrom task s given old new status Clean Crash Led Shown → RunsUnseen task s given old new status
+unseen task s given old new status Clean Crash Led Shown it =
+    runs_when task s given old new status Clean ⊥ Crash (λ _. ⊥) Led (λ _ _. ⊥) Shown (λ none. absurd none) (λ end none crash. none) (λ batches others none led. none) it
 
-pub either_unseen : (task : Task) (s : State) (given : Given) (old new : Option (List ℕ)) (status : ℕ) (Clean : Type 0) (Crash : Stand → Type 0) (Shown : Type 0) → FailsAtOnce old new status ⊎ RunsFrom task s given old new status Clean Crash Shown
-    → FailsAtOnce old new status ⊎ RunsUnseen task s given old new status
-either_unseen task s given old new status Clean Crash Shown (inl fails) = inl fails
-either_unseen task s given old new status Clean Crash Shown (inr it) = inr (unseen task s given old new status Clean Crash Shown it)
+-- what is known of its end alone, and not of the rows
+pub unled : (task : Task) (s : State) (given : Given) (old new : Option (List ℕ)) (status : ℕ) (Clean : Type 0) (Crash : Stand → Type 0) (Led : Leads) (Shown : Type 0) → RunsFrom task s given old new status Clean Crash Led Shown → RunsFrom task s given old new status Clean Crash (λ _ _. ⊤) ⊤
+unled task s given old new status Clean Crash Led Shown it =
+    runs_when task s given old new status Clean Clean Crash Crash Led (λ _ _. ⊤) Shown (λ clean. clean) (λ end clean crash. crash) (λ batches others clean led. tt) it
 
 pub as_before : (old new : Database) (s : State) → ShowsState old s → Survives old new (Adopts old) → HasCleanDisk new → LeavesAsBefore s old new
 as_before old new s shown it clean trees may = elim (it.crash clean trees may) [ inl before ↦ inl before | inr adopts ↦ inr (adopts.1 s shown) ]
@@ -140,5 +172,12 @@ opening_refuses TooLong it = absurd it
 opening_refuses Port it = absurd it
 
 -- what is known of one whose tables are known
-pub surely : (task : Task) (s : State) (given : Given) (old new : Option (List ℕ)) (status : ℕ) (Clean : Type 0) (Crash : Stand → Type 0) (Shown : Type 0) → RunsFrom task s given old new status (IsTrue true × Clean) Crash Shown → RunsFrom task s given old new status Clean Crash ⊤
-surely task s given old new status Clean Crash Shown it = runs_when task s given old new status (IsTrue true × Clean) Clean Crash Crash Shown (λ clean. (refl, clean)) (λ end clean crash. crash) it
+pub surely : (task : Task) (s : State) (given : Given) (old new : Option (List ℕ)) (status : ℕ) (Clean : Type 0) (Crash : Stand → Type 0) (Led : Leads) (Shown : Type 0)
+    → RunsFrom task s given old new status (IsTrue true × Clean) Crash Led Shown → RunsFrom task s given old new status Clean Crash Led ⊤
+surely task s given old new status Clean Crash Led Shown it =
+    runs_when task s given old new status (IsTrue true × Clean) Clean Crash Crash Led Led Shown (λ clean. (refl, clean)) (λ end clean crash. crash) (λ batches others clean led. led) it
+
+-- and of its end alone
+pub surely_ends : (task : Task) (s : State) (given : Given) (old new : Option (List ℕ)) (status : ℕ) (Clean : Type 0) (Crash : Stand → Type 0) (Led : Leads) (Shown : Type 0)
+    → RunsFrom task s given old new status (IsTrue true × Clean) Crash Led Shown → RunsFrom task s given old new status Clean Crash (λ _ _. ⊤) ⊤
+surely_ends task s given old new status Clean Crash Led Shown it = unled task s given old new status Clean Crash Led ⊤ (surely task s given old new status Clean Crash Led Shown it)

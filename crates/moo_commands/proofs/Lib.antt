@@ -1,6 +1,8 @@
 mod AgainLemmas
 mod Beginning
 mod Connections
+mod Dumps
+mod Held
 mod Refusals
 mod Reporting
 mod Service

@@ -1,18 +1,23 @@
 -- From what was done to a World to how a task ends.
-use Rattle.std.proofs.Common.{◌≡◌, inl, inr, ℕ, ◌≤◌, Bool, true, false, List, Option, Result, Ok, Err, IfOk, IfErr, OnOk, sym, ap, subst, arith, IsTrue}
+use Rattle.std.proofs.Common.{◌≡◌, inl, inr, ℕ, ◌≤◌, Bool, true, false, List, [], Option, Result, Ok, Err, IfOk, IfErr, OnOk, sym, ap, subst, arith, IsTrue}
 use Rattle.std.specs.Prelude.{if◌then◌else◌, codes}
 use Rattle.std.specs.Str.{bytes_eq}
 use Rattle.sqlite.specs.State.{State as Database, HasCleanDisk, Survives}
 use Rattle.sqlite.specs.Store.{Ghosts}
+use Rattle.moo_world.specs.declared.call.Batch.{Batch}
+use Rattle.moo_world.specs.Rows.{IsGood}
 use Rattle.moo_world.specs.Judge.{State}
 use Rattle.moo_text.specs.declared.fault.TextFault.{TextFault}
 use Rattle.moo_store.specs.Kept.{World}
-use Rattle.moo_store.specs.Stand.{Stand, Works, RunsBatch}
-use Rattle.moo_store.specs.Turns.{Halts}
+use Rattle.moo_store.specs.Stand.{Stand, Works}
+use Rattle.moo_store.specs.Untouched.{IsMovedBy}
+use Rattle.moo_store.proofs.Crashes.{IsSettled}
+use Rattle.moo_store.proofs.Untouched.{written_none}
 use Rattle.moo_store.specs.Text.{Applies, StopsRun}
-use Rattle.moo_store.specs.World.{store_of, CrashLeaves}
+use Rattle.moo_store.specs.World.{store_of, StandsFor, CrashLeaves}
 use Rattle.moo_commands.specs.Lines.{text_failure}
-use Rattle.moo_commands.specs.Run.{Texts, texts_by, lost_status, RunsText, StopsText, EndsTask}
+use Rattle.moo_commands.specs.Given.{Texts, texts_by}
+use Rattle.moo_commands.specs.Run.{lost_status, AppliesText, StopsApplying, MayLead, EndsTask}
 use Rattle.moo_commands.specs.declared.failure.Failure.{Failure}
 
 pub given_input : (batches : List ℕ) (input : Option (List ℕ)) (files : Texts) → bytes_eq batches (codes "-") ≡ true → texts_by input files batches ≡ input
@@ -28,25 +33,27 @@ pub was_clean : (old new : Database) (Commits : _) → Survives old new Commits 
 was_clean old new Commits it clean = none_below _ _ it.clean clean
 
 module _ {S : Type 0} (g : Ghosts S) (known : Bool) (was world : World S) where
-  pub done_text : (s : State) (text old new : Option (List ℕ)) (batches lost status : ℕ) → status ≡ lost_status lost → Applies g known (Works s) text old new was world batches lost
-      → EndsTask g known was world (λ end. RunsText RunsBatch s end text old new status)
-  done_text s text old new batches lost status is it = record { end = it.new; clean = it.clean; crash = it.crash; ends = (batches, lost, it.completes, is) }
+  pub done_text : (s : State) (text old new : Option (List ℕ)) (batches lost status : ℕ) → was.failed ≡ false → status ≡ lost_status lost → Applies g known (Works s) text old new was world batches lost
+      → EndsTask g known was world (λ end. AppliesText (MayLead g known was world) s end text old new status)
+  done_text s text old new batches lost status works is it = record { end = it.new; clean = it.clean; crash = it.crash; ends = (batches, lost, it.completes, is, λ both. it.led both.0 both.1 works) }
 
-  pub stops_text : (s : State) (text old new : Option (List ℕ)) (fault : TextFault) (failure : Failure) → failure ≡ text_failure fault → StopsRun g known (Works s) text old new was world fault
-      → EndsTask g known was world (λ end. (f : TextFault) × (failure ≡ text_failure f) × Halts RunsBatch (Works s) end text old new f)
-  stops_text s text old new fault failure is it = record { end = it.new; clean = it.clean; crash = it.crash; ends = (fault, is, it.halts) }
+  pub stops_text : (s : State) (text old new : Option (List ℕ)) (fault : TextFault) (failure : Failure) → was.failed ≡ false → failure ≡ text_failure fault → StopsRun g known (Works s) text old new was world fault
+      → EndsTask g known was world (λ end. StopsApplying (MayLead g known was world) s end failure text old new)
+  stops_text s text old new fault failure works is it = record { end = it.new; clean = it.clean; crash = it.crash; ends = inl (fault, is, it.halts, λ both. it.led both.0 both.1 works) }
+
+  -- batches that moved the World lead on from its rows
+  pub moved_led : (s : State) → (was.failed ≡ false → IsGood was.rows.maps) → StandsFor g known was s → (batches lost : List Batch) → IsMovedBy g was world batches lost → MayLead g known was world batches lost
+  moved_led s good stands batches lost moved both = moved.led both.1 (stands.is_at.shown both.0 stands.works) (good stands.works)
 
   pub ends_map : (P Q : Stand → Type 0) → ((end : Stand) → P end → Q end) → EndsTask g known was world P → EndsTask g known was world Q
   ends_map P Q f it = record { end = it.end; clean = it.clean; crash = it.crash; ends = f it.end it.ends }
 
   -- what stops the text that is given stops the text of that name
   pub text_stops : {A : Type 0} (r : Result A Failure) (s : State) (text named old new : Option (List ℕ)) → named ≡ text
-      → IfErr r (λ failure. EndsTask g known was world (λ end. (f : TextFault) × (failure ≡ text_failure f) × Halts RunsBatch (Works s) end text old new f))
-      → IfErr r (λ failure. EndsTask g known was world (λ end. StopsText RunsBatch s end failure named old new))
+      → IfErr r (λ failure. EndsTask g known was world (λ end. StopsApplying (MayLead g known was world) s end failure text old new))
+      → IfErr r (λ failure. EndsTask g known was world (λ end. StopsApplying (MayLead g known was world) s end failure named old new))
   text_stops (Ok a) s text named old new is it = tt
-  text_stops (Err failure) s text named old new is it =
-      ends_map (λ end. (f : TextFault) × (failure ≡ text_failure f) × Halts RunsBatch (Works s) end text old new f) (λ end. StopsText RunsBatch s end failure named old new)
-      (λ end stops. subst (λ t. StopsText RunsBatch s end failure t old new) (sym is) (inl stops)) it
+  text_stops (Err failure) s text named old new is it = subst (λ t. EndsTask g known was world (λ end. StopsApplying (MayLead g known was world) s end failure t old new)) (sym is) it
 
   -- a call that commits nothing leaves what a crash could leave before
   pub stays_at : (s : State) (P : Stand → Type 0) → Survives (store_of g was) (store_of g world) (λ _. ⊥) → (IsTrue known → HasCleanDisk (store_of g was) → CrashLeaves (store_of g was) (Works s)) → P (Works s) → EndsTask g known was world P
@@ -62,6 +69,10 @@ module _ {S : Type 0} (g : Ghosts S) (known : Bool) (was world : World S) where
 -- a World that is as it was
 pub unchanged : {S : Type 0} (g : Ghosts S) (known : Bool) (world : World S) (s : State) (P : Stand → Type 0) → (IsTrue known → HasCleanDisk (store_of g world) → CrashLeaves (store_of g world) (Works s)) → P (Works s) → EndsTask g known world world P
 unchanged g known world s P leaves p = record { end = Works s; clean = λ clean. clean; crash = leaves; ends = p }
+
+-- no batches lead to its own rows
+pub unmoved : {S : Type 0} (g : Ghosts S) (known : Bool) (world : World S) (s : State) → IsSettled (store_of g world) → (world.failed ≡ false → IsGood world.rows.maps) → StandsFor g known world s → MayLead g known world world [] []
+unmoved g known world s settled good stands = moved_led g known world world s good stands [] [] (written_none g world settled)
 
 pub on_ok : {A E : Type 0} (P Q : A → Type 0) (r : Result A E) → ((a : A) → P a → Q a) → IfOk r P → IfOk r Q
 on_ok P Q (Ok a) f p = f a p

@@ -1,5 +1,5 @@
 -- What words come to over a file, and the next words over what a crash left of it.
-use Rattle.std.specs.Prelude.{◌≡◌, ◌<◌, ◌⊎◌, ℕ, true, false, List, Option, length, ⊤}
+use Rattle.std.specs.Prelude.{◌≡◌, ◌<◌, ◌⊎◌, ℕ, ◌≤◌, true, false, List, ◌++◌, take, Option, length, ⊤}
 use Rattle.sqlite_disk.specs.declared.Disk.{Ghosts}
 use Rattle.sqlite_store.specs.declared.store.FileStore.{FileStore}
 use Rattle.sqlite_store.specs.FileStore.{recovers}
@@ -10,9 +10,12 @@ use Rattle.sqlite.specs.State.{HasCleanDisk}
 use Rattle.sqlite.specs.Held.{Held}
 use Rattle.sqlite.specs.Files.{file_state, image_of}
 use Rattle.sqlite.specs.declared.file.Leftover.TheVariants as left
-use Rattle.moo_rows.specs.Opening.{opening_maps}
+use Rattle.moo_rows.specs.Maps.{Maps}
+use Rattle.moo_world.specs.declared.call.Batch.{Batch}
+use Rattle.moo_world.specs.Rows.{IsGood}
 use Rattle.moo_world.specs.Judge.{State, state_of}
 use Rattle.moo_store.specs.Stand.{MayLeave}
+use Rattle.moo_store.specs.Led.{BatchesLead}
 use Rattle.moo_store.specs.World.{CrashLeaves}
 use Rattle.moo_files.specs.Contents.{HoldsSuch, HoldsState, HasNoSums, IsLeftBy}
 use Rattle.moo_files.specs.Remains.{IsCleanRemains}
@@ -20,8 +23,9 @@ use Rattle.moo_files.specs.declared.remains.Remains.{Remains}
 use Rattle.moo_files.specs.declared.remains.Remains.TheVariants as remains
 use Rattle.moo_words.specs.declared.task.Task.{Task}
 use Rattle.moo_words.specs.Tasks.{NamesTask, mistakes}
-use Rattle.moo_commands.specs.Run.{Given, begins_anew, BeginsWith, RunsFrom, FailsAtOnce, EndsUsage}
-use Rattle.moo_commands.specs.Ends.{MatchFile, HasNoFile, RunsOver, IsClosedEnd}
+use Rattle.moo_commands.specs.Given.{Given}
+use Rattle.moo_commands.specs.Run.{begins_anew, BeginsWith, RunsFrom, FailsAtOnce, EndsUsage}
+use Rattle.moo_commands.specs.Ends.{MatchFile, HasNoFile, HoldsRows, RunsRows, RunsOver, IsClosedEnd}
 use Rattle.moo_commands.specs.declared.ends.Ends.{Ends}
 use Rattle.moo_commands.specs.declared.ends.Ends.TheVariants as variant
 
@@ -31,10 +35,20 @@ Started task image given From =
     (begins_anew task ≡ false → (s : State) → HoldsState image s → From s)
     × (begins_anew task ≡ true → (s : State) × BeginsWith task given s × From s)
 
+-- the same of rows: those that the tables of its file show, or those of the new world that it begins with
+abbrev pub StartedRows : Task → Image → Given → (Maps → Type 0) → Type 0
+StartedRows task image given From =
+    (begins_anew task ≡ false → (rows : Maps) → HoldsRows image rows → From rows)
+    × (begins_anew task ≡ true → (rows : Maps) × IsGood rows × BeginsWith task given (state_of rows) × From rows)
+
+-- these batches lead from rows to those, or these and one of the others
+abbrev pub LeadTo : Maps → Maps → List Batch → List Batch → Type 0
+LeadTo rows end batches others = (more : ℕ) × (more ≤ 1) × BatchesLead (batches ++ take more others) rows end
+
 module _ {D : Type 0} {g : Ghosts D} where
   -- the task ran over its file from s, with what a crash then leaves
   abbrev pub RanFrom : Task → State → Held (FileStore D g) → Given → Option (List ℕ) → Option (List ℕ) → ℕ → Type 0
-  RanFrom task s conn given old new status = RunsFrom task s given old new status (HasCleanDisk (file_state conn)) (CrashLeaves (file_state conn)) ⊤
+  RanFrom task s conn given old new status = RunsFrom task s given old new status (HasCleanDisk (file_state conn)) (CrashLeaves (file_state conn)) (λ _ _. ⊤) ⊤
 
 module _ {T D : Type 0} {g : Ghosts D} where
   -- The words name a task, and if it takes up its file, it runs from s. Or the store fails or memory runs out, and no damage is told.
@@ -45,6 +59,14 @@ module _ {T D : Type 0} {g : Ghosts D} where
       (λ conn. HasCleanDisk (file_state conn) → RanFrom task s conn given old new status)
       (λ remains. IsCleanRemains remains → FailsAtOnce old new status)))
       ⊎ ((1 < length words) × EndsUsage (mistakes words) old new status × HasNoFile ends)
+
+  -- As `TakesUp`: the words name a task, and if it takes up its file and runs, it runs from these rows. Or they have a mistake.
+  abbrev pub TakesRows : List (List ℕ) → Maps → Ends T D g → Given → Option (List ℕ) → Option (List ℕ) → ℕ → Type 0
+  TakesRows words rows ends given old new status =
+      ((task : Task) × NamesTask words task × (begins_anew task ≡ false → MatchFile ends
+      (λ conn. HasCleanDisk (file_state conn) → RunsRows task rows conn given old new status)
+      (λ remains. ⊤)))
+      ⊎ ((1 < length words) × HasNoFile ends)
 
   -- This is true of the connection, if a task ran over the file. Otherwise that is true of what is left of the file, which is untouched
   -- if the words have none: they have a mistake, or run on `:memory:`.
@@ -73,6 +95,16 @@ module _ {T D : Type 0} {g : Ghosts D} where
       (run : RanFrom task s conn given old new status) × (IsLeftBy (file_state conn) next → (t : State) × MayLeave run.end t × HoldsState next t × Next t)))
       (λ remains. IsCleanRemains remains → (s : State) → HoldsState image s → IsLeftAfter image remains next → HoldsState next s × Next s)
 
+  -- As `CrashesTo`, of rows. What a crash left holds rows of which `Next` is true: if a task ran over the file, rows to which its batches
+  -- lead from those that it started from, or these and one in which the store failed. What stays keeps its number, and none is given again.
+  -- If no task ran, they are the rows that the file held.
+  abbrev pub LeadsOn : List (List ℕ) → Image → Ends T D g → Given → Option (List ℕ) → Option (List ℕ) → ℕ → Image → (Maps → Type 0) → Type 0
+  LeadsOn words image ends given old new status next Next = IfRan ends
+      (λ conn. HasCleanDisk (file_state conn) → (task : Task) × NamesTask words task × StartedRows task image given (λ rows.
+      RunsFrom task (state_of rows) given old new status (HasCleanDisk (file_state conn)) (CrashLeaves (file_state conn))
+      (λ batches others. IsLeftBy (file_state conn) next → (end : Maps) × LeadTo rows end batches others × HoldsRows next end × Next end) ⊤))
+      (λ remains. IsCleanRemains remains → (rows : Maps) → HoldsRows image rows → IsLeftAfter image remains next → HoldsRows next rows × Next rows)
+
   -- the image is what the files hold once their connection is closed, or what a crash leaves of them, or of their log if closing failed
   abbrev pub IsFoundIn : Remains T D g → Image → Type 0
   IsFoundIn (remains.Leftover (left.Files now)) next = (next ≡ image_of g now) ⊎ outcomes g now.log now.db next
@@ -85,3 +117,11 @@ module _ {T D : Type 0} {g : Ghosts D} where
       (λ conn. IsCleanRemains closed → (task : Task) × NamesTask words task × Started task image given (λ s.
       (run : RanFrom task s conn given old new status) × (IsFoundIn closed next → (t : State) × MayLeave run.end t × HoldsState next t × Next t)))
       (λ remains. IsCleanRemains closed → (s : State) → HoldsState image s → IsLeftAfter image closed next → HoldsState next s × Next s)
+
+  -- As `LeadsOn`, if the file was closed before the next run.
+  abbrev pub ClosesOn : List (List ℕ) → Image → Remains T D g → Given → Option (List ℕ) → Option (List ℕ) → ℕ → Image → (Maps → Type 0) → Type 0
+  ClosesOn words image closed given old new status next Next = (ends : Ends T D g) × RunsOver words image ends given old new status × IsClosedEnd ends closed × IfRan ends
+      (λ conn. IsCleanRemains closed → (task : Task) × NamesTask words task × StartedRows task image given (λ rows.
+      RunsFrom task (state_of rows) given old new status (HasCleanDisk (file_state conn)) (CrashLeaves (file_state conn))
+      (λ batches others. IsFoundIn closed next → (end : Maps) × LeadTo rows end batches others × HoldsRows next end × Next end) ⊤))
+      (λ remains. IsCleanRemains closed → (rows : Maps) → HoldsRows image rows → IsLeftAfter image closed next → HoldsRows next rows × Next rows)

@@ -9,16 +9,16 @@ use Rattle.sqlite.specs.State.{HasCleanDisk}
 use Rattle.sqlite.specs.Held.{Held}
 use Rattle.sqlite.specs.Files.{IsNothing, file_state}
 use Rattle.moo_rows.specs.Maps.{Maps}
-use Rattle.moo_rows.specs.Opening.{opening_maps}
 use Rattle.moo_world.specs.Rows.{IsGood}
 use Rattle.moo_world.specs.Judge.{State, state_of}
 use Rattle.moo_tables.specs.Tables.{Tables}
 use Rattle.moo_cells.specs.Shows.{ShowsRows}
 use Rattle.moo_store.specs.Opening.{Says}
-use Rattle.moo_store.specs.States.{LeavesState}
+use Rattle.moo_store.specs.States.{LeavesRows, LeavesState}
+use Rattle.moo_store.specs.Led.{LeavesLed}
 use Rattle.moo_store.specs.World.{CrashLeaves}
 use Rattle.moo_store.specs.declared.fault.StoreFault.{StoreFault}
-use Rattle.moo_files.specs.Contents.{HoldsTrees, HoldsTables, HoldsState, HasOtherTables, HasAnyTable, IsKept, ReadsAsOurs, HoldsNoTable}
+use Rattle.moo_files.specs.Contents.{HoldsSuch, HoldsTrees, HoldsTables, HoldsState, HasOtherTables, HasAnyTable, IsKept, ReadsAsOurs, HoldsNoTable}
 use Rattle.moo_files.specs.Remains.{IsCleanRemains, MayStopAs, Spares, KeepsSuch, KeepsNothingBut, StillHolds, StillHoldsTrees}
 use Rattle.moo_files.specs.Blank.{IsBlank}
 use Rattle.moo_files.specs.Closing.{IsClosedFrom}
@@ -27,10 +27,21 @@ use Rattle.moo_files.specs.declared.remains.Remains.TheVariants as remains
 use Rattle.moo_words.specs.declared.task.Task.{Task}
 use Rattle.moo_words.specs.Tasks.{NamesTask, NamesAlone, mistakes}
 use Rattle.moo_commands.specs.Lines.{Reports, store_failure}
-use Rattle.moo_commands.specs.Run.{Given, file_of, begins_anew, only_reads, is_load, IsOfDump, BeginsWith, FailsToBegin, RunsFrom, RunsUnseen, RunsTask, FailsAtOnce, RefusesFile, EndsUsage}
+use Rattle.moo_commands.specs.Given.{Given}
+use Rattle.moo_commands.specs.Run.{file_of, begins_anew, only_reads, is_load, dump_word, RefusesDump, BeginsWith, FailsToBegin, RunsFrom, RunsUnseen, RunsTask, FailsAtOnce, RefusesFile, EndsUsage}
 use Rattle.moo_commands.specs.declared.failure.Failure.{Failure}
 use Rattle.moo_commands.specs.declared.ends.Ends.{Ends}
 use Rattle.moo_commands.specs.declared.ends.Ends.TheVariants as variant
+
+-- a log and its file hold a database whose tables show these good rows
+abbrev pub HoldsRows : Image → Maps → Type 0
+HoldsRows image rows = IsGood rows × HoldsSuch (λ trees. LeavesRows trees rows) image
+
+module _ {D : Type 0} {g : Ghosts D} where
+  -- A task ran over its file from these rows. If the disk is clean, a crash leaves rows to which its batches lead, with all numbers kept.
+  abbrev pub RunsRows : Task → Maps → Held (FileStore D g) → Given → Option (List ℕ) → Option (List ℕ) → ℕ → Type 0
+  RunsRows task rows conn given old new status =
+      RunsFrom task (state_of rows) given old new status (HasCleanDisk (file_state conn)) (CrashLeaves (file_state conn)) (LeavesLed (file_state conn) rows) ⊤
 
 module _ {T D : Type 0} {g : Ghosts D} where
   -- there is a file: the task ran over its world, or no world was opened or made
@@ -53,14 +64,18 @@ module _ {T D : Type 0} {g : Ghosts D} where
   pub record RunsFile (task : Task) (image : Image) (ends : Ends T D g) (given : Given) (old new : Option (List ℕ)) (status : ℕ) : Type 0 where
     -- a task that begins with a new world runs from that, or it can't be made
     pub anew : begins_anew task ≡ true → MatchFile ends
-        (λ conn. (s : State) × BeginsWith task given s × RunsFrom task s given old new status (HasCleanDisk (file_state conn)) (CrashLeaves (file_state conn)) ⊤)
-        (λ remains. FailsToBegin task old new status)
+        (λ conn. (rows : Maps) × IsGood rows × BeginsWith task given (state_of rows) × RunsRows task rows conn given old new status)
+        (λ remains. FailsToBegin task given old new status)
     -- and never over another world
     pub taken : (s : State) → begins_anew task ≡ true → HoldsState image s → MatchFile ends (λ conn. HasCleanDisk (file_state conn) → ⊥) (λ remains. ⊤)
     -- Any other runs from the state that the file holds. Or the store fails or memory runs out, and no damage is told.
     pub kept : (s : State) → begins_anew task ≡ false → HoldsState image s → MatchFile ends
-        (λ conn. HasCleanDisk (file_state conn) → RunsFrom task s given old new status (HasCleanDisk (file_state conn)) (CrashLeaves (file_state conn)) ⊤)
+        (λ conn. HasCleanDisk (file_state conn) → RunsFrom task s given old new status (HasCleanDisk (file_state conn)) (CrashLeaves (file_state conn)) (λ _ _. ⊤) ⊤)
         (λ remains. IsCleanRemains remains → FailsAtOnce old new status)
+    -- It runs from the rows that the file's tables show, with their numbers.
+    pub led : (rows : Maps) → begins_anew task ≡ false → HoldsRows image rows → MatchFile ends
+        (λ conn. HasCleanDisk (file_state conn) → RunsRows task rows conn given old new status)
+        (λ remains. ⊤)
     -- If the file holds tables, it runs from the world that they show, and the `ok` of a check has the number and the objects of just
     -- that world. Or the line tells a fault of these tables.
     pub only : (tables : Tables) → begins_anew task ≡ false → HoldsTables image tables → MatchFile ends
@@ -105,7 +120,7 @@ module _ {T D : Type 0} {g : Ghosts D} where
     -- if no world was opened or made, nothing is asked of the ports
     pub rests : MatchFile ends (λ conn. ⊤) (λ remains. given.ports.rests)
     -- if no file was opened, the line tells why; or the start is unspent, and the line tells why a dump gives no world
-    pub told : MatchFile ends (λ conn. ⊤) (λ remains. ((fault : StoreFault) × MayStopAs fault remains × Reports (store_failure fault) old new status) ⊎ (IsTrue (is_load task) × IsUntouched remains × (failure : Failure) × IsOfDump failure × Reports failure old new status))
+    pub told : MatchFile ends (λ conn. ⊤) (λ remains. ((fault : StoreFault) × MayStopAs fault remains × Reports (store_failure fault) old new status) ⊎ (IsTrue (is_load task) × IsUntouched remains × (failure : Failure) × RefusesDump (given.text (dump_word task)) failure × Reports failure old new status))
 
   -- a task on a file runs over it, and one on `:memory:` over none, whatever file there is
   pub record EndsWith (task : Task) (image : Image) (ends : Ends T D g) (given : Given) (old new : Option (List ℕ)) (status : ℕ) : Type 0 where

@@ -1,5 +1,5 @@
 -- What a run of the program writes, the status that it ends with, and what a crash then leaves.
-use Rattle.std.specs.Prelude.{◌≡◌, ◌<◌, ◌⊎◌, ◌==◌, ℕ, Bool, true, List, [], take, length, Option, IfSome, codes, if◌then◌else◌, ⊤, IsTrue, false}
+use Rattle.std.specs.Prelude.{◌≡◌, ◌<◌, ◌≤◌, ◌⊎◌, ◌==◌, ℕ, Bool, true, List, [], take, length, Option, Some, None, ◌++◌, IfSome, codes, if◌then◌else◌, ⊤, IsTrue, false}
 use Rattle.std.specs.Str.{bytes_eq}
 use Rattle.std.specs.Io.KnownBytes.{Appends}
 use Rattle.clap.specs.Kinds.{Kinds, IsAmong}
@@ -17,13 +17,15 @@ use Rattle.moo_world.specs.ObjectLists.{objects_of}
 use Rattle.moo_tables.specs.Tables.{Tables}
 use Rattle.moo_tables.specs.Inside.{Rests}
 use Rattle.moo_cells.specs.Shows.{ShowsRows}
+use Rattle.moo_text.specs.Items.{items}
 use Rattle.moo_text.specs.declared.fault.TextFault.{TextFault}
-use Rattle.moo_text.specs.declared.reply.Answer.{Answer}
 use Rattle.moo_dump.specs.Dump.{dump as dump_of}
 use Rattle.moo_load.specs.OneState.{IsHeld}
 use Rattle.moo_store.specs.declared.fault.StoreFault.{StoreFault}
 use Rattle.moo_store.specs.Stand.{Stand, Works, RunsBatch, AsksBatch}
 use Rattle.moo_store.specs.Turns.{Completes, Halts}
+use Rattle.moo_store.specs.Text.{accepted, faulted}
+use Rattle.moo_store.specs.Led.{LeavesLed}
 use Rattle.moo_store.specs.Opening.{Says, IsOfStore}
 use Rattle.moo_store.specs.States.{LeavesState}
 use Rattle.moo_store.specs.Kept.{World}
@@ -31,6 +33,7 @@ use Rattle.moo_store.specs.World.{store_of, CrashLeaves}
 use Rattle.moo_words.specs.declared.task.Task.{Task}
 use Rattle.moo_http.specs.Lines.{listening_line}
 use Rattle.moo_http.specs.Turns.{Attendance, SaysAttended}
+use Rattle.moo_commands.specs.Given.{Given}
 use Rattle.moo_words.specs.declared.task.Task.TheVariants.{Init, Apply, Ask, Dump, Load, Check, Serve}
 use Rattle.moo_words.specs.Tasks.{NamesTask, NamesAlone, mistakes}
 use Rattle.moo_commands.specs.Lines.{Reports, WritesLine, text_failure, store_failure, created_line, loaded_line, checked_line}
@@ -79,6 +82,33 @@ dump_word (Load file dump) = dump.now
 dump_word (Check file) = []
 dump_word (Serve file port count) = []
 
+-- the word for the batches or the dump that a task reads
+abbrev pub text_word : Task → Option (List ℕ)
+text_word (Init file) = None
+text_word (Apply file batches) = Some batches.now
+text_word (Ask file batches) = Some batches.now
+text_word (Dump file) = None
+text_word (Load file dump) = Some dump.now
+text_word (Check file) = None
+text_word (Serve file port count) = None
+
+-- the word names the input
+abbrev pub is_input : Option (List ℕ) → Bool
+is_input None = false
+is_input (Some word) = bytes_eq word (codes "-")
+
+-- the task reads the input
+abbrev pub reads_input : Task → Bool
+reads_input task = is_input (text_word task)
+
+-- the task reads the file of this path
+abbrev pub ReadsFile : Task → List ℕ → Type 0
+ReadsFile task path = (text_word task ≡ Some path) × (bytes_eq path (codes "-") ≡ false)
+
+-- the input is as it was, unless the words name a task that reads it
+abbrev pub KeepsInput : {R : Type 0} → List (List ℕ) → R → R → Type 0
+KeepsInput words old new = ((task : Task) → NamesTask words task → reads_input task ≡ false) → new ≡ old
+
 -- Once its world is open or made, the task only reads it: all but `apply` and `serve`.
 abbrev pub only_reads : Task → Bool
 only_reads (Init file) = true
@@ -99,23 +129,6 @@ serves (Load file dump) = false
 serves (Check file) = false
 serves (Serve file port count) = true
 
--- the text of each word for batches or a dump, if it is known
-abbrev pub Texts : Type 0
-Texts = List ℕ → Option (List ℕ)
-
--- `-` names the input, and any other word the file of that path
-abbrev pub texts_by : Option (List ℕ) → Texts → Texts
-texts_by input files batches = if bytes_eq batches (codes "-") then input else files batches
-
--- what a run is given beside its words and their file: the texts, and what comes of the ports
-pub record Given : Type 1 where
-  pub text : Texts
-  pub ports : Attendance
-
--- by the input, the files of batches and the ports
-abbrev pub given_by : Option (List ℕ) → Texts → Attendance → Given
-given_by input files ports = record { text = texts_by input files; ports = ports }
-
 -- the dump of this state is the text, byte for byte, if it is known
 abbrev pub IsDumpedAs : Option (List ℕ) → State → Type 0
 IsDumpedAs text s = IfSome text (λ bytes. dump_of s ≡ bytes)
@@ -131,32 +144,50 @@ lost_status lost = if lost == 0 then 0 else 1
 
 -- ---- a task over a world
 
--- a text of batches is run, or asked, to its end
-abbrev pub RunsText : (Stand → Batch → Answer → Stand → Type 0) → State → Stand → Option (List ℕ) → Option (List ℕ) → Option (List ℕ) → ℕ → Type 0
-RunsText step s end text old new status =
-    (batches lost : ℕ) × Completes step (Works s) end text old new batches lost × (status ≡ lost_status lost)
+-- what is said of the batches that were acknowledged, and of those in which the store failed
+abbrev pub Leads : Type 1
+Leads = List Batch → List Batch → Type 0
+
+-- a text of batches is run to its end
+abbrev pub AppliesText : Leads → State → Stand → Option (List ℕ) → Option (List ℕ) → Option (List ℕ) → ℕ → Type 0
+AppliesText Led s end text old new status =
+    (batches lost : ℕ) × (run : Completes RunsBatch (Works s) end text old new batches lost) × (status ≡ lost_status lost)
+    × Led (accepted (items run.given) run.answers) (faulted (items run.given) run.answers)
 
 -- it stops; or its file can't be opened, and nothing is done
-abbrev pub StopsText : (Stand → Batch → Answer → Stand → Type 0) → State → Stand → Failure → Option (List ℕ) → Option (List ℕ) → Option (List ℕ) → Type 0
-StopsText step s end failure text old new =
-    ((fault : TextFault) × (failure ≡ text_failure fault) × Halts step (Works s) end text old new fault)
-    ⊎ ((failure ≡ NoBatches) × (end ≡ Works s) × (new ≡ old))
+abbrev pub StopsApplying : Leads → State → Stand → Failure → Option (List ℕ) → Option (List ℕ) → Option (List ℕ) → Type 0
+StopsApplying Led s end failure text old new =
+    ((fault : TextFault) × (failure ≡ text_failure fault) × (run : Halts RunsBatch (Works s) end text old new fault)
+    × Led (accepted run.done run.answers ++ accepted run.hand run.last) (faulted run.done run.answers ++ faulted run.hand run.last))
+    ⊎ ((failure ≡ NoBatches) × (end ≡ Works s) × (new ≡ old) × Led [] [])
+
+-- a text of batches is asked to its end
+abbrev pub AsksText : State → Option (List ℕ) → Option (List ℕ) → Option (List ℕ) → ℕ → Type 0
+AsksText s text old new status =
+    (batches lost : ℕ) × Completes AsksBatch (Works s) (Works s) text old new batches lost × (status ≡ lost_status lost)
+
+-- it stops; or its file can't be opened, and nothing is done
+abbrev pub StopsAsking : State → Failure → Option (List ℕ) → Option (List ℕ) → Option (List ℕ) → Type 0
+StopsAsking s failure text old new =
+    ((fault : TextFault) × (failure ≡ text_failure fault) × Halts AsksBatch (Works s) (Works s) text old new fault)
+    ⊎ ((failure ≡ NoBatches) × (new ≡ old))
 
 -- The connections that came to a port were served, so many of them, and what is said of them is written. The world moved by what they
 -- asked, and by nothing else.
 abbrev pub Serving : Attendance → ℕ → ℕ → State → Stand → Option (List ℕ) → Option (List ℕ) → ℕ → Type 0
 Serving ports port count s end old new status = (text : List ℕ) × SaysAttended ports port count (Works s) end text × Appends old new text × (status ≡ 0)
 
--- The task is done. A check found the tables as `Shown` says.
-abbrev pub Done : Task → State → Stand → Type 0 → Given → Option (List ℕ) → Option (List ℕ) → ℕ → Type 0
-Done (Init file) s end Shown given old new status = (end ≡ Works s) × Appends old new created_line × (status ≡ 0)
-Done (Apply file batches) s end Shown given old new status = RunsText RunsBatch s end (given.text batches.now) old new status
-Done (Ask file batches) s end Shown given old new status = (end ≡ Works s) × RunsText AsksBatch s (Works s) (given.text batches.now) old new status
-Done (Dump file) s end Shown given old new status = (end ≡ Works s) × Appends old new (dump_of s) × (status ≡ 0)
-Done (Load file dump) s end Shown given old new status = (end ≡ Works s) × Appends old new (loaded_line s.seq (length (objects_of s.world))) × (status ≡ 0)
-Done (Check file) s end Shown given old new status =
+-- The task is done. `Led` is true of the batches that it ran, and a check found the tables as `Shown` says.
+abbrev pub Done : Task → State → Stand → Leads → Type 0 → Given → Option (List ℕ) → Option (List ℕ) → ℕ → Type 0
+Done (Init file) s end Led Shown given old new status = (end ≡ Works s) × Appends old new created_line × (status ≡ 0)
+Done (Apply file batches) s end Led Shown given old new status = AppliesText Led s end (given.text batches.now) old new status
+Done (Ask file batches) s end Led Shown given old new status = (end ≡ Works s) × AsksText s (given.text batches.now) old new status
+Done (Dump file) s end Led Shown given old new status = (end ≡ Works s) × Appends old new (dump_of s) × (status ≡ 0)
+Done (Load file dump) s end Led Shown given old new status = (end ≡ Works s) × Appends old new (loaded_line s.seq (length (objects_of s.world))) × (status ≡ 0)
+Done (Check file) s end Led Shown given old new status =
     (end ≡ Works s) × Shown × Appends old new (checked_line s.seq (length (objects_of s.world))) × (status ≡ 0)
-Done (Serve file port count) s end Shown given old new status = Serving given.ports port count s end old new status
+Done (Serve file port count) s end Led Shown given old new status =
+    Serving given.ports port count s end old new status × ((batches others : List Batch) × Led batches others)
 
 -- a front of a text is written, since the writer failed or memory ran out
 abbrev pub StopsIn : List ℕ → Failure → Option (List ℕ) → Option (List ℕ) → Type 0
@@ -171,17 +202,18 @@ StopsServing ports port count s end failure old new =
     ⊎ ((text : List ℕ) × SaysAttended ports port count (Works s) end text × StopsIn text failure old new)
 
 -- It stops with this failure, and so much is written. On a clean disk no check of a World that stands for a state finds a damage.
-abbrev pub StopsTask : Task → State → Stand → Failure → Type 0 → Given → Option (List ℕ) → Option (List ℕ) → Type 0
-StopsTask (Init file) s end failure Clean given old new = (end ≡ Works s) × StopsIn created_line failure old new
-StopsTask (Apply file batches) s end failure Clean given old new = StopsText RunsBatch s end failure (given.text batches.now) old new
-StopsTask (Ask file batches) s end failure Clean given old new = (end ≡ Works s) × StopsText AsksBatch s (Works s) failure (given.text batches.now) old new
-StopsTask (Dump file) s end failure Clean given old new = (end ≡ Works s) × StopsIn (dump_of s) failure old new
-StopsTask (Load file dump) s end failure Clean given old new = (end ≡ Works s) × StopsIn (loaded_line s.seq (length (objects_of s.world))) failure old new
-StopsTask (Check file) s end failure Clean given old new =
+abbrev pub StopsTask : Task → State → Stand → Failure → Leads → Type 0 → Given → Option (List ℕ) → Option (List ℕ) → Type 0
+StopsTask (Init file) s end failure Led Clean given old new = (end ≡ Works s) × StopsIn created_line failure old new
+StopsTask (Apply file batches) s end failure Led Clean given old new = StopsApplying Led s end failure (given.text batches.now) old new
+StopsTask (Ask file batches) s end failure Led Clean given old new = (end ≡ Works s) × StopsAsking s failure (given.text batches.now) old new
+StopsTask (Dump file) s end failure Led Clean given old new = (end ≡ Works s) × StopsIn (dump_of s) failure old new
+StopsTask (Load file dump) s end failure Led Clean given old new = (end ≡ Works s) × StopsIn (loaded_line s.seq (length (objects_of s.world))) failure old new
+StopsTask (Check file) s end failure Led Clean given old new =
     (end ≡ Works s)
     × (((fault : StoreFault) × (failure ≡ store_failure fault) × (Clean → IsOfStore fault) × (new ≡ old))
     ⊎ StopsIn (checked_line s.seq (length (objects_of s.world))) failure old new)
-StopsTask (Serve file port count) s end failure Clean given old new = StopsServing given.ports port count s end failure old new
+StopsTask (Serve file port count) s end failure Led Clean given old new =
+    StopsServing given.ports port count s end failure old new × ((batches others : List Batch) × Led batches others)
 
 -- a crash leaves nothing that it couldn't leave before
 abbrev pub LeavesNothingNew : Database → Database → Type 0
@@ -194,6 +226,10 @@ pub record EndsTask {S : Type 0} (g : Ghosts S) (known : Bool) (was world : Worl
   pub crash : IsTrue known → HasCleanDisk (store_of g world) → CrashLeaves (store_of g world) end
   pub ends : End end
 
+-- whatever a crash leaves shows rows that these batches lead to from those of the World before, or these and one of the others
+abbrev pub MayLead : {S : Type 0} → Ghosts S → Bool → World S → World S → Leads
+MayLead g known was world batches others = IsTrue known × HasCleanDisk (store_of g world) → LeavesLed (store_of g world) was.rows.maps batches others
+
 -- If the disk returned what was written, any tables that were at rest in the store of this World show its rows.
 abbrev pub ShowsTables : {S : Type 0} → Ghosts S → World S → Database → Type 0
 ShowsTables g world after = HasCleanDisk after → (tables : Tables) → Rests (store_of g world) tables → ShowsRows tables world.rows.maps
@@ -202,19 +238,21 @@ ShowsTables g world after = HasCleanDisk after → (tables : Tables) → Rests (
 
 -- A task runs from a world of this state: it is done, or stops and the failure is reported. If the disk is clean, a crash then
 -- leaves what its end tells: the state after the last acknowledged batch, or if the store failed in a batch, that or the one after it.
--- If it is a check that is done, it found the tables as `Shown` says.
-pub record RunsFrom (task : Task) (s : State) (given : Given) (old new : Option (List ℕ)) (status : ℕ) (Clean : Type 0) (Crash : Stand → Type 0) (Shown : Type 0) : Type 0 where
+-- And `Led` is true of the batches that it ran: a task that only reads runs none. If it is a check that is done, it found the tables as
+-- `Shown` says.
+pub record RunsFrom (task : Task) (s : State) (given : Given) (old new : Option (List ℕ)) (status : ℕ) (Clean : Type 0) (Crash : Stand → Type 0) (Led : Leads) (Shown : Type 0) : Type 0 where
   pub end : Stand
   pub crash : Clean → Crash end
+  pub still : only_reads task ≡ true → Clean → Led [] []
   -- only a task that serves asks anything of the ports
   pub rests : serves task ≡ false → given.ports.rests
   pub writes :
-      Done task s end Shown given old new status
-      ⊎ ((failure : Failure) × (between : Option (List ℕ)) × StopsTask task s end failure Clean given old between × Reports failure between new status)
+      Done task s end (λ batches others. Clean → Led batches others) Shown given old new status
+      ⊎ ((failure : Failure) × (between : Option (List ℕ)) × StopsTask task s end failure (λ batches others. Clean → Led batches others) Clean given old between × Reports failure between new status)
 
 -- the same, if nothing is known of the disk and the tables
 abbrev pub RunsUnseen : Task → State → Given → Option (List ℕ) → Option (List ℕ) → ℕ → Type 0
-RunsUnseen task s given old new status = RunsFrom task s given old new status ⊥ (λ _. ⊥) ⊤
+RunsUnseen task s given old new status = RunsFrom task s given old new status ⊥ (λ _. ⊥) (λ _ _. ⊥) ⊤
 
 -- a failure of the store, or memory ran out
 abbrev pub IsOpening : Failure → Type 0
@@ -246,16 +284,28 @@ IsOfDump (Damaged kind key) = ⊤
 IsOfDump NoMemory = ⊤
 IsOfDump failure = ⊥
 
--- why a new world can't be made: as any, or the dump gives none
-abbrev pub MayNotBegin : Task → Failure → Type 0
-MayNotBegin task failure = IsOpening failure ⊎ (IsTrue (is_load task) × IsOfDump failure)
+-- why a dump gives no text: it is missing, can't be read, or memory ran out
+abbrev pub GivesNoText : Failure → Type 0
+GivesNoText NoBatches = ⊤
+GivesNoText Read = ⊤
+GivesNoText NoMemory = ⊤
+GivesNoText failure = ⊥
 
-abbrev pub FailsToBegin : Task → Option (List ℕ) → Option (List ℕ) → ℕ → Type 0
-FailsToBegin task old new status = (failure : Failure) × MayNotBegin task failure × Reports failure old new status
+-- Why the dump of this text gives no world, if the text is known. That of a well formed state, of at most 1,073,741,824 bytes, is refused
+-- only if it gives no text.
+abbrev pub RefusesDump : Option (List ℕ) → Failure → Type 0
+RefusesDump text failure = IsOfDump failure × IfSome text (λ bytes. (s : State) → IsHeld s → dump_of s ≡ bytes → length bytes ≤ 1073741824 → GivesNoText failure)
+
+-- why a new world can't be made: as any, or the dump gives none
+abbrev pub MayNotBegin : Task → Given → Failure → Type 0
+MayNotBegin task given failure = IsOpening failure ⊎ (IsTrue (is_load task) × RefusesDump (given.text (dump_word task)) failure)
+
+abbrev pub FailsToBegin : Task → Given → Option (List ℕ) → Option (List ℕ) → ℕ → Type 0
+FailsToBegin task given old new status = (failure : Failure) × MayNotBegin task given failure × Reports failure old new status
 
 -- a new world can't be made, and nothing is asked of the ports; or the task runs from the one that it begins with
 abbrev pub RunsNew : Task → Given → Option (List ℕ) → Option (List ℕ) → ℕ → Type 0
-RunsNew task given old new status = (given.ports.rests × FailsToBegin task old new status) ⊎ ((s : State) × BeginsWith task given s × RunsUnseen task s given old new status)
+RunsNew task given old new status = (given.ports.rests × FailsToBegin task given old new status) ⊎ ((s : State) × BeginsWith task given s × RunsUnseen task s given old new status)
 
 -- a crash leaves nothing that it couldn't leave before, but tables that show this state
 abbrev pub LeavesAsBefore : State → Database → Database → Type 0

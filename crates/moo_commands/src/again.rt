@@ -3,10 +3,9 @@
 ghost use Rattle.std.specs.Prelude.{ℕ, List, Option};
 ghost use Rattle.sqlite_wal.specs.Recovery.{Image};
 ghost use Rattle.moo_files.specs.declared.remains.Remains.{Remains};
-ghost use Rattle.moo_http.specs.Turns.{attended_between};
-ghost use Rattle.moo_commands.specs.Run.{given_by};
+ghost use Rattle.moo_commands.specs.Given.{given_to};
 ghost use Rattle.moo_commands.specs.Ends.{RunsOver, RunsClosed};
-ghost use Rattle.moo_commands.specs.Again.{TakesUp, CrashesTo, ClosesTo};
+ghost use Rattle.moo_commands.specs.Again.{TakesUp, CrashesTo, TakesRows, LeadsOn, ClosesTo, ClosesOn};
 ghost use Rattle.moo_commands.specs.declared.ends.Ends.{Ends};
 
 use crate::host::BatchFiles;
@@ -32,8 +31,12 @@ pub fn run_crash_run<
     // What a crash left of the first file holds a state that the run's end may leave; or, if no task ran over it, the state that it held. The
     // next run takes up that state.
     ensures reopened { (words next_words : List (List ℕ)) (input : R) (host after : H) (next_input : Q) (next_host next_after : G) (image next_image : Image) (ends : Ends T D D.Disk) (next_ends : Ends U E E.Disk) (old new next_old next_new : Option (List ℕ)) (status next_status : ℕ) →
-        RunsOver words image ends (given_by (R.remaining input) (H.text host) (attended_between H.Source.hands_out H.Source.takes_back H.Source.Reader.remaining H.Source.Writer.contents H.listens H.closes host after)) old new status → RunsOver next_words next_image next_ends (given_by (Q.remaining next_input) (G.text next_host) (attended_between G.Source.hands_out G.Source.takes_back G.Source.Reader.remaining G.Source.Writer.contents G.listens G.closes next_host next_after)) next_old next_new next_status →
-        CrashesTo words image ends (given_by (R.remaining input) (H.text host) (attended_between H.Source.hands_out H.Source.takes_back H.Source.Reader.remaining H.Source.Writer.contents H.listens H.closes host after)) old new status next_image (λ t. TakesUp next_words t next_ends (given_by (Q.remaining next_input) (G.text next_host) (attended_between G.Source.hands_out G.Source.takes_back G.Source.Reader.remaining G.Source.Writer.contents G.listens G.closes next_host next_after)) next_old next_new next_status) }
+        RunsOver words image ends (given_to R.Read H.BatchFiles H.Ports H.Source.Arrivals H.Source.Reader.Read H.Source.Writer.Write input host after) old new status → RunsOver next_words next_image next_ends (given_to Q.Read G.BatchFiles G.Ports G.Source.Arrivals G.Source.Reader.Read G.Source.Writer.Write next_input next_host next_after) next_old next_new next_status →
+        CrashesTo words image ends (given_to R.Read H.BatchFiles H.Ports H.Source.Arrivals H.Source.Reader.Read H.Source.Writer.Write input host after) old new status next_image (λ t. TakesUp next_words t next_ends (given_to Q.Read G.BatchFiles G.Ports G.Source.Arrivals G.Source.Reader.Read G.Source.Writer.Write next_input next_host next_after) next_old next_new next_status) }
+    // The same of rows: those that the next run takes up are rows to which the batches of the first lead, with all numbers kept.
+    ensures numbers { (words next_words : List (List ℕ)) (input : R) (host after : H) (next_input : Q) (next_host next_after : G) (image next_image : Image) (ends : Ends T D D.Disk) (next_ends : Ends U E E.Disk) (old new next_old next_new : Option (List ℕ)) (status next_status : ℕ) →
+        RunsOver words image ends (given_to R.Read H.BatchFiles H.Ports H.Source.Arrivals H.Source.Reader.Read H.Source.Writer.Write input host after) old new status → RunsOver next_words next_image next_ends (given_to Q.Read G.BatchFiles G.Ports G.Source.Arrivals G.Source.Reader.Read G.Source.Writer.Write next_input next_host next_after) next_old next_new next_status →
+        LeadsOn words image ends (given_to R.Read H.BatchFiles H.Ports H.Source.Arrivals H.Source.Reader.Read H.Source.Writer.Write input host after) old new status next_image (λ rows. TakesRows next_words rows next_ends (given_to Q.Read G.BatchFiles G.Ports G.Source.Arrivals G.Source.Reader.Read G.Source.Writer.Write next_input next_host next_after) next_old next_new next_status) }
 {}
 
 /// Words that run over a file, which is then closed, and words that run over what it holds or a crash left of it.
@@ -52,6 +55,10 @@ pub fn run_close_run<
 >()
     // What the closed file holds, and what a crash leaves of it, is such a state too, and the next run takes up that state.
     ensures reopened { (words next_words : List (List ℕ)) (input : R) (host after : H) (next_input : Q) (next_host next_after : G) (image next_image : Image) (closed : Remains T D D.Disk) (next_ends : Ends U E E.Disk) (old new next_old next_new : Option (List ℕ)) (status next_status : ℕ) →
-        RunsClosed words image closed (given_by (R.remaining input) (H.text host) (attended_between H.Source.hands_out H.Source.takes_back H.Source.Reader.remaining H.Source.Writer.contents H.listens H.closes host after)) old new status → RunsOver next_words next_image next_ends (given_by (Q.remaining next_input) (G.text next_host) (attended_between G.Source.hands_out G.Source.takes_back G.Source.Reader.remaining G.Source.Writer.contents G.listens G.closes next_host next_after)) next_old next_new next_status →
-        ClosesTo words image closed (given_by (R.remaining input) (H.text host) (attended_between H.Source.hands_out H.Source.takes_back H.Source.Reader.remaining H.Source.Writer.contents H.listens H.closes host after)) old new status next_image (λ t. TakesUp next_words t next_ends (given_by (Q.remaining next_input) (G.text next_host) (attended_between G.Source.hands_out G.Source.takes_back G.Source.Reader.remaining G.Source.Writer.contents G.listens G.closes next_host next_after)) next_old next_new next_status) }
+        RunsClosed words image closed (given_to R.Read H.BatchFiles H.Ports H.Source.Arrivals H.Source.Reader.Read H.Source.Writer.Write input host after) old new status → RunsOver next_words next_image next_ends (given_to Q.Read G.BatchFiles G.Ports G.Source.Arrivals G.Source.Reader.Read G.Source.Writer.Write next_input next_host next_after) next_old next_new next_status →
+        ClosesTo words image closed (given_to R.Read H.BatchFiles H.Ports H.Source.Arrivals H.Source.Reader.Read H.Source.Writer.Write input host after) old new status next_image (λ t. TakesUp next_words t next_ends (given_to Q.Read G.BatchFiles G.Ports G.Source.Arrivals G.Source.Reader.Read G.Source.Writer.Write next_input next_host next_after) next_old next_new next_status) }
+    // The same of rows, with all numbers kept.
+    ensures numbers { (words next_words : List (List ℕ)) (input : R) (host after : H) (next_input : Q) (next_host next_after : G) (image next_image : Image) (closed : Remains T D D.Disk) (next_ends : Ends U E E.Disk) (old new next_old next_new : Option (List ℕ)) (status next_status : ℕ) →
+        RunsClosed words image closed (given_to R.Read H.BatchFiles H.Ports H.Source.Arrivals H.Source.Reader.Read H.Source.Writer.Write input host after) old new status → RunsOver next_words next_image next_ends (given_to Q.Read G.BatchFiles G.Ports G.Source.Arrivals G.Source.Reader.Read G.Source.Writer.Write next_input next_host next_after) next_old next_new next_status →
+        ClosesOn words image closed (given_to R.Read H.BatchFiles H.Ports H.Source.Arrivals H.Source.Reader.Read H.Source.Writer.Write input host after) old new status next_image (λ rows. TakesRows next_words rows next_ends (given_to Q.Read G.BatchFiles G.Ports G.Source.Arrivals G.Source.Reader.Read G.Source.Writer.Write next_input next_host next_after) next_old next_new next_status) }
 {}

@@ -1,20 +1,22 @@
 //! What each command does over a world.
 
-ghost use Rattle.std.specs.Prelude.{◌≡◌, ◌⊎◌, true, false, length, IfOk, IfErr, OnOk, Bool, IsTrue};
+ghost use Rattle.std.specs.Prelude.{◌≡◌, ◌⊎◌, ℕ, List, true, false, codes, length, IfOk, IfErr, OnOk, Bool, IsTrue};
+ghost use Rattle.std.specs.Str.{bytes_eq};
 ghost use Rattle.sqlite.specs.State.{HasCleanDisk, Survives};
 ghost use Rattle.std.specs.Io.KnownBytes.{Appends};
+ghost use Rattle.moo_world.specs.declared.call.Batch.{Batch};
 ghost use Rattle.moo_world.specs.Judge.{State};
 ghost use Rattle.moo_world.specs.ObjectLists.{objects_of};
 ghost use Rattle.moo_text.specs.declared.fault.TextFault.{TextFault};
 ghost use Rattle.moo_dump.specs.Dump.{dump};
 ghost use Rattle.moo_store.specs.declared.fault.StoreFault.{StoreFault};
 ghost use Rattle.moo_store.specs.Opening.{IsOfStore};
-ghost use Rattle.moo_store.specs.Stand.{Works, RunsBatch, AsksBatch};
+ghost use Rattle.moo_store.specs.Stand.{Works, AsksBatch};
 ghost use Rattle.moo_store.specs.Turns.{Halts};
 ghost use Rattle.moo_store.specs.World.{store_of, StandsFor};
-ghost use Rattle.moo_http.specs.Turns.{attended_between};
+ghost use Rattle.moo_commands.specs.Given.{texts_by, given_to, attended};
 ghost use Rattle.moo_commands.specs.Lines.{text_failure, store_failure, checked_line, loaded_line};
-ghost use Rattle.moo_commands.specs.Run.{texts_by, given_by, lost_status, RunsText, StopsText, StopsIn, Serving, StopsServing, ShowsTables, Done, StopsTask, EndsTask, LeavesNothingNew, only_reads, serves};
+ghost use Rattle.moo_commands.specs.Run.{lost_status, AppliesText, StopsApplying, AsksText, StopsAsking, MayLead, StopsIn, Serving, StopsServing, ShowsTables, Done, StopsTask, EndsTask, LeavesNothingNew, only_reads, serves, reads_input, ReadsFile};
 
 use crate::failure::Failure;
 use crate::host::BatchFiles;
@@ -46,9 +48,9 @@ fn run_text<C: Eprint, R: Read + Drop, W: Write, S: Alter + Drop>(
     text: R,
     output: &mut W,
 ) -> Result<u8, Failure>
-    ensures done { (known : Bool) (s : State) → StandsFor S.Store known world.old s → IfOk result (λ status. EndsTask S.Store known world.old world.new (λ end. RunsText RunsBatch s end (R.remaining text) (W.contents output.old) (W.contents output.new) status)) }
+    ensures done { (known : Bool) (s : State) → StandsFor S.Store known world.old s → IfOk result (λ status. EndsTask S.Store known world.old world.new (λ end. AppliesText (MayLead S.Store known world.old world.new) s end (R.remaining text) (W.contents output.old) (W.contents output.new) status)) }
     ensures stops { (known : Bool) (s : State) → StandsFor S.Store known world.old s → IfErr result (λ failure. EndsTask S.Store known world.old world.new (λ end.
-        (fault : TextFault) × (failure ≡ text_failure fault) × Halts RunsBatch (Works s) end (R.remaining text) (W.contents output.old) (W.contents output.new) fault)) }
+        StopsApplying (MayLead S.Store known world.old world.new) s end failure (R.remaining text) (W.contents output.old) (W.contents output.new))) }
 {
     let mut notes = StandardNotes::new(console, alloc, path);
     match apply_text(alloc, text, output, world, &mut notes) {
@@ -71,13 +73,16 @@ fn apply<H: BatchFiles, C: Eprint, R: Read + Drop, W: Write, S: Alter + Drop>(
     world: &mut World<S>,
     batches: &str,
     host: &H,
-    input: R,
+    input: &mut R,
     output: &mut W,
 ) -> Result<u8, Failure>
-    ensures done { (known : Bool) (s : State) → StandsFor S.Store known world.old s → IfOk result (λ status. EndsTask S.Store known world.old world.new (λ end. RunsText RunsBatch s end (texts_by (R.remaining input) (H.text host.now) batches.now) (W.contents output.old) (W.contents output.new) status)) }
-    ensures stops { (known : Bool) (s : State) → StandsFor S.Store known world.old s → IfErr result (λ failure. EndsTask S.Store known world.old world.new (λ end. StopsText RunsBatch s end failure (texts_by (R.remaining input) (H.text host.now) batches.now) (W.contents output.old) (W.contents output.new))) }
+    requires read { bytes_eq batches.now (codes "-") ≡ false → H.may_read host.now batches.now }
+    ensures done { (known : Bool) (s : State) → StandsFor S.Store known world.old s → IfOk result (λ status. EndsTask S.Store known world.old world.new (λ end. AppliesText (MayLead S.Store known world.old world.new) s end (texts_by (R.remaining input.old) (H.text host.now) batches.now) (W.contents output.old) (W.contents output.new) status)) }
+    ensures stops { (known : Bool) (s : State) → StandsFor S.Store known world.old s → IfErr result (λ failure. EndsTask S.Store known world.old world.new (λ end. StopsApplying (MayLead S.Store known world.old world.new) s end failure (texts_by (R.remaining input.old) (H.text host.now) batches.now) (W.contents output.old) (W.contents output.new))) }
+    ensures input { bytes_eq batches.now (codes "-") ≡ false → input.new ≡ input.old }
 {
     world.leaves();
+    world.has_good_rows();
     if batches == "-" {
         return run_text(alloc, console, world, None, input, output);
     }
@@ -96,7 +101,7 @@ fn ask_batches<C: Eprint, R: Read + Drop, W: Write, S: Alter + Drop>(
     text: R,
     output: &mut W,
 ) -> Result<u8, Failure>
-    ensures done { (known : Bool) (s : State) → StandsFor S.Store known world.now s → IfOk result (RunsText AsksBatch s (Works s) (R.remaining text) (W.contents output.old) (W.contents output.new)) }
+    ensures done { (known : Bool) (s : State) → StandsFor S.Store known world.now s → IfOk result (AsksText s (R.remaining text) (W.contents output.old) (W.contents output.new)) }
     ensures stops { (known : Bool) (s : State) → StandsFor S.Store known world.now s → IfErr result (λ failure.
         (fault : TextFault) × (failure ≡ text_failure fault) × Halts AsksBatch (Works s) (Works s) (R.remaining text) (W.contents output.old) (W.contents output.new) fault) }
 {
@@ -120,11 +125,13 @@ fn ask<H: BatchFiles, C: Eprint, R: Read + Drop, W: Write, S: Alter + Drop>(
     world: &World<S>,
     batches: &str,
     host: &H,
-    input: R,
+    input: &mut R,
     output: &mut W,
 ) -> Result<u8, Failure>
-    ensures done { (known : Bool) (s : State) → StandsFor S.Store known world.now s → IfOk result (RunsText AsksBatch s (Works s) (texts_by (R.remaining input) (H.text host.now) batches.now) (W.contents output.old) (W.contents output.new)) }
-    ensures stops { (known : Bool) (s : State) → StandsFor S.Store known world.now s → IfErr result (λ failure. StopsText AsksBatch s (Works s) failure (texts_by (R.remaining input) (H.text host.now) batches.now) (W.contents output.old) (W.contents output.new)) }
+    requires read { bytes_eq batches.now (codes "-") ≡ false → H.may_read host.now batches.now }
+    ensures done { (known : Bool) (s : State) → StandsFor S.Store known world.now s → IfOk result (AsksText s (texts_by (R.remaining input.old) (H.text host.now) batches.now) (W.contents output.old) (W.contents output.new)) }
+    ensures stops { (known : Bool) (s : State) → StandsFor S.Store known world.now s → IfErr result (λ failure. StopsAsking s failure (texts_by (R.remaining input.old) (H.text host.now) batches.now) (W.contents output.old) (W.contents output.new)) }
+    ensures input { bytes_eq batches.now (codes "-") ≡ false → input.new ≡ input.old }
 {
     if batches == "-" {
         return ask_batches(alloc, console, world, None, input, output);
@@ -217,9 +224,10 @@ fn serve<P: Ports, C: Clock + Eprint, W: Write, S: Alter + Drop>(
     count: u32,
     output: &mut W,
 ) -> Result<u8, Failure>
-    ensures done { (known : Bool) (s : State) → StandsFor S.Store known world.old s → IfOk result (λ status. EndsTask S.Store known world.old world.new (λ end. Serving (attended_between P.Source.hands_out P.Source.takes_back P.Source.Reader.remaining P.Source.Writer.contents P.listens P.closes ports.old ports.new) port count s end (W.contents output.old) (W.contents output.new) status)) }
-    ensures stops { (known : Bool) (s : State) → StandsFor S.Store known world.old s → IfErr result (λ failure. EndsTask S.Store known world.old world.new (λ end. StopsServing (attended_between P.Source.hands_out P.Source.takes_back P.Source.Reader.remaining P.Source.Writer.contents P.listens P.closes ports.old ports.new) port count s end failure (W.contents output.old) (W.contents output.new))) }
+    ensures done { (known : Bool) (s : State) → StandsFor S.Store known world.old s → IfOk result (λ status. EndsTask S.Store known world.old world.new (λ end. Serving (attended P.Ports P.Source.Arrivals P.Source.Reader.Read P.Source.Writer.Write ports.old ports.new) port count s end (W.contents output.old) (W.contents output.new) status × ((batches others : List Batch) × (MayLead S.Store known world.old world.new) batches others))) }
+    ensures stops { (known : Bool) (s : State) → StandsFor S.Store known world.old s → IfErr result (λ failure. EndsTask S.Store known world.old world.new (λ end. StopsServing (attended P.Ports P.Source.Arrivals P.Source.Reader.Read P.Source.Writer.Write ports.old ports.new) port count s end failure (W.contents output.old) (W.contents output.new) × ((batches others : List Batch) × (MayLead S.Store known world.old world.new) batches others))) }
 {
+    world.has_good_rows();
     match serve_port(alloc, console, ports, world, port, count, output) {
         Ok(()) => Ok(0),
         Err(fault) => Err(Failure::from(fault)),
@@ -239,17 +247,20 @@ pub(crate) fn do_task<
     world: &mut World<S>,
     task: Task<'_>,
     host: &mut H,
-    input: R,
+    input: &mut R,
     output: &mut W,
 ) -> Result<u8, Failure>
+    requires read { (path : List ℕ) → ReadsFile task path → H.may_read host.old path }
     ensures done { (known : Bool) (s : State) → StandsFor S.Store known world.old s → IfOk result (λ status. EndsTask S.Store known world.old world.new (λ end.
-        Done task.entry s end (ShowsTables S.Store world.old (store_of S.Store world.new)) (given_by (R.remaining input) (H.text host.old) (attended_between H.Source.hands_out H.Source.takes_back H.Source.Reader.remaining H.Source.Writer.contents H.listens H.closes host.old host.new)) (W.contents output.old) (W.contents output.new) status)) }
+        Done task.entry s end (MayLead S.Store known world.old world.new) (ShowsTables S.Store world.old (store_of S.Store world.new)) (given_to R.Read H.BatchFiles H.Ports H.Source.Arrivals H.Source.Reader.Read H.Source.Writer.Write input.old host.old host.new) (W.contents output.old) (W.contents output.new) status)) }
     ensures stops { (known : Bool) (s : State) → StandsFor S.Store known world.old s → IfErr result (λ failure. EndsTask S.Store known world.old world.new (λ end.
-        StopsTask task.entry s end failure (IsTrue known × HasCleanDisk (store_of S.Store world.new)) (given_by (R.remaining input) (H.text host.old) (attended_between H.Source.hands_out H.Source.takes_back H.Source.Reader.remaining H.Source.Writer.contents H.listens H.closes host.old host.new)) (W.contents output.old) (W.contents output.new))) }
+        StopsTask task.entry s end failure (MayLead S.Store known world.old world.new) (IsTrue known × HasCleanDisk (store_of S.Store world.new)) (given_to R.Read H.BatchFiles H.Ports H.Source.Arrivals H.Source.Reader.Read H.Source.Writer.Write input.old host.old host.new) (W.contents output.old) (W.contents output.new))) }
     // Only a task that serves asks anything of the ports.
     ensures rests { serves task.entry ≡ false → host.new ≡ host.old }
     // A task that only reads commits nothing.
     ensures still { only_reads task.entry ≡ true → LeavesNothingNew (store_of S.Store world.old) (store_of S.Store world.new) }
+    // Only a task whose text is `-` reads the input.
+    ensures input { reads_input task.entry ≡ false → input.new ≡ input.old }
 {
     world.leaves();
     match task {

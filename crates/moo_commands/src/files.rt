@@ -1,6 +1,6 @@
 //! The file of a task.
 
-ghost use Rattle.std.specs.Prelude.{◌≡◌, Bool, IsTrue, ◌⊎◌, true, false, IfOk, IfErr};
+ghost use Rattle.std.specs.Prelude.{◌≡◌, ℕ, List, Bool, IsTrue, ◌⊎◌, true, false, IfOk, IfErr};
 ghost use Rattle.sqlite.specs.State.{HasCleanDisk};
 ghost use Rattle.sqlite.specs.Tree.{Trees};
 ghost use Rattle.sqlite.specs.Files.{over_files, file_state, IsNothing};
@@ -11,14 +11,15 @@ ghost use Rattle.moo_world.specs.Judge.{State, state_of};
 ghost use Rattle.moo_tables.specs.Tables.{Tables};
 ghost use Rattle.moo_cells.specs.Shows.{ShowsRows};
 ghost use Rattle.moo_store.specs.Opening.{Says, IsOfStore};
+ghost use Rattle.moo_store.specs.Led.{LeavesLed};
 ghost use Rattle.moo_store.specs.States.{LeavesState};
 ghost use Rattle.moo_store.specs.World.{store_of, CrashLeaves, StandsFor};
 ghost use Rattle.moo_files.specs.Contents.{HoldsTrees, HoldsTables, HoldsState, HasOtherTables, HasAnyTable, IsKept, ReadsAsOurs, HoldsNoTable};
 ghost use Rattle.moo_files.specs.Remains.{IsCleanRemains, MayStopAs, Spares, KeepsSuch, KeepsNothingBut, StillHolds, StillHoldsTrees};
-ghost use Rattle.moo_http.specs.Turns.{attended_between};
 ghost use Rattle.moo_files.specs.Blank.{IsBlank};
+ghost use Rattle.moo_commands.specs.Given.{given_to};
 ghost use Rattle.moo_commands.specs.Lines.{Tells, store_failure};
-ghost use Rattle.moo_commands.specs.Run.{begins_anew, file_of, is_load, dump_word, given_by, only_reads, LeavesNothingNew, RunsFrom, RunsTask, ShowsTables};
+ghost use Rattle.moo_commands.specs.Run.{begins_anew, file_of, is_load, dump_word, reads_input, ReadsFile, only_reads, LeavesNothingNew, RunsFrom, RunsTask, ShowsTables};
 ghost use Rattle.moo_commands.specs.Ends.{RunsFile, EndsWith};
 
 use crate::ends::Ends;
@@ -26,12 +27,12 @@ use crate::failure::Failure;
 use crate::host::BatchFiles;
 use crate::loading::{dump_word, read_world};
 use crate::output::report;
-use crate::over::{NO_INPUT, begins_anew, run_in, run_over};
+use crate::over::{begins_anew, run_in, run_over};
 use moo_files::{Remains, WorldFiles, create_from, load_from, open_from};
 use moo_http::Ports;
 use moo_store::{StoreFault, World};
 use moo_words::Task;
-use sqlite::{Connection, Error, ErrorCode, FileFrom, FileStore, Start};
+use sqlite::{Connection, Error, ErrorCode, FileStore, Start};
 use sqlite_disk::Disk;
 use std::alloc::Global;
 use std::io::{Eprint, Read, Write};
@@ -62,13 +63,16 @@ fn run_in_files<H: BatchFiles + Ports, C: Clock + Eprint, R: Read + Drop, W: Wri
     world: World<FileStore<D>>,
     task: Task<'_>,
     host: &mut H,
-    input: R,
+    input: &mut R,
     output: &mut W,
     status: &mut u8,
 ) -> Connection<FileStore<D>>
-    ensures runs { (known : Bool) (s : State) → StandsFor over_files known world s → RunsFrom task.entry s (given_by (R.remaining input) (H.text host.old) (attended_between H.Source.hands_out H.Source.takes_back H.Source.Reader.remaining H.Source.Writer.contents H.listens H.closes host.old host.new)) (W.contents output.old) (W.contents output.new) status.new (IsTrue known × HasCleanDisk (file_state result)) (CrashLeaves (file_state result)) (ShowsTables over_files world (file_state result)) }
+    requires read { (path : List ℕ) → ReadsFile task path → H.may_read host.old path }
+    ensures runs { (known : Bool) (s : State) → StandsFor over_files known world s → RunsFrom task.entry s (given_to R.Read H.BatchFiles H.Ports H.Source.Arrivals H.Source.Reader.Read H.Source.Writer.Write input.old host.old host.new) (W.contents output.old) (W.contents output.new) status.new (IsTrue known × HasCleanDisk (file_state result)) (CrashLeaves (file_state result)) (LeavesLed (file_state result) world.rows.maps) (ShowsTables over_files world (file_state result)) }
     ensures clean { (known : Bool) (s : State) → StandsFor over_files known world s → HasCleanDisk (file_state result) → HasCleanDisk (store_of over_files world) }
+    ensures good { world.failed ≡ false → IsGood world.rows.maps }
     ensures still { only_reads task.entry ≡ true → LeavesNothingNew (store_of over_files world) (file_state result) }
+    ensures input { reads_input task.entry ≡ false → input.new ≡ input.old }
 {
     run_in(alloc, console, world, task, host, input, output, status)
 }
@@ -87,6 +91,7 @@ fn refusal_of<T: Start, H: WorldFiles<T>>(
     task: Task<'_>,
     fault: StoreFault,
 ) -> Failure
+    requires may { H.may_open host.now file.now }
     ensures { Tells fault result }
 {
     let failure = refusal(fault);
@@ -103,7 +108,8 @@ fn world_of<T: Start, H: WorldFiles<T>>(
     file: &str,
     start: T,
     task: Task<'_>,
-) -> Result<World<FileStore<FileFrom<T>>>, (StoreFault, Remains<T, FileFrom<T>>)>
+) -> Result<World<FileStore<H::Disk>>, (StoreFault, Remains<T, H::Disk>)>
+    requires may { H.may_open host.now file.now }
     ensures anew { begins_anew task.entry ≡ true → IfOk result (λ world. StandsFor over_files true world (state_of opening_maps)) }
     ensures made { begins_anew task.entry ≡ true → IfErr result (λ e. IsOfStore e.0) }
     ensures taken { begins_anew task.entry ≡ true → (s : State) → HoldsState (image_at T.Start) s → IfOk result (λ world. HasCleanDisk (store_of over_files world) → ⊥) }
@@ -152,13 +158,16 @@ fn run_loaded<
     dump: &str,
     task: Task<'_>,
     host: &mut H,
-    input: R,
+    input: &mut R,
     output: &mut W,
     status: &mut u8,
-) -> Ends<T, FileFrom<T>>
+) -> Ends<T, H::Disk>
+    requires may { H.may_open host.old file.now }
+    requires read { (path : List ℕ) → ReadsFile task path → H.may_read host.old path }
     requires load { is_load task ≡ true }
     requires word { dump_word task ≡ dump.now }
-    ensures { RunsFile task.entry (image_at T.Start) result (given_by (R.remaining input) (H.text host.old) (attended_between H.Source.hands_out H.Source.takes_back H.Source.Reader.remaining H.Source.Writer.contents H.listens H.closes host.old host.new)) (W.contents output.old) (W.contents output.new) status.new }
+    ensures runs { RunsFile task.entry (image_at T.Start) result (given_to R.Read H.BatchFiles H.Ports H.Source.Arrivals H.Source.Reader.Read H.Source.Writer.Write input.old host.old host.new) (W.contents output.old) (W.contents output.new) status.new }
+    ensures input { reads_input task.entry ≡ false → input.new ≡ input.old }
 {
     let rows = match read_world(alloc, dump, host, input) {
         Ok(rows) => rows,
@@ -169,7 +178,7 @@ fn run_loaded<
     };
     match load_from(alloc, host, file, start, rows) {
         Ok(world) => Ends::Ran(run_in_files(
-            alloc, console, world, task, host, NO_INPUT, output, status,
+            alloc, console, world, task, host, input, output, status,
         )),
         Err((fault, remains)) => {
             *status = report(alloc, console, refusal(fault), output);
@@ -192,12 +201,15 @@ fn run_begun<
     start: T,
     task: Task<'_>,
     host: &mut H,
-    input: R,
+    input: &mut R,
     output: &mut W,
     status: &mut u8,
-) -> Ends<T, FileFrom<T>>
+) -> Ends<T, H::Disk>
+    requires may { H.may_open host.old file.now }
+    requires read { (path : List ℕ) → ReadsFile task path → H.may_read host.old path }
     requires load { is_load task ≡ false }
-    ensures { RunsFile task.entry (image_at T.Start) result (given_by (R.remaining input) (H.text host.old) (attended_between H.Source.hands_out H.Source.takes_back H.Source.Reader.remaining H.Source.Writer.contents H.listens H.closes host.old host.new)) (W.contents output.old) (W.contents output.new) status.new }
+    ensures runs { RunsFile task.entry (image_at T.Start) result (given_to R.Read H.BatchFiles H.Ports H.Source.Arrivals H.Source.Reader.Read H.Source.Writer.Write input.old host.old host.new) (W.contents output.old) (W.contents output.new) status.new }
+    ensures input { reads_input task.entry ≡ false → input.new ≡ input.old }
 {
     match world_of(alloc, host, file, start, task) {
         Ok(world) => Ends::Ran(run_in_files(
@@ -214,7 +226,7 @@ fn run_begun<
 /// of `run_words`.
 ///
 /// `T` is what the file of the words holds, and `H` the host, with its files and its ports: it is proved for all contents and all connections, and
-/// no code looks at them. The program calls it for files that nobody has read.
+/// no code looks at them. No other path is looked at or opened. The program calls it for files that nobody has read.
 pub fn run_from<
     T: Start,
     H: WorldFiles<T> + BatchFiles + Ports,
@@ -228,11 +240,14 @@ pub fn run_from<
     start: T,
     task: Task<'_>,
     host: &mut H,
-    input: R,
+    input: &mut R,
     output: &mut W,
     status: &mut u8,
-) -> Ends<T, FileFrom<T>>
-    ensures { RunsFile task.entry (image_at T.Start) result (given_by (R.remaining input) (H.text host.old) (attended_between H.Source.hands_out H.Source.takes_back H.Source.Reader.remaining H.Source.Writer.contents H.listens H.closes host.old host.new)) (W.contents output.old) (W.contents output.new) status.new }
+) -> Ends<T, H::Disk>
+    requires may { H.may_open host.old file.now }
+    requires read { (path : List ℕ) → ReadsFile task path → H.may_read host.old path }
+    ensures runs { RunsFile task.entry (image_at T.Start) result (given_to R.Read H.BatchFiles H.Ports H.Source.Arrivals H.Source.Reader.Read H.Source.Writer.Write input.old host.old host.new) (W.contents output.old) (W.contents output.new) status.new }
+    ensures input { reads_input task.entry ≡ false → input.new ≡ input.old }
 {
     match dump_word(task) {
         Some(dump) => run_loaded(
@@ -250,10 +265,12 @@ fn run_in_memory<H: BatchFiles + Ports, C: Clock + Eprint, R: Read + Drop, W: Wr
     console: &C,
     task: Task<'_>,
     host: &mut H,
-    input: R,
+    input: &mut R,
     output: &mut W,
 ) -> u8
-    ensures { RunsTask task.entry (given_by (R.remaining input) (H.text host.old) (attended_between H.Source.hands_out H.Source.takes_back H.Source.Reader.remaining H.Source.Writer.contents H.listens H.closes host.old host.new)) (W.contents output.old) (W.contents output.new) result }
+    requires read { (path : List ℕ) → ReadsFile task path → H.may_read host.old path }
+    ensures runs { RunsTask task.entry (given_to R.Read H.BatchFiles H.Ports H.Source.Arrivals H.Source.Reader.Read H.Source.Writer.Write input.old host.old host.new) (W.contents output.old) (W.contents output.new) result }
+    ensures input { reads_input task.entry ≡ false → input.new ≡ input.old }
 {
     let Ok(conn) = Connection::open_in_memory(alloc) else {
         return report(alloc, console, Failure::NoMemory, output);
@@ -276,12 +293,15 @@ pub(crate) fn run_task<
     task: Task<'_>,
     start: T,
     host: &mut H,
-    input: R,
+    input: &mut R,
     output: &mut W,
     status: &mut u8,
-) -> Ends<T, FileFrom<T>>
-    ensures runs { RunsTask task.entry (given_by (R.remaining input) (H.text host.old) (attended_between H.Source.hands_out H.Source.takes_back H.Source.Reader.remaining H.Source.Writer.contents H.listens H.closes host.old host.new)) (W.contents output.old) (W.contents output.new) status.new }
-    ensures ends { EndsWith task.entry (image_at T.Start) result (given_by (R.remaining input) (H.text host.old) (attended_between H.Source.hands_out H.Source.takes_back H.Source.Reader.remaining H.Source.Writer.contents H.listens H.closes host.old host.new)) (W.contents output.old) (W.contents output.new) status.new }
+) -> Ends<T, H::Disk>
+    requires may { H.may_open host.old (file_of task) }
+    requires read { (path : List ℕ) → ReadsFile task path → H.may_read host.old path }
+    ensures runs { RunsTask task.entry (given_to R.Read H.BatchFiles H.Ports H.Source.Arrivals H.Source.Reader.Read H.Source.Writer.Write input.old host.old host.new) (W.contents output.old) (W.contents output.new) status.new }
+    ensures ends { EndsWith task.entry (image_at T.Start) result (given_to R.Read H.BatchFiles H.Ports H.Source.Arrivals H.Source.Reader.Read H.Source.Writer.Write input.old host.old host.new) (W.contents output.old) (W.contents output.new) status.new }
+    ensures input { reads_input task.entry ≡ false → input.new ≡ input.old }
 {
     let file = file_of(task);
     if file == ":memory:" {

@@ -2,7 +2,8 @@
 
 ghost use Rattle.std.specs.Prelude.{◌≡◌, IfOk, ℕ, List, Option, None, ⊤};
 
-use moo_files::WorldFiles;
+use moo_disk::{Changes, Telling, telling_files};
+use moo_files::{WorldFiles, fresh_files_hold_start};
 use moo_http::{Ports, Sockets};
 use sqlite::{FileFrom, Files, Start};
 use sqlite_std_file::OpenError;
@@ -12,15 +13,19 @@ use std::io::{Read, Result};
 
 /// Files of batches, by their paths.
 ///
-/// A function over `B: BatchFiles` is proved for all texts that they may hold.
+/// A function over `B: BatchFiles` is proved for all texts that they may hold, and opens no file but those that may be read.
 pub trait BatchFiles {
     type Text: Read + Drop;
 
     /// The text of the file of a path, if it is known.
     ghost text: { Self → List ℕ → Option (List ℕ) };
 
+    /// The file of this path may be read.
+    ghost may_read: { Self → List ℕ → Type 0 } = { λ _ _. ⊤ };
+
     /// Opens the file of a path. An error if there is none, or it can't be opened.
     fn open(&self, path: &str) -> Result<Self::Text>
+        requires { may_read self.now path.now }
         ensures { IfOk result (λ file. Self.Text.remaining file ≡ text self.now path.now) };
 }
 
@@ -28,11 +33,12 @@ pub trait BatchFiles {
 #[derive(Drop)]
 pub struct System<'a> {
     rt: &'a HostRuntime,
+    changes: &'a Changes,
 }
 
 impl<'a> System<'a> {
-    pub fn new(rt: &'a HostRuntime) -> System<'a> {
-        System { rt }
+    pub fn new(rt: &'a HostRuntime, changes: &'a Changes) -> System<'a> {
+        System { rt, changes }
     }
 }
 
@@ -47,6 +53,12 @@ impl<'a> BatchFiles for System<'a> {
 }
 
 impl<'a, T: Start> WorldFiles<T> for System<'a> {
+    type Disk = Telling<'a, FileFrom<T>, HostRuntime>;
+
+    ghost may_open = { λ _ _. ⊤ };
+
+    ghost refuses = { λ _ _ _. ⊤ };
+
     fn metadata(&self, path: &str) -> Result<Metadata> {
         fs::metadata(self.rt, path)
     }
@@ -60,8 +72,10 @@ impl<'a, T: Start> WorldFiles<T> for System<'a> {
         &self,
         path: &str,
         start: T,
-    ) -> std::result::Result<Files<FileFrom<T>>, OpenError> {
-        sqlite_std_file::open(self.rt, path, start)
+    ) -> std::result::Result<Files<Telling<'a, FileFrom<T>, HostRuntime>>, OpenError> {
+        let files = sqlite_std_file::open(self.rt, path, start)?;
+        fresh_files_hold_start(&files);
+        Ok(telling_files(files, self.rt, self.changes))
     }
 }
 

@@ -1,9 +1,11 @@
 //! The world of a dump.
 
-ghost use Rattle.std.specs.Prelude.{◌≡◌, ◌<◌, ◌^◌, true, false, IfOk, IfErr, MatchOption};
+ghost use Rattle.std.specs.Prelude.{◌≡◌, ◌<◌, ◌^◌, true, false, codes, IfOk, IfErr, MatchOption};
+ghost use Rattle.std.specs.Str.{bytes_eq};
 ghost use Rattle.moo_world.specs.Rows.{IsGood};
 ghost use Rattle.moo_world.specs.Judge.{state_of};
-ghost use Rattle.moo_commands.specs.Run.{IsDumpedAs, IsOfDump, is_load, dump_word, texts_by};
+ghost use Rattle.moo_commands.specs.Given.{texts_by};
+ghost use Rattle.moo_commands.specs.Run.{IsDumpedAs, RefusesDump, is_load, dump_word};
 
 use crate::failure::Failure;
 use crate::host::BatchFiles;
@@ -33,7 +35,7 @@ fn rows_of<R: Read + Drop>(alloc: Global, mut text: R) -> Result<Flat, Failure>
     ensures good { IfOk result (λ rows. IsGood rows.maps) }
     ensures limit { IfOk result (λ rows. rows.maps.head.seq < 2 ^ 63) }
     ensures dumped { IfOk result (λ rows. IsDumpedAs (R.remaining text) (state_of rows.maps)) }
-    ensures failure { IfErr result IsOfDump }
+    ensures failure { IfErr result (RefusesDump (R.remaining text)) }
 {
     let bytes = read_text(alloc, &mut text)?;
     let rows = read_dump(alloc, &bytes)?;
@@ -45,12 +47,14 @@ pub(crate) fn read_world<H: BatchFiles, R: Read + Drop>(
     alloc: Global,
     dump: &str,
     host: &H,
-    input: R,
+    input: &mut R,
 ) -> Result<Flat, Failure>
+    requires read { bytes_eq dump.now (codes "-") ≡ false → H.may_read host.now dump.now }
     ensures good { IfOk result (λ rows. IsGood rows.maps) }
     ensures limit { IfOk result (λ rows. rows.maps.head.seq < 2 ^ 63) }
-    ensures dumped { IfOk result (λ rows. IsDumpedAs (texts_by (R.remaining input) (H.text host.now) dump.now) (state_of rows.maps)) }
-    ensures failure { IfErr result IsOfDump }
+    ensures dumped { IfOk result (λ rows. IsDumpedAs (texts_by (R.remaining input.old) (H.text host.now) dump.now) (state_of rows.maps)) }
+    ensures failure { IfErr result (RefusesDump (texts_by (R.remaining input.old) (H.text host.now) dump.now)) }
+    ensures input { bytes_eq dump.now (codes "-") ≡ false → input.new ≡ input.old }
 {
     if dump == "-" {
         return rows_of(alloc, input);

@@ -1,17 +1,19 @@
 //! A task over a connection.
 
-ghost use Rattle.std.specs.Prelude.{◌≡◌, ◌⊎◌, true, false, MatchResult, Bool, IsTrue, ⊤};
+ghost use Rattle.std.specs.Prelude.{◌≡◌, ◌⊎◌, ℕ, List, true, false, MatchResult, Bool, IsTrue, ⊤};
 ghost use Rattle.sqlite.specs.State.{HasCleanDisk};
 ghost use Rattle.sqlite.specs.Held.{state};
 ghost use Rattle.moo_rows.specs.Opening.{opening_maps};
+ghost use Rattle.moo_world.specs.Rows.{IsGood};
 ghost use Rattle.moo_world.specs.Judge.{State, state_of};
 ghost use Rattle.moo_tables.specs.Tables.{Tables};
 ghost use Rattle.moo_tables.specs.Inside.{Rests};
+ghost use Rattle.moo_store.specs.Led.{LeavesLed};
 ghost use Rattle.moo_store.specs.States.{ShowsState};
 ghost use Rattle.moo_store.specs.World.{store_of, CrashLeaves, StandsFor};
-ghost use Rattle.moo_http.specs.Turns.{attended_between};
+ghost use Rattle.moo_commands.specs.Given.{given_to};
 ghost use Rattle.moo_commands.specs.Lines.{Reports};
-ghost use Rattle.moo_commands.specs.Run.{begins_anew, is_load, dump_word, BeginsWith, FailsToBegin, given_by, ShowsTables, RunsFrom, RunsOpened, RunsShown, FailsAtOnce, LeavesAsBefore, LeavesNothingNew, only_reads};
+ghost use Rattle.moo_commands.specs.Run.{begins_anew, is_load, dump_word, BeginsWith, FailsToBegin, ShowsTables, RunsFrom, RunsOpened, RunsShown, FailsAtOnce, LeavesAsBefore, LeavesNothingNew, only_reads, reads_input, ReadsFile};
 
 use crate::commands::do_task;
 use crate::failure::Failure;
@@ -25,9 +27,6 @@ use sqlite::{Alter, Connection};
 use std::alloc::Global;
 use std::io::{Eprint, Read, Write};
 use std::time::Clock;
-
-/// Nothing is left to be read once a dump was.
-pub(crate) const NO_INPUT: &[u8] = &[];
 
 /// Whether a task begins with a new world: `init` and `load` do, and each task on `:memory:`.
 pub(crate) fn begins_anew(task: Task<'_>) -> bool
@@ -68,16 +67,21 @@ pub fn run_in<H: BatchFiles + Ports, C: Clock + Eprint, R: Read + Drop, W: Write
     mut world: World<S>,
     task: Task<'_>,
     host: &mut H,
-    input: R,
+    input: &mut R,
     output: &mut W,
     status: &mut u8,
 ) -> Connection<S>
-    // The task runs from the state that the World stands for. A check that is done found that the tables show the World's rows.
-    ensures runs { (known : Bool) (s : State) → StandsFor S.Store known world s → RunsFrom task.entry s (given_by (R.remaining input) (H.text host.old) (attended_between H.Source.hands_out H.Source.takes_back H.Source.Reader.remaining H.Source.Writer.contents H.listens H.closes host.old host.new)) (W.contents output.old) (W.contents output.new) status.new (IsTrue known × HasCleanDisk (state S.Store result)) (CrashLeaves (state S.Store result)) (ShowsTables S.Store world (state S.Store result)) }
+    requires read { (path : List ℕ) → ReadsFile task path → H.may_read host.old path }
+    // The task runs from the state that the World stands for, and its batches lead on from the World's rows. A check that is done found that the tables show the World's rows.
+    ensures runs { (known : Bool) (s : State) → StandsFor S.Store known world s → RunsFrom task.entry s (given_to R.Read H.BatchFiles H.Ports H.Source.Arrivals H.Source.Reader.Read H.Source.Writer.Write input.old host.old host.new) (W.contents output.old) (W.contents output.new) status.new (IsTrue known × HasCleanDisk (state S.Store result)) (CrashLeaves (state S.Store result)) (LeavesLed (state S.Store result) world.rows.maps) (ShowsTables S.Store world (state S.Store result)) }
     ensures clean { (known : Bool) (s : State) → StandsFor S.Store known world s → HasCleanDisk (state S.Store result) → HasCleanDisk (store_of S.Store world) }
+    // The rows of a World that works are good.
+    ensures good { world.failed ≡ false → IsGood world.rows.maps }
     // A task that only reads commits nothing.
     ensures still { only_reads task.entry ≡ true → LeavesNothingNew (store_of S.Store world) (state S.Store result) }
+    ensures input { reads_input task.entry ≡ false → input.new ≡ input.old }
 {
+    world.has_good_rows();
     let done = do_task(alloc, console, &mut world, task, host, input, output);
     *status = ended(alloc, console, done, output);
     world.into_connection()
@@ -90,14 +94,16 @@ fn run_anew<H: BatchFiles + Ports, C: Clock + Eprint, R: Read + Drop, W: Write, 
     conn: Connection<S>,
     task: Task<'_>,
     host: &mut H,
-    input: R,
+    input: &mut R,
     output: &mut W,
     status: &mut u8,
 ) -> Connection<S>
+    requires read { (path : List ℕ) → ReadsFile task path → H.may_read host.old path }
     requires outside { conn.in_transaction ≡ false }
     requires load { is_load task ≡ false }
-    ensures { ((host.new ≡ host.old) × FailsToBegin task.entry (W.contents output.old) (W.contents output.new) status.new)
-        ⊎ ((s : State) × BeginsWith task.entry (given_by (R.remaining input) (H.text host.old) (attended_between H.Source.hands_out H.Source.takes_back H.Source.Reader.remaining H.Source.Writer.contents H.listens H.closes host.old host.new)) s × RunsFrom task.entry s (given_by (R.remaining input) (H.text host.old) (attended_between H.Source.hands_out H.Source.takes_back H.Source.Reader.remaining H.Source.Writer.contents H.listens H.closes host.old host.new)) (W.contents output.old) (W.contents output.new) status.new (HasCleanDisk (state S.Store result)) (CrashLeaves (state S.Store result)) ⊤) }
+    ensures runs { ((host.new ≡ host.old) × FailsToBegin task.entry (given_to R.Read H.BatchFiles H.Ports H.Source.Arrivals H.Source.Reader.Read H.Source.Writer.Write input.old host.old host.new) (W.contents output.old) (W.contents output.new) status.new)
+        ⊎ ((s : State) × BeginsWith task.entry (given_to R.Read H.BatchFiles H.Ports H.Source.Arrivals H.Source.Reader.Read H.Source.Writer.Write input.old host.old host.new) s × RunsFrom task.entry s (given_to R.Read H.BatchFiles H.Ports H.Source.Arrivals H.Source.Reader.Read H.Source.Writer.Write input.old host.old host.new) (W.contents output.old) (W.contents output.new) status.new (HasCleanDisk (state S.Store result)) (CrashLeaves (state S.Store result)) (λ _ _. ⊤) ⊤) }
+    ensures input { reads_input task.entry ≡ false → input.new ≡ input.old }
 {
     match create_in(alloc, conn) {
         Ok(world) => run_in(alloc, console, world, task, host, input, output, status),
@@ -116,15 +122,17 @@ fn run_loaded<H: BatchFiles + Ports, C: Clock + Eprint, R: Read + Drop, W: Write
     dump: &str,
     task: Task<'_>,
     host: &mut H,
-    input: R,
+    input: &mut R,
     output: &mut W,
     status: &mut u8,
 ) -> Connection<S>
+    requires read { (path : List ℕ) → ReadsFile task path → H.may_read host.old path }
     requires outside { conn.in_transaction ≡ false }
     requires load { is_load task ≡ true }
     requires word { dump_word task ≡ dump.now }
-    ensures { ((host.new ≡ host.old) × FailsToBegin task.entry (W.contents output.old) (W.contents output.new) status.new)
-        ⊎ ((s : State) × BeginsWith task.entry (given_by (R.remaining input) (H.text host.old) (attended_between H.Source.hands_out H.Source.takes_back H.Source.Reader.remaining H.Source.Writer.contents H.listens H.closes host.old host.new)) s × RunsFrom task.entry s (given_by (R.remaining input) (H.text host.old) (attended_between H.Source.hands_out H.Source.takes_back H.Source.Reader.remaining H.Source.Writer.contents H.listens H.closes host.old host.new)) (W.contents output.old) (W.contents output.new) status.new (HasCleanDisk (state S.Store result)) (CrashLeaves (state S.Store result)) ⊤) }
+    ensures runs { ((host.new ≡ host.old) × FailsToBegin task.entry (given_to R.Read H.BatchFiles H.Ports H.Source.Arrivals H.Source.Reader.Read H.Source.Writer.Write input.old host.old host.new) (W.contents output.old) (W.contents output.new) status.new)
+        ⊎ ((s : State) × BeginsWith task.entry (given_to R.Read H.BatchFiles H.Ports H.Source.Arrivals H.Source.Reader.Read H.Source.Writer.Write input.old host.old host.new) s × RunsFrom task.entry s (given_to R.Read H.BatchFiles H.Ports H.Source.Arrivals H.Source.Reader.Read H.Source.Writer.Write input.old host.old host.new) (W.contents output.old) (W.contents output.new) status.new (HasCleanDisk (state S.Store result)) (CrashLeaves (state S.Store result)) (λ _ _. ⊤) ⊤) }
+    ensures input { reads_input task.entry ≡ false → input.new ≡ input.old }
 {
     let rows = match read_world(alloc, dump, host, input) {
         Ok(rows) => rows,
@@ -134,7 +142,7 @@ fn run_loaded<H: BatchFiles + Ports, C: Clock + Eprint, R: Read + Drop, W: Write
         }
     };
     match load_in(alloc, conn, rows) {
-        Ok(world) => run_in(alloc, console, world, task, host, NO_INPUT, output, status),
+        Ok(world) => run_in(alloc, console, world, task, host, input, output, status),
         Err((fault, conn)) => {
             *status = report(alloc, console, Failure::from(fault), output);
             conn
@@ -149,16 +157,18 @@ fn run_opened<H: BatchFiles + Ports, C: Clock + Eprint, R: Read + Drop, W: Write
     conn: Connection<S>,
     task: Task<'_>,
     host: &mut H,
-    input: R,
+    input: &mut R,
     output: &mut W,
     status: &mut u8,
 ) -> Connection<S>
+    requires read { (path : List ℕ) → ReadsFile task path → H.may_read host.old path }
     requires outside { conn.in_transaction ≡ false }
     ensures kept { (s : State) → ShowsState (state S.Store conn) s → HasCleanDisk (state S.Store result) →
         ((host.new ≡ host.old) × FailsAtOnce (W.contents output.old) (W.contents output.new) status.new × LeavesAsBefore s (state S.Store conn) (state S.Store result))
-        ⊎ RunsFrom task.entry s (given_by (R.remaining input) (H.text host.old) (attended_between H.Source.hands_out H.Source.takes_back H.Source.Reader.remaining H.Source.Writer.contents H.listens H.closes host.old host.new)) (W.contents output.old) (W.contents output.new) status.new (HasCleanDisk (state S.Store result)) (CrashLeaves (state S.Store result)) ⊤ }
-    ensures only { (tables : Tables) → Rests (state S.Store conn) tables → HasCleanDisk (state S.Store result) → RunsShown task.entry tables (given_by (R.remaining input) (H.text host.old) (attended_between H.Source.hands_out H.Source.takes_back H.Source.Reader.remaining H.Source.Writer.contents H.listens H.closes host.old host.new)) (W.contents output.old) (W.contents output.new) status.new }
-    ensures opened { RunsOpened task.entry (given_by (R.remaining input) (H.text host.old) (attended_between H.Source.hands_out H.Source.takes_back H.Source.Reader.remaining H.Source.Writer.contents H.listens H.closes host.old host.new)) (W.contents output.old) (W.contents output.new) status.new }
+        ⊎ RunsFrom task.entry s (given_to R.Read H.BatchFiles H.Ports H.Source.Arrivals H.Source.Reader.Read H.Source.Writer.Write input.old host.old host.new) (W.contents output.old) (W.contents output.new) status.new (HasCleanDisk (state S.Store result)) (CrashLeaves (state S.Store result)) (λ _ _. ⊤) ⊤ }
+    ensures only { (tables : Tables) → Rests (state S.Store conn) tables → HasCleanDisk (state S.Store result) → RunsShown task.entry tables (given_to R.Read H.BatchFiles H.Ports H.Source.Arrivals H.Source.Reader.Read H.Source.Writer.Write input.old host.old host.new) (W.contents output.old) (W.contents output.new) status.new }
+    ensures opened { RunsOpened task.entry (given_to R.Read H.BatchFiles H.Ports H.Source.Arrivals H.Source.Reader.Read H.Source.Writer.Write input.old host.old host.new) (W.contents output.old) (W.contents output.new) status.new }
+    ensures input { reads_input task.entry ≡ false → input.new ≡ input.old }
 {
     match adopt(alloc, conn) {
         Ok(world) => run_in(alloc, console, world, task, host, input, output, status),
@@ -186,23 +196,25 @@ pub fn run_over<
     conn: Connection<S>,
     task: Task<'_>,
     host: &mut H,
-    input: R,
+    input: &mut R,
     output: &mut W,
     status: &mut u8,
 ) -> Connection<S>
+    requires read { (path : List ℕ) → ReadsFile task path → H.may_read host.old path }
     requires outside { conn.in_transaction ≡ false }
     // A task that begins with a new world runs from that.
-    ensures anew { begins_anew task.entry ≡ true → ((host.new ≡ host.old) × FailsToBegin task.entry (W.contents output.old) (W.contents output.new) status.new)
-        ⊎ ((s : State) × BeginsWith task.entry (given_by (R.remaining input) (H.text host.old) (attended_between H.Source.hands_out H.Source.takes_back H.Source.Reader.remaining H.Source.Writer.contents H.listens H.closes host.old host.new)) s × RunsFrom task.entry s (given_by (R.remaining input) (H.text host.old) (attended_between H.Source.hands_out H.Source.takes_back H.Source.Reader.remaining H.Source.Writer.contents H.listens H.closes host.old host.new)) (W.contents output.old) (W.contents output.new) status.new (HasCleanDisk (state S.Store result)) (CrashLeaves (state S.Store result)) ⊤) }
+    ensures anew { begins_anew task.entry ≡ true → ((host.new ≡ host.old) × FailsToBegin task.entry (given_to R.Read H.BatchFiles H.Ports H.Source.Arrivals H.Source.Reader.Read H.Source.Writer.Write input.old host.old host.new) (W.contents output.old) (W.contents output.new) status.new)
+        ⊎ ((s : State) × BeginsWith task.entry (given_to R.Read H.BatchFiles H.Ports H.Source.Arrivals H.Source.Reader.Read H.Source.Writer.Write input.old host.old host.new) s × RunsFrom task.entry s (given_to R.Read H.BatchFiles H.Ports H.Source.Arrivals H.Source.Reader.Read H.Source.Writer.Write input.old host.old host.new) (W.contents output.old) (W.contents output.new) status.new (HasCleanDisk (state S.Store result)) (CrashLeaves (state S.Store result)) (λ _ _. ⊤) ⊤) }
     // Any other runs from the state that the tables of the connection show, of either version, on a disk that returns what was written.
     ensures kept { (s : State) → begins_anew task.entry ≡ false → ShowsState (state S.Store conn) s → HasCleanDisk (state S.Store result) →
         ((host.new ≡ host.old) × FailsAtOnce (W.contents output.old) (W.contents output.new) status.new × LeavesAsBefore s (state S.Store conn) (state S.Store result))
-        ⊎ RunsFrom task.entry s (given_by (R.remaining input) (H.text host.old) (attended_between H.Source.hands_out H.Source.takes_back H.Source.Reader.remaining H.Source.Writer.contents H.listens H.closes host.old host.new)) (W.contents output.old) (W.contents output.new) status.new (HasCleanDisk (state S.Store result)) (CrashLeaves (state S.Store result)) ⊤ }
+        ⊎ RunsFrom task.entry s (given_to R.Read H.BatchFiles H.Ports H.Source.Arrivals H.Source.Reader.Read H.Source.Writer.Write input.old host.old host.new) (W.contents output.old) (W.contents output.new) status.new (HasCleanDisk (state S.Store result)) (CrashLeaves (state S.Store result)) (λ _ _. ⊤) ⊤ }
     // If there are tables, it runs from the world that they show, or the line tells a fault of these tables.
     ensures only { (tables : Tables) → begins_anew task.entry ≡ false → Rests (state S.Store conn) tables → HasCleanDisk (state S.Store result) →
-        RunsShown task.entry tables (given_by (R.remaining input) (H.text host.old) (attended_between H.Source.hands_out H.Source.takes_back H.Source.Reader.remaining H.Source.Writer.contents H.listens H.closes host.old host.new)) (W.contents output.old) (W.contents output.new) status.new }
+        RunsShown task.entry tables (given_to R.Read H.BatchFiles H.Ports H.Source.Arrivals H.Source.Reader.Read H.Source.Writer.Write input.old host.old host.new) (W.contents output.old) (W.contents output.new) status.new }
     // Whatever they show, it is refused, or the task runs from a well formed world.
-    ensures opened { begins_anew task.entry ≡ false → RunsOpened task.entry (given_by (R.remaining input) (H.text host.old) (attended_between H.Source.hands_out H.Source.takes_back H.Source.Reader.remaining H.Source.Writer.contents H.listens H.closes host.old host.new)) (W.contents output.old) (W.contents output.new) status.new }
+    ensures opened { begins_anew task.entry ≡ false → RunsOpened task.entry (given_to R.Read H.BatchFiles H.Ports H.Source.Arrivals H.Source.Reader.Read H.Source.Writer.Write input.old host.old host.new) (W.contents output.old) (W.contents output.new) status.new }
+    ensures input { reads_input task.entry ≡ false → input.new ≡ input.old }
 {
     match dump_word(task) {
         Some(dump) => run_loaded(

@@ -2,10 +2,11 @@
 
 ghost use Rattle.std.specs.Prelude.{◌≡◌, ℕ, List, map};
 ghost use Rattle.clap.specs.Kinds.{Kinds, HasKind};
-ghost use Rattle.moo_words.specs.Tasks.{IsRefusal, mistakes};
+ghost use Rattle.moo_words.specs.declared.task.Task.{Task};
+ghost use Rattle.moo_words.specs.Tasks.{NamesTask, IsRefusal, mistakes};
 ghost use Rattle.sqlite.specs.WalFiles.{image_at};
-ghost use Rattle.moo_http.specs.Turns.{attended_between};
-ghost use Rattle.moo_commands.specs.Run.{mistake_status, given_by, EndsUsage, RunsWords};
+ghost use Rattle.moo_commands.specs.Given.{given_to};
+ghost use Rattle.moo_commands.specs.Run.{mistake_status, file_of, EndsUsage, ReadsFile, KeepsInput, RunsWords};
 ghost use Rattle.moo_commands.specs.Ends.{RunsOver, RunsClosed};
 
 use crate::ends::Ends;
@@ -17,7 +18,7 @@ use clap::error::ErrorKind;
 use moo_files::{Remains, WorldFiles};
 use moo_http::Ports;
 use moo_words::{Usage, read_words};
-use sqlite::{FileFrom, Start};
+use sqlite::Start;
 use std::alloc::Global;
 use std::io::{Eprint, Read, Write};
 use std::time::Clock;
@@ -77,7 +78,9 @@ fn report_usage<C: Eprint, W: Write>(
 /// failure of `serve`.
 ///
 /// `T` is what the file of the words holds, and `H` the host, with its files and its ports: it is proved for all contents and all connections, and
-/// no code looks at them. What is left of the file is handed back, to be closed: if the words have none, the unspent start.
+/// no code looks at them. It looks at and opens no file of a world but that of the words, and reads no file of batches
+/// and no dump but theirs. What is left of the file is handed back, to be closed: if the
+/// words have none, the unspent start.
 pub fn run_words<
     T: Start,
     H: WorldFiles<T> + BatchFiles + Ports,
@@ -90,14 +93,18 @@ pub fn run_words<
     words: &[&str],
     start: T,
     host: &mut H,
-    input: R,
+    input: &mut R,
     output: &mut W,
     status: &mut u8,
-) -> Ends<T, FileFrom<T>>
+) -> Ends<T, H::Disk>
+    requires may { (task : Task) → NamesTask (map (λ word. word.now) words.now) task → H.may_open host.old (file_of task) }
+    requires read { (task : Task) (path : List ℕ) → NamesTask (map (λ word. word.now) words.now) task → ReadsFile task path → H.may_read host.old path }
     // What is written, whatever the file holds.
-    ensures words { RunsWords (map (λ word. word.now) words.now) (given_by (R.remaining input) (H.text host.old) (attended_between H.Source.hands_out H.Source.takes_back H.Source.Reader.remaining H.Source.Writer.contents H.listens H.closes host.old host.new)) (W.contents output.old) (W.contents output.new) status.new }
+    ensures words { RunsWords (map (λ word. word.now) words.now) (given_to R.Read H.BatchFiles H.Ports H.Source.Arrivals H.Source.Reader.Read H.Source.Writer.Write input.old host.old host.new) (W.contents output.old) (W.contents output.new) status.new }
     // And by what it holds: the run is one over the world that it shows.
-    ensures over { RunsOver (map (λ word. word.now) words.now) (image_at T.Start) result (given_by (R.remaining input) (H.text host.old) (attended_between H.Source.hands_out H.Source.takes_back H.Source.Reader.remaining H.Source.Writer.contents H.listens H.closes host.old host.new)) (W.contents output.old) (W.contents output.new) status.new }
+    ensures over { RunsOver (map (λ word. word.now) words.now) (image_at T.Start) result (given_to R.Read H.BatchFiles H.Ports H.Source.Arrivals H.Source.Reader.Read H.Source.Writer.Write input.old host.old host.new) (W.contents output.old) (W.contents output.new) status.new }
+    // Only words of a task that reads the input change it.
+    ensures input { KeepsInput (map (λ word. word.now) words.now) input.old input.new }
 {
     match read_words(alloc, words) {
         Ok(task) => run_task(alloc, console, task, start, host, input, output, status),
@@ -124,13 +131,17 @@ pub fn run_to_end<
     words: &[&str],
     start: T,
     host: &mut H,
-    input: R,
+    input: &mut R,
     output: &mut W,
     status: &mut u8,
-) -> Remains<T, FileFrom<T>>
-    ensures words { RunsWords (map (λ word. word.now) words.now) (given_by (R.remaining input) (H.text host.old) (attended_between H.Source.hands_out H.Source.takes_back H.Source.Reader.remaining H.Source.Writer.contents H.listens H.closes host.old host.new)) (W.contents output.old) (W.contents output.new) status.new }
+) -> Remains<T, H::Disk>
+    requires may { (task : Task) → NamesTask (map (λ word. word.now) words.now) task → H.may_open host.old (file_of task) }
+    requires read { (task : Task) (path : List ℕ) → NamesTask (map (λ word. word.now) words.now) task → ReadsFile task path → H.may_read host.old path }
+    ensures words { RunsWords (map (λ word. word.now) words.now) (given_to R.Read H.BatchFiles H.Ports H.Source.Arrivals H.Source.Reader.Read H.Source.Writer.Write input.old host.old host.new) (W.contents output.old) (W.contents output.new) status.new }
     // The file is closed after a run over what it held.
-    ensures closed { RunsClosed (map (λ word. word.now) words.now) (image_at T.Start) result (given_by (R.remaining input) (H.text host.old) (attended_between H.Source.hands_out H.Source.takes_back H.Source.Reader.remaining H.Source.Writer.contents H.listens H.closes host.old host.new)) (W.contents output.old) (W.contents output.new) status.new }
+    ensures closed { RunsClosed (map (λ word. word.now) words.now) (image_at T.Start) result (given_to R.Read H.BatchFiles H.Ports H.Source.Arrivals H.Source.Reader.Read H.Source.Writer.Write input.old host.old host.new) (W.contents output.old) (W.contents output.new) status.new }
+    // Only words of a task that reads the input change it.
+    ensures input { KeepsInput (map (λ word. word.now) words.now) input.old input.new }
 {
     run_words(alloc, console, words, start, host, input, output, status).close()
 }

@@ -1,20 +1,23 @@
 //! The program over the words of the command line and the standard streams.
 
-ghost use Rattle.std.specs.Prelude.{◌≡◌, ◌≢◌, ◌⊎◌, ◌∷◌, codes, map, drop, string_bytes, IfOk, IfErr};
+ghost use Rattle.std.specs.Prelude.{◌≡◌, ◌≢◌, ◌⊎◌, ◌∷◌, ℕ, List, codes, map, drop, string_bytes, IfOk, IfErr};
 ghost use Rattle.std.specs.IoError.{error_kind};
+ghost use Rattle.moo_commands.specs.Given.{given_to};
 ghost use Rattle.moo_commands.specs.Lines.{Reports};
 ghost use Rattle.sqlite.specs.WalFiles.{image_at};
-ghost use Rattle.moo_http.specs.Turns.{attended_between};
-ghost use Rattle.moo_commands.specs.Run.{given_by};
+ghost use Rattle.moo_words.specs.declared.task.Task.{Task};
+ghost use Rattle.moo_words.specs.Tasks.{NamesTask};
+ghost use Rattle.moo_commands.specs.Run.{file_of, ReadsFile, KeepsInput};
 ghost use Rattle.moo_commands.specs.Ends.{IsUntouched, RunsClosed};
 
 use crate::failure::Failure;
 use crate::host::{BatchFiles, System};
 use crate::output::report;
 use crate::run::run_to_end;
+use moo_disk::Changes;
 use moo_files::{Remains, WorldFiles};
 use moo_http::Ports;
-use sqlite::{FileFrom, Start, Unknown};
+use sqlite::{Start, Unknown};
 use std::alloc::{AllocError, Global};
 use std::env::args;
 use std::io;
@@ -56,8 +59,8 @@ fn words_failure(error: &io::Error) -> Failure
     }
 }
 
-/// Does what the words say and closes their file, or says why the words can't be read. What is left of the file is handed back, to be
-/// dropped: if no file was opened for them, the unspent start.
+/// Does what the words say and closes their file, or says why the words can't be read. The exit status is handed back, with what is left of
+/// the file, to be dropped: if no file was opened for them, the unspent start.
 pub fn run_given<
     T: Start,
     H: WorldFiles<T> + BatchFiles + Ports,
@@ -70,30 +73,43 @@ pub fn run_given<
     words: io::Result<Vec<String>>,
     start: T,
     host: &mut H,
-    input: R,
+    input: &mut R,
     output: &mut W,
-    status: &mut u8,
-) -> Remains<T, FileFrom<T>>
+) -> (u8, Remains<T, H::Disk>)
+    requires may { IfOk words (λ words. (task : Task) → NamesTask (map string_bytes words.items) task → H.may_open host.old (file_of task)) }
+    requires read { IfOk words (λ words. (task : Task) (path : List ℕ) → NamesTask (map string_bytes words.items) task → ReadsFile task path → H.may_read host.old path) }
     // What the words come to, as `run_to_end` says it; or memory runs out before that, and their file isn't opened.
-    ensures read { IfOk words (λ words. (Reports Failure.NoMemory (W.contents output.old) (W.contents output.new) status.new × IsUntouched result × (host.new ≡ host.old))
-        ⊎ RunsClosed (map string_bytes words.items) (image_at T.Start) result (given_by (R.remaining input) (H.text host.old) (attended_between H.Source.hands_out H.Source.takes_back H.Source.Reader.remaining H.Source.Writer.contents H.listens H.closes host.old host.new)) (W.contents output.old) (W.contents output.new) status.new) }
-    // If they can't be read, the line says whether memory ran out, no file is opened, and nothing is asked of the ports.
-    ensures memory { IfErr words (λ error. error_kind error ≡ ErrorKind.OutOfMemory → Reports Failure.NoMemory (W.contents output.old) (W.contents output.new) status.new) }
-    ensures unread { IfErr words (λ error. error_kind error ≢ ErrorKind.OutOfMemory → Reports Failure.Usage (W.contents output.old) (W.contents output.new) status.new) }
-    ensures unopened { IfErr words (λ _. IsUntouched result × (host.new ≡ host.old)) }
+    ensures read { IfOk words (λ words. (Reports Failure.NoMemory (W.contents output.old) (W.contents output.new) result.0 × IsUntouched result.1 × (host.new ≡ host.old))
+        ⊎ RunsClosed (map string_bytes words.items) (image_at T.Start) result.1 (given_to R.Read H.BatchFiles H.Ports H.Source.Arrivals H.Source.Reader.Read H.Source.Writer.Write input.old host.old host.new) (W.contents output.old) (W.contents output.new) result.0) }
+    ensures input { IfOk words (λ words. KeepsInput (map string_bytes words.items) input.old input.new) }
+    // If they can't be read, the line says whether memory ran out, no file is opened, and nothing is asked of the ports or read.
+    ensures memory { IfErr words (λ error. error_kind error ≡ ErrorKind.OutOfMemory → Reports Failure.NoMemory (W.contents output.old) (W.contents output.new) result.0) }
+    ensures unread { IfErr words (λ error. error_kind error ≢ ErrorKind.OutOfMemory → Reports Failure.Usage (W.contents output.old) (W.contents output.new) result.0) }
+    ensures unopened { IfErr words (λ _. IsUntouched result.1 × (host.new ≡ host.old) × (input.new ≡ input.old)) }
 {
     let words = match words {
         Ok(words) => words,
         Err(error) => {
-            *status = report(alloc, console, words_failure(&error), output);
-            return Remains::Untouched(start);
+            let status = report(alloc, console, words_failure(&error), output);
+            return (status, Remains::Untouched(start));
         }
     };
     let Ok(words) = borrowed(alloc, &words) else {
-        *status = report(alloc, console, Failure::NoMemory, output);
-        return Remains::Untouched(start);
+        let status = report(alloc, console, Failure::NoMemory, output);
+        return (status, Remains::Untouched(start));
     };
-    run_to_end(alloc, console, &words, start, host, input, output, status)
+    let mut status = 0;
+    let closed = run_to_end(
+        alloc,
+        console,
+        &words,
+        start,
+        host,
+        input,
+        output,
+        &mut status,
+    );
+    (status, closed)
 }
 
 /// The words of the command line.
@@ -104,16 +120,15 @@ fn command_words(rt: &HostRuntime) -> io::Result<Vec<String>> {
 /// The whole program: `run_given` over the words of the command line, the files and ports of the system and the standard streams. It has no type
 /// parameter, so that the check of `main` needn't know what streams are.
 pub fn run_command(rt: &HostRuntime) -> u8 {
-    let mut status = 0;
-    let _closed = run_given(
+    let changes = Changes::new();
+    run_given(
         rt.alloc(),
         rt,
         command_words(rt),
         Unknown,
-        &mut System::new(rt),
-        rt.stdin(),
+        &mut System::new(rt, &changes),
+        &mut rt.stdin(),
         &mut rt.stdout(),
-        &mut status,
-    );
-    status
+    )
+    .0
 }

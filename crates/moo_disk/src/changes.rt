@@ -1,8 +1,9 @@
-//! How often the files of a world were changed.
+//! What the disks of one world know of each other.
 
 use std::cell::Cell;
 
-/// How often the files of a world were changed, which all of their disks share: a change of one ends the reading of the others too.
+/// How often the files of a world were changed. Their disks share it, since a commit writes the log alone and reads the database file: a
+/// change of one file ends the reading of the other too.
 #[derive(Drop)]
 pub struct Changes {
     count: Cell<u64>,

@@ -6,7 +6,7 @@ use crate::reading::Reading;
 use std::io::Eprint;
 use std::time::{Clock, Instant};
 
-/// So many reads come between two looks at the clock.
+/// The clock is read at the first of so many reads.
 const STEP: u32 = 64;
 
 /// Tells of the reading of one file on standard error.
@@ -18,7 +18,7 @@ pub(crate) struct Teller<'a, C> {
     /// The length of the file in bytes, if it was asked for after the last change.
     length: Option<u64>,
     reading: Reading,
-    /// How many reads come before the next look at the clock.
+    /// How many reads come before the clock is read again.
     reads_left: u32,
 }
 

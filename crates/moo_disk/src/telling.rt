@@ -12,16 +12,16 @@ use std::time::Clock;
 
 /// A disk that passes each call on, and tells of long reading on standard error.
 ///
-/// Nothing is told in the first five seconds of a run of reads, and then a line every five seconds. The run ends at a change of any file of
-/// the world, or a pause of more than a minute. The clock is read at the first of 64 reads. An error of the clock or of standard error is
-/// ignored.
+/// Nothing is told in the first five seconds of a run of reads, and then a line each five seconds. A run ends with a change of any file that
+/// shares its `Changes`, and with a pause of more than a minute. The clock is read at the first of each 64 reads. Errors of the clock and of
+/// standard error are ignored.
 #[derive(Drop)]
 pub struct Telling<'a, D: Disk, C: Clock + Eprint> {
     inner: D,
     teller: Teller<'a, C>,
 }
 
-/// The same two files, which tell of long reading. They have been changed so often before.
+/// The two files of a world, which tell on this console of long reading from now on.
 pub fn telling_files<'a, D: Disk, C: Clock + Eprint>(
     files: Files<D>,
     console: &'a C,

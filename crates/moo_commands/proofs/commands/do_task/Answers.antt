@@ -10,6 +10,7 @@ returns-in-Init g c = record {
   stops = λ known s stands. rw c.in-Init.is (on_err _ _ c.put_text.result (λ failure it. unchanged g.S.Store known c.args.world.now s _ (c.leaves.ensures known (Works s) stands) (refl, it)) c.put_text.ensures.stops);
   rests = λ other. refl;
   still = λ reads clean trees may. may;
+  input = λ other. refl;
 }
 
 pub returns-in-Apply : goal.returns-in-Apply
@@ -18,6 +19,7 @@ returns-in-Apply g c = record {
   stops = λ known s stands. rw c.in-Apply.is (c.apply.ensures.stops known s stands);
   rests = λ other. refl;
   still = rw c.in-Apply.is (λ reads. absurd (true≢false (sym reads)));
+  input = rw c.in-Apply.is c.apply.ensures.input;
 }
 
 pub returns-in-Ask : goal.returns-in-Ask
@@ -26,6 +28,7 @@ returns-in-Ask g c = record {
   stops = λ known s stands. rw c.in-Ask.is (on_err _ _ c.ask.result (λ failure it. unchanged g.S.Store known c.args.world.now s _ (c.leaves.ensures known (Works s) stands) (refl, it)) (c.ask.ensures.stops known s stands));
   rests = λ other. refl;
   still = λ reads clean trees may. may;
+  input = rw c.in-Ask.is c.ask.ensures.input;
 }
 
 pub returns-in-Dump : goal.returns-in-Dump
@@ -34,6 +37,7 @@ returns-in-Dump g c = record {
   stops = λ known s stands. rw c.in-Dump.is (on_err _ _ c.show.result (λ failure it. unchanged g.S.Store known c.args.world.now s _ (c.leaves.ensures known (Works s) stands) (refl, it)) (c.show.ensures.stops known s stands));
   rests = λ other. refl;
   still = λ reads clean trees may. may;
+  input = λ other. refl;
 }
 
 pub returns-in-Load : goal.returns-in-Load
@@ -42,6 +46,7 @@ returns-in-Load g c = record {
   stops = λ known s stands. rw c.in-Load.is (on_err _ _ c.show_loaded.result (λ failure it. unchanged g.S.Store known c.args.world.now s _ (c.leaves.ensures known (Works s) stands) (refl, it)) (c.show_loaded.ensures.stops known s stands));
   rests = λ other. refl;
   still = λ reads clean trees may. may;
+  input = λ other. refl;
 }
 
 pub returns-in-Check : goal.returns-in-Check
@@ -50,6 +55,7 @@ returns-in-Check g c = record {
   stops = λ known s stands. rw c.in-Check.is (on_err _ _ c.check.result (λ failure it. stays_at g.S.Store known c.args.world.now c.check.new.world s _ c.check.ensures.crash (c.leaves.ensures known (Works s) stands) (refl, it)) (c.check.ensures.stops known s stands));
   rests = λ other. refl;
   still = λ reads clean trees may. elim (c.check.ensures.crash.crash clean trees may) [ inl before ↦ before | inr none ↦ absurd none ];
+  input = λ other. refl;
 }
 
 pub returns-in-Serve : goal.returns-in-Serve
@@ -58,4 +64,11 @@ returns-in-Serve g c = record {
   stops = λ known s stands. rw c.in-Serve.is (c.serve.ensures.stops known s stands);
   rests = rw c.in-Serve.is (λ other. absurd (true≢false other));
   still = rw c.in-Serve.is (λ reads. absurd (true≢false (sym reads)));
+  input = λ other. refl;
 }
+
+pub apply-requires : goal.apply-requires
+apply-requires g c = record { read = λ other. c.requires.read c.in-Apply.batches.now (rw c.in-Apply.is (refl, other)) }
+
+pub ask-requires : goal.ask-requires
+ask-requires g c = record { read = λ other. c.requires.read c.in-Ask.batches.now (rw c.in-Ask.is (refl, other)) }

@@ -1,26 +1,45 @@
-use Rattle.std.proofs.Common.{inl, true, false, refl}
+use Rattle.std.proofs.Common.{inl, true, false, refl, sym, subst}
+use Rattle.sqlite.specs.Files.{over_files}
 use Rattle.sqlite.specs.WalFiles.{image_at}
 use Rattle.moo_rows.specs.Opening.{opening_maps}
 use Rattle.moo_world.specs.Judge.{state_of}
+use Rattle.moo_store.specs.World.{StandsFor}
+use Rattle.moo_commands.specs.Given.{given_to}
+use Rattle.moo_commands.specs.Run.{BeginsWith}
+use Rattle.moo_commands.proofs.Held.{rows_are, rows_state, runs_rows}
 use Rattle.moo_commands.proofs.Beginning.{begins_opening, fails_to_begin, unmade_begins, fresh_begins}
-use Rattle.moo_commands.proofs.Connections.{surely, unseen}
+use Rattle.moo_commands.proofs.Connections.{surely, surely_ends, unseen}
 use Rattle.moo_commands.proofs.Refusals.{fails_at_once, refuses_file, tells_fault}
 use Rattle.moo_commands.proofs.files.run_begun.Goals as goal
 
-pub returns-in-Ok : goal.returns-in-Ok
-returns-in-Ok g c =
+pub returns-in-Ok-clause-runs : goal.returns-in-Ok-clause-runs
+returns-in-Ok-clause-runs g c =
     let world = c.in-Ok.world in
     let here = state_of world.rows.maps in
     let ran = c.run_in_files.ensures in
+    let given = given_to g.R.Read g.H.BatchFiles g.H.Ports g.H.Source.Arrivals g.H.Source.Reader.Read g.H.Source.Writer.Write c.args.input.now c.args.host.now c.run_in_files.new.host in
     record {
-      anew = λ anew. (state_of opening_maps, begins_opening c.args.task _ c.requires.load, surely _ _ _ _ _ _ _ _ _ (ran.runs true (state_of opening_maps) (c.in-Ok.ensures.anew anew)));
+      anew = λ anew.
+          let stands = c.in-Ok.ensures.anew anew in
+          let same = stands.is_at.rows stands.works in (
+            world.rows.maps,
+            ran.good stands.works,
+            subst (BeginsWith c.args.task _) (sym same) (begins_opening c.args.task _ c.requires.load),
+            surely _ _ _ _ _ _ _ _ _ _ (ran.runs true here (subst (StandsFor over_files true world) (sym same) stands)),
+          );
       taken = λ s anew holds clean. c.in-Ok.ensures.taken anew s holds (ran.clean true (state_of opening_maps) (c.in-Ok.ensures.anew anew) clean);
       kept = λ s other holds clean.
           let early = ran.clean false here (c.in-Ok.ensures.opened other).1 clean in
-          surely _ _ _ _ _ _ _ _ _ (ran.runs true s (c.in-Ok.ensures.kept other s holds early));
+          surely_ends _ _ _ _ _ _ _ _ _ _ (ran.runs true s (c.in-Ok.ensures.kept other s holds early));
+      led = λ rows other holds clean.
+          let found = c.in-Ok.ensures.opened other in
+          let early = ran.clean false here found.1 clean in
+          let same = rows_are (image_at g.T.Start) rows world.rows.maps holds (λ tables holds. c.in-Ok.ensures.only other tables holds early) found.0 in
+          let stands = c.in-Ok.ensures.kept other (state_of rows) (rows_state (image_at g.T.Start) rows holds) early in
+          runs_rows c.args.task rows world.rows.maps c.run_in_files.result given (g.W.Write.contents c.args.output.now) (g.W.Write.contents c.run_in_files.new.output) c.run_in_files.new.status same (surely _ _ _ _ _ _ _ _ _ _ (ran.runs true (state_of rows) stands));
       only = λ tables other holds clean.
           let found = c.in-Ok.ensures.opened other in
-          (world.rows.maps, found.0, c.in-Ok.ensures.only other tables holds (ran.clean false here found.1 clean), unseen _ _ _ _ _ _ _ _ _ (ran.runs false here found.1));
+          (world.rows.maps, found.0, c.in-Ok.ensures.only other tables holds (ran.clean false here found.1 clean), unseen _ _ _ _ _ _ _ _ _ _ (ran.runs false here found.1));
       nothing = λ other none clean. c.in-Ok.ensures.nothing other none (ran.clean false here (c.in-Ok.ensures.opened other).1 clean);
       other = λ trees other holds others clean. c.in-Ok.ensures.other other trees holds others (ran.clean false here (c.in-Ok.ensures.opened other).1 clean);
       sound = λ other clean. c.in-Ok.ensures.sound other (ran.clean false here (c.in-Ok.ensures.opened other).1 clean);
@@ -31,7 +50,7 @@ returns-in-Ok g c =
       still = λ trees other reads holds clean found may. c.in-Ok.ensures.held other trees holds (ran.clean false here (c.in-Ok.ensures.opened other).1 clean) found (ran.still reads clean found may);
       opened = λ other.
           let found = c.in-Ok.ensures.opened other in
-          (world.rows.maps, found.0, unseen _ _ _ _ _ _ _ _ _ (ran.runs false here found.1));
+          (world.rows.maps, found.0, unseen _ _ _ _ _ _ _ _ _ _ (ran.runs false here found.1));
       left = λ s holds. tt;
       trees = λ trees other holds. tt;
       spared = λ trees anew holds any. tt;
@@ -44,16 +63,18 @@ returns-in-Ok g c =
       told = tt;
     }
 
-pub returns-in-Err : goal.returns-in-Err
-returns-in-Err g c =
+pub returns-in-Err-clause-runs : goal.returns-in-Err-clause-runs
+returns-in-Err-clause-runs g c =
     let fault = c.in-Err.fault in
+    let given = given_to g.R.Read g.H.BatchFiles g.H.Ports g.H.Source.Arrivals g.H.Source.Reader.Read g.H.Source.Writer.Write c.args.input.now c.args.host.now c.args.host.now in
     let old = g.W.Write.contents c.args.output.now in
     let new = g.W.Write.contents c.report.new.output in
     let reports = tells_fault fault c.refusal_of.result old new c.report.result c.refusal_of.ensures c.report.ensures in
     record {
-      anew = λ anew. fails_to_begin c.args.task old new c.report.result (fails_at_once fault old new c.report.result (c.in-Err.ensures.made anew) reports);
+      anew = λ anew. fails_to_begin c.args.task given old new c.report.result (fails_at_once fault old new c.report.result (c.in-Err.ensures.made anew) reports);
       taken = λ s anew holds. tt;
       kept = λ s other holds clean. fails_at_once fault old new c.report.result (c.in-Err.ensures.whole other s holds clean) reports;
+      led = λ rows other holds. tt;
       only = λ tables other holds clean. (fault, c.in-Err.ensures.fault other tables holds clean, reports);
       nothing = λ other none. tt;
       other = λ trees other holds others. tt;
@@ -68,12 +89,12 @@ returns-in-Err g c =
       trees = λ trees other holds. c.in-Err.ensures.trees other trees holds;
       spared = λ trees anew holds any. c.in-Err.ensures.spared anew trees holds any;
       unmade = λ trees anew holds clean.
-          unmade_begins c.args.task _ (state_of opening_maps) (begins_opening c.args.task _ c.requires.load) trees (image_at g.T.Start) c.in-Err.remains (c.in-Err.ensures.unmade anew trees holds clean);
+          unmade_begins c.args.task given (state_of opening_maps) (begins_opening c.args.task given c.requires.load) trees (image_at g.T.Start) c.in-Err.remains (c.in-Err.ensures.unmade anew trees holds clean);
       spares = c.in-Err.ensures.spares;
       fresh = λ anew none clean.
-          fresh_begins c.args.task _ (state_of opening_maps) (begins_opening c.args.task _ c.requires.load) (image_at g.T.Start) c.in-Err.remains (c.in-Err.ensures.fresh anew none clean);
+          fresh_begins c.args.task given (state_of opening_maps) (begins_opening c.args.task given c.requires.load) (image_at g.T.Start) c.in-Err.remains (c.in-Err.ensures.fresh anew none clean);
       begun = λ anew half clean.
-          fresh_begins c.args.task _ (state_of opening_maps) (begins_opening c.args.task _ c.requires.load) (image_at g.T.Start) c.in-Err.remains (c.in-Err.ensures.begun anew half clean);
+          fresh_begins c.args.task given (state_of opening_maps) (begins_opening c.args.task given c.requires.load) (image_at g.T.Start) c.in-Err.remains (c.in-Err.ensures.begun anew half clean);
       blank = λ other none. c.in-Err.ensures.blank other none;
       rests = refl;
       told = inl (fault, c.in-Err.ensures.stopped, reports);

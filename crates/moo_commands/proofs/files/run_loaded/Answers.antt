@@ -1,20 +1,25 @@
-use Rattle.std.proofs.Common.{inl, inr, refl, true}
+use Rattle.std.proofs.Common.{inl, inr, refl, true, sym, subst, ◌∙◌}
+use Rattle.sqlite.specs.Files.{over_files}
 use Rattle.sqlite.specs.WalFiles.{image_at}
 use Rattle.moo_world.specs.Judge.{state_of}
-use Rattle.moo_http.specs.Turns.{attended_between}
-use Rattle.moo_commands.specs.Run.{given_by}
-use Rattle.moo_commands.proofs.Beginning.{begins_dumped, held_rows, of_other_texts, fails_to_begin, unmade_begins, fresh_begins, load_begins, never_other}
+use Rattle.moo_commands.specs.Given.{given_to}
+use Rattle.moo_store.specs.World.{StandsFor}
+use Rattle.moo_commands.specs.Run.{BeginsWith}
+use Rattle.moo_commands.proofs.Beginning.{begins_dumped, held_rows, refuses_dump, reads_dump, keeps_input, of_other_texts, fails_to_begin, unmade_begins, fresh_begins, load_begins, never_other}
 use Rattle.moo_commands.proofs.Connections.{surely}
 use Rattle.moo_commands.proofs.Refusals.{fails_at_once, tells_fault}
 use Rattle.moo_commands.proofs.files.run_loaded.Goals as goal
 
 -- the dump shows no world, and the file isn't opened
-pub returns-in-Err : goal.returns-in-Err
-returns-in-Err g c =
+pub returns-in-Err-clause-runs : goal.returns-in-Err-clause-runs
+returns-in-Err-clause-runs g c =
+    let given = given_to g.R.Read g.H.BatchFiles g.H.Ports g.H.Source.Arrivals g.H.Source.Reader.Read g.H.Source.Writer.Write c.args.input.now c.args.host.now c.args.host.now in
+    let told = refuses_dump c.args.task given c.args.dump.now c.in-Err.failure c.requires.word c.in-Err.ensures.failure in
     record {
-      anew = λ anew. (c.in-Err.failure, inr (c.requires.load, c.in-Err.ensures.failure), c.report.ensures);
+      anew = λ anew. (c.in-Err.failure, inr (c.requires.load, told), c.report.ensures);
       taken = λ s anew holds. tt;
       kept = λ s other holds. never_other c.args.task c.requires.load other;
+      led = λ rows other holds. never_other c.args.task c.requires.load other;
       only = λ tables other holds. never_other c.args.task c.requires.load other;
       nothing = λ other none. tt;
       other = λ trees other holds others. tt;
@@ -34,23 +39,27 @@ returns-in-Err g c =
       begun = λ anew half clean. inr (inl half);
       blank = λ other none. never_other c.args.task c.requires.load other;
       rests = refl;
-      told = inr (c.requires.load, (c.args.start, refl), c.in-Err.failure, c.in-Err.ensures.failure, c.report.ensures);
+      told = inr (c.requires.load, (c.args.start, refl), c.in-Err.failure, told, c.report.ensures);
     }
 
-pub returns-in-Ok-load_from : goal.returns-in-Ok-load_from
-returns-in-Ok-load_from g c =
-    let given = given_by (g.R.Read.remaining c.args.input) (g.H.BatchFiles.text c.args.host.now) (attended_between g.H.Source.Arrivals.hands_out g.H.Source.Arrivals.takes_back g.H.Source.Reader.Read.remaining g.H.Source.Writer.Write.contents g.H.Ports.listens g.H.Ports.closes c.args.host.now c.run_in_files.new.host) in
+pub returns-in-Ok-load_from-clause-runs : goal.returns-in-Ok-load_from-clause-runs
+returns-in-Ok-load_from-clause-runs g c =
+    let given = given_to g.R.Read g.H.BatchFiles g.H.Ports g.H.Source.Arrivals g.H.Source.Reader.Read g.H.Source.Writer.Write c.args.input.now c.args.host.now c.run_in_files.new.host in
     let s = state_of c.in-Ok.rows.maps in
     let stands = c.in-Ok-load_from.ensures.stands in
+    let world = c.in-Ok-load_from.world in
+    let same = stands.is_at.rows stands.works in
     let ran = c.run_in_files.ensures in
     record {
       anew = λ anew. (
-        s,
-        begins_dumped c.args.task given c.args.dump.now s c.requires.load c.requires.word c.in-Ok.ensures.dumped (held_rows c.in-Ok.rows.maps c.in-Ok.ensures.good c.in-Ok.ensures.limit),
-        of_other_texts c.args.task c.requires.load s _ given _ _ _ _ _ _ (surely _ _ _ _ _ _ _ _ _ (ran.runs true s stands)) (λ rests. rests),
+        world.rows.maps,
+        ran.good stands.works,
+        subst (BeginsWith c.args.task given) (sym same) (begins_dumped c.args.task given c.args.dump.now s c.requires.load c.requires.word c.in-Ok.ensures.dumped (held_rows c.in-Ok.rows.maps c.in-Ok.ensures.good c.in-Ok.ensures.limit)),
+        of_other_texts c.args.task c.requires.load (state_of world.rows.maps) _ given _ _ _ _ _ _ _ (surely _ _ _ _ _ _ _ _ _ _ (ran.runs true (state_of world.rows.maps) (subst (StandsFor over_files true world) (sym same) stands))) (λ rests. rests),
       );
       taken = λ t anew holds clean. c.in-Ok-load_from.ensures.taken t holds (ran.clean true s stands clean);
       kept = λ s other holds. never_other c.args.task c.requires.load other;
+      led = λ rows other holds. never_other c.args.task c.requires.load other;
       only = λ tables other holds. never_other c.args.task c.requires.load other;
       nothing = λ other none. never_other c.args.task c.requires.load other;
       other = λ trees other holds others. never_other c.args.task c.requires.load other;
@@ -73,11 +82,11 @@ returns-in-Ok-load_from g c =
       told = tt;
     }
 
-pub returns-in-Err-load_from : goal.returns-in-Err-load_from
-returns-in-Err-load_from g c =
+pub returns-in-Err-load_from-clause-runs : goal.returns-in-Err-load_from-clause-runs
+returns-in-Err-load_from-clause-runs g c =
     let fault = c.in-Err-load_from.fault in
     let image = image_at g.T.Start in
-    let given = given_by (g.R.Read.remaining c.args.input) (g.H.BatchFiles.text c.args.host.now) (attended_between g.H.Source.Arrivals.hands_out g.H.Source.Arrivals.takes_back g.H.Source.Reader.Read.remaining g.H.Source.Writer.Write.contents g.H.Ports.listens g.H.Ports.closes c.args.host.now c.args.host.now) in
+    let given = given_to g.R.Read g.H.BatchFiles g.H.Ports g.H.Source.Arrivals g.H.Source.Reader.Read g.H.Source.Writer.Write c.args.input.now c.args.host.now c.args.host.now in
     let s = state_of c.in-Ok.rows.maps in
     let begins = begins_dumped c.args.task given c.args.dump.now s c.requires.load c.requires.word c.in-Ok.ensures.dumped (held_rows c.in-Ok.rows.maps c.in-Ok.ensures.good c.in-Ok.ensures.limit) in
     let old = g.W.Write.contents c.args.output.now in
@@ -85,9 +94,10 @@ returns-in-Err-load_from g c =
     let status = c.report-in-Err-load_from.result in
     let reports = tells_fault fault c.refusal.result old new status (inl c.refusal.ensures) c.report-in-Err-load_from.ensures in
     record {
-      anew = λ anew. fails_to_begin c.args.task old new status (fails_at_once fault old new status c.in-Err-load_from.ensures.fault reports);
+      anew = λ anew. fails_to_begin c.args.task given old new status (fails_at_once fault old new status c.in-Err-load_from.ensures.fault reports);
       taken = λ s anew holds. tt;
       kept = λ s other holds. never_other c.args.task c.requires.load other;
+      led = λ rows other holds. never_other c.args.task c.requires.load other;
       only = λ tables other holds. never_other c.args.task c.requires.load other;
       nothing = λ other none. tt;
       other = λ trees other holds others. tt;
@@ -109,3 +119,15 @@ returns-in-Err-load_from g c =
       rests = refl;
       told = inl (fault, c.in-Err-load_from.ensures.stopped, reports);
     }
+
+pub read_world-requires : goal.read_world-requires
+read_world-requires g c = record { read = λ other. c.requires.read c.args.dump.now (reads_dump c.args.task c.args.dump.now c.requires.load c.requires.word other) }
+
+pub returns-in-Err-clause-input : goal.returns-in-Err-clause-input
+returns-in-Err-clause-input g c other = c.in-Err.ensures.input (keeps_input c.args.task c.args.dump.now c.requires.load c.requires.word other)
+
+pub returns-in-Ok-load_from-clause-input : goal.returns-in-Ok-load_from-clause-input
+returns-in-Ok-load_from-clause-input g c other = c.run_in_files.ensures.input other ∙ c.in-Ok.ensures.input (keeps_input c.args.task c.args.dump.now c.requires.load c.requires.word other)
+
+pub returns-in-Err-load_from-clause-input : goal.returns-in-Err-load_from-clause-input
+returns-in-Err-load_from-clause-input g c other = c.in-Ok.ensures.input (keeps_input c.args.task c.args.dump.now c.requires.load c.requires.word other)

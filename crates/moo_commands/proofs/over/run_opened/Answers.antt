@@ -2,7 +2,7 @@ use Rattle.std.proofs.Common.{inl, inr, true, false, refl, subst}
 use Rattle.sqlite.specs.Held.{state}
 use Rattle.moo_world.specs.Judge.{state_of}
 use Rattle.moo_commands.specs.Lines.{Reports}
-use Rattle.moo_commands.proofs.Connections.{of_opening, of_refusal, as_before, surely, unseen}
+use Rattle.moo_commands.proofs.Connections.{of_opening, of_refusal, as_before, surely_ends, unseen}
 use Rattle.moo_commands.proofs.over.run_opened.Goals as goal
 
 pub returns-in-Ok : goal.returns-in-Ok
@@ -12,11 +12,12 @@ returns-in-Ok g c =
     record {
       kept = λ s keeps clean.
           let first = c.run_in.ensures.clean false here found.1 clean in
-          inr (surely _ _ _ _ _ _ _ _ _ (c.run_in.ensures.runs true s (c.in-Ok.ensures.stands s keeps first)));
+          inr (surely_ends _ _ _ _ _ _ _ _ _ _ (c.run_in.ensures.runs true s (c.in-Ok.ensures.stands s keeps first)));
       only = λ tables rests clean.
           let first = c.run_in.ensures.clean false here found.1 clean in
-          inr (c.in-Ok.world.rows.maps, found.0, (c.in-Ok.ensures.shown first tables rests).0, unseen _ _ _ _ _ _ _ _ _ (c.run_in.ensures.runs false here found.1));
-      opened = inr (c.in-Ok.world.rows.maps, found.0, unseen _ _ _ _ _ _ _ _ _ (c.run_in.ensures.runs false here found.1));
+          inr (c.in-Ok.world.rows.maps, found.0, (c.in-Ok.ensures.shown first tables rests).0, unseen _ _ _ _ _ _ _ _ _ _ (c.run_in.ensures.runs false here found.1));
+      input = c.run_in.ensures.input;
+      opened = inr (c.in-Ok.world.rows.maps, found.0, unseen _ _ _ _ _ _ _ _ _ _ (c.run_in.ensures.runs false here found.1));
     }
 
 pub returns-in-Err : goal.returns-in-Err
@@ -24,5 +25,6 @@ returns-in-Err g c = record {
   kept = λ s keeps clean.
       inl (refl, (c.from.result, of_opening c.in-Err.fault c.from.result c.from.ensures (c.in-Err.ensures.whole s keeps clean), c.report.ensures), as_before (state g.S.Store c.args.conn) (state g.S.Store c.in-Err.conn) s keeps c.in-Err.ensures.crash_refused clean);
   only = λ tables rests clean. inl (refl, c.in-Err.fault, c.in-Err.ensures.fault clean tables rests, subst (λ f. Reports f (g.W.Write.contents c.args.output.now) (g.W.Write.contents c.report.new.output) c.report.result) c.from.ensures c.report.ensures);
+  input = λ other. refl;
   opened = inl (refl, (c.from.result, of_refusal c.in-Err.fault c.from.result c.from.ensures, c.report.ensures));
 }

@@ -1,0 +1,39 @@
+-- The rows that files hold, and the run of a task from them.
+use Rattle.std.proofs.Common.{◌≡◌, ℕ, List, Option, refl, sym, subst}
+use Rattle.std.specs.Bool.{⊤}
+use Rattle.sqlite_disk.specs.declared.Disk.{Ghosts}
+use Rattle.sqlite_store.specs.declared.store.FileStore.{FileStore}
+use Rattle.sqlite_wal.specs.Recovery.{Image}
+use Rattle.sqlite.specs.State.{HasCleanDisk}
+use Rattle.sqlite.specs.Held.{Held}
+use Rattle.sqlite.specs.Files.{file_state}
+use Rattle.moo_rows.specs.Maps.{Maps}
+use Rattle.moo_world.specs.Rows.{IsGood}
+use Rattle.moo_world.specs.Judge.{state_of}
+use Rattle.moo_tables.specs.Tables.{Tables}
+use Rattle.moo_cells.specs.Shows.{ShowsRows}
+use Rattle.moo_cells.proofs.CellsLemmas.{one_good}
+use Rattle.moo_cells.proofs.GoodRows.{good_within}
+use Rattle.moo_store.specs.Led.{LeavesLed}
+use Rattle.moo_store.specs.World.{CrashLeaves}
+use Rattle.moo_files.specs.Contents.{HoldsTables, HoldsState}
+use Rattle.moo_words.specs.declared.task.Task.{Task}
+use Rattle.moo_commands.specs.Given.{Given}
+use Rattle.moo_commands.specs.Run.{RunsFrom}
+use Rattle.moo_commands.specs.Ends.{HoldsRows, RunsRows}
+
+-- files that hold rows hold their tables and their state
+pub rows_tables : (image : Image) (rows : Maps) (it : HoldsRows image rows) → HoldsTables image it.1.such.tables
+rows_tables image rows it = record { trees = it.1.trees; holds = it.1.holds; such = it.1.such.leaves }
+
+pub rows_state : (image : Image) (rows : Maps) → HoldsRows image rows → HoldsState image (state_of rows)
+rows_state image rows it = record { trees = it.1.trees; holds = it.1.holds; such = record { rows = rows; good = it.0; state = refl; leaves = it.1.such } }
+
+-- they are the good rows that any of these tables show
+pub rows_are : (image : Image) (rows found : Maps) → HoldsRows image rows → ((tables : Tables) → HoldsTables image tables → ShowsRows tables found) → IsGood found → rows ≡ found
+rows_are image rows found it shown good = one_good it.1.such.tables rows found it.1.such.shows (good_within rows it.0) (shown it.1.such.tables (rows_tables image rows it)) good
+
+pub runs_rows : {D : Type 0} {g : Ghosts D} (task : Task) (rows found : Maps) (conn : Held (FileStore D g)) (given : Given) (old new : Option (List ℕ)) (status : ℕ) → rows ≡ found
+    → RunsFrom task (state_of rows) given old new status (HasCleanDisk (file_state conn)) (CrashLeaves (file_state conn)) (LeavesLed (file_state conn) found) ⊤ → RunsRows task rows conn given old new status
+runs_rows task rows found conn given old new status same it =
+    subst (λ m. RunsFrom task (state_of rows) given old new status (HasCleanDisk (file_state conn)) (CrashLeaves (file_state conn)) (LeavesLed (file_state conn) m) ⊤) (sym same) it

@@ -1,0 +1,16 @@
+use Rattle.std.proofs.Common.{IfErr, sym, subst, ◌∙◌}
+use Rattle.moo_commands.specs.Run.{RefusesDump}
+use Rattle.moo_commands.proofs.Dumps.{no_file}
+use Rattle.moo_commands.proofs.Tasks.{given_input, given_file}
+use Rattle.moo_commands.proofs.loading.read_world.Goals as goal
+
+pub returns-then-eq-clause-failure : goal.returns-then-eq-clause-failure
+returns-then-eq-clause-failure g c =
+    subst (λ text. IfErr c.rows_of.result (RefusesDump text)) (sym (given_input c.args.dump.now (g.R.Read.remaining c.args.input.now) (g.H.BatchFiles.text c.args.host.now) (sym c.eq.ensures ∙ c.if-eq.true))) c.rows_of.ensures.failure
+
+pub returns-in-Ok-clause-failure : goal.returns-in-Ok-clause-failure
+returns-in-Ok-clause-failure g c =
+    subst (λ text. IfErr c.rows_of-in-Ok.result (RefusesDump text)) (c.in-Ok.ensures ∙ sym (given_file c.args.dump.now (g.R.Read.remaining c.args.input.now) (g.H.BatchFiles.text c.args.host.now) (sym c.eq.ensures ∙ c.if-eq.false))) c.rows_of-in-Ok.ensures.failure
+
+pub returns-in-Err-clause-failure : goal.returns-in-Err-clause-failure
+returns-in-Err-clause-failure g c = no_file _
