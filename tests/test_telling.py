@@ -23,7 +23,7 @@ MB = 1_000_000
 # It tells after five seconds.
 PAUSE = 6
 # So many batches are in the log of the run that is killed, with three pages of a kilobyte each.
-COMMITTED = 300
+COMMITTED = 150
 
 
 def make_large(file):
@@ -84,7 +84,7 @@ class Telling(ProgramTest):
     def test_long_log(self):
         """The log of a run that was killed is read before the file."""
         make_large("world.db")
-        text = "".join(text_of([f'set(#{4 + at * 7 % OBJECTS}, "name", "thing {at}")']) for at in range(3000))
+        text = "".join(text_of([f'set(#{4 + at * 7 % OBJECTS}, "name", "thing {at}")']) for at in range(30_000))
         Path("batches.txt").write_text(text)
         with open("replies.txt", "w") as replies:
             process = processes.start([MOO, "apply", "world.db", "batches.txt"], stdout=replies)
